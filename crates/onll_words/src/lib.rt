@@ -1,0 +1,10 @@
+//! Words, rows, numbers and lines: what every crate of the object speaks of.
+#![tactic(auto)]
+
+mod line;
+
+pub use line::{Line, OpRow};
+
+/// Memory could not be had. It is the fault of a call that refuses for nothing else.
+#[derive(Clone, Copy, Debug, PartialEq, Eq)]
+pub struct NoMemory;

@@ -1,0 +1,4 @@
+pub mod Object
+pub mod Trace
+pub mod Legal
+pub mod Fold

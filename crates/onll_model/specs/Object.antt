@@ -1,4 +1,4 @@
-use Rattle.std.specs.Prelude.{ℕ, ◌≡◌, Option, Some, None, List, length}
+use Rattle.std.specs.Prelude.{ℕ, ◌≡◌, Option, Some}
 use Rattle.onll_words.specs.declared.line.OpRow.{OpRow}
 
 -- What an object does, for each state: the next state and the reply of an operation, the answer of a query;
@@ -13,4 +13,4 @@ pub record Behaviour (State Op Query Reply : Type 0) : Type 0 where
   pub capacity : State → ℕ
   pub capacity_stays : (s : State) (op : Op) → capacity (next s op) ≡ capacity s
   pub op_of_its_row : (op : Op) → op_at (row_of op) ≡ Some op
-  pub row_of_its_op : (row : OpRow) (op : Op) → length row.w ≡ 7 → op_at row ≡ Some op → row_of op ≡ row
+  pub row_of_its_op : (row : OpRow) (op : Op) → op_at row ≡ Some op → row_of op ≡ row

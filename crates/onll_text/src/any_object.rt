@@ -1,0 +1,13 @@
+use onll_bank::Bank;
+
+/// A kind of object, as the first word of an initial state names it.
+#[derive(Clone, Copy, Debug, PartialEq, Eq)]
+pub enum Kind {
+    Bank,
+}
+
+/// An object of any kind.
+#[derive(Drop)]
+pub enum AnyObject {
+    Bank(Bank),
+}

@@ -1,0 +1,36 @@
+/// Why a text is refused.
+#[derive(Clone, Copy, Debug, PartialEq, Eq)]
+pub enum Reason {
+    /// The file has more than 1,048,576 bytes.
+    TooLong,
+    /// The file lacks the line that it needs.
+    Missing,
+    /// The first word is no kind of object.
+    UnknownObject,
+    /// The first word is none that can stand there.
+    UnknownWord,
+    /// The line has too many or too few words.
+    WrongCount,
+    /// A word is no number of at most 20 digits and 64 bits.
+    BadNumber,
+    /// A word is no text of 1 to 23 bytes from 0x21 to 0x7E.
+    BadWord,
+    /// A number is outside its range.
+    OutOfRange,
+    /// The account, key or resource was named before.
+    Repeated,
+    /// There are more than there is room for.
+    TooMany,
+    /// The balances sum to more than `2^64 - 1`.
+    TooLarge,
+    /// A line stands after the crash line.
+    AfterCrash,
+}
+
+/// Why a text was not read.
+#[derive(Clone, Copy, Debug, PartialEq, Eq)]
+pub enum TextFault {
+    /// The text is outside its grammar. The line is the first refused one, from 1, or 0 for the whole file.
+    Refused { line: u64, reason: Reason },
+    NoMemory,
+}

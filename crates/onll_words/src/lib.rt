@@ -2,8 +2,10 @@
 #![tactic(auto)]
 
 mod line;
+mod number;
 
 pub use line::{Line, OpRow};
+pub use number::{number_at, whole_number};
 
 /// Memory could not be had. It is the fault of a call that refuses for nothing else.
 #[derive(Clone, Copy, Debug, PartialEq, Eq)]

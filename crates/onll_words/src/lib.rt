@@ -3,6 +3,7 @@
 
 mod line;
 mod number;
+mod text;
 
 pub use line::{Line, OpRow};
 pub use number::{number_at, whole_number};

@@ -1,5 +1,7 @@
-ghost use Rattle.std.specs.Prelude.{◌≡◌, ℕ, ◌+◌, ◌<◌, ◌≤◌, ◌^◌, ◌∷◌, [], List, length, drop, not, IfSome, MatchOption, true, false, position, slice_index, filter};
-ghost use Rattle.onll_words.specs.Texts.{is_blank, is_line_end, words_of, lines_of, says_something};
+ghost use Rattle.std.specs.Prelude.{◌≡◌, ℕ, ◌+◌, ◌<◌, ◌≤◌, ◌^◌, ◌∷◌, [], List, length, drop, not, IfSome, IfNone, MatchOption, true, false, position, slice_index, filter};
+ghost use Rattle.onll_words.specs.Texts.{is_blank, is_line_end, words_of, lines_of, meaningful_lines, says_something};
+
+use std::marker::Model;
 
 /// A word of a line, and what follows it.
 #[derive(Clone, Copy, Debug)]
@@ -71,4 +73,96 @@ pub fn split_word(line: &[u8]) -> Option<Cut<'_>>
 {
     let start = first_mark(line)?;
     Some(cut_word(tail(line, start)))
+}
+
+/// Whether the line has a word, and the first doesn't begin with `#`.
+fn is_meaningful(line: &[u8]) -> bool
+    ensures { result ≡ says_something (words_of line.now) }
+{
+    match split_word(line) {
+        Some(cut) => cut.word.first() != Some(&b'#'),
+        None => false,
+    }
+}
+
+/// The first line of a text, without its end, and the text after it.
+struct FirstLine<'a> {
+    line: &'a [u8],
+    rest: &'a [u8],
+}
+
+/// The first line of a text that has one.
+#[tactic(auto, using(crate::proofs::Cuts::cutting))]
+fn cut_line(text: &[u8]) -> FirstLine<'_>
+    requires { 0 < length text.now }
+    ensures line { lines_of text.now ≡ result.line.now ∷ lines_of result.rest.now }
+    ensures shorter { length result.rest.now < length text.now }
+{
+    match first_end(text) {
+        Some(end) => FirstLine {
+            line: &text[..end],
+            rest: tail(text, end + 1),
+        },
+        None => FirstLine {
+            line: text,
+            rest: &[],
+        },
+    }
+}
+
+/// A line of a text and its number, from 1.
+#[derive(Clone, Copy, Debug)]
+pub struct NumberedLine<'a> {
+    pub number: u64,
+    pub line: &'a [u8],
+}
+
+/// The meaningful lines of a text that are left.
+#[derive(Drop)]
+pub struct Lines<'a> {
+    rest: &'a [u8],
+    gone: u64,
+}
+
+impl<'a> Model for Lines<'a> {
+    ghost use Rattle.std.specs.Prelude.{List, ◌+◌, ◌<◌, ◌^◌, length, filter};
+    ghost use Rattle.onll_words.specs.Texts.{Numbered, numbered, lines_of, is_meaningful};
+
+    ghost Value = { List Numbered };
+
+    ghost view = { λ s. filter is_meaningful (numbered (s.gone + 1) (lines_of s.rest.now)) };
+
+    ghost invariant = { λ s. s.gone + length s.rest.now < 2 ^ 64 };
+}
+
+impl<'a> Lines<'a> {
+    /// All meaningful lines of a text.
+    pub fn of(text: &'a [u8]) -> Lines<'a>
+        ensures { result ≡ meaningful_lines text.now }
+    {
+        Lines {
+            rest: text,
+            gone: 0,
+        }
+    }
+
+    /// The next meaningful line, with its number in the text.
+    pub fn next_line(&mut self) -> Option<NumberedLine<'a>>
+        ensures line { MatchOption result (self.old ≡ []) (λ l. self.old ≡ record { number = l.number; line = l.line.now } ∷ self.new) }
+        ensures end { IfNone result (self.new ≡ []) }
+        ensures words { IfSome result (λ l. says_something (words_of l.line.now) ≡ true) }
+    {
+        while !self.rest.is_empty() {
+            let FirstLine { line, rest } = cut_line(self.rest);
+            self.rest = rest;
+            self.gone += 1;
+            if is_meaningful(line) {
+                return Some(NumberedLine {
+                    number: self.gone,
+                    line,
+                });
+            }
+        }
+        None
+    }
 }

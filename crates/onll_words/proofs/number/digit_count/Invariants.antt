@@ -1,4 +1,4 @@
-use Rattle.std.proofs.Common.{◌≡◌, ◌+◌, ◌≤◌, drop, length}
+use Rattle.std.proofs.Common.{◌≡◌, ◌+◌, drop}
 use Rattle.onll_words.specs.Numbers.{run_len}
 use Rattle.onll_words.proofs.number.digit_count.Given as goal
 

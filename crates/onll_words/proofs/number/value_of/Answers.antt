@@ -1,4 +1,4 @@
-use Rattle.std.proofs.Common.{arith, drop, ◌+◌, ◌-◌, ◌*◌, ◌≤◌, ◌∷◌, slice_index_or, ◌≡◌, ap, sym, ◌∙◌, rules}
+use Rattle.std.proofs.Common.{arith, drop, ◌+◌, ◌-◌, ◌*◌, slice_index_or, ap, sym, ◌∙◌}
 use Rattle.std.proofs.lemmas.List.{drop_more}
 use Rattle.onll_words.specs.Numbers.{value_after}
 use Rattle.onll_words.proofs.Values.{value_grows}

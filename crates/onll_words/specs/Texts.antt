@@ -72,3 +72,13 @@ pub record IsWord (word : List ℕ) : Type 0 where
 abbrev pub AreWords : List (List ℕ) → Type 0
 AreWords [] = Unit {0}
 AreWords (w ∷ ws) = IsWord w × AreWords ws
+
+-- each is a line, with no line end
+abbrev pub AreLines : List (List ℕ) → Type 0
+AreLines [] = Unit {0}
+AreLines (l ∷ ls) = (list_all (λ b. not (is_line_end b)) l ≡ true) × AreLines ls
+
+-- each is the words of a line that isn't skipped
+abbrev pub AreMeaningful : List (List (List ℕ)) → Type 0
+AreMeaningful [] = Unit {0}
+AreMeaningful (ws ∷ lines) = AreWords ws × (says_something ws ≡ true) × AreMeaningful lines

@@ -2,8 +2,12 @@
 #![tactic(auto)]
 
 mod line;
+mod number;
+mod text;
 
 pub use line::{Line, OpRow};
+pub use number::{number_at, whole_number};
+pub use text::{Cut, Lines, NumberedLine, split_word};
 
 /// Memory could not be had. It is the fault of a call that refuses for nothing else.
 #[derive(Clone, Copy, Debug, PartialEq, Eq)]

@@ -38,3 +38,6 @@ Puts-more a b x y h = record { front = x; rest = y; whole = refl; puts = h }
 -- nothing was put
 pub PutsFront-none : (a b : SinkView) (x : List ℕ) → b.taken ≡ a.taken → PutsFront a b x
 PutsFront-none a b x h = record { front = []; rest = x; whole = refl; puts = h ∙ sym (taken_with-nil a.taken) }
+
+-- two puts, one after the other
+pub ruleset puts = (Puts-then, PutsFront-after, PutsFront-more)

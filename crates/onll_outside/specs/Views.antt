@@ -65,8 +65,12 @@ pub record PutsFront (old new : SinkView) (bytes : List ℕ) : Type 0 where
   pub whole : front ++ rest ≡ bytes
   pub puts : new.taken ≡ taken_with old.taken front
 
+-- a sink's count after a put that was refused
+abbrev pub CountOf : OutsideFault → ℕ → ℕ → Type 0
+CountOf Failed before now = Rose before now
+CountOf NoMemory before now = now ≡ before
+
 -- what a put of these bytes did, by its answer
 abbrev pub PutOf : {T : Type 0} → SinkView → SinkView → List ℕ → Result T OutsideFault → Type 0
 PutOf old new bytes (Ok x) = Puts old new bytes × (new.faults ≡ old.faults)
-PutOf old new bytes (Err Failed) = PutsFront old new bytes × Rose old.faults new.faults
-PutOf old new bytes (Err NoMemory) = PutsFront old new bytes × (new.faults ≡ old.faults)
+PutOf old new bytes (Err e) = PutsFront old new bytes × CountOf e old.faults new.faults

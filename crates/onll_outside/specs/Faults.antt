@@ -1,0 +1,26 @@
+use Rattle.std.specs.Prelude.{ℕ, ◌≡◌, ◌+◌, ◌-◌, ◌^◌, min, false, Option, Some, None}
+use Rattle.onll_outside.specs.declared.OutsideFault.{OutsideFault}
+use Rattle.onll_outside.specs.declared.OutsideFault.TheVariants.{Failed, NoMemory}
+use Rattle.onll_outside.specs.Views.{Last, StoreView, SinkView}
+
+-- how many calls failed, and the last of them
+pub record FaultsSeen : Type 0 where
+  pub count : ℕ
+  pub last : Option Last
+
+-- one more, in a count of 64 bits that stays at its end
+abbrev pub one_more : ℕ → ℕ
+one_more n = min (n + 1) (2 ^ 64 - 1)
+
+-- this call was counted, unless there was no memory for its name
+abbrev pub Raises : Last → FaultsSeen → FaultsSeen → OutsideFault → Type 0
+Raises this old new Failed = new ≡ record { count = one_more old.count; last = Some this }
+Raises this old new NoMemory = new ≡ old
+
+-- a store that tells its faults alone
+abbrev pub untold : FaultsSeen → StoreView
+untold f = record { tells = false; file = λ _. None; faults = f.count; last = f.last }
+
+-- a sink that tells its faults alone
+abbrev pub untold_sink : ℕ → SinkView
+untold_sink faults = record { taken = None; faults = faults }

@@ -1,0 +1,59 @@
+use Rattle.std.specs.Prelude.{ℕ, Bool, true, List, [], ◌∷◌, ◌≡◌, ◌==◌, Result, Ok, Err, Option, Some, None, if◌then◌else◌}
+use Rattle.std.specs.Str.{bytes_eq}
+use Rattle.std.specs.String.{string_bytes}
+use Rattle.std.specs.List.{list_any}
+use Rattle.std.specs.declared.vec.Vec.{Vec}
+use Rattle.onll_outside.specs.declared.OutsideFault.{OutsideFault}
+use Rattle.onll_outside.specs.declared.OutsideFault.TheVariants.{Failed, NoMemory}
+use Rattle.onll_outside.specs.declared.store.FaultKind.TheVariants.{Read}
+use Rattle.onll_outside.specs.declared.mem_store.Named.{Named}
+use Rattle.onll_outside.specs.declared.mem_store.FenceAt.{FenceAt}
+use Rattle.onll_outside.specs.Views.{Last, StoreView, IsFront}
+use Rattle.onll_outside.specs.Faults.{one_more}
+
+-- a store in memory: names with their bytes, the numbers of the calls that fail, the fences that fail,
+-- how many calls there were, how many of them failed, and the last of those
+pub record FilesHeld : Type 0 where
+  pub files : List (List ℕ × List ℕ)
+  pub failing : List ℕ
+  pub fences : List FenceAt
+  pub calls : ℕ
+  pub faults : ℕ
+  pub last : Option Last
+
+abbrev pub texts_of : List Named → List (List ℕ × List ℕ)
+texts_of [] = []
+texts_of (f ∷ fs) = (string_bytes f.name, f.bytes.items) ∷ texts_of fs
+
+-- the bytes of the first file of that name
+abbrev pub file_in : List (List ℕ × List ℕ) → List ℕ → Option (List ℕ)
+file_in [] name = None
+file_in (f ∷ fs) name = if bytes_eq f.0 name then Some f.1 else file_in fs name
+
+-- it tells its files
+abbrev pub store_of : FilesHeld → StoreView
+store_of s = record { tells = true; file = file_in s.files; faults = s.faults; last = s.last }
+
+-- the next call's number is one of those that fail
+abbrev pub call_fails : FilesHeld → Bool
+call_fails s = list_any (λ n. n == one_more s.calls) s.failing
+
+abbrev pub called : FilesHeld → FilesHeld
+called s = record s { calls = one_more s.calls }
+
+-- what the next call finds under a name, unless it is to fail
+abbrev pub found : FilesHeld → List ℕ → Option (List ℕ)
+found s name = if call_fails s then None else file_in s.files name
+
+-- a read answers Failed only where nothing is found, and Ok only with the front of what is found
+abbrev pub MemReads : {A : Type 0} → FilesHeld → List ℕ → ℕ → Result (Vec ℕ A) OutsideFault → Type 0
+MemReads old name limit (Ok v) = IsFront limit (found old name) v.items
+MemReads old name limit (Err Failed) = found old name ≡ None
+MemReads old name limit (Err NoMemory) = Unit {0}
+
+-- a call is counted, and a fault is too
+abbrev pub MemReadTo : {T : Type 0} → FilesHeld → FilesHeld → List ℕ → Result T OutsideFault → Type 0
+MemReadTo old new name (Ok v) = new ≡ called old
+MemReadTo old new name (Err Failed) =
+    new ≡ record (called old) { faults = one_more old.faults; last = Some (record { kind = Read; name = name }) }
+MemReadTo old new name (Err NoMemory) = new ≡ called old

@@ -1,0 +1,53 @@
+ghost use Rattle.std.specs.Prelude.{◌≡◌, None};
+ghost use Rattle.onll_outside.specs.Faults.{FaultsSeen, untold};
+
+use crate::faults::Faults;
+use crate::{FaultKind, OutsideFault, Store};
+use std::alloc::Global;
+use std::io::{ErrorKind, Read};
+use std::marker::Model;
+use std::rt::Files;
+use std::{fs, io};
+
+/// The files of the system. What they hold is not told, only how many calls failed and the last of them.
+#[derive(Drop)]
+pub struct FileStore<R: Files + Drop> {
+    files: R,
+    faults: Faults,
+}
+
+impl<R: Files + Drop> Model for FileStore<R> {
+    ghost Value = { FaultsSeen };
+
+    ghost view = { λ s. s.faults };
+}
+
+fn read_file<R: Files>(files: &R, alloc: Global, name: &str, limit: u64) -> io::Result<Vec<u8>> {
+    let mut bytes = Vec::new(alloc);
+    fs::open(files, name)?.take(limit).read_to_end(&mut bytes)?;
+    Ok(bytes)
+}
+
+impl<R: Files + Drop> FileStore<R> {
+    /// The files that `files` opens, where no call has failed yet.
+    pub fn new(files: R) -> FileStore<R>
+        ensures { result ≡ record { count = 0; last = None } }
+    {
+        FileStore {
+            files,
+            faults: Faults::new(),
+        }
+    }
+}
+
+impl<R: Files + Drop> Store for FileStore<R> {
+    ghost seen = { untold };
+
+    fn read(&mut self, alloc: Global, name: &str, limit: u64) -> Result<Vec<u8>, OutsideFault> {
+        match read_file(&self.files, alloc, name, limit) {
+            Ok(bytes) => Ok(bytes),
+            Err(e) if e.kind() == ErrorKind::OutOfMemory => Err(OutsideFault::NoMemory),
+            Err(_) => Err(self.faults.raise(alloc, FaultKind::Read, name)),
+        }
+    }
+}

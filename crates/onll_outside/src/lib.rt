@@ -1,0 +1,28 @@
+//! What the program reaches outside of itself: a store of files by name, and a sink for its output.
+//! Each counts its calls that failed. `MemStore` and `MemSink` are in memory, and tell all that they
+//! hold; `FileStore` and `OutSink` are the system's files and a writer, and tell only their counts.
+#![tactic(auto)]
+
+mod faults;
+mod file_store;
+mod mem_sink;
+mod mem_store;
+mod out_sink;
+mod sink;
+mod store;
+
+pub use file_store::FileStore;
+pub use mem_sink::MemSink;
+pub use mem_store::{FenceAt, MemStore, Named};
+pub use out_sink::OutSink;
+pub use sink::Sink;
+pub use store::{FaultKind, Store};
+
+/// Why a call to the outside was refused.
+#[derive(Clone, Copy, Debug, PartialEq, Eq)]
+pub enum OutsideFault {
+    /// The outside failed; the count of faults rose in this call.
+    Failed,
+    /// Memory could not be had.
+    NoMemory,
+}

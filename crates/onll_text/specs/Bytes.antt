@@ -1,4 +1,6 @@
 use Rattle.std.specs.Prelude.{ℕ, Bool, List, [], ◌∷◌, ◌++◌, ◌≡◌, ◌-◌, ◌||◌, ◌==◌, if◌then◌else◌, length, slice_index}
+use Rattle.std.specs.List.{flat_map}
+use Rattle.onll_words.specs.Texts.{line_text}
 
 -- nothing stands in the last line yet
 abbrev pub begins_line : List ℕ → Bool
@@ -18,3 +20,7 @@ pub record AppendsFront (old new whole : List ℕ) : Type 0 where
   pub rest : List ℕ
   pub appended : new ≡ old ++ front
   pub begun : whole ≡ new ++ rest
+
+-- the bytes after whole lines
+abbrev pub with_lines : List ℕ → List (List (List ℕ)) → List ℕ
+with_lines bytes lines = bytes ++ flat_map line_text lines

@@ -1,6 +1,7 @@
 pub mod Refusal
 pub mod Words
 pub mod Bytes
+pub mod Pieces
 pub mod Wording
 pub mod Lines
 pub mod Script

@@ -1,13 +1,7 @@
 use Rattle.std.specs.Prelude.{ℕ, List, [], ◌∷◌, ◌++◌, ◌≡◌, Result, length}
-use Rattle.onll_words.specs.Texts.{AreWords}
+use Rattle.onll_words.specs.Texts.{AreWords, AreMeaningful}
 use Rattle.onll_model.specs.declared.call.Call.{Call}
 use Rattle.onll_text.specs.declared.reason.Reason.{Reason}
-
--- Lines of words, each line with at least one.
-abbrev pub AreLines : List (List (List ℕ)) → Type 0
-AreLines [] = Unit {0}
-AreLines ([] ∷ lines) = ⊥
-AreLines ((w ∷ ws) ∷ lines) = AreWords (w ∷ ws) × AreLines lines
 
 -- How an object is written: the call that the words of a line say, or the first reason why they say none;
 -- the words of operations, queries and replies; the lines of a state. All that is written are words.
@@ -20,4 +14,4 @@ pub record Wording (State Op Query Reply : Type 0) : Type 0 where
   pub op_in_words : (op : Op) → AreWords (op_words op)
   pub query_in_words : (query : Query) → AreWords (query_words query)
   pub reply_in_words : (reply : Reply) → AreWords (reply_words reply)
-  pub state_in_lines : (state : State) → AreLines (state_lines state)
+  pub state_in_lines : (state : State) → AreMeaningful (state_lines state)

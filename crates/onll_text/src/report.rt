@@ -1,0 +1,113 @@
+ghost use Rattle.std.specs.Prelude.{◌≡◌, ℕ, ◌++◌, ◌∷◌, [], true, decimal, map, OnOk, OnErr};
+ghost use Rattle.onll_text.specs.Bytes.{begins_line, with_word, with_words, AppendsFront};
+ghost use Rattle.onll_text.specs.Pieces.{piece_word};
+
+use itoa::Buffer;
+use onll_words::NoMemory;
+use std::alloc::Global;
+use std::marker::Model;
+
+/// A word of a report.
+#[derive(Clone, Copy, Debug)]
+pub enum Piece<'a> {
+    Text(&'a [u8]),
+    /// A number, in the shortest decimal form.
+    Number(u64),
+}
+
+/// The bytes of a report, seen as that list. After want of memory a front of what was to be appended may stand.
+#[derive(Drop)]
+pub struct Report {
+    bytes: Vec<u8>,
+}
+
+impl Model for Report {
+    ghost use Rattle.std.specs.Prelude.{List, ℕ};
+
+    ghost Value = { List ℕ };
+
+    ghost view = { λ r. r.bytes.items };
+}
+
+impl Report {
+    /// An empty report.
+    pub fn new(alloc: Global) -> Report
+        ensures { result ≡ [] }
+    {
+        Report {
+            bytes: Vec::new(alloc),
+        }
+    }
+
+    pub fn bytes(&self) -> &[u8]
+        ensures { result.now ≡ self.now }
+    {
+        &self.bytes
+    }
+
+    /// Whether nothing stands in the last line yet.
+    fn begins_line(&self) -> bool
+        ensures { result ≡ begins_line self.now }
+    {
+        match self.bytes.last() {
+            Some(last) => *last == b'\n',
+            None => true,
+        }
+    }
+
+    /// A text as it is.
+    fn put(&mut self, text: &[u8]) -> Result<(), NoMemory>
+        ensures ok { OnOk result (self.new ≡ self.old ++ text.now) }
+        ensures err { OnErr result (self.new ≡ self.old) }
+    {
+        match self.bytes.extend_from_slice(text) {
+            Ok(()) => Ok(()),
+            Err(_) => Err(NoMemory),
+        }
+    }
+
+    /// A word, after one space unless it begins a line.
+    pub fn word(&mut self, text: &[u8]) -> Result<(), NoMemory>
+        ensures ok { OnOk result (self.new ≡ with_word self.old text.now) }
+    {
+        if !self.begins_line() {
+            self.put(b" ")?;
+        }
+        self.put(text)
+    }
+
+    /// A number in the shortest decimal form, as a word.
+    pub fn number(&mut self, n: u64) -> Result<(), NoMemory>
+        ensures ok { OnOk result (self.new ≡ with_word self.old (decimal n)) }
+    {
+        let mut buffer = Buffer::new();
+        self.word(buffer.format(n).as_bytes())
+    }
+
+    /// The end of a line.
+    pub fn end_line(&mut self) -> Result<(), NoMemory>
+        ensures ok { OnOk result (self.new ≡ self.old ++ 10 ∷ []) }
+        ensures err { OnErr result (self.new ≡ self.old) }
+    {
+        self.put(b"\n")
+    }
+
+    fn piece(&mut self, piece: Piece<'_>) -> Result<(), NoMemory>
+        ensures ok { OnOk result (self.new ≡ with_word self.old (piece_word piece.entry)) }
+    {
+        match piece {
+            Piece::Text(text) => self.word(text),
+            Piece::Number(n) => self.number(n),
+        }
+    }
+
+    /// Words, in order.
+    pub fn words(&mut self, pieces: &[Piece<'_>]) -> Result<(), NoMemory>
+        ensures ok { OnOk result (self.new ≡ with_words self.old (map piece_word pieces.now)) }
+    {
+        for piece in pieces {
+            self.piece(*piece)?;
+        }
+        Ok(())
+    }
+}

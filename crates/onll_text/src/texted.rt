@@ -1,0 +1,36 @@
+ghost use Rattle.std.specs.Prelude.{◌≡◌, true, OnOk};
+ghost use Rattle.onll_words.specs.Texts.{words_of};
+ghost use Rattle.onll_text.specs.Bytes.{begins_line, with_words, with_lines};
+ghost use Rattle.onll_text.specs.Wording.{Wording};
+
+use crate::reason::Reason;
+use crate::report::Report;
+use onll_model::{Call, Object};
+use onll_words::NoMemory;
+
+/// An object whose calls, replies and states have texts.
+pub trait Texted: Object {
+    /// How the object is written.
+    ghost wording: { Wording Self Self.Op Self.Query Self.Reply };
+
+    /// The call that a line says.
+    fn read_call(line: &[u8]) -> Result<Call<Self>, Reason>
+        ensures { result ≡ wording.call_of (words_of line.now) };
+
+    /// Appends the words of an operation.
+    fn put_op(op: Self::Op, out: &mut Report) -> Result<(), NoMemory>
+        ensures { OnOk result (out.new ≡ with_words out.old (wording.op_words op)) };
+
+    /// Appends the words of a query.
+    fn put_query(query: Self::Query, out: &mut Report) -> Result<(), NoMemory>
+        ensures { OnOk result (out.new ≡ with_words out.old (wording.query_words query)) };
+
+    /// Appends the words of a reply.
+    fn put_reply(reply: Self::Reply, out: &mut Report) -> Result<(), NoMemory>
+        ensures { OnOk result (out.new ≡ with_words out.old (wording.reply_words reply)) };
+
+    /// Appends the lines of the state, which read as an equal initial state.
+    fn put_state(&self, out: &mut Report) -> Result<(), NoMemory>
+        requires { begins_line out.old ≡ true }
+        ensures { OnOk result (out.new ≡ with_lines out.old (wording.state_lines self.now)) };
+}

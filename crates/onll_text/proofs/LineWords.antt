@@ -1,4 +1,6 @@
-use Rattle.std.proofs.Common.{ℕ, Bool, true, false, List, [], ◌∷◌, ◌++◌, ◌≡◌, Option, Some, None, codes, decimal, refl, sym, ap, ◌∙◌}
+use Rattle.std.proofs.Common.{ℕ, Bool, true, false, List, [], ◌∷◌, ◌++◌, ◌≡◌, Option, Some, None, codes, decimal, refl, sym, ap, ◌∙◌, ◌+◌, ◌<◌, length, drop, slice_index_or, append_assoc}
+use Rattle.std.specs.List.{flat_map}
+use Rattle.std.proofs.lemmas.List.{drop_more}
 use Rattle.onll_words.specs.Texts.{joined, line_text, IsWord, AreWords}
 use Rattle.onll_words.proofs.Decimals.{IsWord-decimal}
 use Rattle.onll_model.specs.declared.node.Node.{Node}
@@ -10,6 +12,7 @@ use Rattle.onll_model.specs.Object.{Behaviour}
 use Rattle.onll_text.specs.Bytes.{begins_line, with_word, with_words, with_lines}
 use Rattle.onll_text.specs.Wording.{Wording}
 use Rattle.onll_text.specs.Lines.{at_words, call_words, end_words, call_line, trace_line, flag_words, row_words, node_line, fence_words, log_line, state_lines}
+use Rattle.onll_text.specs.BankText.{account_line, account_lines}
 use Rattle.onll_text.proofs.Appending.{with_words-append, with_words-line, begins_line-line}
 
 pub AreWords-append : (vs ws : List (List ℕ)) → AreWords vs → AreWords ws → AreWords (vs ++ ws)
@@ -102,5 +105,22 @@ pub log_line_parts : (thread entries lines : ℕ) (fences : Option ℕ) (old beg
 log_line_parts thread entries lines fences old began counted new h e₁ e₂ e₃ =
     e₃ ∙ ap (λ t. t ++ 10 ∷ []) (e₂ ∙ ap (λ t. with_words t (fence_words fences)) e₁)
     ∙ with_words-line old (codes "log") (decimal thread ∷ codes "entries" ∷ decimal entries ∷ codes "lines" ∷ decimal lines ∷ fence_words fences) h (log_line_in_words thread entries lines fences)
+
+-- a line whose words were put, and then its end
+pub whole_line : (old began new w : List ℕ) (ws : List (List ℕ)) → began ≡ with_words old (w ∷ ws) → new ≡ began ++ 10 ∷ [] → begins_line old ≡ true → AreWords (w ∷ ws)
+    → (new ≡ old ++ line_text (w ∷ ws)) × (begins_line new ≡ true)
+whole_line old began new w ws e₁ e₂ h k =
+    let line = e₂ ∙ ap (λ t. t ++ 10 ∷ []) e₁ ∙ with_words-line old w ws h k in
+    (line, ap begins_line line ∙ begins_line-line old (w ∷ ws))
+
+pub account_line_in_words : (a balance : ℕ) → AreWords (account_line a balance)
+account_line_in_words a balance = (record { some = refl; bytes = refl }, (IsWord-decimal a, (IsWord-decimal balance, tt)))
+
+-- one account's line before those of the rest
+pub account_lines_more : (bytes balances : List ℕ) (a : ℕ) → a < length balances
+    → with_lines (bytes ++ line_text (account_line a (slice_index_or balances a 0))) (account_lines (a + 1) (drop (a + 1) balances)) ≡ with_lines bytes (account_lines a (drop a balances))
+account_lines_more bytes balances a h =
+    append_assoc bytes (line_text (account_line a (slice_index_or balances a 0))) (flat_map line_text (account_lines (a + 1) (drop (a + 1) balances)))
+    ∙ sym (ap (λ t. with_lines bytes (account_lines a t)) (drop_more balances a 0 h))
 
 pub ruleset appending = with_words-append

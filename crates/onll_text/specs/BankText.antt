@@ -18,15 +18,31 @@ use Rattle.onll_text.specs.Words.{word_as_number, no_word, one_number, two_numbe
 abbrev pub BankCall : Type 0
 BankCall = Call (List ℕ) BankOp BankQuery BankReply
 
+-- the calls of a line's words after the first
+abbrev pub deposit_of : List (List ℕ) → Result BankCall Reason
+deposit_of args = two_numbers args >>= λ n. Ok (Update (Deposit n.0 n.1))
+
+abbrev pub withdraw_of : List (List ℕ) → Result BankCall Reason
+withdraw_of args = two_numbers args >>= λ n. Ok (Update (Withdraw n.0 n.1))
+
+abbrev pub transfer_of : List (List ℕ) → Result BankCall Reason
+transfer_of args = three_numbers args >>= λ n. Ok (Update (Transfer n.0 n.1 n.2))
+
+abbrev pub balance_of : List (List ℕ) → Result BankCall Reason
+balance_of args = one_number args >>= λ a. Ok (Ask (Balance a))
+
+abbrev pub total_of : List (List ℕ) → Result BankCall Reason
+total_of args = no_word args >>= λ none. Ok (Ask Total)
+
 -- the call of a line's words
 abbrev pub bank_call_of : List (List ℕ) → Result BankCall Reason
 bank_call_of [] = Err UnknownWord
 bank_call_of (first ∷ args) =
-    if bytes_eq first (codes "deposit") then (two_numbers args >>= λ n. Ok (Update (Deposit n.0 n.1)))
-    else (if bytes_eq first (codes "withdraw") then (two_numbers args >>= λ n. Ok (Update (Withdraw n.0 n.1)))
-    else (if bytes_eq first (codes "transfer") then (three_numbers args >>= λ n. Ok (Update (Transfer n.0 n.1 n.2)))
-    else (if bytes_eq first (codes "balance") then (one_number args >>= λ n. Ok (Ask (Balance n)))
-    else (if bytes_eq first (codes "total") then (no_word args >>= λ n. Ok (Ask Total))
+    if bytes_eq first (codes "deposit") then deposit_of args
+    else (if bytes_eq first (codes "withdraw") then withdraw_of args
+    else (if bytes_eq first (codes "transfer") then transfer_of args
+    else (if bytes_eq first (codes "balance") then balance_of args
+    else (if bytes_eq first (codes "total") then total_of args
     else Err UnknownWord))))
 
 abbrev pub bank_op_words : BankOp → List (List ℕ)
@@ -45,10 +61,13 @@ bank_reply_words TooLittle = codes "short" ∷ []
 bank_reply_words NoAccount = codes "no-account" ∷ []
 bank_reply_words (Amount n) = decimal n ∷ []
 
+abbrev pub account_line : ℕ → ℕ → List (List ℕ)
+account_line a balance = codes "account" ∷ decimal a ∷ decimal balance ∷ []
+
 -- the line of each account, the first of them being account a
 abbrev pub account_lines : ℕ → List ℕ → List (List (List ℕ))
 account_lines a [] = []
-account_lines a (x ∷ balances) = (codes "account" ∷ decimal a ∷ decimal x ∷ []) ∷ account_lines (a + 1) balances
+account_lines a (x ∷ balances) = account_line a x ∷ account_lines (a + 1) balances
 
 abbrev pub bank_state_lines : List ℕ → List (List (List ℕ))
 bank_state_lines balances = (codes "bank" ∷ decimal (length balances) ∷ []) ∷ account_lines 0 balances

@@ -7,6 +7,7 @@ use Rattle.onll_text.specs.declared.any_object.Kind.{Kind}
 use Rattle.onll_text.specs.declared.any_object.Kind.TheVariants as kinds
 use Rattle.onll_text.specs.declared.any_object.AnyObject.{AnyObject}
 use Rattle.onll_text.specs.declared.any_object.AnyObject.TheVariants as objects
+use Rattle.onll_text.specs.declared.init.Head.{Head}
 use Rattle.onll_text.specs.Refusal.{Refusal, refused, ◌>>=◌, only_if, at_line}
 use Rattle.onll_text.specs.Words.{one_number}
 use Rattle.onll_text.specs.Script.{is_too_long}
@@ -20,23 +21,27 @@ kind_of word = if bytes_eq word (codes "bank") then Ok kinds.Bank else Err Unkno
 abbrev pub capacity_of : List (List ℕ) → Result ℕ Reason
 capacity_of args = one_number args >>= λ n. only_if (nat_le 1 n && nat_le n 4096) OutOfRange n
 
--- the first line of an initial state, by its words: the kind of object and its capacity
-abbrev pub head_of : List (List ℕ) → Result (Kind × ℕ) Reason
+-- the first line of an initial state, by its words
+abbrev pub head_of : List (List ℕ) → Result Head Reason
 head_of [] = Err UnknownObject
-head_of (first ∷ args) = kind_of first >>= λ kind. capacity_of args >>= λ n. Ok (kind, n)
+head_of (first ∷ args) = kind_of first >>= λ kind. capacity_of args >>= λ capacity. Ok (record { kind = kind; capacity = capacity })
 
 -- what is in the making, after further lines
-abbrev pub with_lines : {Making : Type 0} → (Making → List (List ℕ) → Result Making Reason) → Making → List Numbered → Result Making Refusal
-with_lines with_line made [] = Ok made
-with_lines with_line made (l ∷ lines) = at_line l.number (with_line made (words_of l.line)) >>= λ more. with_lines with_line more lines
+abbrev pub after_lines : {Making : Type 0} → (Making → List (List ℕ) → Result Making Reason) → Making → List Numbered → Result Making Refusal
+after_lines with_line made [] = Ok made
+after_lines with_line made (l ∷ lines) = at_line l.number (with_line made (words_of l.line)) >>= λ more. after_lines with_line more lines
+
+-- the bank of this many accounts, with further lines
+abbrev pub bank_of_lines : ℕ → List Numbered → Result (List ℕ) Refusal
+bank_of_lines capacity lines = after_lines with_account_line (no_accounts capacity) lines >>= λ made. Ok made.balances
 
 -- the object of this kind and capacity, with further lines
-abbrev pub object_of : Kind × ℕ → List Numbered → Result AnyObject Refusal
-object_of (kinds.Bank, n) lines = with_lines with_account_line (no_accounts n) lines >>= λ made. Ok (objects.Bank made.balances)
+abbrev pub object_of : Kind → ℕ → List Numbered → Result AnyObject Refusal
+object_of kinds.Bank capacity lines = bank_of_lines capacity lines >>= λ balances. Ok (objects.Bank balances)
 
 abbrev pub init_of_lines : List Numbered → Result AnyObject Refusal
 init_of_lines [] = Err (refused 0 Missing)
-init_of_lines (l ∷ lines) = at_line l.number (head_of (words_of l.line)) >>= λ head. object_of head lines
+init_of_lines (l ∷ lines) = at_line l.number (head_of (words_of l.line)) >>= λ head. object_of head.kind head.capacity lines
 
 -- the initial state of a text, or why the text is none
 abbrev pub init_of : List ℕ → Result AnyObject Refusal

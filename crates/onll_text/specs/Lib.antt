@@ -6,4 +6,5 @@ pub mod Wording
 pub mod Lines
 pub mod Script
 pub mod BankText
+pub mod BankWording
 pub mod Init

@@ -2,12 +2,19 @@
 #![tactic(auto)]
 
 mod any_object;
+mod bank;
+mod bank_init;
+mod init;
 mod lines;
 mod reason;
 mod report;
+mod script;
 mod texted;
+mod words;
 
 pub use any_object::{AnyObject, Kind};
+pub use init::read_init;
 pub use reason::{Reason, TextFault};
 pub use report::{Piece, Report};
+pub use script::{LONGEST_TEXT, read_script};
 pub use texted::Texted;

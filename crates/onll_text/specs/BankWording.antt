@@ -1,0 +1,49 @@
+use Rattle.std.specs.Prelude.{ℕ, Bool, true, false, List, [], ◌∷◌, ◌≡◌, ◌+◌, codes, decimal, refl}
+use Rattle.onll_words.specs.Texts.{IsWord, AreWords, AreMeaningful}
+use Rattle.onll_words.proofs.Decimals.{IsWord-decimal}
+use Rattle.onll_bank.specs.declared.operation.BankOp.{BankOp}
+use Rattle.onll_bank.specs.declared.operation.BankOp.TheVariants.{Deposit, Withdraw, Transfer}
+use Rattle.onll_bank.specs.declared.operation.BankQuery.{BankQuery}
+use Rattle.onll_bank.specs.declared.operation.BankQuery.TheVariants.{Balance, Total}
+use Rattle.onll_bank.specs.declared.operation.BankReply.{BankReply}
+use Rattle.onll_bank.specs.declared.operation.BankReply.TheVariants.{Done, Over, TooLittle, NoAccount, Amount}
+use Rattle.onll_text.specs.Wording.{Wording}
+use Rattle.onll_text.specs.BankText.{bank_call_of, bank_op_words, bank_query_words, bank_reply_words, account_lines, bank_state_lines}
+
+pub op_in_words : (op : BankOp) → AreWords (bank_op_words op)
+op_in_words (Deposit a x) = (record { some = refl; bytes = refl }, (IsWord-decimal a, (IsWord-decimal x, tt)))
+op_in_words (Withdraw a x) = (record { some = refl; bytes = refl }, (IsWord-decimal a, (IsWord-decimal x, tt)))
+op_in_words (Transfer a b x) = (record { some = refl; bytes = refl }, (IsWord-decimal a, (IsWord-decimal b, (IsWord-decimal x, tt))))
+
+pub query_in_words : (query : BankQuery) → AreWords (bank_query_words query)
+query_in_words (Balance a) = (record { some = refl; bytes = refl }, (IsWord-decimal a, tt))
+query_in_words Total = (record { some = refl; bytes = refl }, tt)
+
+pub reply_in_words : (reply : BankReply) → AreWords (bank_reply_words reply)
+reply_in_words Done = (record { some = refl; bytes = refl }, tt)
+reply_in_words Over = (record { some = refl; bytes = refl }, tt)
+reply_in_words TooLittle = (record { some = refl; bytes = refl }, tt)
+reply_in_words NoAccount = (record { some = refl; bytes = refl }, tt)
+reply_in_words (Amount n) = (IsWord-decimal n, tt)
+
+accounts_in_lines : (a : ℕ) (balances : List ℕ) → AreMeaningful (account_lines a balances)
+accounts_in_lines a [] = tt
+accounts_in_lines a (x ∷ balances) =
+    ((record { some = refl; bytes = refl }, (IsWord-decimal a, (IsWord-decimal x, tt))), refl, accounts_in_lines (a + 1) balances)
+
+pub state_in_lines : (balances : List ℕ) → AreMeaningful (bank_state_lines balances)
+state_in_lines balances = ((record { some = refl; bytes = refl }, (IsWord-decimal _, tt)), refl, accounts_in_lines 0 balances)
+
+-- how a bank is written
+abbrev pub bank_wording : Wording (List ℕ) BankOp BankQuery BankReply
+bank_wording = record {
+  call_of = bank_call_of;
+  op_words = bank_op_words;
+  query_words = bank_query_words;
+  reply_words = bank_reply_words;
+  state_lines = bank_state_lines;
+  op_in_words = op_in_words;
+  query_in_words = query_in_words;
+  reply_in_words = reply_in_words;
+  state_in_lines = state_in_lines;
+}

@@ -1,0 +1,130 @@
+ghost use Rattle.std.specs.Prelude.{◌≡◌, ◌≤◌, ℕ, List, Result, MatchResult, IfOk};
+ghost use Rattle.onll_text.specs.declared.reason.Reason.{Reason};
+ghost use Rattle.onll_words.specs.Texts.{words_of};
+ghost use Rattle.onll_text.specs.Refusal.{Fails};
+ghost use Rattle.onll_text.specs.Init.{kind_of, capacity_of, head_of, after_lines, bank_of_lines, object_of, init_of};
+
+use crate::any_object::{AnyObject, Kind};
+use crate::bank_init::BankInit;
+use crate::reason::{Reason, TextFault};
+use crate::script::is_too_long;
+use crate::words::{is_text, one_number};
+use onll_bank::Bank;
+use onll_words::{Cut, Lines, NumberedLine, split_word};
+use std::alloc::Global;
+
+/// An initial state in the making, which grows line by line.
+pub(crate) trait Initial: Sized {
+    /// What it is with one line more, by the line's words.
+    ghost with_line: { Self → List (List ℕ) → Result Self Reason };
+
+    /// Takes one line more.
+    fn add_line(&mut self, line: &[u8]) -> Result<(), Reason>
+        ensures { MatchResult result (λ _. with_line self.old (words_of line.now) ≡ Ok self.new) (λ e. with_line self.old (words_of line.now) ≡ Err e) };
+}
+
+/// Takes all lines that are left.
+fn add_lines<I: Initial>(made: &mut I, lines: &mut Lines<'_>) -> Result<(), TextFault>
+    ensures { MatchResult result (λ _. after_lines I.with_line made.old lines.old ≡ Ok made.new) (λ fault. Fails fault (after_lines I.with_line made.old lines.old)) }
+{
+    while let Some(NumberedLine { number, line }) = lines.next_line() {
+        match made.add_line(line) {
+            Ok(()) => {}
+            Err(reason) => return Err(TextFault::Refused {
+                line: number,
+                reason,
+            }),
+        }
+    }
+    Ok(())
+}
+
+/// The first line of an initial state: the kind of object and its capacity.
+#[derive(Clone, Copy)]
+pub(crate) struct Head {
+    kind: Kind,
+    capacity: u64,
+}
+
+fn read_kind(word: &[u8]) -> Result<Kind, Reason>
+    ensures { result ≡ kind_of word.now }
+{
+    if is_text(word, b"bank") {
+        Ok(Kind::Bank)
+    } else {
+        Err(Reason::UnknownObject)
+    }
+}
+
+fn read_capacity(args: &[u8]) -> Result<u64, Reason>
+    ensures capacity { result ≡ capacity_of (words_of args.now) }
+    ensures range { IfOk result (λ n. (1 ≤ n) × (n ≤ 4096)) }
+{
+    let n = one_number(args)?;
+    if n < 1 || n > 4096 {
+        return Err(Reason::OutOfRange);
+    }
+    Ok(n)
+}
+
+fn read_head(line: &[u8]) -> Result<Head, Reason>
+    ensures head { result ≡ head_of (words_of line.now) }
+    ensures range { IfOk result (λ head. (1 ≤ head.capacity) × (head.capacity ≤ 4096)) }
+{
+    let Some(Cut { word, rest }) = split_word(line) else {
+        return Err(Reason::UnknownObject);
+    };
+    let kind = read_kind(word)?;
+    let capacity = read_capacity(rest)?;
+    Ok(Head { kind, capacity })
+}
+
+/// The bank of this many accounts, with the lines that are left.
+fn read_bank(alloc: Global, capacity: u64, lines: &mut Lines<'_>) -> Result<Bank, TextFault>
+    requires { (1 ≤ capacity) × (capacity ≤ 4096) }
+    ensures { MatchResult result (λ bank. bank_of_lines capacity lines.old ≡ Ok bank) (λ fault. Fails fault (bank_of_lines capacity lines.old)) }
+{
+    let Ok(mut made) = BankInit::begin(alloc, capacity) else {
+        return Err(TextFault::NoMemory);
+    };
+    add_lines(&mut made, lines)?;
+    Ok(made.finish())
+}
+
+fn read_object(alloc: Global, head: Head, lines: &mut Lines<'_>) -> Result<AnyObject, TextFault>
+    requires { (1 ≤ head.capacity) × (head.capacity ≤ 4096) }
+    ensures { MatchResult result (λ object. object_of head.kind head.capacity lines.old ≡ Ok object) (λ fault. Fails fault (object_of head.kind head.capacity lines.old)) }
+{
+    match head.kind {
+        Kind::Bank => {
+            let bank = read_bank(alloc, head.capacity, lines)?;
+            Ok(AnyObject::Bank(bank))
+        }
+    }
+}
+
+/// The initial state of a text, or the first line that is refused with the first reason.
+pub fn read_init(alloc: Global, text: &[u8]) -> Result<AnyObject, TextFault>
+    ensures { MatchResult result (λ object. init_of text.now ≡ Ok object) (λ fault. Fails fault (init_of text.now)) }
+{
+    if is_too_long(text) {
+        return Err(TextFault::Refused {
+            line: 0,
+            reason: Reason::TooLong,
+        });
+    }
+    let mut lines = Lines::of(text);
+    let Some(NumberedLine { number, line }) = lines.next_line() else {
+        return Err(TextFault::Refused {
+            line: 0,
+            reason: Reason::Missing,
+        });
+    };
+    match read_head(line) {
+        Ok(head) => read_object(alloc, head, &mut lines),
+        Err(reason) => Err(TextFault::Refused {
+            line: number,
+            reason,
+        }),
+    }
+}

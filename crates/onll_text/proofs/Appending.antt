@@ -73,3 +73,18 @@ with_words-begin bytes w (v ∷ ws) e h =
 -- words at the front of a line, and its end, are the line's text
 pub with_words-line : (bytes : List ℕ) (w : List ℕ) (ws : List (List ℕ)) → begins_line bytes ≡ true → AreWords (w ∷ ws) → with_words bytes (w ∷ ws) ++ 10 ∷ [] ≡ bytes ++ line_text (w ∷ ws)
 with_words-line bytes w ws e h = ap (λ t. t ++ 10 ∷ []) (with_words-begin bytes w ws e h) ∙ append_assoc bytes (joined (w ∷ ws)) (10 ∷ [])
+
+-- lines after lines
+pub with_lines-append : (bytes : List ℕ) (ls ms : List (List (List ℕ))) → with_lines bytes (ls ++ ms) ≡ with_lines (with_lines bytes ls) ms
+with_lines-append bytes [] ms = ap (λ t. t ++ flat_map line_text ms) (sym (append-nil bytes))
+with_lines-append bytes (ws ∷ ls) ms =
+    sym (append_assoc bytes (line_text ws) (flat_map line_text (ls ++ ms)))
+    ∙ with_lines-append (bytes ++ line_text ws) ls ms
+    ∙ ap (λ t. t ++ flat_map line_text ms) (append_assoc bytes (line_text ws) (flat_map line_text ls))
+
+-- one line is its text
+pub with_lines-one : (bytes : List ℕ) (ws : List (List ℕ)) (ls : List (List (List ℕ))) → with_lines bytes (ws ∷ ls) ≡ with_lines (bytes ++ line_text ws) ls
+with_lines-one bytes ws ls = sym (append_assoc bytes (line_text ws) (flat_map line_text ls))
+
+-- where a line begins
+pub ruleset beginning = (begins_line-line, begins_line-lines)

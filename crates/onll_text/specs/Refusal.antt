@@ -1,5 +1,6 @@
-use Rattle.std.specs.Prelude.{ℕ, ◌≡◌, Bool, Option, Some, None, Result, Ok, Err, if◌then◌else◌}
+use Rattle.std.specs.Prelude.{ℕ, ◌≡◌, Bool, Option, Some, None, Result, Ok, Err, if◌then◌else◌, List, codes}
 use Rattle.onll_text.specs.declared.reason.Reason.{Reason}
+use Rattle.onll_text.specs.declared.reason.Reason.TheVariants.{TooLong, Missing, UnknownObject, UnknownWord, WrongCount, BadNumber, BadWord, OutOfRange, Repeated, TooMany, TooLarge, AfterCrash}
 use Rattle.onll_text.specs.declared.reason.TextFault.{TextFault}
 use Rattle.onll_text.specs.declared.reason.TextFault.TheVariants.{Refused, NoMemory}
 
@@ -34,3 +35,18 @@ at_line line (Err reason) = Err (refused line reason)
 abbrev pub Fails : {A : Type 0} → TextFault → Result A Refusal → Type 0
 Fails NoMemory read = Unit {0}
 Fails (Refused line reason) read = read ≡ Err (refused line reason)
+
+-- a reason as it is printed
+abbrev pub reason_text : Reason → List ℕ
+reason_text TooLong = codes "too long"
+reason_text Missing = codes "missing"
+reason_text UnknownObject = codes "unknown object"
+reason_text UnknownWord = codes "unknown word"
+reason_text WrongCount = codes "wrong count"
+reason_text BadNumber = codes "bad number"
+reason_text BadWord = codes "bad word"
+reason_text OutOfRange = codes "out of range"
+reason_text Repeated = codes "repeated"
+reason_text TooMany = codes "too many"
+reason_text TooLarge = codes "too large"
+reason_text AfterCrash = codes "after crash"

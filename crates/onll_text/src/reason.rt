@@ -1,3 +1,6 @@
+ghost use Rattle.std.specs.Prelude.{◌≡◌};
+ghost use Rattle.onll_text.specs.Refusal.{reason_text};
+
 /// Why a text is refused.
 #[derive(Clone, Copy, Debug, PartialEq, Eq)]
 pub enum Reason {
@@ -25,6 +28,28 @@ pub enum Reason {
     TooLarge,
     /// A line stands after the crash line.
     AfterCrash,
+}
+
+impl Reason {
+    /// The reason as it is printed.
+    pub fn text(self) -> &'static [u8]
+        ensures { result.now ≡ reason_text self }
+    {
+        match self {
+            Reason::TooLong => b"too long",
+            Reason::Missing => b"missing",
+            Reason::UnknownObject => b"unknown object",
+            Reason::UnknownWord => b"unknown word",
+            Reason::WrongCount => b"wrong count",
+            Reason::BadNumber => b"bad number",
+            Reason::BadWord => b"bad word",
+            Reason::OutOfRange => b"out of range",
+            Reason::Repeated => b"repeated",
+            Reason::TooMany => b"too many",
+            Reason::TooLarge => b"too large",
+            Reason::AfterCrash => b"after crash",
+        }
+    }
 }
 
 /// Why a text was not read.

@@ -45,6 +45,13 @@ impl Report {
         &self.bytes
     }
 
+    /// The bytes, without a copy.
+    pub fn into_bytes(self) -> Vec<u8>
+        ensures { result.items ≡ self }
+    {
+        self.bytes
+    }
+
     /// Whether nothing stands in the last line yet.
     fn begins_line(&self) -> bool
         ensures { result ≡ begins_line self.now }

@@ -1,0 +1,28 @@
+use Rattle.std.proofs.Common.{◌∙◌, sym, ap, subst}
+use Rattle.std.specs.List.{AllByRecursion}
+use Rattle.std.specs.Option.{IsSome}
+use Rattle.onll_model.specs.declared.node.Node.{Node}
+use Rattle.onll_model.proofs.FoldLegal.{fold_legal}
+use Rattle.onll_text.specs.Bytes.{begins_line}
+use Rattle.onll_text.specs.Lines.{trace_line, node_lines}
+use Rattle.onll_text.proofs.Appending.{begins_line-line, begins_line-lines}
+use Rattle.onll_jobs.proofs.FoldSteps.{fold_operations}
+use Rattle.onll_jobs.proofs.fold.fold_script.Goals as goal
+
+pub put_nodes-requires-clause-operations : goal.put_nodes-requires-clause-operations
+put_nodes-requires-clause-operations g c =
+    let b = g.O.Object.means in
+    subst (AllByRecursion (λ (n : Node). IsSome (b.op_at n.row))) (sym (c.deref.ensures.value ∙ c.in_ok-put_calls.ensures.trace)) (fold_operations b 0 c.args.script.now)
+
+pub put_nodes-requires-clause-begins : goal.put_nodes-requires-clause-begins
+put_nodes-requires-clause-begins g c =
+    ap begins_line c.in_ok-trace_line.ensures ∙ begins_line-line c.put_calls.new.out (trace_line c.len.result)
+
+pub state_lines-requires : goal.state_lines-requires
+state_lines-requires g c =
+    ap begins_line c.in_ok-put_nodes.ensures
+    ∙ begins_line-lines c.trace_line.new.self (node_lines g.O.Object.means g.O.Texted.wording 0 c.deref.result.now)
+    (ap begins_line c.in_ok-trace_line.ensures ∙ begins_line-line c.put_calls.new.out (trace_line c.len.result))
+
+pub returns-clause-legal : goal.returns-clause-legal
+returns-clause-legal g c = fold_legal g.O.Object.means c.args.object.now c.args.script.now

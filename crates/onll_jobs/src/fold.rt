@@ -1,0 +1,102 @@
+ghost use Rattle.std.specs.Prelude.{◌≡◌, ℕ, ◌+◌, ◌++◌, ◌∷◌, ◌<◌, ◌^◌, [], length, true, IsSome, IfOk, OnOk};
+ghost use Rattle.std.specs.List.{AllByRecursion};
+ghost use Rattle.onll_model.specs.Fold.{fold_trace, fold_ends, fold_state};
+ghost use Rattle.onll_model.specs.Legal.{IsLegal};
+ghost use Rattle.onll_text.specs.Bytes.{begins_line, with_lines};
+ghost use Rattle.onll_text.specs.Lines.{call_lines, node_lines};
+ghost use Rattle.onll_jobs.specs.Fold.{fold_report};
+
+use onll_model::{Call, CallEnd, Node};
+use onll_text::{Report, Texted};
+use onll_words::NoMemory;
+use std::alloc::Global;
+
+/// Does one call after so many updates, and puts its node into the trace.
+fn fold_call<O: Texted>(
+    object: &mut O,
+    call: &Call<O>,
+    updates: u64,
+    trace: &mut Vec<Node>,
+) -> Result<CallEnd<O>, NoMemory>
+    requires { updates + 1 < 2 ^ 64 }
+    ensures state { OnOk result (object.new ≡ fold_state O.means object.old (call.now ∷ [])) }
+    ensures trace { OnOk result (trace.new.items ≡ trace.old.items ++ fold_trace O.means updates (call.now ∷ [])) }
+    ensures end { IfOk result (λ end. end ∷ [] ≡ fold_ends O.means object.old updates (call.now ∷ [])) }
+{
+    match call {
+        Call::Update(op) => {
+            let number = updates + 1;
+            let node = Node {
+                thread: 0,
+                number,
+                row: O::op_row(*op),
+            };
+            if trace.push(node).is_err() {
+                return Err(NoMemory);
+            }
+            Ok(CallEnd::Answered {
+                reply: object.apply(*op),
+                place: number,
+            })
+        }
+        Call::Ask(query) => Ok(CallEnd::Answered {
+            reply: object.ask(*query),
+            place: updates,
+        }),
+    }
+}
+
+/// Does the calls of thread 0 in order, and appends the line of each.
+fn put_calls<O: Texted>(
+    object: &mut O,
+    script: &[Call<O>],
+    trace: &mut Vec<Node>,
+    out: &mut Report,
+) -> Result<(), NoMemory>
+    requires fresh { trace.old.items ≡ [] }
+    requires begins { begins_line out.old ≡ true }
+    ensures state { OnOk result (object.new ≡ fold_state O.means object.old script.now) }
+    ensures trace { OnOk result (trace.new.items ≡ fold_trace O.means 0 script.now) }
+    ensures lines { OnOk result (out.new ≡ with_lines out.old (call_lines O.wording 0 0 script.now (fold_ends O.means object.old 0 script.now))) }
+{
+    let mut number = 0;
+    for call in script {
+        number += 1;
+        let end = fold_call(object, call, trace.len() as u64, trace)?;
+        out.call_line(0, number, call, &end)?;
+    }
+    Ok(())
+}
+
+/// Appends the line of each node.
+fn put_nodes<O: Texted>(trace: &[Node], out: &mut Report) -> Result<(), NoMemory>
+    requires operations { AllByRecursion (λ n. IsSome (O.means.op_at n.row)) trace.now }
+    requires begins { begins_line out.old ≡ true }
+    ensures { OnOk result (out.new ≡ with_lines out.old (node_lines O.means O.wording 0 trace.now)) }
+{
+    let mut place = 0;
+    for node in trace {
+        place += 1;
+        out.node_line::<O>(place, *node, None)?;
+    }
+    Ok(())
+}
+
+/// The report of a script that is done in order on the object. Its outcomes and its trace are a legal report.
+#[tactic(auto, using(onll_text::proofs::Appending::beginning))]
+pub(crate) fn fold_script<O: Texted>(
+    alloc: Global,
+    object: &mut O,
+    script: &[Call<O>],
+) -> Result<Vec<u8>, NoMemory>
+    ensures report { IfOk result (λ bytes. bytes.items ≡ fold_report O.means O.wording object.old script.now) }
+    ensures legal { OnOk result (IsLegal O.means object.old [] (script.now ∷ []) (fold_trace O.means 0 script.now) (fold_ends O.means object.old 0 script.now ∷ [])) }
+{
+    let mut out = Report::new(alloc);
+    let mut trace = Vec::new(alloc);
+    put_calls(object, script, &mut trace, &mut out)?;
+    out.trace_line(trace.len() as u64)?;
+    put_nodes::<O>(&trace, &mut out)?;
+    out.state_lines(object)?;
+    Ok(out.into_bytes())
+}

@@ -1,3 +1,4 @@
 pub mod Counts
+pub mod Flushed
 pub mod Names
 pub mod Puts

@@ -1,7 +1,7 @@
 use Rattle.std.specs.Prelude.{ℕ, ◌≡◌, ◌+◌, ◌-◌, ◌^◌, min, false, Option, Some, None}
 use Rattle.onll_outside.specs.declared.OutsideFault.{OutsideFault}
 use Rattle.onll_outside.specs.declared.OutsideFault.TheVariants.{Failed, NoMemory}
-use Rattle.onll_outside.specs.Views.{Last, StoreView, SinkView}
+use Rattle.onll_outside.specs.Views.{Last, StoreView}
 
 -- how many calls failed, and the last of them
 pub record FaultsSeen : Type 0 where
@@ -20,7 +20,3 @@ Raises this old new NoMemory = new ≡ old
 -- a store that tells its faults alone
 abbrev pub untold : FaultsSeen → StoreView
 untold f = record { tells = false; file = λ _. None; faults = f.count; last = f.last }
-
--- a sink that tells its faults alone
-abbrev pub untold_sink : ℕ → SinkView
-untold_sink faults = record { taken = None; faults = faults }

@@ -45,15 +45,13 @@ called s = record s { calls = one_more s.calls }
 abbrev pub found : FilesHeld → List ℕ → Option (List ℕ)
 found s name = if call_fails s then None else file_in s.files name
 
--- a read answers Failed only where nothing is found, and Ok only with the front of what is found
-abbrev pub MemReads : {A : Type 0} → FilesHeld → List ℕ → ℕ → Result (Vec ℕ A) OutsideFault → Type 0
-MemReads old name limit (Ok v) = IsFront limit (found old name) v.items
-MemReads old name limit (Err Failed) = found old name ≡ None
-MemReads old name limit (Err NoMemory) = Unit {0}
+-- the store after a call of this kind and name that was a fault
+abbrev pub failed : FilesHeld → Last → FilesHeld
+failed s this = record (called s) { faults = one_more s.faults; last = Some this }
 
--- a call is counted, and a fault is too
-abbrev pub MemReadTo : {T : Type 0} → FilesHeld → FilesHeld → List ℕ → Result T OutsideFault → Type 0
-MemReadTo old new name (Ok v) = new ≡ called old
-MemReadTo old new name (Err Failed) =
-    new ≡ record (called old) { faults = one_more old.faults; last = Some (record { kind = Read; name = name }) }
-MemReadTo old new name (Err NoMemory) = new ≡ called old
+-- a read is Failed only where nothing is found, and Ok only with the first bytes of what is found
+abbrev pub MemReads : {A : Type 0} → FilesHeld → FilesHeld → List ℕ → ℕ → Result (Vec ℕ A) OutsideFault → Type 0
+MemReads old new name limit (Ok v) = IsFront limit (found old name) v.items × (new ≡ called old)
+MemReads old new name limit (Err Failed) =
+    (found old name ≡ None) × (new ≡ failed old (record { kind = Read; name = name }))
+MemReads old new name limit (Err NoMemory) = new ≡ called old

@@ -10,6 +10,8 @@ mod mem_store;
 mod out_sink;
 mod sink;
 mod store;
+#[cfg(test)]
+mod tests;
 
 pub use file_store::FileStore;
 pub use mem_sink::MemSink;

@@ -1,6 +1,7 @@
 ghost use Rattle.std.specs.Prelude.{◌≡◌, MatchOption, None, IfOk, map};
+ghost use Rattle.std.specs.Option.{option_copied};
 ghost use Rattle.onll_outside.specs.Views.{SameFiles, Gives, FaultsOf};
-ghost use Rattle.onll_outside.specs.MemStore.{FilesHeld, texts_of, file_in, store_of, call_fails, called, MemReads, MemReadTo};
+ghost use Rattle.onll_outside.specs.MemStore.{FilesHeld, texts_of, file_in, store_of, call_fails, called, MemReads};
 
 use crate::faults::Faults;
 use crate::{FaultKind, OutsideFault, Store};
@@ -67,7 +68,7 @@ impl MemStore {
 
     /// The bytes of the file of that name.
     pub fn file(&self, name: &str) -> Option<&[u8]>
-        ensures { MatchOption result (file_in self.now.files name.now ≡ None) (λ bytes. file_in self.now.files name.now ≡ Some bytes.now) }
+        ensures { option_copied result ≡ file_in self.now.files name.now }
     {
         find(&self.files, name).map(|file| file.bytes.as_slice())
     }
@@ -89,8 +90,7 @@ impl Store for MemStore {
         ensures bytes { IfOk result (λ v. Gives (store_of self.old) name.now limit v.items) }
         ensures same { SameFiles (store_of self.old) (store_of self.new) }
         ensures faults { FaultsOf (record { kind = FaultKind.Read; name = name.now }) (store_of self.old) (store_of self.new) result }
-        ensures reads { MemReads self.old name.now limit result }
-        ensures state { MemReadTo self.old self.new name.now result }
+        ensures exact { MemReads self.old self.new name.now limit result }
     {
         let fails = self.begin_call();
         if !fails && let Some(file) = find(&self.files, name) {

@@ -1,5 +1,7 @@
-ghost use Rattle.std.specs.Prelude.{◌≡◌, ℕ};
-ghost use Rattle.onll_outside.specs.Faults.{untold_sink};
+ghost use Rattle.std.specs.Prelude.{◌≡◌, OnOk};
+ghost use Rattle.std.specs.Io.KnownBytes.{Appends};
+ghost use Rattle.onll_outside.specs.Views.{PutOf};
+ghost use Rattle.onll_outside.specs.OutSink.{Written, untold_sink};
 
 use crate::{OutsideFault, Sink};
 use std::io;
@@ -14,12 +16,15 @@ pub struct OutSink<W: Write + Drop> {
 }
 
 impl<W: Write + Drop> Model for OutSink<W> {
-    ghost Value = { ℕ };
+    ghost Value = { Written W };
 
-    ghost view = { λ s. s.faults };
+    ghost view = { λ s. record { writer = s.inner; faults = s.faults } };
 }
 
-fn write_through<W: Write>(inner: &mut W, bytes: &[u8]) -> io::Result<()> {
+#[tactic(auto, using(crate::proofs::Flushed::flushed))]
+fn write_through<W: Write>(inner: &mut W, bytes: &[u8]) -> io::Result<()>
+    ensures { OnOk result (Appends (W.contents inner.old) (W.contents inner.new) bytes.now) }
+{
     inner.write_all(bytes)?;
     inner.flush()
 }
@@ -27,7 +32,7 @@ fn write_through<W: Write>(inner: &mut W, bytes: &[u8]) -> io::Result<()> {
 impl<W: Write + Drop> OutSink<W> {
     /// What `inner` writes, where no put has failed yet.
     pub fn new(inner: W) -> OutSink<W>
-        ensures { result ≡ 0 }
+        ensures { result ≡ record { writer = inner; faults = 0 } }
     {
         OutSink { inner, faults: 0 }
     }
@@ -37,7 +42,10 @@ impl<W: Write + Drop> Sink for OutSink<W> {
     ghost held = { untold_sink };
 
     /// Writes the bytes, and has a writer that keeps some back write those too.
-    fn put(&mut self, bytes: &[u8]) -> Result<(), OutsideFault> {
+    fn put(&mut self, bytes: &[u8]) -> Result<(), OutsideFault>
+        ensures put { PutOf (untold_sink self.old) (untold_sink self.new) bytes.now result }
+        ensures wrote { OnOk result (Appends (W.contents self.old.writer) (W.contents self.new.writer) bytes.now) }
+    {
         match write_through(&mut self.inner, bytes) {
             Ok(()) => Ok(()),
             Err(e) if e.kind() == ErrorKind::OutOfMemory => Err(OutsideFault::NoMemory),

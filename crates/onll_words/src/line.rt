@@ -1,5 +1,5 @@
 ghost use Rattle.std.specs.Prelude.{◌≡◌};
-ghost use Rattle.onll_words.specs.Lines.{bytes_of_words, words_in};
+ghost use Rattle.onll_words.specs.Lines.{bytes_of_words, words_of_bytes};
 
 use byteorder::{ByteOrder, LittleEndian};
 
@@ -26,7 +26,7 @@ pub fn line_bytes(line: Line) -> [u8; 64]
 
 /// The line of which these are the bytes.
 pub fn line_of_bytes(bytes: [u8; 64]) -> Line
-    ensures words { result.w ≡ words_in 8 bytes }
+    ensures words { result.w ≡ words_of_bytes bytes }
     ensures bytes { bytes_of_words result.w ≡ bytes }
 {
     let mut w = [0; 8];

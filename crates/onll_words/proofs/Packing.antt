@@ -1,14 +1,14 @@
-use Rattle.std.proofs.Common.{ℕ, zero, suc, Bool, true, false, List, [], ◌∷◌, ◌++◌, ◌≡◌, ◌≢◌, ◌+◌, ◌-◌, ◌*◌, ◌<◌, ◌≤◌, Option, Some, None, unwrap_or, length, take, drop, set, replicate, get_or, slice_index, nat_le, cond, refl, ap, sym, ◌∙◌, append_assoc, arith, ◌&&◌, ◌⊎◌, inl, inr}
+use Rattle.std.proofs.Common.{ℕ, zero, suc, Bool, true, false, List, [], ◌∷◌, ◌++◌, ◌≡◌, ◌≢◌, ◌+◌, ◌-◌, ◌<◌, ◌≤◌, Option, Some, None, unwrap_or, length, take, drop, set, replicate, get_or, slice_index, nat_le, cond, refl, ap, sym, ◌∙◌, append_assoc, arith, ◌&&◌}
 use Rattle.std.specs.List.{list_all}
 use Rattle.std.specs.Str.{bytes_eq}
 use Rattle.std.specs.Cmp.Lexicographic.{same_text}
 use Rattle.std.proofs.lemmas.Cmp.{nat_list_eq_equiv}
 use Rattle.std.proofs.lemmas.Bool.{and_parts, leb-true}
-use Rattle.std.proofs.lemmas.List.{length-append, length-replicate, drop-replicate, set-append_right, take_at, get_or_at, get_or_append_left, get_or-append_right, get_or-replicate, append-nil}
+use Rattle.std.proofs.lemmas.List.{length-append, length-replicate, drop-replicate, set-append_right, take_at, get_or_at, get_or_append_left}
 use Rattle.std.proofs.lemmas.List.Sums.{AllPass-from_list_all}
-use Rattle.onll_words.specs.Bytes.{words_in, high_word, high_bytes}
-use Rattle.onll_words.specs.Short.{is_text_byte, is_short, IsShort, ShortText, short_if, short_of, short_of-bytes, padded, packed, bytes_in, unpacked}
-use Rattle.onll_words.proofs.WordBytes.{Bytes, high_first, flat_map-words_in, length-words_in}
+use Rattle.onll_words.specs.Bytes.{high_bytes}
+use Rattle.onll_words.specs.Short.{is_text_byte, is_short, IsShort, ShortText, short_if, short_of, short_of-bytes, short_at, short_at-bytes, padded, packed, bytes_in, unpacked}
+use Rattle.onll_words.proofs.WordBytes.{Bytes, high_first, flat_map-words_in}
 
 -- what a short text is made of
 pub record ShortParts (bytes : List ℕ) : Type 0 where
@@ -146,3 +146,54 @@ same_short s t e = let left = short_of-bytes s in let right = short_of-bytes t i
 
 pub same_packed : (s t : ShortText) → packed s.bytes ≡ packed t.bytes → s ≡ t
 same_packed s t e = let left = unpacked-packed s in let right = unpacked-packed t in let both = ap unpacked e in cc
+
+-- what a value made of a packing is
+pub packed_inside : (bytes words : List ℕ) → IsShort bytes → words ≡ packed bytes → IsShort (bytes_in words) × (packed (bytes_in words) ≡ words)
+packed_inside bytes words h e =
+    let same : bytes_in words ≡ bytes = ap bytes_in e ∙ bytes_in-packed bytes h in
+    (ap is_short same ∙ h, ap packed same ∙ sym e)
+
+pub packed_view : (bytes words : List ℕ) → IsShort bytes → words ≡ packed bytes → Some (short_at (bytes_in words)) ≡ short_of bytes
+packed_view bytes words h e =
+    let text : ShortText = record { bytes = bytes; short = h } in
+    ap (λ bs. Some (short_at bs)) (ap bytes_in e ∙ bytes_in-packed bytes h) ∙ ap Some (short_at-bytes text) ∙ sym (short_of-bytes text)
+
+short_if-false : (b : Bool) (bytes : List ℕ) (e : is_short bytes ≡ b) → b ≡ false → short_if b bytes e ≡ None
+short_if-false true bytes e h = cc
+short_if-false false bytes e h = refl
+
+pub short_of-other : (bytes : List ℕ) → is_short bytes ≡ false → short_of bytes ≡ None
+short_of-other bytes h = short_if-false (is_short bytes) bytes refl h
+
+either_none : (b : Bool) (o : Option ShortText) → o ≡ None → cond b o None ≡ None
+either_none true o h = h
+either_none false o h = refl
+
+pub unpacked-no_text : (words : List ℕ) → short_of (bytes_in words) ≡ None → unpacked words ≡ None
+unfolding unpacked
+unpacked-no_text words h = either_none (bytes_eq (packed (bytes_in words)) words) (short_of (bytes_in words)) h
+
+pub unpacked-same : (words : List ℕ) (text : ShortText) → packed text.bytes ≡ words → unpacked words ≡ Some text
+unpacked-same words text e = ap unpacked (sym e) ∙ unpacked-packed text
+
+pub unpacked-other : (words : List ℕ) (text : ShortText) → short_of (bytes_in words) ≡ Some text → bytes_eq (packed text.bytes) words ≡ false → unpacked words ≡ None
+unfolding unpacked
+unpacked-other words text h e =
+    let same = text_of_some (is_short (bytes_in words)) (bytes_in words) refl text h in
+    ap (λ b. cond b (short_of (bytes_in words)) None) (ap (λ bs. bytes_eq (packed bs) words) (sym same) ∙ e)
+
+pub bytes_in-front : (words bytes front : List ℕ) → bytes ≡ high_bytes words → front ≡ take (slice_index bytes 23) bytes → front ≡ bytes_in words
+unfolding bytes_in
+bytes_in-front words bytes front e h = h ∙ ap (λ bs. take (slice_index bs 23) bs) e
+
+-- the bytes that a short text's packing has
+pub high_bytes-of : (text : ShortText) → high_bytes (packed text.bytes) ≡ padded text.bytes
+high_bytes-of text = high_bytes-packed text.bytes text.short
+
+pub padded_last-of : (text : ShortText) → slice_index (padded text.bytes) 23 ≡ length text.bytes
+padded_last-of text = slice_index-padded_last text.bytes (parts text.bytes text.short).fits
+
+pub fits-of : (text : ShortText) → length text.bytes ≤ 23
+fits-of text = (parts text.bytes text.short).fits
+
+pub ruleset packing = (packed_inside, packed_view, short_of-other, unpacked-no_text, unpacked-same, unpacked-other, high_bytes-of, padded_last-of, fits-of, slice_index-padded)

@@ -1,11 +1,11 @@
 use Rattle.std.proofs.Common.{ℕ, zero, suc, List, [], ◌∷◌, ◌++◌, ◌≡◌, ◌+◌, ◌*◌, ◌^◌, ◌<◌, ◌≤◌, length, take, drop, get_or, slice_index, refl, ap, sym, ◌∙◌, arith}
 use Rattle.std.specs.List.{flat_map}
-use Rattle.std.specs.Int.{w64, to_le_bytes, from_le_bytes, to_be_bytes, from_be_bytes}
+use Rattle.std.specs.Int.{w64, to_le_bytes, to_be_bytes}
 use Rattle.std.proofs.lemmas.Nat.{le_bytes_8, be_bytes_8}
-use Rattle.std.proofs.lemmas.List.{take-append-drop, length-take-le, length-append, get_or-drop, drop-drop, drop_at, length-drop, nil_from_length, ext_get_or}
+use Rattle.std.proofs.lemmas.List.{take-append-drop, length-take-le, get_or-drop, drop-drop, drop_at, length-drop, nil_from_length, ext_get_or}
 use Rattle.byteorder.specs.Numbers.{little_number-reads_back, little_from-take, big_number-reads_back, big_from-take}
 use Rattle.byteorder.specs.Endian.{little_number, big_number, IsRead}
-use Rattle.onll_words.specs.Bytes.{words_in, low_word, high_word, low_bytes, high_bytes}
+use Rattle.onll_words.specs.Bytes.{words_in, low_word, high_word}
 
 -- each number in the list is a byte
 abbrev pub Bytes : List ℕ → Type 0

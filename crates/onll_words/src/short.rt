@@ -1,9 +1,15 @@
-ghost use Rattle.std.specs.Prelude.{◌≡◌, ◌<◌, ◌≤◌, length, slice_index};
+ghost use Rattle.std.specs.Prelude.{◌≡◌, ◌<◌, ◌≤◌, length, take, slice_index};
 ghost use Rattle.std.specs.List.{list_all};
 ghost use Rattle.onll_words.specs.Short.{is_text_byte, is_short, short_of, padded, packed, unpacked};
 ghost use Rattle.onll_words.specs.Bytes.{high_bytes};
+ghost use Rattle.std.proofs.Common.{rules, nat_eq};
+ghost use Rattle.std.specs.Cmp.{partial_order_from_own_ties};
+ghost use Rattle.std.specs.Cmp.Rules.{comparing};
+ghost use Rattle.std.specs.Cmp.Lexicographic.{slice_cmp, pointwise};
+ghost use Rattle.std.specs.Ordering.{nat_cmp, on, as_partial_cmp};
 
 use byteorder::{BigEndian, ByteOrder};
+use std::cmp::Ordering;
 use std::marker::Model;
 
 /// A text of 1 to 23 bytes, each from 0x21 to 0x7E, packed in three words. Its order is that of its bytes.
@@ -72,4 +78,105 @@ fn word_bytes(words: &[u64; 3]) -> [u8; 24]
     let mut bytes = [0; 24];
     BigEndian::write_u64_into(words, &mut bytes);
     bytes
+}
+
+/// As many bytes at the front as the last byte says.
+fn text_part(bytes: &[u8; 24]) -> &[u8]
+    ensures { result.now ≡ take (slice_index bytes.now 23) bytes.now }
+{
+    let length = usize::from(bytes[23]);
+    &bytes[..length.min(24)]
+}
+
+#[tactic(auto, using(crate::proofs::Packing::packing))]
+impl Short {
+    /// The text, where it has 1 to 23 bytes, each from 0x21 to 0x7E.
+    pub fn read(text: &[u8]) -> Option<Short>
+        ensures { result ≡ short_of text.now }
+    {
+        if !is_short(text) {
+            return None;
+        }
+        let words = packed(text);
+        Some(Short { words })
+    }
+
+    /// The text of which these words are the packing.
+    pub fn of_words(w: [u64; 3]) -> Option<Short>
+        ensures { result ≡ unpacked w }
+    {
+        let short = Short::read(text_part(&word_bytes(&w)))?;
+        if short.words() == w {
+            Some(short)
+        } else {
+            None
+        }
+    }
+
+    /// The packing: the text, zeros, and the length in the last byte, as three words, the highest byte of each first.
+    pub fn words(&self) -> [u64; 3]
+        ensures { result ≡ packed self.now.bytes }
+    {
+        self.words
+    }
+
+    /// The bytes of the packing.
+    fn bytes(&self) -> [u8; 24]
+        ensures { result ≡ padded self.now.bytes }
+    {
+        word_bytes(&self.words())
+    }
+
+    /// How many bytes the text has.
+    pub fn length(&self) -> u64
+        ensures { result ≡ length self.now.bytes }
+    {
+        u64::from(self.bytes()[23])
+    }
+
+    /// A byte of the text by its place, from 0.
+    pub fn byte(&self, i: u64) -> u8
+        requires { i < length self.now.bytes }
+        ensures { result ≡ slice_index self.now.bytes i }
+    {
+        self.bytes()[i as usize]
+    }
+}
+
+impl PartialEq for Short {
+    ghost eq = { on (λ text. text.bytes) (pointwise nat_eq) };
+
+    ghost laws = { Prim.search (comparing, rules) };
+
+    fn eq(&self, other: &Short) -> bool {
+        self.words() == other.words()
+    }
+}
+
+impl Eq for Short {
+    ghost laws = { Prim.search (comparing, rules) };
+}
+
+impl Ord for Short {
+    ghost cmp = { on (λ text. text.bytes) (slice_cmp nat_cmp) };
+
+    ghost total = { Prim.search (comparing, rules) };
+
+    ghost matches_partial_cmp = { Prim.search (comparing, rules) };
+
+    ghost matches_eq = { Prim.search (comparing, rules) };
+
+    fn cmp(&self, other: &Short) -> Ordering {
+        self.words().cmp(&other.words())
+    }
+}
+
+impl PartialOrd for Short {
+    ghost partial_cmp = { as_partial_cmp (on (λ text. text.bytes) (slice_cmp nat_cmp)) };
+
+    ghost laws = { partial_order_from_own_ties (Prim.search (comparing, rules)) (Prim.search (comparing, rules)) };
+
+    fn partial_cmp(&self, other: &Short) -> Option<Ordering> {
+        Some(self.cmp(other))
+    }
 }

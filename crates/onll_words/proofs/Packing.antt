@@ -186,14 +186,16 @@ pub bytes_in-front : (words bytes front : List ℕ) → bytes ≡ high_bytes wor
 unfolding bytes_in
 bytes_in-front words bytes front e h = h ∙ ap (λ bs. take (slice_index bs 23) bs) e
 
--- the bytes that a short text's packing has
-pub high_bytes-of : (text : ShortText) → high_bytes (packed text.bytes) ≡ padded text.bytes
-high_bytes-of text = high_bytes-packed text.bytes text.short
+-- the bytes of a short text's packing
+pub packed_last-of : (text : ShortText) → slice_index (high_bytes (packed text.bytes)) 23 ≡ length text.bytes
+packed_last-of text =
+    ap (λ bs. slice_index bs 23) (high_bytes-packed text.bytes text.short) ∙ slice_index-padded_last text.bytes (parts text.bytes text.short).fits
 
-pub padded_last-of : (text : ShortText) → slice_index (padded text.bytes) 23 ≡ length text.bytes
-padded_last-of text = slice_index-padded_last text.bytes (parts text.bytes text.short).fits
+pub packed_byte-of : (text : ShortText) (i : ℕ) → i < length text.bytes → slice_index (high_bytes (packed text.bytes)) i ≡ slice_index text.bytes i
+packed_byte-of text i lt =
+    ap (λ bs. slice_index bs i) (high_bytes-packed text.bytes text.short) ∙ slice_index-padded text.bytes i lt
 
 pub fits-of : (text : ShortText) → length text.bytes ≤ 23
 fits-of text = (parts text.bytes text.short).fits
 
-pub ruleset packing = (packed_inside, packed_view, short_of-other, unpacked-no_text, unpacked-same, unpacked-other, high_bytes-of, padded_last-of, fits-of, slice_index-padded)
+pub ruleset packing = (packed_view, packed_last-of, packed_byte-of, fits-of)

@@ -1,11 +1,11 @@
-use Rattle.std.proofs.Common.{ℕ, zero, suc, List, [], ◌∷◌, ◌++◌, ◌≡◌, ◌+◌, ◌*◌, ◌^◌, ◌<◌, ◌≤◌, length, take, drop, get_or, slice_index, refl, ap, sym, ◌∙◌, arith}
+use Rattle.std.proofs.Common.{ℕ, zero, suc, List, [], ◌∷◌, ◌++◌, ◌≡◌, ◌+◌, ◌*◌, ◌/◌, ◌%◌, ◌^◌, ◌<◌, ◌≤◌, length, take, drop, get_or, slice_index, refl, ap, sym, ◌∙◌, arith}
 use Rattle.std.specs.List.{flat_map}
 use Rattle.std.specs.Int.{w64, to_le_bytes, to_be_bytes}
 use Rattle.std.proofs.lemmas.Nat.{le_bytes_8, be_bytes_8}
-use Rattle.std.proofs.lemmas.List.{take-append-drop, length-take-le, get_or-drop, drop-drop, drop_at, length-drop, nil_from_length, ext_get_or}
+use Rattle.std.proofs.lemmas.List.{take-append-drop, length-take-le, get_or-drop, drop-drop, drop_at, length-drop, nil_from_length, ext_get_or, get_or_append_left, get_or-append-add}
 use Rattle.byteorder.specs.Numbers.{little_number-reads_back, little_from-take, big_number-reads_back, big_from-take}
 use Rattle.byteorder.specs.Endian.{little_number, big_number, IsRead}
-use Rattle.onll_words.specs.Bytes.{words_in, low_word, high_word}
+use Rattle.onll_words.specs.Bytes.{words_in, low_word, high_word, high_bytes}
 
 -- each number in the list is a byte
 abbrev pub Bytes : List ℕ → Type 0
@@ -93,3 +93,20 @@ pub words_in-read : (word : List ℕ → ℕ) (number : ℕ → List ℕ → ℕ
 words_in-read word number n bs words same len h =
     ext_get_or 0 words (words_in word n bs) (len ∙ sym (length-words_in word n bs))
     (λ k lt. h k lt ∙ sym (same (drop (8 * k) bs)) ∙ sym (get_or-words_in word n bs k 0 (omega (arith, len))))
+
+-- a byte of words by the place of its word and its place in that word
+pub get_or-flat_map : {word : List ℕ → ℕ} {bytes : ℕ → List ℕ} (o : IsByteOrder word bytes) (words : List ℕ) (q r d e : ℕ)
+    → q < length words → r < 8 → get_or (flat_map bytes words) (8 * q + r) d ≡ get_or (bytes (get_or words q e)) r d
+get_or-flat_map o [] q r d e lt h = absurd (omega arith)
+get_or-flat_map {word} {bytes} o (w ∷ ws) zero r d e lt h =
+    let i : 8 * 0 + r ≡ r = omega arith in
+    ap (λ k. get_or (bytes w ++ flat_map bytes ws) k d) i ∙ get_or_append_left (bytes w) (flat_map bytes ws) d r (omega (arith, o.eight w))
+get_or-flat_map {word} {bytes} o (w ∷ ws) (suc q) r d e lt h =
+    let i : 8 * suc q + r ≡ length (bytes w) + (8 * q + r) = omega (arith, o.eight w) in
+    ap (λ k. get_or (bytes w ++ flat_map bytes ws) k d) i ∙ get_or-append-add (bytes w) (flat_map bytes ws) (8 * q + r) d
+    ∙ get_or-flat_map o ws q r d e (omega arith) h
+
+pub get_or-high_bytes : (words : List ℕ) (i : ℕ) → i < 8 * length words → get_or (high_bytes words) i 0 ≡ get_or (to_be_bytes w64 (get_or words (i / 8) 0)) (i % 8) 0
+get_or-high_bytes words i lt =
+    let e : i ≡ 8 * (i / 8) + i % 8 = omega arith in
+    ap (λ k. get_or (high_bytes words) k 0) e ∙ get_or-flat_map high_first words (i / 8) (i % 8) 0 0 (omega arith) (omega arith)

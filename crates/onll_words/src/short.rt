@@ -13,7 +13,7 @@ use std::cmp::Ordering;
 use std::marker::Model;
 
 /// A text of 1 to 23 bytes, each from 0x21 to 0x7E, packed in three words. Its order is that of its bytes.
-#[derive(Clone, Copy)]
+#[derive(Clone, Copy, Debug)]
 pub struct Short {
     words: [u64; 3],
 }
@@ -36,6 +36,12 @@ impl Model for Short {
     ghost inverse_ok = { λ s h. ap (λ words. record { words = words }) (packed-bytes_in s.words h.0 h.1) };
 }
 
+/// How many bytes a packing has.
+const SIZE: usize = 24;
+
+/// Where the length stands in it, which is also the greatest length.
+const LENGTH_AT: usize = 23;
+
 /// Whether each byte can stand in a short text.
 fn has_text_bytes(text: &[u8]) -> bool
     ensures { result ≡ list_all is_text_byte text.now }
@@ -47,17 +53,17 @@ fn has_text_bytes(text: &[u8]) -> bool
 fn is_short(text: &[u8]) -> bool
     ensures { result ≡ is_short text.now }
 {
-    !text.is_empty() && text.len() <= 23 && has_text_bytes(text)
+    !text.is_empty() && text.len() <= LENGTH_AT && has_text_bytes(text)
 }
 
 /// The bytes of a packed text: the text, zeros, and the length in the last one.
-fn padded(text: &[u8]) -> [u8; 24]
+fn padded(text: &[u8]) -> [u8; SIZE]
     requires { length text.now ≤ 23 }
     ensures { result ≡ padded text.now }
 {
     let mut bytes = [0; 24];
     bytes[..text.len()].copy_from_slice(text);
-    bytes[23] = text.len() as u8;
+    bytes[LENGTH_AT] = text.len() as u8;
     bytes
 }
 
@@ -72,7 +78,7 @@ fn packed(text: &[u8]) -> [u64; 3]
 }
 
 /// The bytes of words.
-fn word_bytes(words: &[u64; 3]) -> [u8; 24]
+fn word_bytes(words: &[u64; 3]) -> [u8; SIZE]
     ensures { result ≡ high_bytes words.now }
 {
     let mut bytes = [0; 24];
@@ -80,12 +86,20 @@ fn word_bytes(words: &[u64; 3]) -> [u8; 24]
     bytes
 }
 
+/// A byte of words by its place.
+fn byte_at(words: &[u64; 3], i: usize) -> u8
+    requires { i < 24 }
+    ensures { result ≡ slice_index (high_bytes words.now) i }
+{
+    words[i / 8].to_be_bytes()[i % 8]
+}
+
 /// As many bytes at the front as the last byte says.
-fn text_part(bytes: &[u8; 24]) -> &[u8]
+fn text_part(bytes: &[u8; SIZE]) -> &[u8]
     ensures { result.now ≡ take (slice_index bytes.now 23) bytes.now }
 {
-    let length = usize::from(bytes[23]);
-    &bytes[..length.min(24)]
+    let length = usize::from(bytes[LENGTH_AT]);
+    &bytes[..length.min(SIZE)]
 }
 
 #[tactic(auto, using(crate::proofs::Packing::packing))]
@@ -120,18 +134,11 @@ impl Short {
         self.words
     }
 
-    /// The bytes of the packing.
-    fn bytes(&self) -> [u8; 24]
-        ensures { result ≡ padded self.now.bytes }
-    {
-        word_bytes(&self.words())
-    }
-
     /// How many bytes the text has.
     pub fn length(&self) -> u64
         ensures { result ≡ length self.now.bytes }
     {
-        u64::from(self.bytes()[23])
+        u64::from(byte_at(&self.words(), LENGTH_AT))
     }
 
     /// A byte of the text by its place, from 0.
@@ -139,7 +146,7 @@ impl Short {
         requires { i < length self.now.bytes }
         ensures { result ≡ slice_index self.now.bytes i }
     {
-        self.bytes()[i as usize]
+        byte_at(&self.words(), i as usize)
     }
 }
 

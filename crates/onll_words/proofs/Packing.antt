@@ -1,4 +1,4 @@
-use Rattle.std.proofs.Common.{ℕ, zero, suc, Bool, true, false, List, [], ◌∷◌, ◌++◌, ◌≡◌, ◌≢◌, ◌+◌, ◌-◌, ◌<◌, ◌≤◌, Option, Some, None, unwrap_or, length, take, drop, set, replicate, get_or, slice_index, nat_le, cond, refl, ap, sym, ◌∙◌, append_assoc, arith, ◌&&◌}
+use Rattle.std.proofs.Common.{ℕ, zero, suc, Bool, true, false, List, [], ◌∷◌, ◌++◌, ◌≡◌, ◌≢◌, ◌+◌, ◌-◌, ◌^◌, ◌<◌, ◌≤◌, Option, Some, None, unwrap_or, length, take, drop, set, replicate, get_or, slice_index, nat_le, cond, refl, ap, sym, ◌∙◌, append_assoc, arith, ◌&&◌}
 use Rattle.std.specs.List.{list_all}
 use Rattle.std.specs.Str.{bytes_eq}
 use Rattle.std.specs.Cmp.Lexicographic.{same_text}
@@ -6,9 +6,10 @@ use Rattle.std.proofs.lemmas.Cmp.{nat_list_eq_equiv}
 use Rattle.std.proofs.lemmas.Bool.{and_parts, leb-true}
 use Rattle.std.proofs.lemmas.List.{length-append, length-replicate, drop-replicate, set-append_right, take_at, get_or_at, get_or_append_left}
 use Rattle.std.proofs.lemmas.List.Sums.{AllPass-from_list_all}
-use Rattle.onll_words.specs.Bytes.{high_bytes}
+use Rattle.onll_words.specs.Bytes.{words_in, high_word, high_bytes}
 use Rattle.onll_words.specs.Short.{is_text_byte, is_short, IsShort, ShortText, short_if, short_of, short_of-bytes, short_at, short_at-bytes, padded, packed, bytes_in, unpacked}
-use Rattle.onll_words.proofs.WordBytes.{Bytes, high_first, flat_map-words_in}
+use Rattle.byteorder.specs.Numbers.{big_from-lt}
+use Rattle.onll_words.proofs.WordBytes.{Bytes, dropped, high_first, high_word-big, flat_map-words_in, length-words_in}
 
 -- what a short text is made of
 pub record ShortParts (bytes : List ℕ) : Type 0 where
@@ -199,3 +200,18 @@ pub fits-of : (text : ShortText) → length text.bytes ≤ 23
 fits-of text = (parts text.bytes text.short).fits
 
 pub ruleset packing = (packed_view, packed_last-of, packed_byte-of, fits-of)
+
+words_fit : (n : ℕ) (bs : List ℕ) → Bytes bs → (i : ℕ) → slice_index (words_in high_word n bs) i < 2 ^ 64
+unfolding words_in
+words_fit zero bs h i = omega arith
+words_fit (suc n) bs h zero = omega (arith, high_word-big bs, big_from-lt 0 8 bs h)
+words_fit (suc n) bs h (suc i) = words_fit n (drop 8 bs) (dropped 8 bs h) i
+
+-- a packing is three words of 64 bits
+pub length-packed : (bytes : List ℕ) → length (packed bytes) ≡ 3
+unfolding packed
+length-packed bytes = length-words_in high_word 3 (padded bytes)
+
+pub packed_fits : (text : ShortText) (i : ℕ) → slice_index (packed text.bytes) i < 2 ^ 64
+unfolding packed
+packed_fits text i = words_fit 3 (padded text.bytes) (padded_bytes text.bytes text.short) i

@@ -4,9 +4,11 @@
 mod line;
 mod number;
 mod short;
+#[cfg(test)]
+mod tests;
 mod text;
 
-pub use line::{Line, OpRow};
+pub use line::{Line, OpRow, line_bytes, line_of_bytes};
 pub use number::{number_at, whole_number};
 pub use short::Short;
 pub use text::{Cut, Lines, NumberedLine, split_word};

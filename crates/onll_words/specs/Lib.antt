@@ -1,2 +1,5 @@
+pub mod Bytes
+pub mod Lines
 pub mod Numbers
+pub mod Short
 pub mod Texts

@@ -3,10 +3,14 @@
 
 mod line;
 mod number;
+mod short;
+#[cfg(test)]
+mod tests;
 mod text;
 
-pub use line::{Line, OpRow};
+pub use line::{Line, OpRow, line_bytes, line_of_bytes};
 pub use number::{number_at, whole_number};
+pub use short::Short;
 pub use text::{Cut, Lines, NumberedLine, split_word};
 
 /// Memory could not be had. It is the fault of a call that refuses for nothing else.

@@ -1,1 +1,3 @@
+mod Cuts
 mod FoldSteps
+mod Stops

@@ -1,4 +1,10 @@
 //! What the program does: its commands, and the one call that runs them.
 #![tactic(auto)]
 
+mod answer;
+mod command;
+mod ending;
 mod fold;
+mod texts;
+
+pub use ending::Ending;

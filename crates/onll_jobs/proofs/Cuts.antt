@@ -1,0 +1,35 @@
+use Rattle.std.proofs.Common.{ℕ, Bool, true, false, List, ◌≡◌, ◌+◌, ◌⊎◌, inl, inr, Option, Some, None, Result, Ok, Err, take, refl, sym, ap, ◌∙◌}
+use Rattle.onll_outside.specs.Views.{StoreView, IsFront, Gives}
+use Rattle.onll_text.specs.declared.any_object.AnyObject.{AnyObject}
+use Rattle.onll_text.specs.Refusal.{Refusal}
+use Rattle.onll_text.specs.Wording.{Wording}
+use Rattle.onll_text.specs.Script.{longest_text, script_of}
+use Rattle.onll_text.specs.Init.{init_of}
+use Rattle.onll_text.proofs.Whole.{init_of-take, script_of-take}
+use Rattle.onll_jobs.specs.Reading.{Holds, IsCut}
+
+-- what a store that tells its files gives
+told : (s : StoreView) (name text : List ℕ) (found : Option (List ℕ)) → s.file name ≡ found → IsFront (longest_text + 1) found text → IsCut s name text
+told s name text None e h = absurd h
+told s name text (Some all) e h = record { bytes = all; held = λ _. e; cut = inr h }
+
+by_telling : (t : Bool) (s : StoreView) (name text : List ℕ) → s.tells ≡ t → Gives s name (longest_text + 1) text → IsCut s name text
+by_telling true s name text e h = told s name text (s.file name) refl (h e)
+by_telling false s name text e h = record { bytes = text; held = λ tells. (cc (e, tells)); cut = inl refl }
+
+-- what a store gives is what the file holds, or its front
+pub cut_of : (s : StoreView) (name text : List ℕ) → Gives s name (longest_text + 1) text → IsCut s name text
+cut_of s name text h = by_telling s.tells s name text refl h
+
+-- the whole file reads as what was read of it
+pub init_of-cut : (s : StoreView) (name text : List ℕ) (c : IsCut s name text) → init_of c.bytes ≡ init_of text
+init_of-cut s name text c = elim c.cut [
+  | inl whole ↦ ap init_of (sym whole)
+  | inr front ↦ sym (init_of-take c.bytes) ∙ ap init_of (sym front)
+]
+
+pub script_of-cut : {State Op Query Reply : Type 0} (w : Wording State Op Query Reply) (s : StoreView) (name text : List ℕ) (c : IsCut s name text) → script_of w c.bytes ≡ script_of w text
+script_of-cut w s name text c = elim c.cut [
+  | inl whole ↦ ap (script_of w) (sym whole)
+  | inr front ↦ sym (script_of-take w c.bytes) ∙ ap (script_of w) (sym front)
+]

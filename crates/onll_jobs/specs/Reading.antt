@@ -1,0 +1,46 @@
+use Rattle.std.specs.Prelude.{ℕ, List, ◌≡◌, ◌+◌, ◌⊎◌, true, Option, Some, Result, Ok, Err, take}
+use Rattle.onll_text.specs.Refusal.{Refusal}
+use Rattle.onll_text.specs.Script.{longest_text}
+use Rattle.onll_outside.specs.Views.{StoreView, Last, Rose}
+use Rattle.onll_outside.specs.declared.store.FaultKind.TheVariants as kinds
+use Rattle.onll_jobs.specs.declared.ending.Ending.{Ending}
+use Rattle.onll_jobs.specs.declared.ending.Ending.TheVariants.{Refused, ReadFault}
+use Rattle.onll_jobs.specs.Printed.{refusal_text, read_fault_text}
+
+-- The reading of one text by its grammar, and how it ends a call where it gives no value.
+
+-- the named file holds these bytes, where the store tells its files
+abbrev pub Holds : StoreView → List ℕ → List ℕ → Type 0
+Holds store name bytes = store.tells ≡ true → store.file name ≡ Some bytes
+
+-- the text is what the named file holds, or its front with one byte that is too many
+pub record IsCut (store : StoreView) (name text : List ℕ) : Type 0 where
+  pub bytes : List ℕ
+  pub held : Holds store name bytes
+  pub cut : (text ≡ bytes) ⊎ (text ≡ take (longest_text + 1) bytes)
+
+-- the file is read as this value
+pub record Reads {A : Type 0} (store : StoreView) (grammar : List ℕ → Result A Refusal) (name : List ℕ) (value : A) : Type 0 where
+  pub bytes : List ℕ
+  pub held : Holds store name bytes
+  pub accepted : grammar bytes ≡ Ok value
+
+-- the file is outside the grammar, and this line says so
+pub record Refuses {A : Type 0} (store : StoreView) (grammar : List ℕ → Result A Refusal) (name text : List ℕ) : Type 0 where
+  pub bytes : List ℕ
+  pub refusal : Refusal
+  pub held : Holds store name bytes
+  pub outside : grammar bytes ≡ Err refusal
+  pub line : text ≡ refusal_text name refusal
+
+-- the file can't be read: the store's count rose and this read is its last fault; this line says so
+pub record Unread (store after : StoreView) (name text : List ℕ) : Type 0 where
+  pub rose : Rose store.faults after.faults
+  pub last : after.last ≡ Some (record { kind = kinds.Read; name = name })
+  pub line : text ≡ read_fault_text name
+
+-- how the reading of a file ends a call
+abbrev pub Stops : {A : Type 0} → StoreView → StoreView → (List ℕ → Result A Refusal) → List ℕ → Ending → List ℕ → Type 0
+Stops store after grammar name Refused text = Refuses store grammar name text
+Stops store after grammar name ReadFault text = Unread store after name text
+Stops store after grammar name ending text = ⊥

@@ -1,0 +1,103 @@
+ghost use Rattle.std.specs.Prelude.{◌≡◌, IfOk, MatchResult};
+ghost use Rattle.onll_text.specs.Refusal.{refused};
+ghost use Rattle.onll_jobs.specs.Printed.{usage_text, refusal_text, read_fault_text};
+ghost use Rattle.onll_jobs.specs.Stop.{StopSays};
+
+use crate::ending::Ending;
+use itoa::Buffer;
+use onll_text::Reason;
+use onll_words::NoMemory;
+use std::alloc::{AllocError, Global};
+
+/// The usage text, with the commands to come.
+const USAGE: &[u8] =
+    b"usage: onll fold INIT SCRIPT\n       onll show IMAGE\n       onll recover INIT LOGS T\n       onll replay INIT SCHEDULE LOGS SCRIPT..\n       onll run INIT LOGS SCRIPT..\n       onll make T N SEED\n";
+
+/// A text to be put, and how the call ends then.
+#[derive(Drop)]
+pub(crate) struct Answer {
+    pub(crate) ending: Ending,
+    pub(crate) text: Vec<u8>,
+}
+
+/// Why a file gives no value.
+#[derive(Drop)]
+pub(crate) enum Stop {
+    /// This is to be said.
+    Says(Answer),
+    NoMemory,
+}
+
+impl Stop {
+    /// What is said, unless memory could not be had.
+    pub(crate) fn answer(self) -> Result<Answer, NoMemory>
+        ensures { MatchResult result (λ answer. self ≡ Stop.Says answer) (λ e. self ≡ Stop.NoMemory) }
+    {
+        match self {
+            Stop::Says(answer) => Ok(answer),
+            Stop::NoMemory => Err(NoMemory),
+        }
+    }
+
+    /// The line of a refused text.
+    pub(crate) fn refused(alloc: Global, name: &str, line: u64, reason: Reason) -> Stop
+        ensures { StopSays result (λ end said. (end ≡ Ending.Refused) × (said ≡ refusal_text name.now (refused line reason))) }
+    {
+        match refusal_text(alloc, name, line, reason) {
+            Ok(text) => Stop::Says(Answer {
+                ending: Ending::Refused,
+                text,
+            }),
+            Err(_) => Stop::NoMemory,
+        }
+    }
+
+    /// The line of a read that failed.
+    pub(crate) fn unread(alloc: Global, name: &str) -> Stop
+        ensures { StopSays result (λ end said. (end ≡ Ending.ReadFault) × (said ≡ read_fault_text name.now)) }
+    {
+        match read_fault_text(alloc, name) {
+            Ok(text) => Stop::Says(Answer {
+                ending: Ending::ReadFault,
+                text,
+            }),
+            Err(_) => Stop::NoMemory,
+        }
+    }
+}
+
+fn refusal_text(alloc: Global, name: &str, line: u64, reason: Reason) -> Result<Vec<u8>, AllocError>
+    ensures { IfOk result (λ v. v.items ≡ refusal_text name.now (refused line reason)) }
+{
+    let mut buffer = Buffer::new();
+    let mut text = Vec::from_slice(alloc, b"refused ")?;
+    text.extend_from_slice(name.as_bytes())?;
+    text.extend_from_slice(b" ")?;
+    text.extend_from_slice(buffer.format(line).as_bytes())?;
+    text.extend_from_slice(b" ")?;
+    text.extend_from_slice(reason.text())?;
+    text.extend_from_slice(b"\n")?;
+    Ok(text)
+}
+
+fn read_fault_text(alloc: Global, name: &str) -> Result<Vec<u8>, AllocError>
+    ensures { IfOk result (λ v. v.items ≡ read_fault_text name.now) }
+{
+    let mut text = Vec::from_slice(alloc, b"read fault ")?;
+    text.extend_from_slice(name.as_bytes())?;
+    text.extend_from_slice(b"\n")?;
+    Ok(text)
+}
+
+/// The usage text.
+pub(crate) fn usage(alloc: Global) -> Result<Answer, NoMemory>
+    ensures { IfOk result (λ answer. (answer.ending ≡ Ending.Usage) × (answer.text.items ≡ usage_text)) }
+{
+    match Vec::from_slice(alloc, USAGE) {
+        Ok(text) => Ok(Answer {
+            ending: Ending::Usage,
+            text,
+        }),
+        Err(_) => Err(NoMemory),
+    }
+}

@@ -1,0 +1,68 @@
+ghost use Rattle.std.specs.Prelude.{◌≡◌, IfOk, IfErr, OnOk};
+ghost use Rattle.onll_outside.specs.Views.{SameFiles, SameFaults, FaultsOf};
+ghost use Rattle.onll_outside.specs.declared.store.FaultKind.TheVariants.{Read};
+ghost use Rattle.onll_text.specs.Init.{init_of};
+ghost use Rattle.onll_text.specs.Script.{script_of};
+ghost use Rattle.onll_jobs.specs.Reading.{IsCut, Reads, Stops};
+ghost use Rattle.onll_jobs.specs.Stop.{StopSays};
+
+use crate::answer::Stop;
+use onll_model::Call;
+use onll_outside::{OutsideFault, Store};
+use onll_text::{AnyObject, LONGEST_TEXT, TextFault, Texted, read_init, read_script};
+use std::alloc::Global;
+
+/// The text of a file, with one byte at most that is too many.
+fn read_text<S: Store>(alloc: Global, name: &str, store: &mut S) -> Result<Vec<u8>, OutsideFault>
+    ensures text { IfOk result (λ text. IsCut (S.seen store.old) name.now text.items) }
+    ensures same { SameFiles (S.seen store.old) (S.seen store.new) }
+    ensures faults { FaultsOf (record { kind = Read; name = name.now }) (S.seen store.old) (S.seen store.new) result }
+{
+    store.read(alloc, name, LONGEST_TEXT as u64 + 1)
+}
+
+/// The object that a file holds as an initial state, or what is said in its place.
+pub(crate) fn init_file<S: Store>(
+    alloc: Global,
+    name: &str,
+    store: &mut S,
+) -> Result<AnyObject, Stop>
+    ensures object { IfOk result (λ object. Reads (S.seen store.old) init_of name.now object) }
+    ensures stop { IfErr result (λ stop. StopSays stop (Stops (S.seen store.old) (S.seen store.new) init_of name.now)) }
+    ensures same { SameFiles (S.seen store.old) (S.seen store.new) }
+    ensures count { OnOk result (SameFaults (S.seen store.old) (S.seen store.new)) }
+{
+    let text = match read_text(alloc, name, store) {
+        Ok(text) => text,
+        Err(OutsideFault::Failed) => return Err(Stop::unread(alloc, name)),
+        Err(OutsideFault::NoMemory) => return Err(Stop::NoMemory),
+    };
+    match read_init(alloc, &text) {
+        Ok(object) => Ok(object),
+        Err(TextFault::Refused { line, reason }) => Err(Stop::refused(alloc, name, line, reason)),
+        Err(TextFault::NoMemory) => Err(Stop::NoMemory),
+    }
+}
+
+/// The calls that a file holds as a script, or what is said in their place.
+pub(crate) fn script_file<O: Texted, S: Store>(
+    alloc: Global,
+    name: &str,
+    store: &mut S,
+) -> Result<Vec<Call<O>>, Stop>
+    ensures calls { IfOk result (λ calls. Reads (S.seen store.old) (script_of O.wording) name.now calls.items) }
+    ensures stop { IfErr result (λ stop. StopSays stop (Stops (S.seen store.old) (S.seen store.new) (script_of O.wording) name.now)) }
+    ensures same { SameFiles (S.seen store.old) (S.seen store.new) }
+    ensures count { OnOk result (SameFaults (S.seen store.old) (S.seen store.new)) }
+{
+    let text = match read_text(alloc, name, store) {
+        Ok(text) => text,
+        Err(OutsideFault::Failed) => return Err(Stop::unread(alloc, name)),
+        Err(OutsideFault::NoMemory) => return Err(Stop::NoMemory),
+    };
+    match read_script(alloc, &text) {
+        Ok(calls) => Ok(calls),
+        Err(TextFault::Refused { line, reason }) => Err(Stop::refused(alloc, name, line, reason)),
+        Err(TextFault::NoMemory) => Err(Stop::NoMemory),
+    }
+}

@@ -1,3 +1,4 @@
 mod Cuts
+mod ExitCauses
 mod FoldSteps
 mod Stops

@@ -1,8 +1,9 @@
 pub mod Command
-pub mod Seen
-pub mod Printed
-pub mod Reading
-pub mod Stop
+pub mod Exits
 pub mod Fold
 pub mod FoldSays
+pub mod Printed
+pub mod Reading
 pub mod Says
+pub mod Seen
+pub mod Stop

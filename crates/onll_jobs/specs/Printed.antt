@@ -1,6 +1,8 @@
 use Rattle.std.specs.Prelude.{ℕ, List, ◌++◌, codes, decimal}
 use Rattle.onll_jobs.specs.declared.ending.Ending.{Ending}
-use Rattle.onll_jobs.specs.declared.ending.Ending.TheVariants.{Done, Usage, Refused, ReadFault, SinkFault, NoMemory}
+use Rattle.onll_jobs.specs.declared.ending.Ending.TheVariants.{Done, Usage, Refused, ReadFault}
+use Rattle.onll_jobs.specs.declared.ending.Exit.{Exit}
+use Rattle.onll_jobs.specs.declared.ending.Exit.TheVariants.{Said, SinkFault, NoMemory}
 use Rattle.onll_text.specs.declared.reason.Reason.{Reason}
 use Rattle.onll_text.specs.Refusal.{Refusal, reason_text}
 
@@ -24,5 +26,9 @@ status_of Done = 0
 status_of Usage = 2
 status_of Refused = 3
 status_of ReadFault = 5
-status_of SinkFault = 6
-status_of NoMemory = 9
+
+-- the exit status of a call
+abbrev pub exit_status : Exit → ℕ
+exit_status (Said ending) = status_of ending
+exit_status SinkFault = 6
+exit_status NoMemory = 9

@@ -1,11 +1,16 @@
-use Rattle.std.specs.Prelude.{ℕ, List, ◌≡◌, ◌⊎◌, Option, Some, None}
+use Rattle.std.specs.Prelude.{ℕ, List, ◌≡◌, ◌⊎◌, Option, Some, None, true, Result, Ok, Err}
+use Rattle.onll_text.specs.declared.any_object.AnyObject.{AnyObject}
+use Rattle.onll_text.specs.Refusal.{Refusal}
+use Rattle.onll_text.specs.Init.{init_of}
 use Rattle.onll_outside.specs.Views.{StoreView, SinkView, Puts, PutsFront, Rose}
 use Rattle.onll_jobs.specs.declared.ending.Ending.{Ending}
-use Rattle.onll_jobs.specs.declared.ending.Ending.TheVariants.{Done, Usage, Refused, ReadFault, SinkFault, NoMemory}
+use Rattle.onll_jobs.specs.declared.ending.Ending.TheVariants.{Done, Usage, Refused, ReadFault}
+use Rattle.onll_jobs.specs.declared.ending.Exit.{Exit}
+use Rattle.onll_jobs.specs.declared.ending.Exit.TheVariants.{Said, SinkFault, NoMemory}
 use Rattle.onll_jobs.specs.Seen.{Seen}
 use Rattle.onll_jobs.specs.Command.{Form, Fold, form_of}
-use Rattle.onll_jobs.specs.Printed.{usage_text, status_of}
-use Rattle.onll_jobs.specs.FoldSays.{FoldSays}
+use Rattle.onll_jobs.specs.Printed.{usage_text, refusal_text, status_of, exit_status}
+use Rattle.onll_jobs.specs.FoldSays.{FoldSays, fold_on}
 
 -- words of no form: the usage text
 abbrev pub UsageSays : Ending → List ℕ → Type 0
@@ -21,13 +26,13 @@ FormSays (Some (Fold init script)) store after ending text = FoldSays store afte
 abbrev pub Allows : Seen → Ending → List ℕ → Type 0
 Allows seen ending text = FormSays (form_of seen.words) seen.store seen.store_after ending text
 
--- such a text was put whole
+-- a text that is allowed was put whole
 pub record PutWhole (seen : Seen) (ending : Ending) : Type 0 where
   pub text : List ℕ
   pub allowed : Allows seen ending text
   pub put : Puts seen.sink seen.sink_after text
 
--- some of the first of such a text were put
+-- some of the first of a text that is allowed were put
 pub record PutSome (seen : Seen) : Type 0 where
   pub ending : Ending
   pub text : List ℕ
@@ -38,14 +43,38 @@ pub record PutSome (seen : Seen) : Type 0 where
 abbrev pub PutNothing : Seen → Type 0
 PutNothing seen = seen.sink_after.taken ≡ seen.sink.taken
 
--- what an ending says: its text was put, unless the sink failed or memory could not be had
-abbrev pub Says : Seen → Ending → Type 0
-Says seen SinkFault = PutSome seen × Rose seen.sink.faults seen.sink_after.faults
-Says seen NoMemory = PutSome seen ⊎ PutNothing seen
-Says seen ending = PutWhole seen ending
+-- the sink failed after some of the first of a text
+pub record SinkFailed (seen : Seen) : Type 0 where
+  pub some : PutSome seen
+  pub rose : Rose seen.sink.faults seen.sink_after.faults
+
+-- what a call says by its exit
+abbrev pub ExitSays : Seen → Exit → Type 0
+ExitSays seen (Said ending) = PutWhole seen ending
+ExitSays seen SinkFault = SinkFailed seen
+ExitSays seen NoMemory = PutSome seen ⊎ PutNothing seen
 
 -- the call ended so
 pub record Ended (seen : Seen) (status : ℕ) : Type 0 where
-  pub ending : Ending
-  pub is : status ≡ status_of ending
-  pub says : Says seen ending
+  pub exit : Exit
+  pub is : status ≡ exit_status exit
+  pub says : ExitSays seen exit
+
+-- the named file is told, and has these bytes
+pub record IsTold (store : StoreView) (name bytes : List ℕ) : Type 0 where
+  pub tells : store.tells ≡ true
+  pub file : store.file name ≡ Some bytes
+
+-- no count of faults rose
+pub record NoneRose (seen : Seen) : Type 0 where
+  pub store : Rose seen.store.faults seen.store_after.faults → ⊥
+  pub sink : Rose seen.sink.faults seen.sink_after.faults → ⊥
+
+-- this ending's status, and its text whole; or memory could not be had
+abbrev pub SaysThis : Seen → ℕ → Ending → List ℕ → Type 0
+SaysThis seen status ending text = ((status ≡ status_of ending) × Puts seen.sink seen.sink_after text) ⊎ (status ≡ 9)
+
+-- the same for a text that was read or refused
+abbrev pub SaysRead : Seen → ℕ → List ℕ → Result (List ℕ) Refusal → Type 0
+SaysRead seen status name (Ok text) = SaysThis seen status Done text
+SaysRead seen status name (Err refusal) = SaysThis seen status Refused (refusal_text name refusal)

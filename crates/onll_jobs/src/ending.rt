@@ -1,20 +1,17 @@
 ghost use Rattle.std.specs.Prelude.{◌≡◌};
-ghost use Rattle.onll_jobs.specs.Printed.{status_of};
+ghost use Rattle.onll_jobs.specs.Printed.{status_of, exit_status};
 
-/// How a call of the program ends.
+/// What a text that was put says of the call.
 #[derive(Clone, Copy, Debug, PartialEq, Eq)]
 pub enum Ending {
-    /// The report was put.
+    /// Everything was done; the text is the report.
     Done,
-    /// The words are no command, and the usage text was put.
+    /// The words are no command; the text is the usage.
     Usage,
-    /// A text is outside its grammar.
+    /// A text that was read is outside its grammar.
     Refused,
-    /// The store could not read a file.
+    /// A file could not be read.
     ReadFault,
-    /// The sink could not take a text.
-    SinkFault,
-    NoMemory,
 }
 
 impl Ending {
@@ -27,8 +24,29 @@ impl Ending {
             Ending::Usage => 2,
             Ending::Refused => 3,
             Ending::ReadFault => 5,
-            Ending::SinkFault => 6,
-            Ending::NoMemory => 9,
+        }
+    }
+}
+
+/// How a call of the program ends.
+#[derive(Clone, Copy, Debug, PartialEq, Eq)]
+pub enum Exit {
+    /// A text with this ending was put.
+    Said(Ending),
+    /// The sink failed.
+    SinkFault,
+    NoMemory,
+}
+
+impl Exit {
+    /// The exit status.
+    pub fn status(self) -> u8
+        ensures { result ≡ exit_status self }
+    {
+        match self {
+            Exit::Said(ending) => ending.status(),
+            Exit::SinkFault => 6,
+            Exit::NoMemory => 9,
         }
     }
 }

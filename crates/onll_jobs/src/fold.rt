@@ -4,10 +4,16 @@ ghost use Rattle.onll_model.specs.Fold.{fold_trace, fold_ends, fold_state};
 ghost use Rattle.onll_model.specs.Legal.{IsLegal};
 ghost use Rattle.onll_text.specs.Bytes.{begins_line, with_lines};
 ghost use Rattle.onll_text.specs.Lines.{call_lines, node_lines};
+ghost use Rattle.onll_outside.specs.Views.{SameFiles};
 ghost use Rattle.onll_jobs.specs.Fold.{fold_report};
+ghost use Rattle.onll_jobs.specs.FoldSays.{fold_text, ScriptSays, FoldSays};
 
+use crate::answer::Answer;
+use crate::ending::Ending;
+use crate::texts::{init_file, script_file};
 use onll_model::{Call, CallEnd, Node};
-use onll_text::{Report, Texted};
+use onll_outside::Store;
+use onll_text::{AnyObject, Report, Texted};
 use onll_words::NoMemory;
 use std::alloc::Global;
 
@@ -84,7 +90,7 @@ fn put_nodes<O: Texted>(trace: &[Node], out: &mut Report) -> Result<(), NoMemory
 
 /// The report of a script that is done in order on the object. Its outcomes and its trace are a legal report.
 #[tactic(auto, using(onll_text::proofs::Appending::beginning))]
-pub(crate) fn fold_script<O: Texted>(
+fn fold_script<O: Texted>(
     alloc: Global,
     object: &mut O,
     script: &[Call<O>],
@@ -99,4 +105,42 @@ pub(crate) fn fold_script<O: Texted>(
     put_nodes::<O>(&trace, &mut out)?;
     out.state_lines(object)?;
     Ok(out.into_bytes())
+}
+
+/// Folds the script of a file on an object.
+fn fold_object<O: Texted, S: Store>(
+    alloc: Global,
+    object: &mut O,
+    script: &str,
+    store: &mut S,
+) -> Result<Answer, NoMemory>
+    ensures says { IfOk result (λ answer. ScriptSays (S.seen store.old) (S.seen store.new) (fold_text O.means O.wording object.old) script.now answer.ending answer.text.items) }
+    ensures same { SameFiles (S.seen store.old) (S.seen store.new) }
+{
+    match script_file::<O, S>(alloc, script, store) {
+        Ok(calls) => {
+            let text = fold_script(alloc, object, &calls)?;
+            Ok(Answer {
+                ending: Ending::Done,
+                text,
+            })
+        }
+        Err(stop) => stop.answer(),
+    }
+}
+
+/// Folds the script of a file on the initial state of another.
+pub(crate) fn answer<S: Store>(
+    alloc: Global,
+    init: &str,
+    script: &str,
+    store: &mut S,
+) -> Result<Answer, NoMemory>
+    ensures says { IfOk result (λ answer. FoldSays (S.seen store.old) (S.seen store.new) init.now script.now answer.ending answer.text.items) }
+    ensures same { SameFiles (S.seen store.old) (S.seen store.new) }
+{
+    match init_file(alloc, init, store) {
+        Ok(AnyObject::Bank(mut bank)) => fold_object(alloc, &mut bank, script, store),
+        Err(stop) => stop.answer(),
+    }
 }

@@ -5,6 +5,8 @@ mod answer;
 mod command;
 mod ending;
 mod fold;
+mod program;
 mod texts;
 
-pub use ending::Ending;
+pub use ending::{Ending, Exit};
+pub use program::onll;

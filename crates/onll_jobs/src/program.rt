@@ -1,0 +1,79 @@
+ghost use Rattle.std.specs.Prelude.{◌≡◌, ◌⊎◌, ℕ, List, map, string_bytes, Some, None, Ok, Err, IfOk};
+ghost use Rattle.onll_outside.specs.Views.{Puts, SameFiles};
+ghost use Rattle.onll_text.specs.declared.any_object.AnyObject.{AnyObject};
+ghost use Rattle.onll_text.specs.Refusal.{Refusal};
+ghost use Rattle.onll_text.specs.Init.{init_of};
+ghost use Rattle.onll_jobs.specs.declared.ending.Ending.{Ending};
+ghost use Rattle.onll_jobs.specs.Command.{Fold, form_of};
+ghost use Rattle.onll_jobs.specs.Exits.{PutExits};
+ghost use Rattle.onll_jobs.specs.Seen.{seen_by};
+ghost use Rattle.onll_jobs.specs.Says.{FormSays, ExitSays, Ended, PutWhole, PutSome, PutNothing, SinkFailed, IsTold, NoneRose, SaysThis, SaysRead};
+ghost use Rattle.onll_jobs.specs.FoldSays.{fold_on};
+ghost use Rattle.onll_jobs.specs.Printed.{usage_text, refusal_text};
+
+use crate::answer::{Answer, usage};
+use crate::command::Command;
+use crate::ending::Exit;
+use crate::fold;
+use onll_outside::{OutsideFault, Sink, Store};
+use onll_words::NoMemory;
+use std::alloc::Global;
+
+/// What the words make the call say.
+fn answer_to<S: Store>(alloc: Global, words: &[String], store: &mut S) -> Result<Answer, NoMemory>
+    ensures says { IfOk result (λ answer. FormSays (form_of (map string_bytes words.now)) (S.seen store.old) (S.seen store.new) answer.ending answer.text.items) }
+    ensures same { SameFiles (S.seen store.old) (S.seen store.new) }
+{
+    match Command::read(words) {
+        Some(Command::Fold { init, script }) => fold::answer(alloc, init, script, store),
+        None => usage(alloc),
+    }
+}
+
+/// Puts a text, and ends as it says unless the sink or memory fails.
+fn put<K: Sink>(out: &mut K, answer: &Answer) -> Exit
+    ensures { PutExits (K.held out.old) (K.held out.new) answer.now.ending answer.now.text.items result }
+{
+    match out.put(&answer.text) {
+        Ok(()) => Exit::Said(answer.ending),
+        Err(OutsideFault::Failed) => Exit::SinkFault,
+        Err(OutsideFault::NoMemory) => Exit::NoMemory,
+    }
+}
+
+/// Does what the words say.
+fn run<S: Store, K: Sink>(alloc: Global, words: &[String], store: &mut S, out: &mut K) -> Exit
+    ensures says { ExitSays (seen_by (map string_bytes words.now) (S.seen store.old) (S.seen store.new) (K.held out.old) (K.held out.new)) result }
+    ensures same { SameFiles (S.seen store.old) (S.seen store.new) }
+{
+    match answer_to(alloc, words, store) {
+        Ok(answer) => put(out, &answer),
+        Err(NoMemory) => Exit::NoMemory,
+    }
+}
+
+/// Does what the words say over a store of files and a sink for the output, and answers the exit status.
+/// The words are those of the program without its name.
+pub fn onll<S: Store, K: Sink>(alloc: Global, words: &[String], store: &mut S, out: &mut K) -> u8
+
+    // The status is that of an exit, which says this of the words, the files and what was put.
+    ensures ended { Ended (seen_by (map string_bytes words.now) (S.seen store.old) (S.seen store.new) (K.held out.old) (K.held out.new)) result }
+
+    // What each status says.
+    ensures done { result ≡ 0 → PutWhole (seen_by (map string_bytes words.now) (S.seen store.old) (S.seen store.new) (K.held out.old) (K.held out.new)) Ending.Done }
+    ensures usage { result ≡ 2 → (form_of (map string_bytes words.now) ≡ None) × Puts (K.held out.old) (K.held out.new) usage_text }
+    ensures refused { result ≡ 3 → PutWhole (seen_by (map string_bytes words.now) (S.seen store.old) (S.seen store.new) (K.held out.old) (K.held out.new)) Ending.Refused }
+    ensures unread { result ≡ 5 → PutWhole (seen_by (map string_bytes words.now) (S.seen store.old) (S.seen store.new) (K.held out.old) (K.held out.new)) Ending.ReadFault }
+    ensures sink_failed { result ≡ 6 → SinkFailed (seen_by (map string_bytes words.now) (S.seen store.old) (S.seen store.new) (K.held out.old) (K.held out.new)) }
+    ensures no_memory { result ≡ 9 → PutSome (seen_by (map string_bytes words.now) (S.seen store.old) (S.seen store.new) (K.held out.old) (K.held out.new)) ⊎ PutNothing (seen_by (map string_bytes words.now) (S.seen store.old) (S.seen store.new) (K.held out.old) (K.held out.new)) }
+
+    // When it comes: where no count of faults rose, the words and the bytes of the files decide, but for memory.
+    ensures no_form { form_of (map string_bytes words.now) ≡ None → NoneRose (seen_by (map string_bytes words.now) (S.seen store.old) (S.seen store.new) (K.held out.old) (K.held out.new)) → SaysThis (seen_by (map string_bytes words.now) (S.seen store.old) (S.seen store.new) (K.held out.old) (K.held out.new)) result Ending.Usage usage_text }
+    ensures init_refused { (init script bytes : List ℕ) (refusal : Refusal) → form_of (map string_bytes words.now) ≡ Some (Fold init script) → IsTold (S.seen store.old) init bytes → init_of bytes ≡ Err refusal → NoneRose (seen_by (map string_bytes words.now) (S.seen store.old) (S.seen store.new) (K.held out.old) (K.held out.new)) → SaysThis (seen_by (map string_bytes words.now) (S.seen store.old) (S.seen store.new) (K.held out.old) (K.held out.new)) result Ending.Refused (refusal_text init refusal) }
+    ensures script_read { (init script bytes calls : List ℕ) (object : AnyObject) → form_of (map string_bytes words.now) ≡ Some (Fold init script) → IsTold (S.seen store.old) init bytes → init_of bytes ≡ Ok object → IsTold (S.seen store.old) script calls → NoneRose (seen_by (map string_bytes words.now) (S.seen store.old) (S.seen store.new) (K.held out.old) (K.held out.new)) → SaysRead (seen_by (map string_bytes words.now) (S.seen store.old) (S.seen store.new) (K.held out.old) (K.held out.new)) result script (fold_on object calls) }
+
+    // No file changes.
+    ensures files { SameFiles (S.seen store.old) (S.seen store.new) }
+{
+    run(alloc, words, store, out).status()
+}

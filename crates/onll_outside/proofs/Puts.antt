@@ -1,5 +1,7 @@
-use Rattle.std.proofs.Common.{ℕ, ◌≡◌, ◌++◌, List, [], Option, Some, None, refl, sym, ◌∙◌, ap, append_assoc, append-nil}
-use Rattle.onll_outside.specs.Views.{SinkView, taken_with, Puts, PutsFront}
+use Rattle.std.proofs.Common.{ℕ, ◌≡◌, ◌++◌, List, [], Option, Some, None, Result, Ok, Err, arith, refl, sym, ◌∙◌, ap, append_assoc, append-nil}
+use Rattle.onll_outside.specs.declared.OutsideFault.{OutsideFault}
+use Rattle.onll_outside.specs.declared.OutsideFault.TheVariants.{Failed, NoMemory}
+use Rattle.onll_outside.specs.Views.{PutOf, SinkView, taken_with, Puts, PutsFront}
 
 -- bytes put one after the other
 pub taken_with-twice : (t : Option (List ℕ)) (x y : List ℕ) → taken_with (taken_with t x) y ≡ taken_with t (x ++ y)
@@ -39,5 +41,11 @@ Puts-more a b x y h = record { front = x; rest = y; whole = refl; puts = h }
 pub PutsFront-none : (a b : SinkView) (x : List ℕ) → b.taken ≡ a.taken → PutsFront a b x
 PutsFront-none a b x h = record { front = []; rest = x; whole = refl; puts = h ∙ sym (taken_with-nil a.taken) }
 
--- two puts, one after the other
-pub ruleset puts = (Puts-then, PutsFront-after, PutsFront-more)
+-- a put after one that was Ok, by its answer
+pub PutOf-after : {T : Type 0} (a b c : SinkView) (x y : List ℕ) (r : Result T OutsideFault) → PutOf b c y r → Puts a b x → b.faults ≡ a.faults → PutOf a c (x ++ y) r
+PutOf-after a b c x y (Ok v) k h same = (Puts-then a b c x y h k.0, k.1 ∙ same)
+PutOf-after a b c x y (Err Failed) k h same = (PutsFront-after a b c x y h k.0, let p = k.1 in (omega arith, omega arith))
+PutOf-after a b c x y (Err NoMemory) k h same = (PutsFront-after a b c x y h k.0, k.1 ∙ same)
+
+-- puts, one after the other
+pub ruleset puts = (Puts-then, PutsFront-after, PutsFront-more, PutOf-after)

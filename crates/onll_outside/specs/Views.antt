@@ -65,7 +65,7 @@ pub record PutsFront (old new : SinkView) (bytes : List ℕ) : Type 0 where
   pub whole : front ++ rest ≡ bytes
   pub puts : new.taken ≡ taken_with old.taken front
 
--- a sink's count after a put that was refused
+-- a count of faults after a call that was refused so
 abbrev pub CountOf : OutsideFault → ℕ → ℕ → Type 0
 CountOf Failed before now = Rose before now
 CountOf NoMemory before now = now ≡ before

@@ -22,6 +22,7 @@ impl<R: Files + Drop> Model for FileStore<R> {
     ghost view = { λ s. s.faults };
 }
 
+/// The first `limit` bytes of a file.
 fn read_file<R: Files>(files: &R, alloc: Global, name: &str, limit: u64) -> io::Result<Vec<u8>> {
     let mut bytes = Vec::new(alloc);
     fs::open(files, name)?.take(limit).read_to_end(&mut bytes)?;

@@ -8,7 +8,7 @@ use std::io;
 use std::io::{ErrorKind, Write};
 use std::marker::Model;
 
-/// A writer of the system. What it took is not told, only how many puts failed.
+/// A writer of the system. How much of a refused put it took is not told, only how many puts failed.
 #[derive(Drop)]
 pub struct OutSink<W: Write + Drop> {
     inner: W,
@@ -21,6 +21,7 @@ impl<W: Write + Drop> Model for OutSink<W> {
     ghost view = { λ s. record { writer = s.inner; faults = s.faults } };
 }
 
+/// Writes the bytes, and what the writer kept back.
 #[tactic(auto, using(crate::proofs::Flushed::flushed))]
 fn write_through<W: Write>(inner: &mut W, bytes: &[u8]) -> io::Result<()>
     ensures { OnOk result (Appends (W.contents inner.old) (W.contents inner.new) bytes.now) }
@@ -30,7 +31,7 @@ fn write_through<W: Write>(inner: &mut W, bytes: &[u8]) -> io::Result<()>
 }
 
 impl<W: Write + Drop> OutSink<W> {
-    /// What `inner` writes, where no put has failed yet.
+    /// A sink into `inner`, where no put has failed yet.
     pub fn new(inner: W) -> OutSink<W>
         ensures { result ≡ record { writer = inner; faults = 0 } }
     {
@@ -41,7 +42,7 @@ impl<W: Write + Drop> OutSink<W> {
 impl<W: Write + Drop> Sink for OutSink<W> {
     ghost held = { untold_sink };
 
-    /// Writes the bytes, and has a writer that keeps some back write those too.
+    /// Puts the bytes, which have left the writer's own buffer where it answers Ok.
     fn put(&mut self, bytes: &[u8]) -> Result<(), OutsideFault>
         ensures put { PutOf (untold_sink self.old) (untold_sink self.new) bytes.now result }
         ensures wrote { OnOk result (Appends (W.contents self.old.writer) (W.contents self.new.writer) bytes.now) }

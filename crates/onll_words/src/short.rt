@@ -61,7 +61,7 @@ fn padded(text: &[u8]) -> [u8; SIZE]
     requires { length text.now ≤ 23 }
     ensures { result ≡ padded text.now }
 {
-    let mut bytes = [0; 24];
+    let mut bytes = [0; SIZE];
     bytes[..text.len()].copy_from_slice(text);
     bytes[LENGTH_AT] = text.len() as u8;
     bytes
@@ -81,7 +81,7 @@ fn packed(text: &[u8]) -> [u64; 3]
 fn word_bytes(words: &[u64; 3]) -> [u8; SIZE]
     ensures { result ≡ high_bytes words.now }
 {
-    let mut bytes = [0; 24];
+    let mut bytes = [0; SIZE];
     BigEndian::write_u64_into(words, &mut bytes);
     bytes
 }
@@ -104,7 +104,7 @@ fn text_part(bytes: &[u8; SIZE]) -> &[u8]
 
 #[tactic(auto, using(crate::proofs::Packing::packing))]
 impl Short {
-    /// The text, where it has 1 to 23 bytes, each from 0x21 to 0x7E.
+    /// The text, where it has 1 to 23 bytes, each from 0x21 to 0x7E; nothing otherwise.
     pub fn read(text: &[u8]) -> Option<Short>
         ensures { result ≡ short_of text.now }
     {
@@ -115,7 +115,7 @@ impl Short {
         Some(Short { words })
     }
 
-    /// The text of which these words are the packing.
+    /// The text of which these words are the packing; nothing where they are the packing of none.
     pub fn of_words(w: [u64; 3]) -> Option<Short>
         ensures { result ≡ unpacked w }
     {
@@ -150,6 +150,7 @@ impl Short {
     }
 }
 
+#[tactic(auto, using(crate::proofs::ShortOrder::comparing_packings))]
 impl PartialEq for Short {
     ghost eq = { on (λ text. text.bytes) (pointwise nat_eq) };
 
@@ -164,6 +165,7 @@ impl Eq for Short {
     ghost laws = { Prim.search (comparing, rules) };
 }
 
+#[tactic(auto, using(crate::proofs::ShortOrder::comparing_packings))]
 impl Ord for Short {
     ghost cmp = { on (λ text. text.bytes) (slice_cmp nat_cmp) };
 

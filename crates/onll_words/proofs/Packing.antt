@@ -27,8 +27,8 @@ text_range : (b : ℕ) → is_text_byte b ≡ true → (0x21 ≤ b) × (b ≤ 0x
 text_range b h =
     let e = and_parts (nat_le 0x21 b) (nat_le b 0x7E) h in (leb-true 0x21 b e.0, leb-true b 0x7E e.1)
 
-pub text_byte : (bytes : List ℕ) → list_all is_text_byte bytes ≡ true → (i : ℕ) → i < length bytes → (0x21 ≤ get_or bytes i 0) × (get_or bytes i 0 ≤ 0x7E)
-text_byte bytes h i lt = text_range (get_or bytes i 0) (AllPass-from_list_all is_text_byte bytes h i 0 lt)
+pub text_byte : (bytes : List ℕ) → list_all is_text_byte bytes ≡ true → (i d : ℕ) → i < length bytes → (0x21 ≤ get_or bytes i d) × (get_or bytes i d ≤ 0x7E)
+text_byte bytes h i d lt = text_range (get_or bytes i d) (AllPass-from_list_all is_text_byte bytes h i d lt)
 
 -- the last of zeros written over
 last_zero : (m y : ℕ) → set (replicate (m + 1) 0) m y ≡ replicate m 0 ++ y ∷ []

@@ -1,6 +1,6 @@
-ghost use Rattle.std.specs.Prelude.{◌≡◌, ◌<◌, ◌≤◌, length, take, slice_index};
+ghost use Rattle.std.specs.Prelude.{◌≡◌, ◌<◌, ◌≤◌, ◌≢◌, length, take, slice_index, MatchOption, true, false};
 ghost use Rattle.std.specs.List.{list_all};
-ghost use Rattle.onll_words.specs.Short.{is_text_byte, is_short, short_of, padded, packed, unpacked};
+ghost use Rattle.onll_words.specs.Short.{ShortText, is_text_byte, is_short, short_of, padded, packed, unpacked};
 ghost use Rattle.onll_words.specs.Bytes.{high_bytes};
 ghost use Rattle.std.proofs.Common.{rules, nat_eq};
 ghost use Rattle.std.specs.Cmp.{partial_order_from_own_ties};
@@ -106,7 +106,8 @@ fn text_part(bytes: &[u8; SIZE]) -> &[u8]
 impl Short {
     /// The text, where it has 1 to 23 bytes, each from 0x21 to 0x7E; nothing otherwise.
     pub fn read(text: &[u8]) -> Option<Short>
-        ensures { result ≡ short_of text.now }
+        ensures value { result ≡ short_of text.now }
+        ensures text { MatchOption result (is_short text.now ≡ false) (λ short. short.bytes ≡ text.now) }
     {
         if !is_short(text) {
             return None;
@@ -117,7 +118,8 @@ impl Short {
 
     /// The text of which these words are the packing; nothing where they are the packing of none.
     pub fn of_words(w: [u64; 3]) -> Option<Short>
-        ensures { result ≡ unpacked w }
+        ensures value { result ≡ unpacked w }
+        ensures words { MatchOption result ((text : ShortText) → packed text.bytes ≢ w) (λ text. packed text.bytes ≡ w) }
     {
         let short = Short::read(text_part(&word_bytes(&w)))?;
         if short.words() == w {

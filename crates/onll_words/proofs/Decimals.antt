@@ -1,10 +1,11 @@
-use Rattle.std.proofs.Common.{ℕ, zero, suc, Bool, true, false, List, [], ◌∷◌, ◌≡◌, ◌+◌, ◌/◌, ◌%◌, ◌^◌, ◌<◌, ◌≤◌, length, cond, ◌&&◌, ◌==◌, refl, ap, ◌∙◌, arith, add-one, Some}
+use borrow.Author.Tests.{ltb-true}
+use Rattle.std.proofs.Common.{None, sym, nat_lt, nat_le, ℕ, zero, suc, Bool, true, false, List, [], ◌∷◌, ◌≡◌, ◌+◌, ◌/◌, ◌%◌, ◌^◌, ◌<◌, ◌≤◌, length, cond, ◌&&◌, ◌==◌, refl, ap, ◌∙◌, arith, add-one, Some}
 use Rattle.std.specs.Fmt.{decimal, digits, digits_onto, digit_glyph}
 use Rattle.std.specs.List.{list_all}
 use Rattle.std.proofs.lemmas.Str.Parse.{IsNumeralModel, IsDigitsTest, numerals_by_fold}
 use Rattle.std.proofs.lemmas.Fmt.{digits_decimal, digits_value-decimal, length-decimal-le, decimal_nonempty}
 use Rattle.std.proofs.lemmas.Bool.Decides.{nat_tests}
-use Rattle.onll_words.specs.Numbers.{is_digit, run_len, value_after, number_of}
+use Rattle.onll_words.specs.Numbers.{is_digit, run_len, value_after, fitting, value_of_digits, number_of}
 use Rattle.onll_words.specs.Texts.{is_word_byte, IsWord}
 
 one_more : (b : Bool) (n m : ℕ) → cond b (n + 1) 0 ≡ suc m → (b ≡ true) × (n ≡ m)
@@ -62,3 +63,19 @@ IsWord-decimal n =
     let d = digit_glyph false (n % 10) in
     let one = word_more d [] (glyph_byte n) refl in
     either_word (n / 10 == 0) (d ∷ []) (digits_onto 63 10 false (n / 10) (d ∷ [])) one (digits_word 63 (n / 10) d [] one)
+
+fits_where : (b : Bool) (v n : ℕ) → b ≡ nat_lt v (2 ^ 64) → cond b (Some v) None ≡ Some n → n < 2 ^ 64
+fits_where true v n e h = let same : v ≡ n = cc in omega (arith, ltb-true v (2 ^ 64) (sym e), same)
+fits_where false v n e h = cc
+
+value_fits : (b : Bool) (v n : ℕ) → cond b (fitting v) None ≡ Some n → n < 2 ^ 64
+value_fits true v n h = fits_where (nat_lt v (2 ^ 64)) v n refl h
+value_fits false v n h = cc
+
+run_fits : (b : Bool) (word : List ℕ) (n : ℕ) → cond b (value_of_digits word) None ≡ Some n → n < 2 ^ 64
+run_fits true word n h = value_fits (nat_le 1 (length word) && nat_le (length word) 20) (value_after 0 word) n h
+run_fits false word n h = cc
+
+-- what is read fits 64 bits
+pub number_of_fits : (word : List ℕ) (n : ℕ) → number_of word ≡ Some n → n < 2 ^ 64
+number_of_fits word n h = run_fits (run_len word == length word) word n h

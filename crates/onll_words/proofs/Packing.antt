@@ -1,4 +1,4 @@
-use Rattle.std.proofs.Common.{ℕ, zero, suc, Bool, true, false, List, [], ◌∷◌, ◌++◌, ◌≡◌, ◌≢◌, ◌+◌, ◌-◌, ◌^◌, ◌<◌, ◌≤◌, Option, Some, None, unwrap_or, length, take, drop, set, replicate, get_or, slice_index, nat_le, cond, refl, ap, sym, ◌∙◌, append_assoc, arith, ◌&&◌}
+use Rattle.std.proofs.Common.{ℕ, zero, suc, Bool, true, false, List, [], ◌∷◌, ◌++◌, ◌≡◌, ◌≢◌, ◌+◌, ◌-◌, ◌^◌, ◌<◌, ◌≤◌, Option, Some, None, MatchOption, unwrap_or, length, take, drop, set, replicate, get_or, slice_index, nat_le, cond, refl, ap, sym, ◌∙◌, append_assoc, arith, ◌&&◌}
 use Rattle.std.specs.List.{list_all}
 use Rattle.std.specs.Str.{bytes_eq}
 use Rattle.std.specs.Cmp.Lexicographic.{same_text}
@@ -27,8 +27,8 @@ text_range : (b : ℕ) → is_text_byte b ≡ true → (0x21 ≤ b) × (b ≤ 0x
 text_range b h =
     let e = and_parts (nat_le 0x21 b) (nat_le b 0x7E) h in (leb-true 0x21 b e.0, leb-true b 0x7E e.1)
 
-pub text_byte : (bytes : List ℕ) → list_all is_text_byte bytes ≡ true → (i : ℕ) → i < length bytes → (0x21 ≤ get_or bytes i 0) × (get_or bytes i 0 ≤ 0x7E)
-text_byte bytes h i lt = text_range (get_or bytes i 0) (AllPass-from_list_all is_text_byte bytes h i 0 lt)
+pub text_byte : (bytes : List ℕ) → list_all is_text_byte bytes ≡ true → (i d : ℕ) → i < length bytes → (0x21 ≤ get_or bytes i d) × (get_or bytes i d ≤ 0x7E)
+text_byte bytes h i d lt = text_range (get_or bytes i d) (AllPass-from_list_all is_text_byte bytes h i d lt)
 
 -- the last of zeros written over
 last_zero : (m y : ℕ) → set (replicate (m + 1) 0) m y ≡ replicate m 0 ++ y ∷ []
@@ -141,9 +141,19 @@ packed-unpacked words text h = packed_where (bytes_eq (packed (bytes_in words)) 
 pub packed-no_text : (words : List ℕ) (text : ShortText) → unpacked words ≡ None → packed text.bytes ≢ words
 packed-no_text words text h e = let back = ap unpacked e in let whole = unpacked-packed text in cc
 
+-- the same as one fact
+pub unpacked_says : (words : List ℕ) (o : Option ShortText) → o ≡ unpacked words
+    → MatchOption o ((text : ShortText) → packed text.bytes ≢ words) (λ text. packed text.bytes ≡ words)
+unpacked_says words None e = λ text. packed-no_text words text (sym e)
+unpacked_says words (Some text) e = packed-unpacked words text (sym e)
+
 -- the bytes tell short texts apart, and so do the words
 pub same_short : (s t : ShortText) → s.bytes ≡ t.bytes → s ≡ t
 same_short s t e = let left = short_of-bytes s in let right = short_of-bytes t in let both = ap short_of e in cc
+
+-- what `==` of short texts has told
+pub same_short_tested : (s t : ShortText) → true ≡ bytes_eq s.bytes t.bytes → s ≡ t
+same_short_tested s t e = same_short s t (same_text s.bytes t.bytes e)
 
 pub same_packed : (s t : ShortText) → packed s.bytes ≡ packed t.bytes → s ≡ t
 same_packed s t e = let left = unpacked-packed s in let right = unpacked-packed t in let both = ap unpacked e in cc
@@ -159,10 +169,16 @@ packed_view bytes words h e =
     let text : ShortText = record { bytes = bytes; short = h } in
     ap (λ bs. Some (short_at bs)) (ap bytes_in e ∙ bytes_in-packed bytes h) ∙ ap Some (short_at-bytes text) ∙ sym (short_of-bytes text)
 
+pub packed_view_bytes : (bytes words : List ℕ) → IsShort bytes → words ≡ packed bytes → (short_at (bytes_in words)).bytes ≡ bytes
+packed_view_bytes bytes words h e =
+    let text : ShortText = record { bytes = bytes; short = h } in
+    ap (λ bs. (short_at bs).bytes) (ap bytes_in e ∙ bytes_in-packed bytes h) ∙ ap (λ t. t.bytes) (short_at-bytes text)
+
 short_if-false : (b : Bool) (bytes : List ℕ) (e : is_short bytes ≡ b) → b ≡ false → short_if b bytes e ≡ None
 short_if-false true bytes e h = cc
 short_if-false false bytes e h = refl
 
+-- what is no short text
 pub short_of-other : (bytes : List ℕ) → is_short bytes ≡ false → short_of bytes ≡ None
 short_of-other bytes h = short_if-false (is_short bytes) bytes refl h
 
@@ -199,7 +215,7 @@ packed_byte-of text i lt =
 pub fits-of : (text : ShortText) → length text.bytes ≤ 23
 fits-of text = (parts text.bytes text.short).fits
 
-pub ruleset packing = (packed_view, packed_last-of, packed_byte-of, fits-of)
+pub ruleset packing = (packed_view, packed_view_bytes, packed_last-of, packed_byte-of, fits-of)
 
 words_fit : (n : ℕ) (bs : List ℕ) → Bytes bs → (i : ℕ) → slice_index (words_in high_word n bs) i < 2 ^ 64
 unfolding words_in

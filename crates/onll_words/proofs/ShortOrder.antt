@@ -133,7 +133,7 @@ unfolding tail_of
 tail_zero m n lt h = zeros_first (23 - m) (m ∷ []) (omega arith)
 
 text_above : (bytes : List ℕ) → IsShort bytes → Above bytes
-text_above bytes h i lt = omega (arith, (text_byte bytes (parts bytes h).text i lt).0)
+text_above bytes h i lt = omega (arith, (text_byte bytes (parts bytes h).text i 0 lt).0)
 
 slice_cmp-padded : (s t : List ℕ) → IsShort s → IsShort t → slice_cmp nat_cmp (padded s) (padded t) ≡ slice_cmp nat_cmp s t
 slice_cmp-padded s t g h =

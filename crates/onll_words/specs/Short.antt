@@ -22,6 +22,7 @@ pub record ShortText : Type 0 where
   pub bytes : List ℕ
   pub short : is_short bytes ≡ true
 
+-- the short text of these bytes, where the test says that they are one
 abbrev pub short_if : (b : Bool) (bytes : List ℕ) → is_short bytes ≡ b → Option ShortText
 short_if true bytes h = Some (record { bytes = bytes; short = h })
 short_if false bytes h = None
@@ -34,6 +35,7 @@ short_of bytes = short_if (is_short bytes) bytes refl
 abbrev pub short_at : List ℕ → ShortText
 short_at bytes = unwrap_or (short_of bytes) (record { bytes = 0x21 ∷ []; short = refl })
 
+-- the proof of the test makes no difference
 short_if-true : (b : Bool) (bytes : List ℕ) (e : is_short bytes ≡ b) (h : is_short bytes ≡ true) → b ≡ true
     → short_if b bytes e ≡ Some (record { bytes = bytes; short = h })
 short_if-true true bytes e h t = ap (λ p. Some (record { bytes = bytes; short = p })) (Coded-set coded_bool (is_short bytes) true e h)

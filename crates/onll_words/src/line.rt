@@ -17,7 +17,8 @@ pub struct OpRow {
 
 /// The bytes of a line, as a log's file has them: each word with its lowest byte first.
 pub fn line_bytes(line: Line) -> [u8; 64]
-    ensures { result ≡ bytes_of_words line.w }
+    ensures bytes { result ≡ bytes_of_words line.w }
+    ensures words { words_of_bytes result ≡ line.w }
 {
     let mut bytes = [0; 64];
     LittleEndian::write_u64_into(&line.w, &mut bytes);

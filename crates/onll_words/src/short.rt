@@ -1,6 +1,6 @@
-ghost use Rattle.std.specs.Prelude.{◌≡◌, ◌<◌, ◌≤◌, length, take, slice_index};
+ghost use Rattle.std.specs.Prelude.{◌≡◌, ◌<◌, ◌≤◌, ◌≢◌, length, take, slice_index, MatchOption, true, false};
 ghost use Rattle.std.specs.List.{list_all};
-ghost use Rattle.onll_words.specs.Short.{is_text_byte, is_short, short_of, padded, packed, unpacked};
+ghost use Rattle.onll_words.specs.Short.{ShortText, is_text_byte, is_short, short_of, padded, packed, unpacked};
 ghost use Rattle.onll_words.specs.Bytes.{high_bytes};
 ghost use Rattle.std.proofs.Common.{rules, nat_eq};
 ghost use Rattle.std.specs.Cmp.{partial_order_from_own_ties};
@@ -61,7 +61,7 @@ fn padded(text: &[u8]) -> [u8; SIZE]
     requires { length text.now ≤ 23 }
     ensures { result ≡ padded text.now }
 {
-    let mut bytes = [0; 24];
+    let mut bytes = [0; SIZE];
     bytes[..text.len()].copy_from_slice(text);
     bytes[LENGTH_AT] = text.len() as u8;
     bytes
@@ -81,7 +81,7 @@ fn packed(text: &[u8]) -> [u64; 3]
 fn word_bytes(words: &[u64; 3]) -> [u8; SIZE]
     ensures { result ≡ high_bytes words.now }
 {
-    let mut bytes = [0; 24];
+    let mut bytes = [0; SIZE];
     BigEndian::write_u64_into(words, &mut bytes);
     bytes
 }
@@ -104,9 +104,10 @@ fn text_part(bytes: &[u8; SIZE]) -> &[u8]
 
 #[tactic(auto, using(crate::proofs::Packing::packing))]
 impl Short {
-    /// The text, where it has 1 to 23 bytes, each from 0x21 to 0x7E.
+    /// The text, where it has 1 to 23 bytes, each from 0x21 to 0x7E; nothing otherwise.
     pub fn read(text: &[u8]) -> Option<Short>
-        ensures { result ≡ short_of text.now }
+        ensures value { result ≡ short_of text.now }
+        ensures text { MatchOption result (is_short text.now ≡ false) (λ short. short.bytes ≡ text.now) }
     {
         if !is_short(text) {
             return None;
@@ -115,9 +116,10 @@ impl Short {
         Some(Short { words })
     }
 
-    /// The text of which these words are the packing.
+    /// The text of which these words are the packing; nothing where they are the packing of none.
     pub fn of_words(w: [u64; 3]) -> Option<Short>
-        ensures { result ≡ unpacked w }
+        ensures value { result ≡ unpacked w }
+        ensures words { MatchOption result ((text : ShortText) → packed text.bytes ≢ w) (λ text. packed text.bytes ≡ w) }
     {
         let short = Short::read(text_part(&word_bytes(&w)))?;
         if short.words() == w {
@@ -150,6 +152,7 @@ impl Short {
     }
 }
 
+#[tactic(auto, using(crate::proofs::ShortOrder::comparing_packings))]
 impl PartialEq for Short {
     ghost eq = { on (λ text. text.bytes) (pointwise nat_eq) };
 
@@ -164,6 +167,7 @@ impl Eq for Short {
     ghost laws = { Prim.search (comparing, rules) };
 }
 
+#[tactic(auto, using(crate::proofs::ShortOrder::comparing_packings))]
 impl Ord for Short {
     ghost cmp = { on (λ text. text.bytes) (slice_cmp nat_cmp) };
 

@@ -3,7 +3,7 @@ ghost use Rattle.onll_words.specs.Texts.{is_blank, is_line_end, words_of, lines_
 
 use std::marker::Model;
 
-/// A word of a line, and what follows it.
+/// A word of a line, and what stands after the blank that ends it.
 #[derive(Clone, Copy, Debug)]
 pub struct Cut<'a> {
     pub word: &'a [u8],

@@ -7,7 +7,7 @@ ghost use Rattle.onll_jobs.specs.declared.ending.Ending.{Ending};
 ghost use Rattle.onll_jobs.specs.Command.{Fold, form_of};
 ghost use Rattle.onll_jobs.specs.Exits.{PutExits};
 ghost use Rattle.onll_jobs.specs.Seen.{seen_by};
-ghost use Rattle.onll_jobs.specs.Says.{FormSays, ExitSays, Ended, PutWhole, PutSome, PutNothing, SinkFailed, IsTold, NoneRose, SaysThis, SaysRead};
+ghost use Rattle.onll_jobs.specs.Says.{FormSays, ExitSays, Ended, PutWhole, OutOfMemory, SinkFailed, IsTold, NoneRose, SaysThis, SaysRead};
 ghost use Rattle.onll_jobs.specs.FoldSays.{fold_on};
 ghost use Rattle.onll_jobs.specs.Printed.{usage_text, refusal_text};
 
@@ -65,7 +65,10 @@ pub fn onll<S: Store, K: Sink>(alloc: Global, words: &[String], store: &mut S, o
     ensures refused { result ≡ 3 → PutWhole (seen_by (map string_bytes words.now) (S.seen store.old) (S.seen store.new) (K.held out.old) (K.held out.new)) Ending.Refused }
     ensures unread { result ≡ 5 → PutWhole (seen_by (map string_bytes words.now) (S.seen store.old) (S.seen store.new) (K.held out.old) (K.held out.new)) Ending.ReadFault }
     ensures sink_failed { result ≡ 6 → SinkFailed (seen_by (map string_bytes words.now) (S.seen store.old) (S.seen store.new) (K.held out.old) (K.held out.new)) }
-    ensures no_memory { result ≡ 9 → PutSome (seen_by (map string_bytes words.now) (S.seen store.old) (S.seen store.new) (K.held out.old) (K.held out.new)) ⊎ PutNothing (seen_by (map string_bytes words.now) (S.seen store.old) (S.seen store.new) (K.held out.old) (K.held out.new)) }
+    ensures no_memory { result ≡ 9 → OutOfMemory (seen_by (map string_bytes words.now) (S.seen store.old) (S.seen store.new) (K.held out.old) (K.held out.new)) }
+
+    // Where the sink fails, the status says so, whatever else was found.
+    ensures sink_count { (result ≡ 6) ⊎ ((K.held out.new).faults ≡ (K.held out.old).faults) }
 
     // When it comes: where no count of faults rose, the words and the bytes of the files decide, but for memory.
     ensures no_form { form_of (map string_bytes words.now) ≡ None → NoneRose (seen_by (map string_bytes words.now) (S.seen store.old) (S.seen store.new) (K.held out.old) (K.held out.new)) → SaysThis (seen_by (map string_bytes words.now) (S.seen store.old) (S.seen store.new) (K.held out.old) (K.held out.new)) result Ending.Usage usage_text }

@@ -1,3 +1,5 @@
 pub mod Appending
 pub mod LineWords
 pub mod Whole
+pub mod ReadBack
+pub mod BankReadBack

@@ -1,4 +1,4 @@
-use Rattle.std.proofs.Common.{sym, ◌∙◌}
+use Rattle.std.proofs.Common.{sym}
 use Rattle.std.proofs.lemmas.Result.{on_ok_weaker}
 use Rattle.onll_text.proofs.LineWords.{node_line_parts}
 use Rattle.onll_text.proofs.report.Report.node_line.Goals as goal

@@ -3,3 +3,4 @@ pub mod LineWords
 pub mod Whole
 pub mod ReadBack
 pub mod BankReadBack
+pub mod Keeping

@@ -10,6 +10,8 @@ mod read_back;
 mod reason;
 mod report;
 mod script;
+#[cfg(test)]
+mod tests;
 mod texted;
 mod words;
 

@@ -15,7 +15,7 @@ pub enum Piece<'a> {
     Number(u64),
 }
 
-/// The bytes of a report, seen as that list. After want of memory a front of what was to be appended may stand.
+/// The bytes of a report, seen as that list. After want of memory the bytes before stay, and a front of what was to be appended may stand behind them.
 #[derive(Drop)]
 pub struct Report {
     bytes: Vec<u8>,

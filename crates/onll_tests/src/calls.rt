@@ -1,0 +1,94 @@
+use onll_outside::{MemSink, MemStore, Named};
+use std::alloc::{AllocError, Global};
+use std::process::Abort;
+use std::str;
+
+/// The longest text that is read.
+pub(crate) const LONGEST: usize = 1_048_576;
+
+/// One call of the program: its words, the files that are there, and the numbers of the store's calls
+/// and of the sink's puts that fail.
+#[derive(Clone, Copy)]
+pub(crate) struct Program<'a> {
+    pub(crate) words: &'a [&'a str],
+    pub(crate) files: &'a [(&'a str, &'a [u8])],
+    pub(crate) failing_calls: &'a [u64],
+    pub(crate) failing_puts: &'a [u64],
+}
+
+/// How a call ended: its status, and what the sink had taken then.
+#[derive(Drop)]
+pub(crate) struct Outcome {
+    status: u8,
+    taken: Vec<u8>,
+}
+
+fn words_of(alloc: Global, texts: &[&str]) -> Result<Vec<String>, AllocError> {
+    let mut words = Vec::new(alloc);
+    for text in texts {
+        words.push(String::from_str(alloc, text)?)?;
+    }
+    Ok(words)
+}
+
+fn files_of(alloc: Global, texts: &[(&str, &[u8])]) -> Result<Vec<Named>, AllocError> {
+    let mut files = Vec::new(alloc);
+    for (name, bytes) in texts {
+        files.push(Named {
+            name: String::from_str(alloc, name)?,
+            bytes: Vec::from_slice(alloc, bytes)?,
+        })?;
+    }
+    Ok(files)
+}
+
+impl Program<'_> {
+    /// Runs the program over a store and a sink of its own.
+    pub(crate) fn run(&self, alloc: Global) -> Result<Outcome, AllocError> {
+        let words = words_of(alloc, self.words)?;
+        let files = files_of(alloc, self.files)?;
+        let failing_calls = Vec::from_slice(alloc, self.failing_calls)?;
+        let failing_puts = Vec::from_slice(alloc, self.failing_puts)?;
+        let mut store = MemStore::new(files, failing_calls, Vec::new(alloc));
+        let mut sink = MemSink::new(alloc, failing_puts);
+        let status = onll_jobs::onll(alloc, &words, &mut store, &mut sink);
+        let taken = Vec::from_slice(alloc, sink.taken())?;
+        Ok(Outcome { status, taken })
+    }
+}
+
+/// Runs `fold i s` over these two files, where nothing fails.
+pub(crate) fn fold(alloc: Global, init: &[u8], script: &[u8]) -> Result<Outcome, AllocError> {
+    let program = Program {
+        words: &["fold", "i", "s"],
+        files: &[("i", init), ("s", script)],
+        failing_calls: &[],
+        failing_puts: &[],
+    };
+    program.run(alloc)
+}
+
+impl Outcome {
+    /// Asserts the status and the whole text of a case.
+    pub(crate) fn expect(&self, rt: &impl Abort, case: &str, status: u8, text: &str) {
+        let taken = str::from_utf8(&self.taken).unwrap_or("not a text");
+        assert_eq!(rt; taken, text, "{case}");
+        assert_eq!(rt; self.status, status, "{case}");
+    }
+}
+
+/// A text of so many equal lines, or other pieces.
+pub(crate) fn repeated(alloc: Global, piece: &[u8], count: usize) -> Result<Vec<u8>, AllocError> {
+    let mut text = Vec::new(alloc);
+    for _ in 0..count {
+        text.extend_from_slice(piece)?;
+    }
+    Ok(text)
+}
+
+/// A text after another.
+pub(crate) fn joined(alloc: Global, first: &[u8], second: &[u8]) -> Result<Vec<u8>, AllocError> {
+    let mut text = Vec::from_slice(alloc, first)?;
+    text.extend_from_slice(second)?;
+    Ok(text)
+}

@@ -1,0 +1,16 @@
+//! Tests that cross the crates: all of them call the program through its top call, over files and an
+//! output in memory. There is nothing here to be called.
+#![tactic(auto)]
+
+#[cfg(test)]
+mod calls;
+#[cfg(test)]
+mod faults;
+#[cfg(test)]
+mod hostile_inits;
+#[cfg(test)]
+mod hostile_scripts;
+#[cfg(test)]
+mod large;
+#[cfg(test)]
+mod worked;

@@ -1,0 +1,10 @@
+//! A persistent-memory device: lines of words that are written, written back and fenced.
+#![tactic(auto)]
+
+ghost use Rattle.onll_pmem.specs.Laws.{MixLaw};
+
+/// An image is made of words from before and after the steps, whatever stood between.
+pub fn mix_law()
+    ensures mixed { MixLaw }
+{
+}

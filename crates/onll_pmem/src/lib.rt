@@ -3,6 +3,10 @@
 
 ghost use Rattle.onll_pmem.specs.Laws.{MixLaw};
 
+mod pmem;
+
+pub use pmem::{FenceFailed, Pmem};
+
 /// An image is made of words from before and after the steps, whatever stood between.
 pub fn mix_law()
     ensures mixed { MixLaw }

@@ -1,1 +1,2 @@
 pub mod Mixes
+pub mod Marks

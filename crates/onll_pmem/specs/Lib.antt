@@ -1,3 +1,4 @@
 pub mod Device
 pub mod Laws
 pub mod Pmem
+pub mod Waiting

@@ -4,6 +4,7 @@
 ghost use Rattle.onll_pmem.specs.Laws.{MixLaw};
 
 mod pmem;
+mod waiting;
 
 pub use pmem::{FenceFailed, Pmem};
 

@@ -1,2 +1,3 @@
 pub mod Mixes
 pub mod Marks
+pub mod Lines

@@ -3,9 +3,11 @@
 
 ghost use Rattle.onll_pmem.specs.Laws.{MixLaw};
 
+mod memory;
 mod pmem;
 mod waiting;
 
+pub use memory::MemPmem;
 pub use pmem::{FenceFailed, Pmem};
 
 /// An image is made of words from before and after the steps, whatever stood between.

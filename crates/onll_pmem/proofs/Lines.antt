@@ -1,12 +1,12 @@
 -- Lists of lines.
-use Rattle.std.proofs.Common.{◌≡◌, ℕ, zero, suc, ◌+◌, ◌<◌, Bool, true, false, cond, List, [], ◌∷◌, length, get_or, set, map, replicate, sym, refl, ap, ◌∙◌, arith, true≢false, ◌⊎◌, inl, inr}
-use Rattle.std.proofs.lemmas.List.{length-map, map-set, get_or-map, get_or-set_same, get_or-set_other}
+use Rattle.std.proofs.Common.{◌≡◌, ℕ, zero, suc, ◌+◌, ◌<◌, Bool, true, false, cond, List, [], ◌∷◌, length, get_or, set, map, replicate, sym, refl, ap, ◌∙◌, arith, true≢false, add-one, add_comm, zero-add, ◌⊎◌, inl, inr}
+use Rattle.std.proofs.lemmas.List.{length-set, length-map, map-set, get_or-map, get_or-set_same, get_or-set_other}
 use Rattle.std.proofs.lemmas.Bool.{cases_eq}
 use Rattle.onll_words.specs.declared.line.Line.{Line}
 use Rattle.onll_pmem.specs.Device.{line_at, settled, AllBacked}
 use Rattle.onll_pmem.specs.Pmem.{words_of}
 use Rattle.onll_pmem.specs.Waiting.{is_marked}
-use Rattle.onll_pmem.specs.Memory.{EvenBut}
+use Rattle.onll_pmem.specs.Memory.{EvenBut, Keeps, fails, faults_in}
 
 pub words_of-replicate : (n : ℕ) (line : Line) → words_of (replicate n line) ≡ replicate n line.w
 words_of-replicate zero line = refl
@@ -74,3 +74,46 @@ pub words_of-settled : (marks : List Bool) (olds fs rs : List Line) (bs : List B
 words_of-settled marks olds fs rs bs a b c same even unmarked =
     settled-lines bs (words_of olds) (words_of rs) (words_of fs) (omega (arith, length-words_of rs)) (omega (arith, length-words_of rs, length-words_of olds)) (omega (arith, length-words_of rs, length-words_of fs))
       same (λ line back. even line back (unmarked line))
+
+-- ---- what a device in memory keeps
+pub Keeps-write : (fenced read : List Line) (backed marks : List Bool) (fences faults line : ℕ) (failing : List ℕ) (value : Line) → line < length (words_of read)
+    → Keeps (record { device = record { fenced = words_of fenced; read = words_of read; backed = backed; fences = fences }; failing = failing }) marks faults
+    → Keeps (record { device = record { fenced = words_of fenced; read = words_of (set read line value); backed = set backed line false; fences = fences }; failing = failing }) marks faults
+Keeps-write fenced read backed marks fences faults line failing value within k = rw (words_of-set read line value) (record {
+      as_fenced = k.as_fenced ∙ sym (length-set (words_of read) line value.w);
+      as_backed = length-set backed line false ∙ (k.as_backed ∙ sym (length-set (words_of read) line value.w));
+      as_marked = k.as_marked ∙ sym (length-set (words_of read) line value.w);
+      few = omega (arith, length-set (words_of read) line value.w, k.few);
+      even = λ i back unmarked. at i (cases_eq i line) back unmarked;
+      counted = k.counted;
+    })
+  where
+    within_backed : line < length backed
+    within_backed = let e = k.as_backed in omega arith
+    at : (i : ℕ) → (i ≡ line) ⊎ (i ≡ line → ⊥) → is_marked (set backed line false) i ≡ true → is_marked marks i ≡ false → line_at (words_of fenced) i ≡ line_at (set (words_of read) line value.w) i
+    at i (inl e) back unmarked = absurd (true≢false (sym back ∙ (ap (is_marked (set backed line false)) e ∙ get_or-set_same backed line false false within_backed)))
+    at i (inr n) back unmarked = k.even i (sym (get_or-set_other backed line i false false n) ∙ back) unmarked ∙ sym (get_or-set_other (words_of read) line i value.w [] n)
+
+pub faults_in_next : (failing : List ℕ) (fences : ℕ) → fails failing (fences + 1) ≡ true → faults_in failing (fences + 1) ≡ faults_in failing fences + 1
+faults_in_next failing fences e = rw add-one (ap (λ (b : Bool). cond {A = ℕ} b 1 0 + faults_in failing fences) (rw add-one at e) ∙ add_comm 1 (faults_in failing fences))
+
+pub faults_in_same : (failing : List ℕ) (fences : ℕ) → fails failing (fences + 1) ≡ false → faults_in failing (fences + 1) ≡ faults_in failing fences
+faults_in_same failing fences e = rw add-one (ap (λ (b : Bool). cond {A = ℕ} b 1 0 + faults_in failing fences) (rw add-one at e) ∙ zero-add (faults_in failing fences))
+
+pub Keeps-fault : (fenced read : List (List ℕ)) (backed marks : List Bool) (fences faults : ℕ) (failing : List ℕ) → fails failing (fences + 1) ≡ true
+    → Keeps (record { device = record { fenced = fenced; read = read; backed = backed; fences = fences }; failing = failing }) marks faults
+    → Keeps (record { device = record { fenced = fenced; read = read; backed = backed; fences = fences + 1 }; failing = failing }) marks (faults + 1)
+Keeps-fault fenced read backed marks fences faults failing e k = record {
+    as_fenced = k.as_fenced; as_backed = k.as_backed; as_marked = k.as_marked; few = k.few; even = k.even;
+    counted = ap (λ n. n + 1) k.counted ∙ sym (faults_in_next failing fences e);
+  }
+
+pub Keeps-fence : (fenced settled read : List Line) (backed marks done : List Bool) (fences faults : ℕ) (failing : List ℕ) → fails failing (fences + 1) ≡ false
+    → Keeps (record { device = record { fenced = words_of fenced; read = words_of read; backed = backed; fences = fences }; failing = failing }) marks faults
+    → length settled ≡ length read → length done ≡ length read → EvenBut done (words_of settled) (words_of read) backed
+    → Keeps (record { device = record { fenced = words_of settled; read = words_of read; backed = backed; fences = fences + 1 }; failing = failing }) done faults
+Keeps-fence fenced settled read backed marks done fences faults failing e k a b even = record {
+    as_fenced = omega (arith, length-words_of settled, length-words_of read); as_backed = k.as_backed;
+    as_marked = omega (arith, length-words_of read); few = k.few; even = even;
+    counted = k.counted ∙ sym (faults_in_same failing fences e);
+  }

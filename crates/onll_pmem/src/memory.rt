@@ -16,14 +16,23 @@ fn zeros(alloc: Global, lines: usize) -> Result<Vec<Line>, AllocError>
     Ok(zeros)
 }
 
+/// Whether the fence of this number fails.
+fn is_failing(failing: &[u64], number: u64) -> bool
+    ensures { result ≡ fails failing.now number }
+{
+    failing.contains(&number)
+}
+
 /// Makes the lines durable that are written back and wait.
-fn settle(fenced: &mut [Line], read: &[Line], backed: &[bool], waiting: &mut Waiting)
-    requires as_fenced { length fenced.old ≡ length read.now }
+fn settle(fenced: &mut Vec<Line>, read: &[Line], backed: &[bool], waiting: &mut Waiting)
+    requires as_fenced { length fenced.old.items ≡ length read.now }
     requires as_backed { length backed.now ≡ length read.now }
     requires as_marked { length waiting.old.marks ≡ length read.now }
-    requires even { EvenBut waiting.old.marks (words_of fenced.old) (words_of read.now) backed.now }
-    ensures settled { words_of fenced.new ≡ settled backed.now (words_of fenced.old) (words_of read.now) }
-    ensures marked { length waiting.new.marks ≡ length read.now }
+    requires even { EvenBut waiting.old.marks (words_of fenced.old.items) (words_of read.now) backed.now }
+    ensures settled { words_of fenced.new.items ≡ settled backed.now (words_of fenced.old.items) (words_of read.now) }
+    ensures even { EvenBut waiting.new.marks (words_of fenced.new.items) (words_of read.now) backed.now }
+    ensures lines { length fenced.new.items ≡ length read.now }
+    ensures marks { length waiting.new.marks ≡ length read.now }
 {
     while let Some(line) = waiting.take() {
         if backed[line as usize] {
@@ -116,7 +125,7 @@ impl Pmem for MemPmem {
         ensures answer { is_ok result ≡ not (fails self.old.failing (self.old.device.fences + 1)) }
     {
         self.fences += 1;
-        if self.failing.contains(&self.fences) {
+        if is_failing(&self.failing, self.fences) {
             self.faults += 1;
             return Err(FenceFailed);
         }

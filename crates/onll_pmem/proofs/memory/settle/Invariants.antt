@@ -8,8 +8,9 @@ use Rattle.onll_pmem.proofs.memory.settle.Given as goal
 abbrev pub invariant-loop-line : goal.invariant-loop-line
 invariant-loop-line l = record {
   as_marked : length l.waiting.marks ≡ length l.read;
-  even : EvenBut l.waiting.marks (words_of l.fenced) (words_of l.read) l.backed;
-  same : (line : ℕ) → is_marked l.backed line ≡ false → line_at (words_of l.fenced) line ≡ line_at (words_of l.initial.fenced) line;
+  as_fenced : length l.fenced.items ≡ length l.read;
+  even : EvenBut l.waiting.marks (words_of l.fenced.items) (words_of l.read) l.backed;
+  same : (line : ℕ) → is_marked l.backed line ≡ false → line_at (words_of l.fenced.items) line ≡ line_at (words_of l.initial.fenced.items) line;
 }
 
 abbrev pub decreases-loop-line : goal.decreases-loop-line

@@ -1,3 +1,4 @@
 pub mod Mixes
 pub mod Marks
 pub mod Lines
+pub mod Images

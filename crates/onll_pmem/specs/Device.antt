@@ -81,9 +81,13 @@ Mixed xs ys zs = ⊥
 abbrev pub IsImage : DeviceState → List (List ℕ) → Type 0
 IsImage d image = Mixed d.fenced d.read image
 
--- how many words of a line read otherwise than they are fenced
+-- a word is pending where it reads otherwise than it is fenced
+abbrev pub pending_word : ℕ → ℕ → ℕ
+pending_word fenced read = if fenced == read then 0 else 1
+
+-- how many words are pending
 abbrev pub pending_in : List ℕ → List ℕ → ℕ
-pending_in (f ∷ fs) (r ∷ rs) = (if f == r then 0 else 1) + pending_in fs rs
+pending_in (f ∷ fs) (r ∷ rs) = pending_word f r + pending_in fs rs
 pending_in fs rs = 0
 
 abbrev pub pending_count : List (List ℕ) → List (List ℕ) → ℕ
@@ -98,10 +102,13 @@ NonePending d = d.fenced ≡ d.read
 abbrev pub is_kept : ℕ → ℕ → Bool
 is_kept keep number = bit_at keep (number % 64) == 1
 
--- a line of that image, where its first pending word has this number
+-- a word of that image, which has this number if it is pending
+abbrev pub kept_word : ℕ → ℕ → ℕ → ℕ → ℕ
+kept_word keep number fenced read = if fenced == read then fenced else (if is_kept keep number then read else fenced)
+
+-- a line of that image, whose first pending word has this number
 abbrev pub kept_words : ℕ → ℕ → List ℕ → List ℕ → List ℕ
-kept_words keep number (f ∷ fs) (r ∷ rs) =
-    if f == r then f ∷ kept_words keep number fs rs else (if is_kept keep number then r else f) ∷ kept_words keep (number + 1) fs rs
+kept_words keep number (f ∷ fs) (r ∷ rs) = kept_word keep number f r ∷ kept_words keep (number + pending_word f r) fs rs
 kept_words keep number fs rs = []
 
 -- that image: pending words are numbered by line and then by word

@@ -3,6 +3,7 @@
 
 ghost use Rattle.onll_pmem.specs.Laws.{MixLaw};
 
+mod image;
 mod memory;
 mod pmem;
 mod waiting;

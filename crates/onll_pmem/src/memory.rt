@@ -1,8 +1,9 @@
 ghost use Rattle.std.specs.Prelude.{◌≡◌, ℕ, ◌+◌, ◌-◌, ◌^◌, ◌<◌, ◌≤◌, not, is_ok, length, IfOk};
-ghost use Rattle.onll_pmem.specs.Device.{new_device, zero_lines, line_at, FillsWords, settled, Write, WriteBack};
+ghost use Rattle.onll_pmem.specs.Device.{new_device, image_of, IsImage, zero_lines, line_at, FillsWords, settled, Write, WriteBack};
 ghost use Rattle.onll_pmem.specs.Pmem.{words_of};
 ghost use Rattle.onll_pmem.specs.Memory.{MemoryState, fails, faults_in_le, fence_step, stepped, memory_view, EvenBut};
 
+use crate::image::kept_lines;
 use crate::pmem::{FenceFailed, Pmem};
 use crate::waiting::Waiting;
 use onll_words::{Line, NoMemory};
@@ -86,6 +87,15 @@ impl MemPmem {
         ensures { IfOk result (λ m. m ≡ record { device = new_device lines; failing = failing.items }) }
     {
         MemPmem::try_new(alloc, lines as usize, failing).map_err(|_| NoMemory)
+    }
+
+    /// What a crash leaves: a pending word, one that reads otherwise than it is fenced, is as it reads where `keep` has
+    /// the bit of its number modulo 64, and else as fenced. Pending words are numbered from 0 by line and then by word.
+    pub fn image(&self, alloc: Global, keep: u64) -> Result<Vec<Line>, NoMemory>
+        ensures exact { IfOk result (λ image. words_of image.items ≡ image_of self.now.device keep) }
+        ensures member { IfOk result (λ image. IsImage self.now.device (words_of image.items)) }
+    {
+        kept_lines(alloc, keep, &self.fenced, &self.read).map_err(|_| NoMemory)
     }
 }
 

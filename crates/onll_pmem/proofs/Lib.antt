@@ -2,3 +2,4 @@ pub mod Mixes
 pub mod Marks
 pub mod Lines
 pub mod Images
+pub mod Kept

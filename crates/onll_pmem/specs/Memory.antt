@@ -11,6 +11,9 @@ pub record MemoryState : Type 0 where
   pub device : DeviceState
   pub failing : List ℕ
 
+abbrev pub memory_of : List (List ℕ) → List (List ℕ) → List Bool → ℕ → List ℕ → MemoryState
+memory_of fenced read backed fences failing = record { device = record { fenced = fenced; read = read; backed = backed; fences = fences }; failing = failing }
+
 abbrev pub fails : List ℕ → ℕ → Bool
 fails failing number = list_any (λ x. x == number) failing
 
@@ -26,10 +29,6 @@ faults_in_le failing (suc fences) = at (fails failing (suc fences)) (faults_in_l
     at : (b : Bool) → faults_in failing fences ≤ fences → (if b then 1 else 0) + faults_in failing fences ≤ suc fences
     at true h = omega arith
     at false h = omega arith
-
--- what the next fence is
-abbrev pub fence_step : MemoryState → Step
-fence_step m = if fails m.failing (m.device.fences + 1) then FailedFence else Fence
 
 -- after a step of its device
 abbrev pub stepped : MemoryState → Step → MemoryState

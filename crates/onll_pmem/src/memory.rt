@@ -1,7 +1,7 @@
-ghost use Rattle.std.specs.Prelude.{◌≡◌, ℕ, ◌+◌, ◌-◌, ◌^◌, ◌<◌, ◌≤◌, not, is_ok, length, IfOk};
-ghost use Rattle.onll_pmem.specs.Device.{new_device, image_of, IsImage, zero_lines, line_at, FillsWords, settled, Write, WriteBack};
+ghost use Rattle.std.specs.Prelude.{◌≡◌, ℕ, ◌+◌, ◌-◌, ◌^◌, ◌<◌, ◌≤◌, not, is_ok, length, IfOk, OnOk, OnErr};
+ghost use Rattle.onll_pmem.specs.Device.{new_device, image_of, IsImage, zero_lines, line_at, FillsWords, settled, Write, WriteBack, Fence, FailedFence};
 ghost use Rattle.onll_pmem.specs.Pmem.{words_of};
-ghost use Rattle.onll_pmem.specs.Memory.{MemoryState, fails, faults_in_le, fence_step, stepped, memory_view, EvenBut};
+ghost use Rattle.onll_pmem.specs.Memory.{MemoryState, fails, faults_in_le, stepped, memory_view, EvenBut};
 
 use crate::image::kept_lines;
 use crate::pmem::{FenceFailed, Pmem};
@@ -56,13 +56,13 @@ pub struct MemPmem {
 
 impl Model for MemPmem {
     ghost use Rattle.onll_pmem.specs.Pmem.{words_of};
-    ghost use Rattle.onll_pmem.specs.Memory.{MemoryState, Keeps};
+    ghost use Rattle.onll_pmem.specs.Memory.{MemoryState, memory_of, Keeps};
 
     ghost Value = { MemoryState };
 
-    ghost view = { λ m. record { device = record { fenced = words_of m.fenced.items; read = words_of m.read.items; backed = m.backed.items; fences = m.fences }; failing = m.failing.items } };
+    ghost view = { λ m. memory_of (words_of m.fenced.items) (words_of m.read.items) m.backed.items m.fences m.failing.items };
 
-    ghost invariant = { λ m. Keeps (record { device = record { fenced = words_of m.fenced.items; read = words_of m.read.items; backed = m.backed.items; fences = m.fences }; failing = m.failing.items }) m.waiting.marks m.faults };
+    ghost invariant = { λ m. Keeps (memory_of (words_of m.fenced.items) (words_of m.read.items) m.backed.items m.fences m.failing.items) m.waiting.marks m.faults };
 }
 
 impl MemPmem {
@@ -131,7 +131,8 @@ impl Pmem for MemPmem {
 
     fn fence(&mut self) -> Result<(), FenceFailed>
         requires { self.old.device.fences < 2 ^ 64 - 1 }
-        ensures step { self.new ≡ stepped self.old (fence_step self.old) }
+        ensures ok { OnOk result (self.new ≡ stepped self.old Fence) }
+        ensures failed { OnErr result (self.new ≡ stepped self.old FailedFence) }
         ensures answer { is_ok result ≡ not (fails self.old.failing (self.old.device.fences + 1)) }
     {
         self.fences += 1;

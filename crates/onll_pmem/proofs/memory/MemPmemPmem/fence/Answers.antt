@@ -1,7 +1,7 @@
 use Rattle.std.proofs.Common.{◌≡◌, ◌+◌, true, false, length, arith}
 use Rattle.onll_pmem.specs.Pmem.{words_of}
 use Rattle.onll_pmem.specs.Memory.{fails, faults_in_le, EvenBut}
-use Rattle.onll_pmem.proofs.Lines.{Keeps-fault, Keeps-fence}
+use Rattle.onll_pmem.proofs.Kept.{Keeps-fault, Keeps-fence}
 use Rattle.onll_pmem.proofs.memory.MemPmemPmem.fence.Goals as goal
 
 pub overflow_add-self-then-is_failing : goal.overflow_add-self-then-is_failing

@@ -1,5 +1,6 @@
 use Rattle.std.proofs.Common.{refl}
-use Rattle.onll_pmem.proofs.Lines.{Keeps-write, words_of-set}
+use Rattle.onll_pmem.proofs.Lines.{words_of-set}
+use Rattle.onll_pmem.proofs.Kept.{Keeps-write}
 use Rattle.onll_pmem.proofs.memory.MemPmemPmem.write.Goals as goal
 
 pub invariant_of-self : goal.invariant_of-self

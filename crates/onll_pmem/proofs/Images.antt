@@ -4,7 +4,7 @@ use Rattle.std.proofs.lemmas.List.{drop_more, take_more, take_more_set, map_push
 use Rattle.onll_words.specs.declared.line.Line.{Line}
 use Rattle.onll_pmem.specs.Pmem.{words_of}
 use Rattle.onll_pmem.proofs.Lines.{length-words_of}
-use Rattle.onll_pmem.specs.Device.{line_at, pending_word, pending_in, is_kept, kept_word, kept_words, kept_lines, MixedWords, Mixed}
+use Rattle.onll_pmem.specs.Device.{line_at, pending_word, pending_in, is_kept, kept_word, kept_words, kept_lines, MixedWords, Mixed, SameShape}
 
 -- each word is fenced or as read
 chosen_word : (b c : Bool) (f r : ℕ) → (cond b f (cond c r f) ≡ f) ⊎ (cond b f (cond c r f) ≡ r)
@@ -83,3 +83,16 @@ KeptLines-more keep number next i fenced read image line d a b el m en h = rw (m
     new = get_or-map (λ (l : Line). l.w) read i d [] b
     step : kept_lines keep number (drop i fs) (drop i rs) ≡ w ∷ kept_lines keep next (drop (i + 1) fs) (drop (i + 1) rs)
     step = rw (drop_more fs i [] in_fenced, drop_more rs i [] in_read, old, new, el, en) refl
+
+-- ---- it is an image
+MixedWords-kept : (keep number : ℕ) (fs rs : List ℕ) → length fs ≡ length rs → MixedWords fs rs (kept_words keep number fs rs)
+MixedWords-kept keep number [] [] e = tt
+MixedWords-kept keep number [] (r ∷ rs) e = absurd (omega arith)
+MixedWords-kept keep number (f ∷ fs) [] e = absurd (omega arith)
+MixedWords-kept keep number (f ∷ fs) (r ∷ rs) e = (chosen_word (f == r) (is_kept keep number) f r, MixedWords-kept keep (number + pending_word f r) fs rs (omega arith))
+
+pub Mixed-kept : (keep number : ℕ) (fs rs : List (List ℕ)) → SameShape fs rs → Mixed fs rs (kept_lines keep number fs rs)
+Mixed-kept keep number [] [] s = tt
+Mixed-kept keep number [] (r ∷ rs) s = absurd s
+Mixed-kept keep number (f ∷ fs) [] s = absurd s
+Mixed-kept keep number (f ∷ fs) (r ∷ rs) s = (MixedWords-kept keep number f r s.0, Mixed-kept keep (number + pending_in f r) fs rs s.1)

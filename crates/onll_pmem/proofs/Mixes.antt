@@ -1,6 +1,6 @@
 -- Images as mixes of words.
-use Rattle.std.proofs.Common.{◌≡◌, ℕ, zero, suc, ◌<◌, Bool, true, false, cond, List, [], ◌∷◌, ◌++◌, length, get_or, set, sym, refl, ap, ◌∙◌, subst, ◌⊎◌, inl, inr, arith, rules}
-use Rattle.onll_pmem.specs.Device.{DeviceState, Step, Write, WriteBack, Fence, FailedFence, line_at, settled, after_step, after_steps, FillsWords, FillsLines, IsLegal, AreLegal, MixedWords, Mixed, IsImage, NonePending}
+use Rattle.std.proofs.Common.{◌≡◌, ℕ, zero, suc, ◌<◌, Bool, true, false, cond, List, [], ◌∷◌, ◌++◌, length, get_or, set, take, drop, sym, refl, ap, ◌∙◌, subst, ◌⊎◌, inl, inr, arith, rules}
+use Rattle.onll_pmem.specs.Device.{DeviceState, Step, Write, WriteBack, Fence, FailedFence, line_at, word_at, settled, after_step, after_steps, FillsWords, FillsLines, IsLegal, AreLegal, MixedWords, Mixed, IsImage, NonePending}
 
 -- ---- only zeros are filled
 pub FillsWords-self : (xs : List ℕ) → FillsWords xs xs
@@ -191,3 +191,44 @@ Mixed-image d done rest image n l i = let P : DeviceState → Type 0 = λ e. Mix
     let r : Reached d.read m = Reached-steps d.read d done (AreLegal-done d done rest l) (Reached-settled d n) in
     subst P (sym (after_steps-append d done rest))
       (Mixed-through d.read m.read (after_steps m rest).read image r.filled (FillsLines-steps m rest (AreLegal-rest d done rest l)) (Mixed-reached d.read m image r i))
+
+-- ---- by places
+MixedWords-word : (xs ys zs : List ℕ) (word : ℕ) → MixedWords xs ys zs → (get_or zs word 0 ≡ get_or xs word 0) ⊎ (get_or zs word 0 ≡ get_or ys word 0)
+MixedWords-word [] [] [] word m = inl refl
+MixedWords-word [] [] (z ∷ zs) word m = absurd m
+MixedWords-word [] (y ∷ ys) zs word m = absurd m
+MixedWords-word (x ∷ xs) [] zs word m = absurd m
+MixedWords-word (x ∷ xs) (y ∷ ys) [] word m = absurd m
+MixedWords-word (x ∷ xs) (y ∷ ys) (z ∷ zs) zero m = m.0
+MixedWords-word (x ∷ xs) (y ∷ ys) (z ∷ zs) (suc word) m = MixedWords-word xs ys zs word m.1
+
+pub Mixed-word_at : (xs ys zs : List (List ℕ)) (line word : ℕ) → Mixed xs ys zs → (word_at zs line word ≡ word_at xs line word) ⊎ (word_at zs line word ≡ word_at ys line word)
+Mixed-word_at [] [] [] line word m = inl refl
+Mixed-word_at [] [] (z ∷ zs) line word m = absurd m
+Mixed-word_at [] (y ∷ ys) zs line word m = absurd m
+Mixed-word_at (x ∷ xs) [] zs line word m = absurd m
+Mixed-word_at (x ∷ xs) (y ∷ ys) [] line word m = absurd m
+Mixed-word_at (x ∷ xs) (y ∷ ys) (z ∷ zs) zero word m = MixedWords-word x y z word m.0
+Mixed-word_at (x ∷ xs) (y ∷ ys) (z ∷ zs) (suc line) word m = Mixed-word_at xs ys zs line word m.1
+
+pub Mixed-take : (n : ℕ) (xs ys zs : List (List ℕ)) → Mixed xs ys zs → Mixed (take n xs) (take n ys) (take n zs)
+Mixed-take zero xs ys zs m = tt
+Mixed-take (suc n) [] [] [] m = tt
+Mixed-take (suc n) [] [] (z ∷ zs) m = absurd m
+Mixed-take (suc n) [] (y ∷ ys) zs m = absurd m
+Mixed-take (suc n) (x ∷ xs) [] zs m = absurd m
+Mixed-take (suc n) (x ∷ xs) (y ∷ ys) [] m = absurd m
+Mixed-take (suc n) (x ∷ xs) (y ∷ ys) (z ∷ zs) m = (m.0, Mixed-take n xs ys zs m.1)
+
+pub Mixed-drop : (n : ℕ) (xs ys zs : List (List ℕ)) → Mixed xs ys zs → Mixed (drop n xs) (drop n ys) (drop n zs)
+Mixed-drop zero xs ys zs m = m
+Mixed-drop (suc n) [] [] [] m = tt
+Mixed-drop (suc n) [] [] (z ∷ zs) m = absurd m
+Mixed-drop (suc n) [] (y ∷ ys) zs m = absurd m
+Mixed-drop (suc n) (x ∷ xs) [] zs m = absurd m
+Mixed-drop (suc n) (x ∷ xs) (y ∷ ys) [] m = absurd m
+Mixed-drop (suc n) (x ∷ xs) (y ∷ ys) (z ∷ zs) m = Mixed-drop n xs ys zs m.1
+
+-- an image of a device without a pending word is what it reads
+pub IsImage-settled : (d : DeviceState) (image : List (List ℕ)) → NonePending d → IsImage d image → image ≡ d.read
+IsImage-settled d image n i = let P : List (List ℕ) → Type 0 = λ fs. Mixed fs d.read image in Mixed-same d.read image (subst P n i)

@@ -12,6 +12,9 @@ pub record DeviceState : Type 0 where
 abbrev pub line_at : List (List ℕ) → ℕ → List ℕ
 line_at lines line = slice_index_or lines line []
 
+abbrev pub word_at : List (List ℕ) → ℕ → ℕ → ℕ
+word_at lines line word = slice_index_or (line_at lines line) word 0
+
 abbrev pub zero_line : List ℕ
 zero_line = 0 ∷ 0 ∷ 0 ∷ 0 ∷ 0 ∷ 0 ∷ 0 ∷ 0 ∷ []
 
@@ -76,6 +79,12 @@ abbrev pub Mixed : List (List ℕ) → List (List ℕ) → List (List ℕ) → T
 Mixed [] [] [] = Unit {0}
 Mixed (x ∷ xs) (y ∷ ys) (z ∷ zs) = MixedWords x y z × Mixed xs ys zs
 Mixed xs ys zs = ⊥
+
+-- as many lines, and in each as many words
+abbrev pub SameShape : List (List ℕ) → List (List ℕ) → Type 0
+SameShape [] [] = Unit {0}
+SameShape (x ∷ xs) (y ∷ ys) = (length x ≡ length y) × SameShape xs ys
+SameShape xs ys = ⊥
 
 -- what a crash may leave: each word, by itself, is its fenced value or its value as read
 abbrev pub IsImage : DeviceState → List (List ℕ) → Type 0

@@ -1,7 +1,7 @@
 //! A persistent-memory device: lines of words that are written, written back and fenced.
 #![tactic(auto)]
 
-ghost use Rattle.onll_pmem.specs.Laws.{MixLaw};
+ghost use Rattle.onll_pmem.specs.Laws.{MixLaw, ImageLaw, WordLaw, SameLaw, PickLaw, PendingLaw, FenceLaw, FailedLaw, NewLaw, CountLaw};
 
 mod image;
 mod memory;
@@ -14,5 +14,24 @@ pub use pmem::{FenceFailed, Pmem};
 /// An image is made of words from before and after the steps, whatever stood between.
 pub fn mix_law()
     ensures mixed { MixLaw }
+{
+}
+
+/// What images are.
+pub fn image_laws()
+    ensures image { ImageLaw }
+    ensures word { WordLaw }
+    ensures same { SameLaw }
+    ensures pick { PickLaw }
+    ensures pending { PendingLaw }
+{
+}
+
+/// What fences leave, and what a device begins with.
+pub fn device_laws()
+    ensures fence { FenceLaw }
+    ensures failed { FailedLaw }
+    ensures new { NewLaw }
+    ensures count { CountLaw }
 {
 }

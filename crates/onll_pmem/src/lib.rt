@@ -6,6 +6,8 @@ ghost use Rattle.onll_pmem.specs.Laws.{MixLaw, ImageLaw, WordLaw, SameLaw, PickL
 mod image;
 mod memory;
 mod pmem;
+#[cfg(test)]
+mod tests;
 mod waiting;
 
 pub use memory::MemPmem;

@@ -53,3 +53,29 @@ fn only_fenced_words_are_sure(rt: HostRuntime) -> Result<(), Fail> {
     shows(&rt, alloc, &device, 0, written)?;
     Ok(())
 }
+
+/// Makes each line durable by a fence of its own, where it reads as empty, and counts those that are.
+fn fence_each<P: Pmem>(device: &mut P) -> u64
+    requires { (P.means device.old).fences ≡ 0 }
+    ensures { length (P.means device.new).read ≡ length (P.means device.old).read }
+{
+    let mut durable = 0;
+    for line in 0..device.lines() {
+        if device.read(line) == EMPTY {
+            device.write(line, Line { w: [1, 2, 3, 4, 5, 6, 7, 8] });
+            device.write_back(line);
+            if device.fence().is_ok() {
+                durable += 1;
+            }
+        }
+    }
+    durable
+}
+
+#[test]
+fn a_fence_passes_over_no_other_line(rt: HostRuntime) -> Result<(), Fail> {
+    let mut device = MemPmem::new(rt.alloc(), 69_633, vec![in rt.alloc(); 3]?)?;
+    assert_eq!(rt; fence_each(&mut device), 69_632);
+    assert_eq!(rt; (device.fences(), device.faults()), (69_633, 1));
+    Ok(())
+}

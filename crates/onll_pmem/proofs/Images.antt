@@ -38,16 +38,17 @@ pub KeptWords-more : (keep number next k : ℕ) (fs rs ws : List ℕ) (w n : ℕ
     → w ≡ kept_word keep next (get_or fs k 0) (get_or rs k 0) → n ≡ pending_word (get_or fs k 0) (get_or rs k 0)
     → KeptWords keep number next k fs rs ws → KeptWords keep number (next + n) (k + 1) fs rs (set ws k w)
 KeptWords-more keep number next k fs rs ws w n a b c ew en h = record {
-    words = rw (take_more_set ws k w c, append_assoc (take k ws) (w ∷ []) (kept_words keep (next + n) (drop (k + 1) fs) (drop (k + 1) rs)))
+  words = rw (take_more_set ws k w c, append_assoc (take k ws) (w ∷ []) (kept_words keep (next + n) (drop (k + 1) fs) (drop (k + 1) rs)))
       (ap (λ (x : List ℕ). take k ws ++ x) (sym step) ∙ h.words);
-    mixed = rw (take_more_set ws k w c, take_more fs k 0 a, take_more rs k 0 b)
+  mixed = rw (take_more_set ws k w c, take_more fs k 0 a, take_more rs k 0 b)
       (MixedWords-push (take k fs) (take k rs) (take k ws) (get_or fs k 0) (get_or rs k 0) w h.mixed
-        (rw ew (chosen_word (get_or fs k 0 == get_or rs k 0) (is_kept keep next) (get_or fs k 0) (get_or rs k 0))));
-    counted = omega (arith, h.counted, counted_step);
-  }
+      (rw ew (chosen_word (get_or fs k 0 == get_or rs k 0) (is_kept keep next) (get_or fs k 0) (get_or rs k 0))));
+  counted = omega (arith, h.counted, counted_step);
+}
   where
     step : kept_words keep next (drop k fs) (drop k rs) ≡ w ∷ kept_words keep (next + n) (drop (k + 1) fs) (drop (k + 1) rs)
     step = rw (drop_more fs k 0 a, drop_more rs k 0 b, ew, en) refl
+
     counted_step : pending_in (drop k fs) (drop k rs) ≡ n + pending_in (drop (k + 1) fs) (drop (k + 1) rs)
     counted_step = rw (drop_more fs k 0 a, drop_more rs k 0 b, en) refl
 
@@ -61,26 +62,34 @@ pub KeptLines-more : (keep number next i : ℕ) (fenced read image : List Line) 
     → next ≡ number + pending_in (get_or fenced i d).w (get_or read i d).w
     → KeptLines keep number i (words_of fenced) (words_of read) (words_of image) → KeptLines keep next (i + 1) (words_of fenced) (words_of read) (words_of (image ++ line ∷ []))
 KeptLines-more keep number next i fenced read image line d a b el m en h = rw (map_push (λ (l : Line). l.w) image line) (record {
-      lines = rw (append_assoc ws (w ∷ []) (kept_lines keep next (drop (i + 1) fs) (drop (i + 1) rs))) (ap (λ (x : List (List ℕ)). ws ++ x) (sym step) ∙ h.lines);
-      mixed = rw (take_more fs i [] in_fenced, take_more rs i [] in_read, old, new) (Mixed-push (take i fs) (take i rs) ws _ _ w h.mixed m);
-    })
+  lines = rw (append_assoc ws (w ∷ []) (kept_lines keep next (drop (i + 1) fs) (drop (i + 1) rs))) (ap (λ (x : List (List ℕ)). ws ++ x) (sym step) ∙ h.lines);
+  mixed = rw (take_more fs i [] in_fenced, take_more rs i [] in_read, old, new) (Mixed-push (take i fs) (take i rs) ws _ _ w h.mixed m);
+})
   where
     fs : List (List ℕ)
     fs = words_of fenced
+
     rs : List (List ℕ)
     rs = words_of read
+
     ws : List (List ℕ)
     ws = words_of image
+
     w : List ℕ
     w = line.w
+
     in_fenced : i < length fs
     in_fenced = omega (arith, length-words_of fenced)
+
     in_read : i < length rs
     in_read = omega (arith, length-words_of read)
+
     old : line_at fs i ≡ (get_or fenced i d).w
     old = get_or-map (λ (l : Line). l.w) fenced i d [] a
+
     new : line_at rs i ≡ (get_or read i d).w
     new = get_or-map (λ (l : Line). l.w) read i d [] b
+
     step : kept_lines keep number (drop i fs) (drop i rs) ≡ w ∷ kept_lines keep next (drop (i + 1) fs) (drop (i + 1) rs)
     step = rw (drop_more fs i [] in_fenced, drop_more rs i [] in_read, old, new, el, en) refl
 

@@ -73,4 +73,4 @@ pub words_of-settled : (marks : List Bool) (olds fs rs : List Line) (bs : List B
     → ((line : ℕ) → is_marked marks line ≡ false) → words_of fs ≡ settled bs (words_of olds) (words_of rs)
 words_of-settled marks olds fs rs bs a b c same even unmarked =
     settled-lines bs (words_of olds) (words_of rs) (words_of fs) (omega (arith, length-words_of rs)) (omega (arith, length-words_of rs, length-words_of olds)) (omega (arith, length-words_of rs, length-words_of fs))
-      same (λ line back. even line back (unmarked line))
+    same (λ line back. even line back (unmarked line))

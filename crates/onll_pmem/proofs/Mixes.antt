@@ -190,7 +190,7 @@ Mixed-image d done rest image n l i = let P : DeviceState → Type 0 = λ e. Mix
     let m : DeviceState = after_steps d done in
     let r : Reached d.read m = Reached-steps d.read d done (AreLegal-done d done rest l) (Reached-settled d n) in
     subst P (sym (after_steps-append d done rest))
-      (Mixed-through d.read m.read (after_steps m rest).read image r.filled (FillsLines-steps m rest (AreLegal-rest d done rest l)) (Mixed-reached d.read m image r i))
+    (Mixed-through d.read m.read (after_steps m rest).read image r.filled (FillsLines-steps m rest (AreLegal-rest d done rest l)) (Mixed-reached d.read m image r i))
 
 -- ---- by places
 MixedWords-word : (xs ys zs : List ℕ) (word : ℕ) → MixedWords xs ys zs → (get_or zs word 0 ≡ get_or xs word 0) ⊎ (get_or zs word 0 ≡ get_or ys word 0)

@@ -16,8 +16,7 @@ pub use pmem::{FenceFailed, Pmem};
 /// An image is made of words from before and after the steps, whatever stood between.
 pub fn mix_law()
     ensures mixed { MixLaw }
-{
-}
+{}
 
 /// What images are.
 pub fn image_laws()
@@ -26,8 +25,7 @@ pub fn image_laws()
     ensures same { SameLaw }
     ensures pick { PickLaw }
     ensures pending { PendingLaw }
-{
-}
+{}
 
 /// What fences leave, and what a device begins with.
 pub fn device_laws()
@@ -35,5 +33,4 @@ pub fn device_laws()
     ensures failed { FailedLaw }
     ensures new { NewLaw }
     ensures count { CountLaw }
-{
-}
+{}

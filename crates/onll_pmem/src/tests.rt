@@ -35,8 +35,24 @@ fn only_fenced_words_are_sure(rt: HostRuntime) -> Result<(), Fail> {
     };
     device.write(1, written);
     shows(&rt, alloc, &device, 0, EMPTY)?;
-    shows(&rt, alloc, &device, 1, Line { w: [5, 0, 0, 0, 0, 0, 0, 0] })?;
-    shows(&rt, alloc, &device, 2, Line { w: [0, 0, 0, 0, 0, 0, 0, 7] })?;
+    shows(
+        &rt,
+        alloc,
+        &device,
+        1,
+        Line {
+            w: [5, 0, 0, 0, 0, 0, 0, 0],
+        },
+    )?;
+    shows(
+        &rt,
+        alloc,
+        &device,
+        2,
+        Line {
+            w: [0, 0, 0, 0, 0, 0, 0, 7],
+        },
+    )?;
     shows(&rt, alloc, &device, 3, written)?;
 
     assert_eq!(rt; device.fence(), Ok(()));
@@ -62,7 +78,12 @@ fn fence_each<P: Pmem>(device: &mut P) -> u64
     let mut durable = 0;
     for line in 0..device.lines() {
         if device.read(line) == EMPTY {
-            device.write(line, Line { w: [1, 2, 3, 4, 5, 6, 7, 8] });
+            device.write(
+                line,
+                Line {
+                    w: [1, 2, 3, 4, 5, 6, 7, 8],
+                },
+            );
             device.write_back(line);
             if device.fence().is_ok() {
                 durable += 1;

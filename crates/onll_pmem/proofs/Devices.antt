@@ -1,10 +1,11 @@
 -- Devices: what a new one holds, what steps and fences leave, what is pending.
-use Rattle.std.proofs.Common.{◌≡◌, ℕ, zero, suc, ◌+◌, ◌<◌, ◌==◌, cond, Bool, true, false, List, [], ◌∷◌, length, get_or, set, take, drop, replicate, sym, refl, ap, ◌∙◌, arith, ◌⊎◌, ◌↔◌, inl, inr, eq-eqb, eqb-true}
+use Rattle.std.proofs.Common.{◌≡◌, ℕ, zero, suc, ◌+◌, ◌<◌, ◌==◌, cond, Bool, true, false, List, [], ◌∷◌, length, get_or, set, take, drop, replicate, sym, refl, ap, ◌∙◌, arith, ◌⊎◌, ◌↔◌, inl, inr, eq-eqb, eqb-true, Option, Some, None}
 use Rattle.std.proofs.lemmas.List.{length-set, length-replicate, get_or-replicate}
 use Rattle.std.proofs.lemmas.Bool.{cases_Bool, cases_eq}
 use Rattle.onll_pmem.specs.Device.{DeviceState, Step, Write, WriteBack, Fence, FailedFence, line_at, word_at, zero_line, new_device, settled, after_step, after_steps, MixedWords, Mixed, SameShape, IsImage, AllBacked, NonePending, pending_word, pending_in, pending_count, is_kept, kept_word, kept_words, kept_lines, image_of}
 use Rattle.onll_pmem.specs.Waiting.{is_marked}
-use Rattle.onll_pmem.specs.Laws.{IsNew, SameLines}
+use Rattle.onll_pmem.specs.Laws.{IsNew, SameLines, KeepsTold}
+use Rattle.onll_pmem.specs.Pmem.{Told, ToldBacked}
 use Rattle.onll_pmem.proofs.Lines.{settled-all}
 
 pub length-after_step : (d : DeviceState) (s : Step) → length (after_step d s).read ≡ length d.read
@@ -60,6 +61,24 @@ NonePending-fence d a = settled-all d.backed d.fenced d.read a
 
 pub SameLines-failed : (d : DeviceState) → SameLines d (after_step d FailedFence)
 SameLines-failed d = record { fenced = refl; read = refl; backed = refl }
+
+AllBacked-fence : (bs : List Bool) (fs rs : List (List ℕ)) → AllBacked bs fs rs → AllBacked bs (settled bs fs rs) rs
+AllBacked-fence [] [] [] a = tt
+AllBacked-fence [] [] (r ∷ rs) a = absurd a
+AllBacked-fence [] (f ∷ fs) rs a = absurd a
+AllBacked-fence (b ∷ bs) [] rs a = absurd a
+AllBacked-fence (b ∷ bs) (f ∷ fs) [] a = absurd a
+AllBacked-fence (true ∷ bs) (f ∷ fs) (r ∷ rs) a = (inl refl, AllBacked-fence bs fs rs a.1)
+AllBacked-fence (false ∷ bs) (f ∷ fs) (r ∷ rs) a = (a.0, AllBacked-fence bs fs rs a.1)
+
+pub KeepsTold-backed : (told : Option Told) (read : List (List ℕ)) → ToldBacked told read → KeepsTold told read
+KeepsTold-backed None read a = record { written = λ line value. tt; backed = λ line. tt; fenced = tt; settled = tt }
+KeepsTold-backed (Some t) read a = record {
+    written = λ line value. AllBacked-written t.backed t.fenced read line value a;
+    backed = λ line. AllBacked-back t.backed t.fenced read line a;
+    fenced = AllBacked-fence t.backed t.fenced read a;
+    settled = settled-all t.backed t.fenced read a;
+  }
 
 -- ---- what is pending
 pending_word-same : (w : ℕ) → pending_word w w ≡ 0

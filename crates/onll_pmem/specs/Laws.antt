@@ -1,5 +1,6 @@
 -- Laws over devices, whatever code stands for them.
-use Rattle.std.specs.Prelude.{◌≡◌, ℕ, ◌<◌, ◌⊎◌, ◌↔◌, List, ◌++◌, length}
+use Rattle.std.specs.Prelude.{◌≡◌, ℕ, ◌<◌, ◌⊎◌, ◌↔◌, List, ◌++◌, length, Option, slice_set}
+use Rattle.onll_pmem.specs.Pmem.{Told, told_written, told_backed, told_fenced, ToldBacked, ToldSettled}
 use Rattle.onll_pmem.specs.Device.{DeviceState, Step, Fence, FailedFence, after_step, after_steps, AreLegal, IsImage, Mixed, NonePending, SameShape, AllBacked, new_device, zero_line, line_at, word_at, pending_count, image_of}
 
 -- From a device without a pending word, an image of any state on the way has in each word
@@ -53,3 +54,13 @@ NewLaw = (lines : ℕ) → IsNew lines (new_device lines)
 -- steps keep the count of lines
 abbrev pub CountLaw : Type 0
 CountLaw = (d : DeviceState) (steps : List Step) → length (after_steps d steps).read ≡ length d.read
+
+-- what is told stays written back or fenced as read, where lines are written and then written back, and none is pending after a fence that succeeds
+pub record KeepsTold (told : Option Told) (read : List (List ℕ)) : Type 0 where
+  pub written : (line : ℕ) (value : List ℕ) → ToldBacked (told_backed (told_written told line) line) (slice_set read line value)
+  pub backed : (line : ℕ) → ToldBacked (told_backed told line) read
+  pub fenced : ToldBacked (told_fenced told read) read
+  pub settled : ToldSettled (told_fenced told read) read
+
+abbrev pub ToldLaw : Type 0
+ToldLaw = (told : Option Told) (read : List (List ℕ)) → ToldBacked told read → KeepsTold told read

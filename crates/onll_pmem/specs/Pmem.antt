@@ -1,7 +1,7 @@
 -- What a device means to its callers, and what a call changes in it.
-use Rattle.std.specs.Prelude.{ℕ, ◌+◌, Bool, true, false, List, [], ◌∷◌, Option, Some, None, slice_set, map}
+use Rattle.std.specs.Prelude.{◌≡◌, ℕ, ◌+◌, Bool, true, false, List, [], ◌∷◌, Option, Some, None, slice_set, map}
 use Rattle.onll_words.specs.declared.line.Line.{Line}
-use Rattle.onll_pmem.specs.Device.{DeviceState, settled}
+use Rattle.onll_pmem.specs.Device.{DeviceState, settled, AllBacked}
 
 -- what only some devices tell: the fenced words, and which lines were written back since they were last written
 pub record Told : Type 0 where
@@ -33,6 +33,16 @@ told_backed (Some t) line = Some (record t { backed = slice_set t.backed line tr
 abbrev pub told_fenced : Option Told → List (List ℕ) → Option Told
 told_fenced None read = None
 told_fenced (Some t) read = Some (record t { fenced = settled t.backed t.fenced read })
+
+-- where it is told, each line is written back or reads as it is fenced
+abbrev pub ToldBacked : Option Told → List (List ℕ) → Type 0
+ToldBacked None read = Unit {0}
+ToldBacked (Some t) read = AllBacked t.backed t.fenced read
+
+-- where it is told, no word is pending
+abbrev pub ToldSettled : Option Told → List (List ℕ) → Type 0
+ToldSettled None read = Unit {0}
+ToldSettled (Some t) read = t.fenced ≡ read
 
 -- a device in this state, with this many faults, that tells all
 abbrev pub view_of : DeviceState → ℕ → DeviceView

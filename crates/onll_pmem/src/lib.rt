@@ -1,7 +1,7 @@
 //! A persistent-memory device: lines of words that are written, written back and fenced.
 #![tactic(auto)]
 
-ghost use Rattle.onll_pmem.specs.Laws.{MixLaw, ImageLaw, WordLaw, SameLaw, PickLaw, PendingLaw, FenceLaw, FailedLaw, NewLaw, CountLaw};
+ghost use Rattle.onll_pmem.specs.Laws.{MixLaw, ImageLaw, WordLaw, SameLaw, PickLaw, PendingLaw, FenceLaw, FailedLaw, NewLaw, CountLaw, ToldLaw};
 
 mod image;
 mod memory;
@@ -33,4 +33,5 @@ pub fn device_laws()
     ensures failed { FailedLaw }
     ensures new { NewLaw }
     ensures count { CountLaw }
+    ensures told { ToldLaw }
 {}

@@ -70,6 +70,25 @@ fn only_fenced_words_are_sure(rt: HostRuntime) -> Result<(), Fail> {
     Ok(())
 }
 
+#[test]
+fn pending_words_are_numbered_by_line(rt: HostRuntime) -> Result<(), Fail> {
+    let alloc = rt.alloc();
+    let mut device = MemPmem::new(alloc, 2, Vec::new(alloc))?;
+    let second = Line {
+        w: [5, 0, 0, 0, 0, 0, 0, 0],
+    };
+    let first = Line {
+        w: [0, 0, 0, 0, 0, 0, 0, 9],
+    };
+    device.write(1, second);
+    device.write(0, first);
+    for (keep, wanted) in [(1, [first, EMPTY]), (2, [EMPTY, second]), (3, [first, second])] {
+        let image = device.image(alloc, keep)?;
+        assert_eq!(rt; image.as_slice(), wanted.as_slice(), "{keep}");
+    }
+    Ok(())
+}
+
 /// Makes each line durable by a fence of its own, where it reads as empty, and counts those that are.
 fn fence_each<P: Pmem>(device: &mut P) -> u64
     requires { (P.means device.old).fences ≡ 0 }

@@ -1,8 +1,8 @@
 -- Devices: what a new one holds, what steps and fences leave, what is pending.
-use Rattle.std.proofs.Common.{◌≡◌, ℕ, zero, suc, ◌+◌, ◌<◌, ◌==◌, cond, Bool, true, false, List, [], ◌∷◌, length, get_or, set, take, drop, replicate, sym, refl, ap, ◌∙◌, arith, ◌⊎◌, ◌↔◌, inl, inr, eq-eqb, eqb-true, Option, Some, None}
+use Rattle.std.proofs.Common.{◌≡◌, ℕ, zero, suc, ◌<◌, ◌==◌, cond, Bool, true, false, List, [], ◌∷◌, length, set, refl, ap, ◌∙◌, arith, ◌⊎◌, ◌↔◌, inl, inr, eq-eqb, eqb-true, Option, Some, None}
 use Rattle.std.proofs.lemmas.List.{length-set, length-replicate, get_or-replicate}
-use Rattle.std.proofs.lemmas.Bool.{cases_Bool, cases_eq}
-use Rattle.onll_pmem.specs.Device.{DeviceState, Step, Write, WriteBack, Fence, FailedFence, line_at, word_at, zero_line, new_device, settled, after_step, after_steps, MixedWords, Mixed, SameShape, IsImage, AllBacked, NonePending, pending_word, pending_in, pending_count, is_kept, kept_word, kept_words, kept_lines, image_of}
+use Rattle.std.proofs.lemmas.Bool.{cases_Bool}
+use Rattle.onll_pmem.specs.Device.{DeviceState, Step, Write, WriteBack, Fence, FailedFence, line_at, zero_line, new_device, settled, after_step, after_steps, SameShape, AllBacked, NonePending, pending_word, pending_in, pending_count}
 use Rattle.onll_pmem.specs.Waiting.{is_marked}
 use Rattle.onll_pmem.specs.Laws.{IsNew, SameLines, KeepsTold}
 use Rattle.onll_pmem.specs.Pmem.{Told, ToldBacked}
@@ -74,11 +74,11 @@ AllBacked-fence (false ∷ bs) (f ∷ fs) (r ∷ rs) a = (a.0, AllBacked-fence b
 pub KeepsTold-backed : (told : Option Told) (read : List (List ℕ)) → ToldBacked told read → KeepsTold told read
 KeepsTold-backed None read a = record { written = λ line value. tt; backed = λ line. tt; fenced = tt; settled = tt }
 KeepsTold-backed (Some t) read a = record {
-    written = λ line value. AllBacked-written t.backed t.fenced read line value a;
-    backed = λ line. AllBacked-back t.backed t.fenced read line a;
-    fenced = AllBacked-fence t.backed t.fenced read a;
-    settled = settled-all t.backed t.fenced read a;
-  }
+  written = λ line value. AllBacked-written t.backed t.fenced read line value a;
+  backed = λ line. AllBacked-back t.backed t.fenced read line a;
+  fenced = AllBacked-fence t.backed t.fenced read a;
+  settled = settled-all t.backed t.fenced read a;
+}
 
 -- ---- what is pending
 pending_word-same : (w : ℕ) → pending_word w w ≡ 0

@@ -1,12 +1,12 @@
 -- Lists of lines.
-use Rattle.std.proofs.Common.{◌≡◌, ℕ, zero, suc, ◌+◌, ◌<◌, Bool, true, false, cond, List, [], ◌∷◌, length, get_or, set, map, replicate, sym, refl, ap, ◌∙◌, arith, true≢false, add-one, add_comm, zero-add, ◌⊎◌, inl, inr}
-use Rattle.std.proofs.lemmas.List.{length-set, length-map, map-set, get_or-map, get_or-set_same, get_or-set_other}
+use Rattle.std.proofs.Common.{◌≡◌, ℕ, zero, suc, ◌<◌, Bool, true, false, cond, List, [], ◌∷◌, length, get_or, set, replicate, sym, refl, ap, ◌∙◌, arith, true≢false, ◌⊎◌, inl, inr}
+use Rattle.std.proofs.lemmas.List.{length-map, map-set, get_or-map, get_or-set_same, get_or-set_other}
 use Rattle.std.proofs.lemmas.Bool.{cases_eq}
 use Rattle.onll_words.specs.declared.line.Line.{Line}
 use Rattle.onll_pmem.specs.Device.{line_at, settled, AllBacked}
 use Rattle.onll_pmem.specs.Pmem.{words_of}
 use Rattle.onll_pmem.specs.Waiting.{is_marked}
-use Rattle.onll_pmem.specs.Memory.{EvenBut, Keeps, fails, faults_in}
+use Rattle.onll_pmem.specs.Memory.{EvenBut}
 
 pub words_of-replicate : (n : ℕ) (line : Line) → words_of (replicate n line) ≡ replicate n line.w
 words_of-replicate zero line = refl

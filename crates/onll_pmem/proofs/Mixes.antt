@@ -1,5 +1,5 @@
 -- Images as mixes of words.
-use Rattle.std.proofs.Common.{◌≡◌, ℕ, zero, suc, ◌<◌, Bool, true, false, cond, List, [], ◌∷◌, ◌++◌, length, get_or, set, take, drop, sym, refl, ap, ◌∙◌, subst, ◌⊎◌, inl, inr, arith, rules}
+use Rattle.std.proofs.Common.{◌≡◌, ℕ, zero, suc, ◌<◌, Bool, true, false, List, [], ◌∷◌, ◌++◌, length, get_or, set, take, drop, sym, refl, ◌∙◌, subst, ◌⊎◌, inl, inr, arith}
 use Rattle.onll_pmem.specs.Device.{DeviceState, Step, Write, WriteBack, Fence, FailedFence, line_at, word_at, settled, after_step, after_steps, FillsWords, FillsLines, IsLegal, AreLegal, MixedWords, Mixed, IsImage, NonePending}
 
 -- ---- only zeros are filled

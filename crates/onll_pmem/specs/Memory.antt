@@ -1,8 +1,8 @@
 -- The device in memory.
-use Rattle.std.specs.Prelude.{◌≡◌, ℕ, zero, suc, ◌+◌, ◌≤◌, ◌==◌, Bool, true, false, if◌then◌else◌, List, [], ◌∷◌, length}
+use Rattle.std.specs.Prelude.{◌≡◌, ℕ, zero, suc, ◌+◌, ◌≤◌, ◌==◌, Bool, true, false, if◌then◌else◌, List, length}
 use Rattle.std.specs.List.{list_any}
 use Rattle.std.proofs.Common.{arith}
-use Rattle.onll_pmem.specs.Device.{DeviceState, Step, Fence, FailedFence, after_step, line_at}
+use Rattle.onll_pmem.specs.Device.{DeviceState, Step, after_step, line_at}
 use Rattle.onll_pmem.specs.Pmem.{DeviceView, view_of}
 use Rattle.onll_pmem.specs.Waiting.{is_marked}
 

@@ -1,4 +1,4 @@
-use Rattle.std.proofs.Common.{◌≡◌, ℕ, Bool, true, false, List, length}
+use Rattle.std.proofs.Common.{◌≡◌, ℕ, false, length}
 use Rattle.onll_pmem.specs.Device.{line_at}
 use Rattle.onll_pmem.specs.Pmem.{words_of}
 use Rattle.onll_pmem.specs.Waiting.{is_marked}

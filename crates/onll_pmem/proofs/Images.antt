@@ -1,10 +1,10 @@
 -- The image that a number keeps, word by word and line by line.
-use Rattle.std.proofs.Common.{◌≡◌, ℕ, ◌+◌, ◌<◌, cond, Bool, true, false, List, [], ◌∷◌, ◌++◌, length, get_or, set, take, drop, sym, refl, ap, ◌∙◌, append_assoc, arith, ◌⊎◌, inl, inr, ◌==◌}
+use Rattle.std.proofs.Common.{◌≡◌, ℕ, zero, suc, add-zero, zero-add, add_assoc, ◌+◌, ◌<◌, cond, Bool, true, false, List, [], ◌∷◌, ◌++◌, length, get_or, set, take, drop, sym, refl, ap, ◌∙◌, append_assoc, arith, ◌⊎◌, inl, inr, ◌==◌}
 use Rattle.std.proofs.lemmas.List.{drop_more, take_more, take_more_set, map_push, get_or-map}
 use Rattle.onll_words.specs.declared.line.Line.{Line}
 use Rattle.onll_pmem.specs.Pmem.{words_of}
 use Rattle.onll_pmem.proofs.Lines.{length-words_of}
-use Rattle.onll_pmem.specs.Device.{line_at, pending_word, pending_in, is_kept, kept_word, kept_words, kept_lines, MixedWords, Mixed, SameShape}
+use Rattle.onll_pmem.specs.Device.{line_at, word_at, pending_word, pending_in, pending_count, pending_before, is_kept, kept_word, kept_words, kept_lines, MixedWords, Mixed, SameShape}
 
 -- each word is fenced or as read
 chosen_word : (b c : Bool) (f r : ℕ) → (cond b f (cond c r f) ≡ f) ⊎ (cond b f (cond c r f) ≡ r)
@@ -105,3 +105,26 @@ Mixed-kept keep number [] [] s = tt
 Mixed-kept keep number [] (r ∷ rs) s = absurd s
 Mixed-kept keep number (f ∷ fs) [] s = absurd s
 Mixed-kept keep number (f ∷ fs) (r ∷ rs) s = (MixedWords-kept keep number f r s.0, Mixed-kept keep (number + pending_in f r) fs rs s.1)
+
+-- ---- what stands at a place of it
+get_or-kept_words : (keep number : ℕ) (fs rs : List ℕ) (word : ℕ) → length fs ≡ length rs → word < length fs
+    → get_or (kept_words keep number fs rs) word 0 ≡ kept_word keep (number + pending_in (take word fs) (take word rs)) (get_or fs word 0) (get_or rs word 0)
+get_or-kept_words keep number [] rs word e l = absurd (omega arith)
+get_or-kept_words keep number (f ∷ fs) [] word e l = absurd (omega arith)
+get_or-kept_words keep number (f ∷ fs) (r ∷ rs) zero e l = ap (λ (n : ℕ). kept_word keep n f r) (sym (add-zero number))
+get_or-kept_words keep number (f ∷ fs) (r ∷ rs) (suc word) e l = get_or-kept_words keep (number + pending_word f r) fs rs word (omega arith) (omega arith)
+    ∙ ap (λ (n : ℕ). kept_word keep n (get_or fs word 0) (get_or rs word 0)) (add_assoc number (pending_word f r) (pending_in (take word fs) (take word rs)))
+
+pub word_at-kept_lines : (keep number : ℕ) (fs rs : List (List ℕ)) (line word : ℕ) → SameShape fs rs → line < length fs → word < length (line_at fs line)
+    → word_at (kept_lines keep number fs rs) line word ≡ kept_word keep (number + pending_before fs rs line word) (word_at fs line word) (word_at rs line word)
+word_at-kept_lines keep number [] rs line word s l w = absurd (omega arith)
+word_at-kept_lines keep number (f ∷ fs) [] line word s l w = absurd s
+word_at-kept_lines keep number (f ∷ fs) (r ∷ rs) zero word s l w = get_or-kept_words keep number f r word s.0 w
+    ∙ ap (λ (n : ℕ). kept_word keep (number + n) (get_or f word 0) (get_or r word 0)) (sym (zero-add (pending_in (take word f) (take word r))))
+word_at-kept_lines keep number (f ∷ fs) (r ∷ rs) (suc line) word s l w = word_at-kept_lines keep (number + pending_in f r) fs rs line word s.1 (omega arith) w
+    ∙ ap (λ (n : ℕ). kept_word keep n (word_at fs line word) (word_at rs line word)) (omega arith)
+
+pub word_at-image_of : (keep : ℕ) (fs rs : List (List ℕ)) (line word : ℕ) → SameShape fs rs → line < length fs → word < length (line_at fs line)
+    → word_at (kept_lines keep 0 fs rs) line word ≡ kept_word keep (pending_before fs rs line word) (word_at fs line word) (word_at rs line word)
+word_at-image_of keep fs rs line word s l w = word_at-kept_lines keep 0 fs rs line word s l w
+    ∙ ap (λ (n : ℕ). kept_word keep n (word_at fs line word) (word_at rs line word)) (zero-add (pending_before fs rs line word))

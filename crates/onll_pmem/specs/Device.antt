@@ -1,5 +1,5 @@
 -- A device of lines of words: its steps, the images that a crash may leave, and what stands in them.
-use Rattle.std.specs.Prelude.{◌≡◌, ℕ, ◌+◌, ◌%◌, ◌<◌, ◌==◌, ◌⊎◌, Bool, true, false, if◌then◌else◌, List, [], ◌∷◌, length, slice_index_or, slice_set, replicate}
+use Rattle.std.specs.Prelude.{◌≡◌, ℕ, ◌+◌, ◌%◌, ◌<◌, ◌==◌, ◌⊎◌, Bool, true, false, if◌then◌else◌, List, [], ◌∷◌, length, slice_index_or, slice_set, take, replicate}
 use Rattle.std.specs.Int.{bit_at}
 
 -- each word has a fenced value and a value as read, each line is written back since it was last written or not
@@ -102,6 +102,11 @@ pending_in fs rs = 0
 abbrev pub pending_count : List (List ℕ) → List (List ℕ) → ℕ
 pending_count (f ∷ fs) (r ∷ rs) = pending_in f r + pending_count fs rs
 pending_count fs rs = 0
+
+-- how many pending words stand before a place, by line and then by word
+abbrev pub pending_before : List (List ℕ) → List (List ℕ) → ℕ → ℕ → ℕ
+pending_before fenced read line word =
+    pending_count (take line fenced) (take line read) + pending_in (take word (line_at fenced line)) (take word (line_at read line))
 
 -- no word is pending
 abbrev pub NonePending : DeviceState → Type 0

@@ -1,7 +1,7 @@
 -- Laws over devices, whatever code stands for them.
 use Rattle.std.specs.Prelude.{◌≡◌, ℕ, ◌<◌, ◌⊎◌, ◌↔◌, List, ◌++◌, length, Option, slice_set}
 use Rattle.onll_pmem.specs.Pmem.{Told, told_written, told_backed, told_fenced, ToldBacked, ToldSettled}
-use Rattle.onll_pmem.specs.Device.{DeviceState, Step, Fence, FailedFence, after_step, after_steps, AreLegal, IsImage, Mixed, NonePending, SameShape, AllBacked, new_device, zero_line, line_at, word_at, pending_count, image_of}
+use Rattle.onll_pmem.specs.Device.{DeviceState, Step, Fence, FailedFence, after_step, after_steps, AreLegal, IsImage, Mixed, NonePending, SameShape, AllBacked, new_device, zero_line, line_at, word_at, pending_count, pending_before, kept_word, image_of}
 
 -- From a device without a pending word, an image of any state on the way has in each word
 -- the value as read before or after all the steps.
@@ -24,6 +24,11 @@ SameLaw = (lines image : List (List ℕ)) → Mixed lines lines image → image 
 -- every number picks an image
 abbrev pub PickLaw : Type 0
 PickLaw = (d : DeviceState) (keep : ℕ) → SameShape d.fenced d.read → IsImage d (image_of d keep)
+
+-- in it a pending word is newer exactly where the bit of its number is set, its number being how many pending words stand before it
+abbrev pub NumberLaw : Type 0
+NumberLaw = (d : DeviceState) (keep line word : ℕ) → SameShape d.fenced d.read → line < length d.fenced → word < length (line_at d.fenced line)
+    → word_at (image_of d keep) line word ≡ kept_word keep (pending_before d.fenced d.read line word) (word_at d.fenced line word) (word_at d.read line word)
 
 -- no word is pending exactly where none is counted
 abbrev pub PendingLaw : Type 0

@@ -1,7 +1,7 @@
 //! A persistent-memory device: lines of words that are written, written back and fenced.
 #![tactic(auto)]
 
-ghost use Rattle.onll_pmem.specs.Laws.{MixLaw, ImageLaw, WordLaw, SameLaw, PickLaw, PendingLaw, FenceLaw, FailedLaw, NewLaw, CountLaw, ToldLaw};
+ghost use Rattle.onll_pmem.specs.Laws.{MixLaw, ImageLaw, WordLaw, SameLaw, PickLaw, NumberLaw, PendingLaw, FenceLaw, FailedLaw, NewLaw, CountLaw, ToldLaw};
 
 mod image;
 mod memory;
@@ -24,6 +24,7 @@ pub fn image_laws()
     ensures word { WordLaw }
     ensures same { SameLaw }
     ensures pick { PickLaw }
+    ensures number { NumberLaw }
     ensures pending { PendingLaw }
 {}
 

@@ -29,10 +29,12 @@ Keeps-write fenced read backed marks fences faults line failing value within k =
     at i (inr n) back unmarked = k.even i (sym (get_or-set_other backed line i false false n) ∙ back) unmarked ∙ sym (get_or-set_other (words_of read) line i value.w [] n)
 
 pub faults_in_next : (failing : List ℕ) (fences : ℕ) → fails failing (fences + 1) ≡ true → faults_in failing (fences + 1) ≡ faults_in failing fences + 1
-faults_in_next failing fences e = rw add-one (ap (λ (b : Bool). cond {A = ℕ} b 1 0 + faults_in failing fences) (rw add-one at e) ∙ add_comm 1 (faults_in failing fences))
+faults_in_next failing fences e = ap (faults_in failing) (add-one fences)
+    ∙ (ap (λ (b : Bool). cond {A = ℕ} b 1 0 + faults_in failing fences) (sym (ap (fails failing) (add-one fences)) ∙ e) ∙ add_comm 1 (faults_in failing fences))
 
 pub faults_in_same : (failing : List ℕ) (fences : ℕ) → fails failing (fences + 1) ≡ false → faults_in failing (fences + 1) ≡ faults_in failing fences
-faults_in_same failing fences e = rw add-one (ap (λ (b : Bool). cond {A = ℕ} b 1 0 + faults_in failing fences) (rw add-one at e) ∙ zero-add (faults_in failing fences))
+faults_in_same failing fences e = ap (faults_in failing) (add-one fences)
+    ∙ (ap (λ (b : Bool). cond {A = ℕ} b 1 0 + faults_in failing fences) (sym (ap (fails failing) (add-one fences)) ∙ e) ∙ zero-add (faults_in failing fences))
 
 pub Keeps-fault : (fenced read : List (List ℕ)) (backed marks : List Bool) (fences faults : ℕ) (failing : List ℕ) → fails failing (fences + 1) ≡ true
     → Keeps (memory_of fenced read backed fences failing) marks faults

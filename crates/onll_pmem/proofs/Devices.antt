@@ -1,9 +1,8 @@
 -- Devices: what a new one holds, what steps and fences leave, what is pending.
-use Rattle.std.proofs.Common.{◌≡◌, ℕ, zero, suc, ◌<◌, ◌==◌, cond, Bool, true, false, List, [], ◌∷◌, length, set, refl, ap, ◌∙◌, arith, ◌⊎◌, ◌↔◌, inl, inr, eq-eqb, eqb-true, Option, Some, None}
-use Rattle.std.proofs.lemmas.List.{length-set, length-replicate, get_or-replicate}
-use Rattle.std.proofs.lemmas.Bool.{cases_Bool}
-use Rattle.onll_pmem.specs.Device.{DeviceState, Step, Write, WriteBack, Fence, FailedFence, line_at, zero_line, new_device, settled, after_step, after_steps, SameShape, AllBacked, NonePending, pending_word, pending_in, pending_count}
-use Rattle.onll_pmem.specs.Waiting.{is_marked}
+use Rattle.std.proofs.Common.{◌≡◌, ℕ, zero, suc, ◌<◌, ◌≤◌, true≢false, subst, sym, ◌==◌, cond, Bool, true, false, List, [], ◌∷◌, length, set, refl, ap, ◌∙◌, arith, ◌⊎◌, ◌↔◌, inl, inr, eq-eqb, eqb-true, Option, Some, None}
+use Rattle.std.proofs.lemmas.List.{set-set, set_past, get_or-set_same, get_or-set_other, length-set, length-replicate, get_or-replicate}
+use Rattle.std.proofs.lemmas.Bool.{cases_Bool, cases_eq, cases_lt}
+use Rattle.onll_pmem.specs.Device.{DeviceState, Step, Write, WriteBack, Fence, FailedFence, line_at, zero_line, new_device, settled, after_step, after_steps, SameShape, is_marked, AllBacked, NonePending, pending_word, pending_in, pending_count}
 use Rattle.onll_pmem.specs.Laws.{IsNew, SameLines, KeepsTold}
 use Rattle.onll_pmem.specs.Pmem.{Told, ToldBacked}
 use Rattle.onll_pmem.proofs.Lines.{settled-all}
@@ -23,38 +22,39 @@ IsNew-new_device lines = record { settled = refl; count = length-replicate lines
 
 -- ---- written back, or fenced as read
 pub AllBacked-even : (bs : List Bool) (ls : List (List ℕ)) → length bs ≡ length ls → AllBacked bs ls ls
-AllBacked-even [] [] e = tt
-AllBacked-even [] (l ∷ ls) e = absurd (omega arith)
-AllBacked-even (b ∷ bs) [] e = absurd (omega arith)
-AllBacked-even (b ∷ bs) (l ∷ ls) e = (inr refl, AllBacked-even bs ls (omega arith))
+AllBacked-even bs ls e = record { marks = e; lines = refl; each = λ line unmarked. refl }
+
+unmarked_before : (bs : List Bool) (line i : ℕ) → is_marked (set bs line true) i ≡ false → is_marked bs i ≡ false
+unmarked_before [] line i e = refl
+unmarked_before (b ∷ bs) zero zero e = absurd (true≢false e)
+unmarked_before (b ∷ bs) zero (suc i) e = e
+unmarked_before (b ∷ bs) (suc line) zero e = e
+unmarked_before (b ∷ bs) (suc line) (suc i) e = unmarked_before bs line i e
 
 -- a line that was written back
 pub AllBacked-back : (bs : List Bool) (fs rs : List (List ℕ)) (line : ℕ) → AllBacked bs fs rs → AllBacked (set bs line true) fs rs
-AllBacked-back [] fs rs line a = a
-AllBacked-back (b ∷ bs) [] rs line a = absurd a
-AllBacked-back (b ∷ bs) (f ∷ fs) [] line a = absurd a
-AllBacked-back (b ∷ bs) (f ∷ fs) (r ∷ rs) zero a = (inl refl, a.1)
-AllBacked-back (b ∷ bs) (f ∷ fs) (r ∷ rs) (suc line) a = (a.0, AllBacked-back bs fs rs line a.1)
+AllBacked-back bs fs rs line a = record { marks = length-set bs line true ∙ a.marks; lines = a.lines; each = λ i unmarked. a.each i (unmarked_before bs line i unmarked) }
 
 -- a line that was written and then written back
 pub AllBacked-written : (bs : List Bool) (fs rs : List (List ℕ)) (line : ℕ) (value : List ℕ) → AllBacked bs fs rs → AllBacked (set (set bs line false) line true) fs (set rs line value)
-AllBacked-written [] [] [] line value a = tt
-AllBacked-written [] [] (r ∷ rs) line value a = absurd a
-AllBacked-written [] (f ∷ fs) rs line value a = absurd a
-AllBacked-written (b ∷ bs) [] rs line value a = absurd a
-AllBacked-written (b ∷ bs) (f ∷ fs) [] line value a = absurd a
-AllBacked-written (b ∷ bs) (f ∷ fs) (r ∷ rs) zero value a = (inl refl, a.1)
-AllBacked-written (b ∷ bs) (f ∷ fs) (r ∷ rs) (suc line) value a = (a.0, AllBacked-written bs fs rs line value a.1)
+AllBacked-written bs fs rs line value a = rw (set-set bs line false true) (record {
+  marks = length-set bs line true ∙ (a.marks ∙ sym (length-set rs line value));
+  lines = a.lines ∙ sym (length-set rs line value);
+  each = λ i unmarked. at i (cases_eq i line) unmarked;
+})
+  where
+    inside : (i : ℕ) → i ≡ line → (line < length bs) ⊎ (length bs ≤ line) → is_marked (set bs line true) i ≡ false → line_at fs i ≡ line_at (set rs line value) i
+    inside i e (inl l) unmarked = absurd (true≢false (sym (get_or-set_same bs line true false l) ∙ (sym (ap (is_marked (set bs line true)) e) ∙ unmarked)))
+    inside i e (inr g) unmarked = let past : length rs ≤ line = let m = a.marks in omega arith in
+        a.each i (unmarked_before bs line i unmarked) ∙ sym (ap (λ (ls : List (List ℕ)). line_at ls i) (set_past rs line value past))
 
--- from each line by its place
-pub AllBacked-lines : (bs : List Bool) (fs rs : List (List ℕ)) → length bs ≡ length rs → length fs ≡ length rs
-    → ((line : ℕ) → line < length rs → (is_marked bs line ≡ true) ⊎ (line_at fs line ≡ line_at rs line)) → AllBacked bs fs rs
-AllBacked-lines [] [] [] a b each = tt
-AllBacked-lines [] (f ∷ fs) [] a b each = absurd (omega arith)
-AllBacked-lines (x ∷ bs) fs [] a b each = absurd (omega arith)
-AllBacked-lines [] fs (r ∷ rs) a b each = absurd (omega arith)
-AllBacked-lines (x ∷ bs) [] (r ∷ rs) a b each = absurd (omega arith)
-AllBacked-lines (x ∷ bs) (f ∷ fs) (r ∷ rs) a b each = (each 0 (omega arith), AllBacked-lines bs fs rs (omega arith) (omega arith) (λ line l. each (suc line) (omega arith)))
+    at : (i : ℕ) → (i ≡ line) ⊎ (i ≡ line → ⊥) → is_marked (set bs line true) i ≡ false → line_at fs i ≡ line_at (set rs line value) i
+    at i (inl e) unmarked = inside i e (cases_lt line (length bs)) unmarked
+    at i (inr n) unmarked = a.each i (unmarked_before bs line i unmarked) ∙ sym (get_or-set_other rs line i value [] n)
+
+-- what a fence settled
+pub AllBacked-fence : (bs : List Bool) (fs rs : List (List ℕ)) → AllBacked bs fs rs → AllBacked bs (settled bs fs rs) rs
+AllBacked-fence bs fs rs a = rw (settled-all bs fs rs a) (AllBacked-even bs rs a.marks)
 
 pub NonePending-fence : (d : DeviceState) → AllBacked d.backed d.fenced d.read → NonePending (after_step d Fence)
 NonePending-fence d a = settled-all d.backed d.fenced d.read a
@@ -62,23 +62,17 @@ NonePending-fence d a = settled-all d.backed d.fenced d.read a
 pub SameLines-failed : (d : DeviceState) → SameLines d (after_step d FailedFence)
 SameLines-failed d = record { fenced = refl; read = refl; backed = refl }
 
-AllBacked-fence : (bs : List Bool) (fs rs : List (List ℕ)) → AllBacked bs fs rs → AllBacked bs (settled bs fs rs) rs
-AllBacked-fence [] [] [] a = tt
-AllBacked-fence [] [] (r ∷ rs) a = absurd a
-AllBacked-fence [] (f ∷ fs) rs a = absurd a
-AllBacked-fence (b ∷ bs) [] rs a = absurd a
-AllBacked-fence (b ∷ bs) (f ∷ fs) [] a = absurd a
-AllBacked-fence (true ∷ bs) (f ∷ fs) (r ∷ rs) a = (inl refl, AllBacked-fence bs fs rs a.1)
-AllBacked-fence (false ∷ bs) (f ∷ fs) (r ∷ rs) a = (a.0, AllBacked-fence bs fs rs a.1)
-
 pub KeepsTold-backed : (told : Option Told) (read : List (List ℕ)) → ToldBacked told read → KeepsTold told read
-KeepsTold-backed None read a = record { written = λ line value. tt; backed = λ line. tt; fenced = tt; settled = tt }
-KeepsTold-backed (Some t) read a = record {
-  written = λ line value. AllBacked-written t.backed t.fenced read line value a;
-  backed = λ line. AllBacked-back t.backed t.fenced read line a;
-  fenced = AllBacked-fence t.backed t.fenced read a;
-  settled = settled-all t.backed t.fenced read a;
+KeepsTold-backed None read a = record { written = λ line value t e. absurd (cc); backed = λ line t e. absurd (cc); fenced = λ t e. absurd (cc); settled = λ t e. absurd (cc) }
+KeepsTold-backed (Some t) read a = let here : AllBacked t.backed t.fenced read = a t refl in record {
+  written = λ line value. only (λ u. AllBacked u.backed u.fenced (set read line value)) _ (AllBacked-written t.backed t.fenced read line value here);
+  backed = λ line. only (λ u. AllBacked u.backed u.fenced read) _ (AllBacked-back t.backed t.fenced read line here);
+  fenced = only (λ u. AllBacked u.backed u.fenced read) _ (AllBacked-fence t.backed t.fenced read here);
+  settled = only (λ u. u.fenced ≡ read) _ (settled-all t.backed t.fenced read here);
 }
+  where
+    only : (P : Told → Type 0) (u : Told) → P u → (v : Told) → Some u ≡ Some v → P v
+    only P u h v e = let same : u ≡ v = (cc) in subst P same h
 
 -- ---- what is pending
 pending_word-same : (w : ℕ) → pending_word w w ≡ 0

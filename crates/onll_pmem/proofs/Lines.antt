@@ -5,7 +5,7 @@ use Rattle.std.proofs.lemmas.Bool.{cases_eq}
 use Rattle.onll_words.specs.declared.line.Line.{Line}
 use Rattle.onll_pmem.specs.Device.{line_at, settled, AllBacked}
 use Rattle.onll_pmem.specs.Pmem.{words_of}
-use Rattle.onll_pmem.specs.Waiting.{is_marked}
+use Rattle.onll_pmem.specs.Device.{is_marked}
 use Rattle.onll_pmem.specs.Memory.{EvenBut}
 
 pub words_of-replicate : (n : ℕ) (line : Line) → words_of (replicate n line) ≡ replicate n line.w
@@ -38,19 +38,9 @@ settled-lines (true ∷ bs) (f ∷ fs) (r ∷ rs) (w ∷ ws) a b c as_was as_rea
 settled-lines (false ∷ bs) (f ∷ fs) (r ∷ rs) (w ∷ ws) a b c as_was as_read = let here : w ≡ f = as_was 0 refl in
     let rest : ws ≡ settled bs fs rs = settled-lines bs fs rs ws (omega arith) (omega arith) (omega arith) (λ line. as_was (suc line)) (λ line. as_read (suc line)) in (cc)
 
--- where each line is written back or reads as it is fenced, a successful fence leaves every line fenced as it reads
+-- a successful fence leaves every line fenced as it reads
 pub settled-all : (bs : List Bool) (fs rs : List (List ℕ)) → AllBacked bs fs rs → settled bs fs rs ≡ rs
-settled-all [] [] [] a = refl
-settled-all [] [] (r ∷ rs) a = absurd a
-settled-all [] (f ∷ fs) rs a = absurd a
-settled-all (b ∷ bs) [] rs a = absurd a
-settled-all (b ∷ bs) (f ∷ fs) [] a = absurd a
-settled-all (b ∷ bs) (f ∷ fs) (r ∷ rs) a = let here : cond b r f ≡ r = chosen b a.0 in let rest : settled bs fs rs ≡ rs = settled-all bs fs rs a.1 in (cc)
-  where
-    chosen : (c : Bool) → (c ≡ true) ⊎ (f ≡ r) → cond c r f ≡ r
-    chosen true e = refl
-    chosen false (inl e) = absurd (cc)
-    chosen false (inr e) = e
+settled-all bs fs rs a = sym (settled-lines bs fs rs rs a.marks a.lines refl (λ line unmarked. sym (a.each line unmarked)) (λ line marked. refl))
 
 -- ---- one line more is settled
 -- a line that is marked is fenced as it reads, and no longer marked

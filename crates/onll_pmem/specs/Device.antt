@@ -133,8 +133,12 @@ kept_lines keep number fs rs = []
 abbrev pub image_of : DeviceState → ℕ → List (List ℕ)
 image_of d keep = kept_lines keep 0 d.fenced d.read
 
--- each line is written back or reads as it is fenced
-abbrev pub AllBacked : List Bool → List (List ℕ) → List (List ℕ) → Type 0
-AllBacked [] [] [] = Unit {0}
-AllBacked (b ∷ bs) (f ∷ fs) (r ∷ rs) = ((b ≡ true) ⊎ (f ≡ r)) × AllBacked bs fs rs
-AllBacked bs fs rs = ⊥
+-- whether a line is marked
+abbrev pub is_marked : List Bool → ℕ → Bool
+is_marked marks line = slice_index_or marks line false
+
+-- each line that isn't written back reads as it is fenced
+pub record AllBacked (backed : List Bool) (fenced read : List (List ℕ)) : Type 0 where
+  pub marks : length backed ≡ length read
+  pub lines : length fenced ≡ length read
+  pub each : (line : ℕ) → is_marked backed line ≡ false → line_at fenced line ≡ line_at read line

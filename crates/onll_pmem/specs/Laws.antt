@@ -34,7 +34,7 @@ NumberLaw = (d : DeviceState) (keep line word : ℕ) → SameShape d.fenced d.re
 abbrev pub PendingLaw : Type 0
 PendingLaw = (d : DeviceState) → SameShape d.fenced d.read → NonePending d ↔ (pending_count d.fenced d.read ≡ 0)
 
--- where each line is written back or reads as it is fenced, nothing is pending after a fence that succeeds
+-- where each line that isn't written back reads as it is fenced, nothing is pending after a fence that succeeds
 abbrev pub FenceLaw : Type 0
 FenceLaw = (d : DeviceState) → AllBacked d.backed d.fenced d.read → NonePending (after_step d Fence)
 

@@ -34,15 +34,13 @@ abbrev pub told_fenced : Option Told → List (List ℕ) → Option Told
 told_fenced None read = None
 told_fenced (Some t) read = Some (record t { fenced = settled t.backed t.fenced read })
 
--- where it is told, each line is written back or reads as it is fenced
+-- where it is told, each line that isn't written back reads as it is fenced
 abbrev pub ToldBacked : Option Told → List (List ℕ) → Type 0
-ToldBacked None read = Unit {0}
-ToldBacked (Some t) read = AllBacked t.backed t.fenced read
+ToldBacked told read = (t : Told) → told ≡ Some t → AllBacked t.backed t.fenced read
 
 -- where it is told, no word is pending
 abbrev pub ToldSettled : Option Told → List (List ℕ) → Type 0
-ToldSettled None read = Unit {0}
-ToldSettled (Some t) read = t.fenced ≡ read
+ToldSettled told read = (t : Told) → told ≡ Some t → t.fenced ≡ read
 
 -- a device in this state, with this many faults, that tells all
 abbrev pub view_of : DeviceState → ℕ → DeviceView

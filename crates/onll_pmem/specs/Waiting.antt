@@ -1,15 +1,13 @@
 -- The lines that wait for the next fence.
 use Rattle.std.specs.Prelude.{◌≡◌, ℕ, ◌<◌, ◌≤◌, Bool, true, false, List, length, count_by, slice_index_or}
 use Rattle.std.specs.List.{list_any}
+use Rattle.onll_pmem.specs.Device.{is_marked}
 use Rattle.std.specs.Prelude.{◌==◌}
 
 -- which lines wait, and how many entries are left to take
 pub record WaitingLines : Type 0 where
   pub marks : List Bool
   pub left : ℕ
-
-abbrev pub is_marked : List Bool → ℕ → Bool
-is_marked marks line = slice_index_or marks line false
 
 abbrev pub marked_count : List Bool → ℕ
 marked_count marks = count_by (λ (mark : Bool). mark) marks

@@ -1,5 +1,5 @@
 -- The lines that wait for the next fence.
-use Rattle.std.specs.Prelude.{◌≡◌, ℕ, ◌<◌, ◌≤◌, Bool, true, false, List, length, count_by, slice_index_or}
+use Rattle.std.specs.Prelude.{◌≡◌, ℕ, ◌<◌, ◌≤◌, Bool, true, List, length, count_by, slice_index_or}
 use Rattle.std.specs.List.{list_any}
 use Rattle.onll_pmem.specs.Device.{is_marked}
 use Rattle.std.specs.Prelude.{◌==◌}

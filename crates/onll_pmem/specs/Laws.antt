@@ -1,7 +1,7 @@
 -- Laws over devices, whatever code stands for them.
 use Rattle.std.specs.Prelude.{◌≡◌, ℕ, ◌<◌, ◌⊎◌, ◌↔◌, List, ◌++◌, length, Option, slice_set}
 use Rattle.onll_pmem.specs.Pmem.{Told, told_written, told_backed, told_fenced, ToldBacked, ToldSettled}
-use Rattle.onll_pmem.specs.Device.{DeviceState, Step, Fence, FailedFence, after_step, after_steps, AreLegal, IsImage, Mixed, NonePending, SameShape, AllBacked, new_device, zero_line, line_at, word_at, pending_count, pending_before, kept_word, image_of}
+use Rattle.onll_pmem.specs.Device.{DeviceState, Step, Fence, FailedFence, after_step, after_steps, FillsLines, AreLegal, IsImage, Mixed, NonePending, SameShape, AllBacked, new_device, zero_line, line_at, word_at, pending_count, pending_before, kept_word, image_of}
 
 -- From a device without a pending word, an image of any state on the way has in each word
 -- the value as read before or after all the steps.
@@ -59,6 +59,10 @@ NewLaw = (lines : ℕ) → IsNew lines (new_device lines)
 -- steps keep the count of lines
 abbrev pub CountLaw : Type 0
 CountLaw = (d : DeviceState) (steps : List Step) → length (after_steps d steps).read ≡ length d.read
+
+-- steps change only words that read as zero
+abbrev pub FillsLaw : Type 0
+FillsLaw = (d : DeviceState) (steps : List Step) → AreLegal d steps → FillsLines d.read (after_steps d steps).read
 
 -- what is told stays written back or fenced as read, where lines are written and then written back, and none is pending after a fence that succeeds
 pub record KeepsTold (told : Option Told) (read : List (List ℕ)) : Type 0 where

@@ -1,7 +1,7 @@
 //! A persistent-memory device: lines of words that are written, written back and fenced.
 #![tactic(auto)]
 
-ghost use Rattle.onll_pmem.specs.Laws.{MixLaw, ImageLaw, WordLaw, SameLaw, PickLaw, NumberLaw, PendingLaw, FenceLaw, FailedLaw, NewLaw, CountLaw, ToldLaw};
+ghost use Rattle.onll_pmem.specs.Laws.{MixLaw, ImageLaw, WordLaw, SameLaw, PickLaw, NumberLaw, PendingLaw, FenceLaw, FailedLaw, NewLaw, CountLaw, FillsLaw, ToldLaw};
 
 mod image;
 mod memory;
@@ -34,5 +34,6 @@ pub fn device_laws()
     ensures failed { FailedLaw }
     ensures new { NewLaw }
     ensures count { CountLaw }
+    ensures fills { FillsLaw }
     ensures told { ToldLaw }
 {}

@@ -16,7 +16,7 @@ loop-node-preserved g c =
     let i = c.loop-node.node-index in
     let nodes = c.args.trace.now in
     let d : Node = record { thread = 0; number = 0; row = record { w = [] } } in
-    let line = c.in_ok-node_line.ensures in
+    let line = c.in_ok-node_line.ensures.ok in
     let rest = subst (AllByRecursion (λ (n : Node). IsSome (b.op_at n.row))) (drop_more nodes i d (omega arith)) c.loop-node.invariant.operations in
     record {
       lines = node_lines_more b w c.loop-node.out c.node_line.new.self c.loop-node.place i nodes d (omega arith) line ∙ c.loop-node.invariant.lines;

@@ -1,12 +1,10 @@
-use Rattle.std.proofs.Common.{ℕ, Bool, true, false, List, ◌≡◌, ◌+◌, ◌⊎◌, inl, inr, Option, Some, None, Result, Ok, Err, take, refl, sym, ap, ◌∙◌}
+use Rattle.std.proofs.Common.{ℕ, Bool, true, false, List, ◌≡◌, ◌+◌, inl, inr, Option, Some, None, refl, sym, ap, ◌∙◌}
 use Rattle.onll_outside.specs.Views.{StoreView, IsFront, Gives}
-use Rattle.onll_text.specs.declared.any_object.AnyObject.{AnyObject}
-use Rattle.onll_text.specs.Refusal.{Refusal}
 use Rattle.onll_text.specs.Wording.{Wording}
 use Rattle.onll_text.specs.Script.{longest_text, script_of}
 use Rattle.onll_text.specs.Init.{init_of}
 use Rattle.onll_text.proofs.Whole.{init_of-take, script_of-take}
-use Rattle.onll_jobs.specs.Reading.{Holds, IsCut}
+use Rattle.onll_jobs.specs.Reading.{IsCut}
 
 -- what a store that tells its files gives
 told : (s : StoreView) (name text : List ℕ) (found : Option (List ℕ)) → s.file name ≡ found → IsFront (longest_text + 1) found text → IsCut s name text

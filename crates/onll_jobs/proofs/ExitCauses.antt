@@ -1,5 +1,5 @@
 use Rattle.std.proofs.Common.{ℕ, List, ◌≡◌, ◌⊎◌, inl, inr, Option, Some, None, Result, Ok, Err, refl, sym, ap, ◌∙◌, subst, arith}
-use Rattle.onll_outside.specs.Views.{StoreView, Puts, Rose}
+use Rattle.onll_outside.specs.Views.{StoreView, Puts}
 use Rattle.onll_text.specs.declared.any_object.AnyObject.{AnyObject}
 use Rattle.onll_text.specs.Refusal.{Refusal}
 use Rattle.onll_text.specs.Init.{init_of}
@@ -9,9 +9,9 @@ use Rattle.onll_jobs.specs.declared.ending.Exit.{Exit}
 use Rattle.onll_jobs.specs.declared.ending.Exit.TheVariants.{Said, SinkFault, NoMemory}
 use Rattle.onll_jobs.specs.Seen.{Seen}
 use Rattle.onll_jobs.specs.Command.{Form, Fold, form_of}
-use Rattle.onll_jobs.specs.Reading.{Holds, Reads, Refuses, Stops}
+use Rattle.onll_jobs.specs.Reading.{Holds, Reads, Stops}
 use Rattle.onll_jobs.specs.Printed.{usage_text, refusal_text, exit_status}
-use Rattle.onll_jobs.specs.FoldSays.{FoldSays, OnObject, ScriptSays, fold_on}
+use Rattle.onll_jobs.specs.FoldSays.{FoldSays, ScriptSays, fold_on}
 use Rattle.onll_jobs.specs.Says.{UsageSays, FormSays, PutWhole, OutOfMemory, SinkFailed, ExitSays, IsTold, NoneRose, SaysThis, SaysRead}
 
 -- each status is that of one exit

@@ -1,5 +1,5 @@
-use Rattle.std.proofs.Common.{ℕ, List, ◌≡◌, Result, Ok, Err, refl, sym, ap, ◌∙◌, subst}
-use Rattle.onll_outside.specs.Views.{StoreView, Rose, FaultsOf}
+use Rattle.std.proofs.Common.{ℕ, List, ◌≡◌, Result, Ok, Err, sym, ◌∙◌, subst}
+use Rattle.onll_outside.specs.Views.{StoreView}
 use Rattle.onll_text.specs.declared.reason.Reason.{Reason}
 use Rattle.onll_text.specs.Refusal.{Refusal, refused}
 use Rattle.onll_jobs.specs.declared.ending.Ending.{Ending}
@@ -7,7 +7,7 @@ use Rattle.onll_jobs.specs.declared.ending.Ending.TheVariants.{Refused}
 use Rattle.onll_jobs.specs.declared.answer.Stop.{Stop}
 use Rattle.onll_jobs.specs.declared.answer.Stop.TheVariants.{Says, NoMemory}
 use Rattle.onll_jobs.specs.Printed.{refusal_text}
-use Rattle.onll_jobs.specs.Reading.{IsCut, Reads, Refuses, Stops}
+use Rattle.onll_jobs.specs.Reading.{IsCut, Reads, Stops}
 use Rattle.onll_jobs.specs.Stop.{StopSays}
 
 pub StopSays-weaker : (s : Stop) (P Q : Ending → List ℕ → Type 0) → ((e : Ending) (t : List ℕ) → P e t → Q e t) → StopSays s P → StopSays s Q

@@ -1,5 +1,4 @@
-use Rattle.std.specs.Prelude.{ℕ, List, [], ◌∷◌, ◌≡◌, ◌⊎◌, Result, Ok, Err}
-use Rattle.onll_model.specs.declared.call.Call.{Call}
+use Rattle.std.specs.Prelude.{ℕ, List, ◌⊎◌, Result, Ok}
 use Rattle.onll_model.specs.Object.{Behaviour}
 use Rattle.onll_bank.specs.Object.{bank}
 use Rattle.onll_text.specs.declared.any_object.AnyObject.{AnyObject}

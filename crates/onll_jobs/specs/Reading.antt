@@ -1,7 +1,7 @@
-use Rattle.std.specs.Prelude.{ℕ, List, ◌≡◌, ◌+◌, ◌⊎◌, true, Option, Some, Result, Ok, Err, take}
+use Rattle.std.specs.Prelude.{ℕ, List, ◌≡◌, ◌+◌, ◌⊎◌, true, Some, Result, Ok, Err, take}
 use Rattle.onll_text.specs.Refusal.{Refusal}
 use Rattle.onll_text.specs.Script.{longest_text}
-use Rattle.onll_outside.specs.Views.{StoreView, Last, Rose}
+use Rattle.onll_outside.specs.Views.{StoreView, Rose}
 use Rattle.onll_outside.specs.declared.store.FaultKind.TheVariants as kinds
 use Rattle.onll_jobs.specs.declared.ending.Ending.{Ending}
 use Rattle.onll_jobs.specs.declared.ending.Ending.TheVariants.{Refused, ReadFault}

@@ -1,16 +1,14 @@
 use Rattle.std.specs.Prelude.{ℕ, List, ◌≡◌, ◌⊎◌, Option, Some, None, true, Result, Ok, Err}
-use Rattle.onll_text.specs.declared.any_object.AnyObject.{AnyObject}
 use Rattle.onll_text.specs.Refusal.{Refusal}
-use Rattle.onll_text.specs.Init.{init_of}
-use Rattle.onll_outside.specs.Views.{StoreView, SinkView, Puts, PutsFront, Rose}
+use Rattle.onll_outside.specs.Views.{StoreView, Puts, PutsFront, Rose}
 use Rattle.onll_jobs.specs.declared.ending.Ending.{Ending}
-use Rattle.onll_jobs.specs.declared.ending.Ending.TheVariants.{Done, Usage, Refused, ReadFault}
+use Rattle.onll_jobs.specs.declared.ending.Ending.TheVariants.{Done, Usage, Refused}
 use Rattle.onll_jobs.specs.declared.ending.Exit.{Exit}
 use Rattle.onll_jobs.specs.declared.ending.Exit.TheVariants.{Said, SinkFault, NoMemory}
 use Rattle.onll_jobs.specs.Seen.{Seen}
 use Rattle.onll_jobs.specs.Command.{Form, Fold, form_of}
 use Rattle.onll_jobs.specs.Printed.{usage_text, refusal_text, status_of, exit_status}
-use Rattle.onll_jobs.specs.FoldSays.{FoldSays, fold_on}
+use Rattle.onll_jobs.specs.FoldSays.{FoldSays}
 
 -- words of no form: the usage text
 abbrev pub UsageSays : Ending → List ℕ → Type 0

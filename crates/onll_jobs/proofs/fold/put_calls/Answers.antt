@@ -1,7 +1,7 @@
 use Rattle.std.proofs.Common.{◌≡◌, ◌++◌, ◌∷◌, ◌+◌, drop, length, arith, ◌∙◌, sym, ap}
 use Rattle.std.proofs.lemmas.List.{drop_more}
 use Rattle.onll_model.specs.Fold.{fold_trace, fold_ends, fold_state}
-use Rattle.onll_text.specs.Bytes.{begins_line, with_lines}
+use Rattle.onll_text.specs.Bytes.{with_lines}
 use Rattle.onll_text.specs.Lines.{call_line, call_lines}
 use Rattle.onll_jobs.proofs.FoldSteps.{begins_after, call_done}
 use Rattle.onll_jobs.proofs.fold.put_calls.Goals as goal

@@ -1,9 +1,8 @@
-use Rattle.std.proofs.Common.{◌≡◌, ◌∷◌, ◌+◌, [], None, drop, get_or, arith, ◌∙◌, ap, subst}
+use Rattle.std.proofs.Common.{◌+◌, [], None, get_or, arith, ◌∙◌, subst}
 use Rattle.std.proofs.lemmas.List.{drop_more}
 use Rattle.std.specs.List.{AllByRecursion}
 use Rattle.std.specs.Option.{IsSome}
 use Rattle.onll_model.specs.declared.node.Node.{Node}
-use Rattle.onll_text.specs.Bytes.{begins_line}
 use Rattle.onll_text.specs.Lines.{node_line}
 use Rattle.onll_jobs.proofs.FoldSteps.{begins_after, node_lines_more}
 use Rattle.onll_jobs.proofs.fold.put_nodes.Goals as goal

@@ -1,6 +1,5 @@
-use Rattle.std.proofs.Common.{map, string_bytes, sym, ◌∙◌, subst, ◌≡◌, ℕ}
-use Rattle.onll_jobs.specs.Seen.{Seen, seen_by}
-use Rattle.onll_jobs.specs.Says.{SaysThis, SaysRead}
+use Rattle.std.proofs.Common.{map, string_bytes, sym, ◌∙◌}
+use Rattle.onll_jobs.specs.Seen.{seen_by}
 use Rattle.onll_jobs.proofs.ExitCauses.{done_of, usage_of, refused_of, unread_of, sink_failed_of, no_memory_of, count_of, no_form_exactly, init_exactly, script_exactly}
 use Rattle.onll_jobs.proofs.program.onll.Goals as goal
 

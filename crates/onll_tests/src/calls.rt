@@ -69,11 +69,15 @@ pub(crate) fn fold(alloc: Global, init: &[u8], script: &[u8]) -> Result<Outcome,
 }
 
 impl Outcome {
-    /// Asserts the status and the whole text of a case.
+    /// Asserts the status and the whole text of a case. A failure shows the first line that differs.
     pub(crate) fn expect(&self, rt: &impl Abort, case: &str, status: u8, text: &str) {
-        let taken = str::from_utf8(&self.taken).unwrap_or("not a text");
-        assert_eq!(rt; taken, text, "{case}");
         assert_eq!(rt; self.status, status, "{case}");
+        let taken = str::from_utf8(&self.taken).unwrap_or("no text");
+        let mut wanted = text.lines();
+        for line in taken.lines() {
+            assert_eq!(rt; line, wanted.next().unwrap_or("the end"), "{case}");
+        }
+        assert!(rt; taken == text, "{case}: the end differs");
     }
 }
 

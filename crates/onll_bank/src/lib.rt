@@ -3,6 +3,8 @@
 
 mod bank;
 mod operation;
+#[cfg(test)]
+mod tests;
 
 pub use bank::Bank;
 pub use operation::{BankOp, BankQuery, BankReply};

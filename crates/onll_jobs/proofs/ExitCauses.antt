@@ -12,7 +12,7 @@ use Rattle.onll_jobs.specs.Command.{Form, Fold, form_of}
 use Rattle.onll_jobs.specs.Reading.{Holds, Reads, Refuses, Stops}
 use Rattle.onll_jobs.specs.Printed.{usage_text, refusal_text, exit_status}
 use Rattle.onll_jobs.specs.FoldSays.{FoldSays, OnObject, ScriptSays, fold_on}
-use Rattle.onll_jobs.specs.Says.{UsageSays, FormSays, PutWhole, PutSome, PutNothing, SinkFailed, ExitSays, IsTold, NoneRose, SaysThis, SaysRead}
+use Rattle.onll_jobs.specs.Says.{UsageSays, FormSays, PutWhole, OutOfMemory, SinkFailed, ExitSays, IsTold, NoneRose, SaysThis, SaysRead}
 
 -- each status is that of one exit
 pub done_of : (w : Seen) (x : Exit) → exit_status x ≡ 0 → ExitSays w x → PutWhole w Done
@@ -64,13 +64,19 @@ sink_failed_of w (Said ReadFault) e h = absurd (omega arith)
 sink_failed_of w SinkFault e h = h
 sink_failed_of w NoMemory e h = absurd (omega arith)
 
-pub no_memory_of : (w : Seen) (x : Exit) → exit_status x ≡ 9 → ExitSays w x → PutSome w ⊎ PutNothing w
+pub no_memory_of : (w : Seen) (x : Exit) → exit_status x ≡ 9 → ExitSays w x → OutOfMemory w
 no_memory_of w (Said Done) e h = absurd (omega arith)
 no_memory_of w (Said Usage) e h = absurd (omega arith)
 no_memory_of w (Said Refused) e h = absurd (omega arith)
 no_memory_of w (Said ReadFault) e h = absurd (omega arith)
 no_memory_of w SinkFault e h = absurd (omega arith)
 no_memory_of w NoMemory e h = h
+
+-- the sink's count stays but where the status says that the sink failed
+pub count_of : (w : Seen) (x : Exit) → ExitSays w x → (exit_status x ≡ 6) ⊎ (w.sink_after.faults ≡ w.sink.faults)
+count_of w (Said e) h = inr h.count
+count_of w SinkFault h = inl refl
+count_of w NoMemory h = inr h.count
 
 -- where no count rose, an exit is this ending with this text, if each text that is allowed is
 this_only : (w : Seen) (x : Exit) (ending : Ending) (text : List ℕ) → ((e : Ending) (t : List ℕ) → FormSays (form_of w.words) w.store w.store_after e t → (e ≡ ending) × (t ≡ text))

@@ -1,4 +1,4 @@
-use Rattle.std.proofs.Common.{ℕ, List, [], ◌∷◌, ◌++◌, ◌≡◌, ◌+◌, length, refl, sym, ap, ◌∙◌, arith, append_assoc, length-append, Some, None, IsSome, ◌≤◌, ◌<◌, subst, drop, get_or}
+use Rattle.std.proofs.Common.{ℕ, true, List, [], ◌∷◌, ◌++◌, ◌≡◌, ◌+◌, length, refl, sym, ap, ◌∙◌, arith, append_assoc, length-append, Some, None, IsSome, ◌≤◌, ◌<◌, subst, drop, get_or}
 use Rattle.std.proofs.lemmas.List.{append-nil, drop_more}
 use Rattle.std.specs.List.{AllByRecursion}
 use Rattle.onll_words.specs.Texts.{line_text}
@@ -10,9 +10,9 @@ use Rattle.onll_model.specs.declared.call.CallEnd.TheVariants.{Answered}
 use Rattle.onll_model.specs.Object.{Behaviour}
 use Rattle.onll_model.specs.Fold.{fold_trace, fold_ends, fold_state}
 use Rattle.onll_text.specs.Wording.{Wording}
-use Rattle.onll_text.specs.Bytes.{with_lines}
+use Rattle.onll_text.specs.Bytes.{begins_line, with_lines}
 use Rattle.onll_text.specs.Lines.{call_line, call_lines, node_line, node_lines}
-use Rattle.onll_text.proofs.Appending.{with_lines-one}
+use Rattle.onll_text.proofs.Appending.{begins_line-line, with_lines-one}
 
 -- where one call of a script has been done, what is left makes what the script makes
 pub record Advances {State Op Query Reply : Type 0} (b : Behaviour State Op Query Reply) (w : Wording State Op Query Reply) (s new : State) (trace more : List Node) (out text : List ℕ) (k : ℕ) (c : Call State Op Query Reply) (calls : List (Call State Op Query Reply)) : Type 0 where
@@ -72,6 +72,10 @@ node_lines_more b w out text place i nodes d h e =
     ap (λ t. with_lines t (node_lines b w (place + 1) (drop (i + 1) nodes))) e
     ∙ sym (with_lines-one out (node_line b w (place + 1) (get_or nodes i d) None) (node_lines b w (place + 1) (drop (i + 1) nodes)))
     ∙ sym (ap (λ t. with_lines out (node_lines b w place t)) (drop_more nodes i d h))
+
+-- a line begins after a line's text
+pub begins_after : (out text : List ℕ) (ws : List (List ℕ)) → text ≡ out ++ line_text ws → begins_line text ≡ true
+begins_after out text ws e = ap begins_line e ∙ begins_line-line out ws
 
 -- each row of the trace of a fold is that of an operation
 pub fold_operations : {State Op Query Reply : Type 0} (b : Behaviour State Op Query Reply) (n : ℕ) (calls : List (Call State Op Query Reply)) → AllByRecursion (λ (x : Node). IsSome (b.op_at x.row)) (fold_trace b n calls)

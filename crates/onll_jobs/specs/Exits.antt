@@ -6,6 +6,6 @@ use Rattle.onll_jobs.specs.declared.ending.Exit.TheVariants.{Said, SinkFault, No
 
 -- how the putting of a text with this ending ends the call
 abbrev pub PutExits : SinkView → SinkView → Ending → List ℕ → Exit → Type 0
-PutExits old new ending text (Said said) = (said ≡ ending) × Puts old new text
+PutExits old new ending text (Said said) = (said ≡ ending) × Puts old new text × (new.faults ≡ old.faults)
 PutExits old new ending text SinkFault = PutsFront old new text × Rose old.faults new.faults
-PutExits old new ending text NoMemory = PutsFront old new text
+PutExits old new ending text NoMemory = PutsFront old new text × (new.faults ≡ old.faults)

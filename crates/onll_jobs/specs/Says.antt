@@ -31,6 +31,7 @@ pub record PutWhole (seen : Seen) (ending : Ending) : Type 0 where
   pub text : List ℕ
   pub allowed : Allows seen ending text
   pub put : Puts seen.sink seen.sink_after text
+  pub count : seen.sink_after.faults ≡ seen.sink.faults
 
 -- some of the first of a text that is allowed were put
 pub record PutSome (seen : Seen) : Type 0 where
@@ -43,6 +44,11 @@ pub record PutSome (seen : Seen) : Type 0 where
 abbrev pub PutNothing : Seen → Type 0
 PutNothing seen = seen.sink_after.taken ≡ seen.sink.taken
 
+-- memory could not be had: nothing was put, or some of the first of a text that is allowed
+pub record OutOfMemory (seen : Seen) : Type 0 where
+  pub taken : PutSome seen ⊎ PutNothing seen
+  pub count : seen.sink_after.faults ≡ seen.sink.faults
+
 -- the sink failed after some of the first of a text
 pub record SinkFailed (seen : Seen) : Type 0 where
   pub some : PutSome seen
@@ -52,7 +58,7 @@ pub record SinkFailed (seen : Seen) : Type 0 where
 abbrev pub ExitSays : Seen → Exit → Type 0
 ExitSays seen (Said ending) = PutWhole seen ending
 ExitSays seen SinkFault = SinkFailed seen
-ExitSays seen NoMemory = PutSome seen ⊎ PutNothing seen
+ExitSays seen NoMemory = OutOfMemory seen
 
 -- the call ended so
 pub record Ended (seen : Seen) (status : ℕ) : Type 0 where

@@ -63,7 +63,8 @@ fn put_calls<O: Texted>(
     requires begins { begins_line out.old ≡ true }
     ensures state { OnOk result (object.new ≡ fold_state O.means object.old script.now) }
     ensures trace { OnOk result (trace.new.items ≡ fold_trace O.means 0 script.now) }
-    ensures lines { OnOk result (out.new ≡ with_lines out.old (call_lines O.wording 0 0 script.now (fold_ends O.means object.old 0 script.now))) }
+    ensures lines { let ends = fold_ends O.means object.old 0 script.now in
+        OnOk result (out.new ≡ with_lines out.old (call_lines O.wording 0 0 script.now ends)) }
 {
     let mut number = 0;
     for call in script {
@@ -96,7 +97,9 @@ fn fold_script<O: Texted>(
     script: &[Call<O>],
 ) -> Result<Vec<u8>, NoMemory>
     ensures report { IfOk result (λ bytes. bytes.items ≡ fold_report O.means O.wording object.old script.now) }
-    ensures legal { OnOk result (IsLegal O.means object.old [] (script.now ∷ []) (fold_trace O.means 0 script.now) (fold_ends O.means object.old 0 script.now ∷ [])) }
+    ensures legal { let trace = fold_trace O.means 0 script.now in
+        let ends = fold_ends O.means object.old 0 script.now in
+        OnOk result (IsLegal O.means object.old [] (script.now ∷ []) trace (ends ∷ [])) }
 {
     let mut out = Report::new(alloc);
     let mut trace = Vec::new(alloc);
@@ -114,7 +117,8 @@ fn fold_object<O: Texted, S: Store>(
     script: &str,
     store: &mut S,
 ) -> Result<Answer, NoMemory>
-    ensures says { IfOk result (λ answer. ScriptSays (S.seen store.old) (S.seen store.new) (fold_text O.means O.wording object.old) script.now answer.ending answer.text.items) }
+    ensures says { let folded = fold_text O.means O.wording object.old in
+        IfOk result (λ answer. ScriptSays (S.seen store.old) (S.seen store.new) folded script.now answer.ending answer.text.items) }
     ensures same { SameFiles (S.seen store.old) (S.seen store.new) }
 {
     match script_file::<O, S>(alloc, script, store) {

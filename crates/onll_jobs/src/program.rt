@@ -7,7 +7,7 @@ ghost use Rattle.onll_jobs.specs.declared.ending.Ending.{Ending};
 ghost use Rattle.onll_jobs.specs.Command.{Fold, form_of};
 ghost use Rattle.onll_jobs.specs.Exits.{PutExits};
 ghost use Rattle.onll_jobs.specs.Seen.{seen_by};
-ghost use Rattle.onll_jobs.specs.Says.{FormSays, ExitSays, Ended, PutWhole, PutSome, PutNothing, SinkFailed, IsTold, NoneRose, SaysThis, SaysRead};
+ghost use Rattle.onll_jobs.specs.Says.{FormSays, ExitSays, Ended, PutWhole, OutOfMemory, SinkFailed, IsTold, NoneRose, SaysThis, SaysRead};
 ghost use Rattle.onll_jobs.specs.FoldSays.{fold_on};
 ghost use Rattle.onll_jobs.specs.Printed.{usage_text, refusal_text};
 
@@ -21,7 +21,8 @@ use std::alloc::Global;
 
 /// What the words make the call say.
 fn answer_to<S: Store>(alloc: Global, words: &[String], store: &mut S) -> Result<Answer, NoMemory>
-    ensures says { IfOk result (λ answer. FormSays (form_of (map string_bytes words.now)) (S.seen store.old) (S.seen store.new) answer.ending answer.text.items) }
+    ensures says { let form = form_of (map string_bytes words.now) in
+        IfOk result (λ answer. FormSays form (S.seen store.old) (S.seen store.new) answer.ending answer.text.items) }
     ensures same { SameFiles (S.seen store.old) (S.seen store.new) }
 {
     match Command::read(words) {
@@ -43,7 +44,8 @@ fn put<K: Sink>(out: &mut K, answer: &Answer) -> Exit
 
 /// Does what the words say.
 fn run<S: Store, K: Sink>(alloc: Global, words: &[String], store: &mut S, out: &mut K) -> Exit
-    ensures says { ExitSays (seen_by (map string_bytes words.now) (S.seen store.old) (S.seen store.new) (K.held out.old) (K.held out.new)) result }
+    ensures says { let seen = seen_by (map string_bytes words.now) (S.seen store.old) (S.seen store.new) (K.held out.old) (K.held out.new) in
+        ExitSays seen result }
     ensures same { SameFiles (S.seen store.old) (S.seen store.new) }
 {
     match answer_to(alloc, words, store) {
@@ -57,20 +59,37 @@ fn run<S: Store, K: Sink>(alloc: Global, words: &[String], store: &mut S, out: &
 pub fn onll<S: Store, K: Sink>(alloc: Global, words: &[String], store: &mut S, out: &mut K) -> u8
 
     // The status is that of an exit, which says this of the words, the files and what was put.
-    ensures ended { Ended (seen_by (map string_bytes words.now) (S.seen store.old) (S.seen store.new) (K.held out.old) (K.held out.new)) result }
+    ensures ended { let seen = seen_by (map string_bytes words.now) (S.seen store.old) (S.seen store.new) (K.held out.old) (K.held out.new) in
+        Ended seen result }
 
     // What each status says.
-    ensures done { result ≡ 0 → PutWhole (seen_by (map string_bytes words.now) (S.seen store.old) (S.seen store.new) (K.held out.old) (K.held out.new)) Ending.Done }
-    ensures usage { result ≡ 2 → (form_of (map string_bytes words.now) ≡ None) × Puts (K.held out.old) (K.held out.new) usage_text }
-    ensures refused { result ≡ 3 → PutWhole (seen_by (map string_bytes words.now) (S.seen store.old) (S.seen store.new) (K.held out.old) (K.held out.new)) Ending.Refused }
-    ensures unread { result ≡ 5 → PutWhole (seen_by (map string_bytes words.now) (S.seen store.old) (S.seen store.new) (K.held out.old) (K.held out.new)) Ending.ReadFault }
-    ensures sink_failed { result ≡ 6 → SinkFailed (seen_by (map string_bytes words.now) (S.seen store.old) (S.seen store.new) (K.held out.old) (K.held out.new)) }
-    ensures no_memory { result ≡ 9 → PutSome (seen_by (map string_bytes words.now) (S.seen store.old) (S.seen store.new) (K.held out.old) (K.held out.new)) ⊎ PutNothing (seen_by (map string_bytes words.now) (S.seen store.old) (S.seen store.new) (K.held out.old) (K.held out.new)) }
+    ensures done { let seen = seen_by (map string_bytes words.now) (S.seen store.old) (S.seen store.new) (K.held out.old) (K.held out.new) in
+        result ≡ 0 → PutWhole seen Ending.Done }
+    ensures usage { result ≡ 2 →
+        (form_of (map string_bytes words.now) ≡ None) × Puts (K.held out.old) (K.held out.new) usage_text }
+    ensures refused { let seen = seen_by (map string_bytes words.now) (S.seen store.old) (S.seen store.new) (K.held out.old) (K.held out.new) in
+        result ≡ 3 → PutWhole seen Ending.Refused }
+    ensures unread { let seen = seen_by (map string_bytes words.now) (S.seen store.old) (S.seen store.new) (K.held out.old) (K.held out.new) in
+        result ≡ 5 → PutWhole seen Ending.ReadFault }
+    ensures sink_failed { let seen = seen_by (map string_bytes words.now) (S.seen store.old) (S.seen store.new) (K.held out.old) (K.held out.new) in
+        result ≡ 6 → SinkFailed seen }
+    ensures no_memory { let seen = seen_by (map string_bytes words.now) (S.seen store.old) (S.seen store.new) (K.held out.old) (K.held out.new) in
+        result ≡ 9 → OutOfMemory seen }
+
+    // Where the sink fails, the status says so, whatever else was found.
+    ensures sink_count { (result ≡ 6) ⊎ ((K.held out.new).faults ≡ (K.held out.old).faults) }
 
     // When it comes: where no count of faults rose, the words and the bytes of the files decide, but for memory.
-    ensures no_form { form_of (map string_bytes words.now) ≡ None → NoneRose (seen_by (map string_bytes words.now) (S.seen store.old) (S.seen store.new) (K.held out.old) (K.held out.new)) → SaysThis (seen_by (map string_bytes words.now) (S.seen store.old) (S.seen store.new) (K.held out.old) (K.held out.new)) result Ending.Usage usage_text }
-    ensures init_refused { (init script bytes : List ℕ) (refusal : Refusal) → form_of (map string_bytes words.now) ≡ Some (Fold init script) → IsTold (S.seen store.old) init bytes → init_of bytes ≡ Err refusal → NoneRose (seen_by (map string_bytes words.now) (S.seen store.old) (S.seen store.new) (K.held out.old) (K.held out.new)) → SaysThis (seen_by (map string_bytes words.now) (S.seen store.old) (S.seen store.new) (K.held out.old) (K.held out.new)) result Ending.Refused (refusal_text init refusal) }
-    ensures script_read { (init script bytes calls : List ℕ) (object : AnyObject) → form_of (map string_bytes words.now) ≡ Some (Fold init script) → IsTold (S.seen store.old) init bytes → init_of bytes ≡ Ok object → IsTold (S.seen store.old) script calls → NoneRose (seen_by (map string_bytes words.now) (S.seen store.old) (S.seen store.new) (K.held out.old) (K.held out.new)) → SaysRead (seen_by (map string_bytes words.now) (S.seen store.old) (S.seen store.new) (K.held out.old) (K.held out.new)) result script (fold_on object calls) }
+    ensures no_form { let seen = seen_by (map string_bytes words.now) (S.seen store.old) (S.seen store.new) (K.held out.old) (K.held out.new) in
+        form_of seen.words ≡ None → NoneRose seen → SaysThis seen result Ending.Usage usage_text }
+    ensures init_refused { let seen = seen_by (map string_bytes words.now) (S.seen store.old) (S.seen store.new) (K.held out.old) (K.held out.new) in
+        (init script bytes : List ℕ) (refusal : Refusal) →
+        form_of seen.words ≡ Some (Fold init script) → IsTold seen.store init bytes → init_of bytes ≡ Err refusal →
+        NoneRose seen → SaysThis seen result Ending.Refused (refusal_text init refusal) }
+    ensures script_read { let seen = seen_by (map string_bytes words.now) (S.seen store.old) (S.seen store.new) (K.held out.old) (K.held out.new) in
+        (init script bytes calls : List ℕ) (object : AnyObject) →
+        form_of seen.words ≡ Some (Fold init script) → IsTold seen.store init bytes → init_of bytes ≡ Ok object →
+        IsTold seen.store script calls → NoneRose seen → SaysRead seen result script (fold_on object calls) }
 
     // No file changes.
     ensures files { SameFiles (S.seen store.old) (S.seen store.new) }

@@ -1,3 +1,6 @@
 pub mod Appending
 pub mod LineWords
 pub mod Whole
+pub mod ReadBack
+pub mod BankReadBack
+pub mod Keeping

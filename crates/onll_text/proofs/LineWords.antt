@@ -1,7 +1,7 @@
 use Rattle.std.proofs.Common.{ℕ, Bool, true, false, List, [], ◌∷◌, ◌++◌, ◌≡◌, Option, Some, None, codes, decimal, refl, sym, ap, ◌∙◌, ◌+◌, ◌<◌, length, drop, slice_index_or, append_assoc}
 use Rattle.std.specs.List.{flat_map}
 use Rattle.std.proofs.lemmas.List.{drop_more}
-use Rattle.onll_words.specs.Texts.{joined, line_text, IsWord, AreWords}
+use Rattle.onll_words.specs.Texts.{line_text, AreWords}
 use Rattle.onll_words.proofs.Decimals.{IsWord-decimal}
 use Rattle.onll_model.specs.declared.node.Node.{Node}
 use Rattle.onll_model.specs.declared.call.Call.{Call}
@@ -11,7 +11,7 @@ use Rattle.onll_model.specs.declared.call.CallEnd.TheVariants.{Answered, Running
 use Rattle.onll_model.specs.Object.{Behaviour}
 use Rattle.onll_text.specs.Bytes.{begins_line, with_word, with_words, with_lines}
 use Rattle.onll_text.specs.Wording.{Wording}
-use Rattle.onll_text.specs.Lines.{at_words, call_words, end_words, call_line, trace_line, flag_words, row_words, node_line, fence_words, log_line, state_lines}
+use Rattle.onll_text.specs.Lines.{at_words, call_words, end_words, call_line, flag_words, row_words, node_line, fence_words, log_line}
 use Rattle.onll_text.specs.BankText.{account_line, account_lines}
 use Rattle.onll_text.proofs.Appending.{with_words-append, with_words-line, begins_line-line}
 

@@ -1,4 +1,4 @@
-use Rattle.std.proofs.Common.{ℕ, Bool, true, false, List, ◌≡◌, ◌+◌, ◌<◌, ◌≤◌, nat_lt, cond, length, take, refl, sym, ap, ◌∙◌, arith, inl, inr, Err}
+use Rattle.std.proofs.Common.{ℕ, true, List, ◌≡◌, ◌+◌, ◌<◌, nat_lt, cond, length, take, sym, ap, ◌∙◌, arith, inl, inr, Err}
 use Rattle.std.proofs.lemmas.List.{length-take-le, take_all}
 use Rattle.std.proofs.lemmas.Bool.Decides.{nat_tests}
 use Rattle.std.proofs.lemmas.Bool.{cases_lt}

@@ -1,6 +1,5 @@
-use Rattle.std.specs.Prelude.{ℕ, Bool, true, false, List, [], ◌∷◌, ◌≡◌, ◌+◌, Option, Some, None, Result, Ok, Err, if◌then◌else◌, length, codes, decimal, replicate, slice_set, slice_get, sum, nat_lt, not}
+use Rattle.std.specs.Prelude.{ℕ, Bool, true, false, List, [], ◌∷◌, ◌+◌, Option, Some, None, Result, Ok, Err, if◌then◌else◌, length, codes, decimal, replicate, slice_set, slice_get, sum, nat_lt, not}
 use Rattle.std.specs.Str.{bytes_eq}
-use Rattle.onll_words.specs.Numbers.{number_of}
 use Rattle.onll_model.specs.declared.call.Call.{Call}
 use Rattle.onll_model.specs.declared.call.Call.TheVariants.{Update, Ask}
 use Rattle.onll_bank.specs.declared.operation.BankOp.{BankOp}
@@ -11,9 +10,9 @@ use Rattle.onll_bank.specs.declared.operation.BankReply.{BankReply}
 use Rattle.onll_bank.specs.declared.operation.BankReply.TheVariants.{Done, Over, TooLittle, NoAccount, Amount}
 use Rattle.onll_bank.specs.Bank.{is_account, raised, greatest_total}
 use Rattle.onll_text.specs.declared.reason.Reason.{Reason}
-use Rattle.onll_text.specs.declared.reason.Reason.TheVariants.{UnknownWord, WrongCount, BadNumber, OutOfRange, Repeated, TooLarge}
-use Rattle.onll_text.specs.Refusal.{◌>>=◌, only_if, or_reason}
-use Rattle.onll_text.specs.Words.{word_as_number, no_word, one_number, two_numbers, three_numbers}
+use Rattle.onll_text.specs.declared.reason.Reason.TheVariants.{UnknownWord, OutOfRange, Repeated, TooLarge}
+use Rattle.onll_text.specs.Refusal.{◌>>=◌, only_if}
+use Rattle.onll_text.specs.Words.{no_word, one_number, two_numbers, three_numbers}
 
 abbrev pub BankCall : Type 0
 BankCall = Call (List ℕ) BankOp BankQuery BankReply

@@ -1,5 +1,5 @@
-use Rattle.std.specs.Prelude.{ℕ, Bool, true, false, List, [], ◌∷◌, ◌≡◌, ◌+◌, codes, decimal, refl}
-use Rattle.onll_words.specs.Texts.{IsWord, AreWords, AreMeaningful}
+use Rattle.std.specs.Prelude.{ℕ, List, [], ◌∷◌, ◌+◌, refl}
+use Rattle.onll_words.specs.Texts.{AreWords, AreMeaningful}
 use Rattle.onll_words.proofs.Decimals.{IsWord-decimal}
 use Rattle.onll_bank.specs.declared.operation.BankOp.{BankOp}
 use Rattle.onll_bank.specs.declared.operation.BankOp.TheVariants.{Deposit, Withdraw, Transfer}

@@ -1,5 +1,6 @@
 use Rattle.std.specs.Prelude.{ℕ, Bool, List, [], ◌∷◌, ◌++◌, ◌≡◌, ◌-◌, ◌||◌, ◌==◌, if◌then◌else◌, length, slice_index}
 use Rattle.std.specs.List.{flat_map}
+use Rattle.std.specs.Io.{StartsWith}
 use Rattle.onll_words.specs.Texts.{line_text}
 
 -- nothing stands in the last line yet
@@ -14,12 +15,9 @@ abbrev pub with_words : List ℕ → List (List ℕ) → List ℕ
 with_words bytes [] = bytes
 with_words bytes (w ∷ ws) = with_words (with_word bytes w) ws
 
--- a front of what is to be appended stands: the bytes before stay, and the whole begins with what stands
-pub record AppendsFront (old new whole : List ℕ) : Type 0 where
-  pub front : List ℕ
-  pub rest : List ℕ
-  pub appended : new ≡ old ++ front
-  pub begun : whole ≡ new ++ rest
+-- the bytes before stay: each front of them is one of those after
+abbrev pub Keeps : List ℕ → List ℕ → Type 0
+Keeps old new = (front : List ℕ) → StartsWith old front → StartsWith new front
 
 -- the bytes after whole lines
 abbrev pub with_lines : List ℕ → List (List (List ℕ)) → List ℕ

@@ -8,3 +8,4 @@ pub mod Script
 pub mod BankText
 pub mod BankWording
 pub mod Init
+pub mod ReadBack

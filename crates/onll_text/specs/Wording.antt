@@ -1,4 +1,4 @@
-use Rattle.std.specs.Prelude.{ℕ, List, [], ◌∷◌, ◌++◌, ◌≡◌, Result, length}
+use Rattle.std.specs.Prelude.{ℕ, List, Result}
 use Rattle.onll_words.specs.Texts.{AreWords, AreMeaningful}
 use Rattle.onll_model.specs.declared.call.Call.{Call}
 use Rattle.onll_text.specs.declared.reason.Reason.{Reason}

@@ -1,4 +1,4 @@
-ghost use Rattle.std.specs.Prelude.{◌≡◌, ◌≤◌, MatchResult, IfOk, Ok, Err};
+ghost use Rattle.std.specs.Prelude.{◌≡◌, ◌≤◌, MatchResult, IfOk, OnErr, Ok, Err};
 ghost use Rattle.onll_words.specs.Texts.{words_of};
 ghost use Rattle.onll_text.specs.BankText.{no_accounts, with_account, with_account_line};
 
@@ -50,7 +50,8 @@ impl BankInit {
 
     /// Puts the balance of an account in, by a deposit.
     fn add_account(&mut self, a: u64, balance: u64) -> Result<(), Reason>
-        ensures { MatchResult result (λ _. with_account self.old (a, balance) ≡ Ok self.new) (λ e. with_account self.old (a, balance) ≡ Err e) }
+        ensures added { MatchResult result (λ _. with_account self.old (a, balance) ≡ Ok self.new) (λ e. with_account self.old (a, balance) ≡ Err e) }
+        ensures refused { OnErr result (self.new ≡ self.old) }
     {
         if a >= self.bank.capacity() {
             return Err(Reason::OutOfRange);

@@ -1,4 +1,4 @@
-ghost use Rattle.std.specs.Prelude.{◌≡◌, ◌≤◌, ℕ, List, Result, MatchResult, IfOk};
+ghost use Rattle.std.specs.Prelude.{◌≡◌, ◌≤◌, ℕ, List, Result, MatchResult, IfOk, OnErr};
 ghost use Rattle.onll_text.specs.declared.reason.Reason.{Reason};
 ghost use Rattle.onll_words.specs.Texts.{words_of};
 ghost use Rattle.onll_text.specs.Refusal.{Fails};
@@ -18,9 +18,10 @@ pub(crate) trait Initial: Sized {
     /// What it is with one line more, by the line's words.
     ghost with_line: { Self → List (List ℕ) → Result Self Reason };
 
-    /// Takes one line more.
+    /// Takes one line more; a refused one changes nothing.
     fn add_line(&mut self, line: &[u8]) -> Result<(), Reason>
-        ensures { MatchResult result (λ _. with_line self.old (words_of line.now) ≡ Ok self.new) (λ e. with_line self.old (words_of line.now) ≡ Err e) };
+        ensures added { MatchResult result (λ _. with_line self.old (words_of line.now) ≡ Ok self.new) (λ e. with_line self.old (words_of line.now) ≡ Err e) }
+        ensures refused { OnErr result (self.new ≡ self.old) };
 }
 
 /// Takes all lines that are left.

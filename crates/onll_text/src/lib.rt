@@ -6,14 +6,18 @@ mod bank;
 mod bank_init;
 mod init;
 mod lines;
+mod read_back;
 mod reason;
 mod report;
 mod script;
+#[cfg(test)]
+mod tests;
 mod texted;
 mod words;
 
 pub use any_object::{AnyObject, Kind};
 pub use init::read_init;
+pub use read_back::bank_reads_back;
 pub use reason::{Reason, TextFault};
 pub use report::{Piece, Report};
 pub use script::{LONGEST_TEXT, read_script};

@@ -1,6 +1,6 @@
 ghost use Rattle.std.specs.Prelude.{◌≡◌, ℕ, ◌++◌, ◌∷◌, [], true, IsSome, OnOk};
 ghost use Rattle.onll_words.specs.Texts.{line_text};
-ghost use Rattle.onll_text.specs.Bytes.{begins_line, with_words, with_lines};
+ghost use Rattle.onll_text.specs.Bytes.{begins_line, with_words, with_lines, Keeps};
 ghost use Rattle.onll_text.specs.Lines.{call_words, at_words, end_words, call_line, trace_line, node_line, flag_words, fence_words, log_line, state_lines};
 
 use crate::report::{Piece, Report};
@@ -9,7 +9,8 @@ use onll_model::{Call, CallEnd, Node};
 use onll_words::NoMemory;
 
 fn put_call<O: Texted>(call: &Call<O>, out: &mut Report) -> Result<(), NoMemory>
-    ensures { OnOk result (out.new ≡ with_words out.old (call_words O.wording call.now)) }
+    ensures ok { OnOk result (out.new ≡ with_words out.old (call_words O.wording call.now)) }
+    ensures keeps { Keeps out.old out.new }
 {
     match call {
         Call::Update(op) => O::put_op(*op, out),
@@ -18,14 +19,16 @@ fn put_call<O: Texted>(call: &Call<O>, out: &mut Report) -> Result<(), NoMemory>
 }
 
 fn put_place(place: u64, out: &mut Report) -> Result<(), NoMemory>
-    ensures { OnOk result (out.new ≡ with_words out.old (at_words place)) }
+    ensures ok { OnOk result (out.new ≡ with_words out.old (at_words place)) }
+    ensures keeps { Keeps out.old out.new }
 {
     out.words(&[Piece::Text(b"at"), Piece::Number(place)])
 }
 
 #[tactic(auto, using(crate::proofs::LineWords::appending))]
 fn put_end<O: Texted>(end: &CallEnd<O>, out: &mut Report) -> Result<(), NoMemory>
-    ensures { OnOk result (out.new ≡ with_words out.old (end_words O.wording end.now)) }
+    ensures ok { OnOk result (out.new ≡ with_words out.old (end_words O.wording end.now)) }
+    ensures keeps { Keeps out.old out.new }
 {
     match end {
         CallEnd::Answered { reply, place } => {
@@ -49,7 +52,8 @@ fn put_end<O: Texted>(end: &CallEnd<O>, out: &mut Report) -> Result<(), NoMemory
 }
 
 fn put_flag(flag: Option<bool>, out: &mut Report) -> Result<(), NoMemory>
-    ensures { OnOk result (out.new ≡ with_words out.old (flag_words flag)) }
+    ensures ok { OnOk result (out.new ≡ with_words out.old (flag_words flag)) }
+    ensures keeps { Keeps out.old out.new }
 {
     match flag {
         Some(true) => out.word(b"set"),
@@ -59,7 +63,8 @@ fn put_flag(flag: Option<bool>, out: &mut Report) -> Result<(), NoMemory>
 }
 
 fn put_fences(fences: Option<u64>, out: &mut Report) -> Result<(), NoMemory>
-    ensures { OnOk result (out.new ≡ with_words out.old (fence_words fences)) }
+    ensures ok { OnOk result (out.new ≡ with_words out.old (fence_words fences)) }
+    ensures keeps { Keeps out.old out.new }
 {
     match fences {
         Some(fences) => out.words(&[Piece::Text(b"fences"), Piece::Number(fences)]),
@@ -77,7 +82,8 @@ impl Report {
         end: &CallEnd<O>,
     ) -> Result<(), NoMemory>
         requires { begins_line self.old ≡ true }
-        ensures { OnOk result (self.new ≡ self.old ++ line_text (call_line O.wording thread number call.now end.now)) }
+        ensures ok { OnOk result (self.new ≡ self.old ++ line_text (call_line O.wording thread number call.now end.now)) }
+        ensures keeps { Keeps self.old self.new }
     {
         self.words(&[
             Piece::Text(b"call"),
@@ -93,7 +99,8 @@ impl Report {
     /// The line that counts the nodes of a trace.
     pub fn trace_line(&mut self, count: u64) -> Result<(), NoMemory>
         requires { begins_line self.old ≡ true }
-        ensures { OnOk result (self.new ≡ self.old ++ line_text (trace_line count)) }
+        ensures ok { OnOk result (self.new ≡ self.old ++ line_text (trace_line count)) }
+        ensures keeps { Keeps self.old self.new }
     {
         self.words(&[Piece::Text(b"trace"), Piece::Number(count)])?;
         self.end_line()
@@ -108,7 +115,8 @@ impl Report {
     ) -> Result<(), NoMemory>
         requires begins { begins_line self.old ≡ true }
         requires operation { IsSome (O.means.op_at node.row) }
-        ensures { OnOk result (self.new ≡ self.old ++ line_text (node_line O.means O.wording place node flag)) }
+        ensures ok { OnOk result (self.new ≡ self.old ++ line_text (node_line O.means O.wording place node flag)) }
+        ensures keeps { Keeps self.old self.new }
     {
         self.words(&[
             Piece::Text(b"node"),
@@ -133,7 +141,8 @@ impl Report {
         fences: Option<u64>,
     ) -> Result<(), NoMemory>
         requires { begins_line self.old ≡ true }
-        ensures { OnOk result (self.new ≡ self.old ++ line_text (log_line thread entries lines fences)) }
+        ensures ok { OnOk result (self.new ≡ self.old ++ line_text (log_line thread entries lines fences)) }
+        ensures keeps { Keeps self.old self.new }
     {
         self.words(&[
             Piece::Text(b"log"),
@@ -150,7 +159,8 @@ impl Report {
     /// The line `state`, and the lines of the state.
     pub fn state_lines<O: Texted>(&mut self, object: &O) -> Result<(), NoMemory>
         requires { begins_line self.old ≡ true }
-        ensures { OnOk result (self.new ≡ with_lines self.old (state_lines O.wording object.now)) }
+        ensures ok { OnOk result (self.new ≡ with_lines self.old (state_lines O.wording object.now)) }
+        ensures keeps { Keeps self.old self.new }
     {
         self.word(b"state")?;
         self.end_line()?;

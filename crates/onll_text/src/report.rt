@@ -1,5 +1,5 @@
 ghost use Rattle.std.specs.Prelude.{◌≡◌, ℕ, ◌++◌, ◌∷◌, [], true, decimal, map, OnOk, OnErr};
-ghost use Rattle.onll_text.specs.Bytes.{begins_line, with_word, with_words, AppendsFront};
+ghost use Rattle.onll_text.specs.Bytes.{begins_line, with_word, with_words, Keeps};
 ghost use Rattle.onll_text.specs.Pieces.{piece_word};
 
 use itoa::Buffer;
@@ -15,7 +15,7 @@ pub enum Piece<'a> {
     Number(u64),
 }
 
-/// The bytes of a report, seen as that list. After want of memory a front of what was to be appended may stand.
+/// The bytes of a report, seen as that list. After want of memory the bytes before stay, and a front of what was to be appended may stand behind them.
 #[derive(Drop)]
 pub struct Report {
     bytes: Vec<u8>,
@@ -63,8 +63,10 @@ impl Report {
     }
 
     /// A text as it is.
+    #[tactic(auto, using(crate::proofs::Keeping::keeping))]
     fn put(&mut self, text: &[u8]) -> Result<(), NoMemory>
         ensures ok { OnOk result (self.new ≡ self.old ++ text.now) }
+        ensures keeps { Keeps self.old self.new }
         ensures err { OnErr result (self.new ≡ self.old) }
     {
         match self.bytes.extend_from_slice(text) {
@@ -76,6 +78,7 @@ impl Report {
     /// A word, after one space unless it begins a line.
     pub fn word(&mut self, text: &[u8]) -> Result<(), NoMemory>
         ensures ok { OnOk result (self.new ≡ with_word self.old text.now) }
+        ensures keeps { Keeps self.old self.new }
     {
         if !self.begins_line() {
             self.put(b" ")?;
@@ -86,6 +89,7 @@ impl Report {
     /// A number in the shortest decimal form, as a word.
     pub fn number(&mut self, n: u64) -> Result<(), NoMemory>
         ensures ok { OnOk result (self.new ≡ with_word self.old (decimal n)) }
+        ensures keeps { Keeps self.old self.new }
     {
         let mut buffer = Buffer::new();
         self.word(buffer.format(n).as_bytes())
@@ -94,6 +98,7 @@ impl Report {
     /// The end of a line.
     pub fn end_line(&mut self) -> Result<(), NoMemory>
         ensures ok { OnOk result (self.new ≡ self.old ++ 10 ∷ []) }
+        ensures keeps { Keeps self.old self.new }
         ensures err { OnErr result (self.new ≡ self.old) }
     {
         self.put(b"\n")
@@ -101,6 +106,7 @@ impl Report {
 
     fn piece(&mut self, piece: Piece<'_>) -> Result<(), NoMemory>
         ensures ok { OnOk result (self.new ≡ with_word self.old (piece_word piece.entry)) }
+        ensures keeps { Keeps self.old self.new }
     {
         match piece {
             Piece::Text(text) => self.word(text),
@@ -111,6 +117,7 @@ impl Report {
     /// Words, in order.
     pub fn words(&mut self, pieces: &[Piece<'_>]) -> Result<(), NoMemory>
         ensures ok { OnOk result (self.new ≡ with_words self.old (map piece_word pieces.now)) }
+        ensures keeps { Keeps self.old self.new }
     {
         for piece in pieces {
             self.piece(*piece)?;

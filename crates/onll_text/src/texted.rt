@@ -1,6 +1,6 @@
 ghost use Rattle.std.specs.Prelude.{◌≡◌, true, OnOk};
 ghost use Rattle.onll_words.specs.Texts.{words_of};
-ghost use Rattle.onll_text.specs.Bytes.{begins_line, with_words, with_lines};
+ghost use Rattle.onll_text.specs.Bytes.{begins_line, with_words, with_lines, Keeps};
 ghost use Rattle.onll_text.specs.Wording.{Wording};
 
 use crate::reason::Reason;
@@ -19,18 +19,22 @@ pub trait Texted: Object {
 
     /// Appends the words of an operation.
     fn put_op(op: Self::Op, out: &mut Report) -> Result<(), NoMemory>
-        ensures { OnOk result (out.new ≡ with_words out.old (wording.op_words op)) };
+        ensures ok { OnOk result (out.new ≡ with_words out.old (wording.op_words op)) }
+        ensures keeps { Keeps out.old out.new };
 
     /// Appends the words of a query.
     fn put_query(query: Self::Query, out: &mut Report) -> Result<(), NoMemory>
-        ensures { OnOk result (out.new ≡ with_words out.old (wording.query_words query)) };
+        ensures ok { OnOk result (out.new ≡ with_words out.old (wording.query_words query)) }
+        ensures keeps { Keeps out.old out.new };
 
     /// Appends the words of a reply.
     fn put_reply(reply: Self::Reply, out: &mut Report) -> Result<(), NoMemory>
-        ensures { OnOk result (out.new ≡ with_words out.old (wording.reply_words reply)) };
+        ensures ok { OnOk result (out.new ≡ with_words out.old (wording.reply_words reply)) }
+        ensures keeps { Keeps out.old out.new };
 
     /// Appends the lines of the state, which read as an equal initial state.
     fn put_state(&self, out: &mut Report) -> Result<(), NoMemory>
         requires { begins_line out.old ≡ true }
-        ensures { OnOk result (out.new ≡ with_lines out.old (wording.state_lines self.now)) };
+        ensures ok { OnOk result (out.new ≡ with_lines out.old (wording.state_lines self.now)) }
+        ensures keeps { Keeps out.old out.new };
 }

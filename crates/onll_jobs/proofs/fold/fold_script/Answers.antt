@@ -16,13 +16,13 @@ put_nodes-requires-clause-operations g c =
 
 pub put_nodes-requires-clause-begins : goal.put_nodes-requires-clause-begins
 put_nodes-requires-clause-begins g c =
-    ap begins_line c.in_ok-trace_line.ensures ∙ begins_line-line c.put_calls.new.out (trace_line c.len.result)
+    ap begins_line c.in_ok-trace_line.ensures.ok ∙ begins_line-line c.put_calls.new.out (trace_line c.len.result)
 
 pub state_lines-requires : goal.state_lines-requires
 state_lines-requires g c =
     ap begins_line c.in_ok-put_nodes.ensures
     ∙ begins_line-lines c.trace_line.new.self (node_lines g.O.Object.means g.O.Texted.wording 0 c.deref.result.now)
-    (ap begins_line c.in_ok-trace_line.ensures ∙ begins_line-line c.put_calls.new.out (trace_line c.len.result))
+    (ap begins_line c.in_ok-trace_line.ensures.ok ∙ begins_line-line c.put_calls.new.out (trace_line c.len.result))
 
 pub returns-clause-legal : goal.returns-clause-legal
 returns-clause-legal g c = fold_legal g.O.Object.means c.args.object.now c.args.script.now

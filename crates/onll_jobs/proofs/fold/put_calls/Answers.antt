@@ -3,8 +3,7 @@ use Rattle.std.proofs.lemmas.List.{drop_more}
 use Rattle.onll_model.specs.Fold.{fold_trace, fold_ends, fold_state}
 use Rattle.onll_text.specs.Bytes.{begins_line, with_lines}
 use Rattle.onll_text.specs.Lines.{call_line, call_lines}
-use Rattle.onll_text.proofs.Appending.{begins_line-line}
-use Rattle.onll_jobs.proofs.FoldSteps.{call_done}
+use Rattle.onll_jobs.proofs.FoldSteps.{begins_after, call_done}
 use Rattle.onll_jobs.proofs.fold.put_calls.Goals as goal
 
 pub loop-call-preserved : goal.loop-call-preserved
@@ -21,12 +20,12 @@ loop-call-preserved g c =
     let e = drop_more c.args.script.now i call (omega arith) ∙ ap (λ x. x ∷ calls) (sym c.call-item.is) in
     let count : c.len.result ≡ length trace = omega arith in
     let done = call_done b w s c.fold_call.new.object trace c.fold_call.new.trace.items out c.call_line.new.self k c.len.result call calls c.in_ok-end.end
-    count c.in_ok-end.ensures.state c.in_ok-end.ensures.trace c.in_ok-end.ensures.end c.in_ok-call_line.ensures
+    count c.in_ok-end.ensures.state c.in_ok-end.ensures.trace c.in_ok-end.ensures.end c.in_ok-call_line.ensures.ok
     in record {
       state = done.state ∙ sym (ap (fold_state b s) e) ∙ c.loop-call.invariant.state;
       nodes = done.nodes ∙ sym (ap (λ t. trace ++ fold_trace b (length trace) t) e) ∙ c.loop-call.invariant.nodes;
       lines = done.lines ∙ sym (ap (λ t. with_lines out (call_lines w 0 k t (fold_ends b s (length trace) t))) e) ∙ c.loop-call.invariant.lines;
-      begins = ap begins_line c.in_ok-call_line.ensures ∙ begins_line-line out (call_line w 0 (k + 1) call c.in_ok-end.end);
+      begins = begins_after out c.call_line.new.self (call_line w 0 (k + 1) call c.in_ok-end.end) c.in_ok-call_line.ensures.ok;
       number = omega arith;
       count = omega (arith, done.count);
     }

@@ -5,8 +5,7 @@ use Rattle.std.specs.Option.{IsSome}
 use Rattle.onll_model.specs.declared.node.Node.{Node}
 use Rattle.onll_text.specs.Bytes.{begins_line}
 use Rattle.onll_text.specs.Lines.{node_line}
-use Rattle.onll_text.proofs.Appending.{begins_line-line}
-use Rattle.onll_jobs.proofs.FoldSteps.{node_lines_more}
+use Rattle.onll_jobs.proofs.FoldSteps.{begins_after, node_lines_more}
 use Rattle.onll_jobs.proofs.fold.put_nodes.Goals as goal
 
 pub loop-node-preserved : goal.loop-node-preserved
@@ -16,11 +15,11 @@ loop-node-preserved g c =
     let i = c.loop-node.node-index in
     let nodes = c.args.trace.now in
     let d : Node = record { thread = 0; number = 0; row = record { w = [] } } in
-    let line = c.in_ok-node_line.ensures in
+    let line = c.in_ok-node_line.ensures.ok in
     let rest = subst (AllByRecursion (λ (n : Node). IsSome (b.op_at n.row))) (drop_more nodes i d (omega arith)) c.loop-node.invariant.operations in
     record {
       lines = node_lines_more b w c.loop-node.out c.node_line.new.self c.loop-node.place i nodes d (omega arith) line ∙ c.loop-node.invariant.lines;
       operations = rest.1;
-      begins = ap begins_line line ∙ begins_line-line c.loop-node.out (node_line b w (c.loop-node.place + 1) (get_or nodes i d) None);
+      begins = begins_after c.loop-node.out c.node_line.new.self (node_line b w (c.loop-node.place + 1) (get_or nodes i d) None) line;
       place = omega arith;
     }

@@ -1,7 +1,7 @@
 use Rattle.std.proofs.Common.{map, string_bytes, sym, ◌∙◌, subst, ◌≡◌, ℕ}
 use Rattle.onll_jobs.specs.Seen.{Seen, seen_by}
 use Rattle.onll_jobs.specs.Says.{SaysThis, SaysRead}
-use Rattle.onll_jobs.proofs.ExitCauses.{done_of, usage_of, refused_of, unread_of, sink_failed_of, no_memory_of, no_form_exactly, init_exactly, script_exactly}
+use Rattle.onll_jobs.proofs.ExitCauses.{done_of, usage_of, refused_of, unread_of, sink_failed_of, no_memory_of, count_of, no_form_exactly, init_exactly, script_exactly}
 use Rattle.onll_jobs.proofs.program.onll.Goals as goal
 
 pub returns-clause-done : goal.returns-clause-done
@@ -32,3 +32,6 @@ returns-clause-init_refused g c init script bytes refusal form told outside none
 pub returns-clause-script_read : goal.returns-clause-script_read
 returns-clause-script_read g c init script bytes calls object form told accepted told_script none =
     rw c.status.ensures (script_exactly (seen_by (map string_bytes c.args.words.now) (g.S.Store.seen c.args.store.now) (g.S.Store.seen c.run.new.store) (g.K.Sink.held c.args.out.now) (g.K.Sink.held c.run.new.out)) c.run.result init script bytes calls object form told accepted told_script none c.run.ensures.says)
+
+pub returns-clause-sink_count : goal.returns-clause-sink_count
+returns-clause-sink_count g c = rw c.status.ensures (count_of (seen_by (map string_bytes c.args.words.now) (g.S.Store.seen c.args.store.now) (g.S.Store.seen c.run.new.store) (g.K.Sink.held c.args.out.now) (g.K.Sink.held c.run.new.out)) c.run.result c.run.ensures.says)

@@ -1,0 +1,161 @@
+ghost use Rattle.std.specs.Prelude.{◌≡◌, ℕ, ◌+◌, ◌-◌, ◌^◌, ◌<◌, ◌≤◌, not, is_ok, length, IfOk, OnOk, OnErr};
+ghost use Rattle.onll_pmem.specs.Device.{new_device, image_of, IsImage, zero_lines, line_at, FillsWords, settled, Write, WriteBack, Fence, FailedFence};
+ghost use Rattle.onll_pmem.specs.Pmem.{words_of};
+ghost use Rattle.onll_pmem.specs.Memory.{MemoryState, fails, faults_in_le, stepped, memory_view, EvenBut};
+
+use crate::image::kept_lines;
+use crate::pmem::{FenceFailed, Pmem};
+use crate::waiting::Waiting;
+use onll_words::{Line, NoMemory};
+use std::alloc::{AllocError, Global};
+use std::marker::Model;
+
+fn zeros(alloc: Global, lines: usize) -> Result<Vec<Line>, AllocError>
+    ensures { IfOk result (λ v. words_of v.items ≡ zero_lines lines) }
+{
+    let zeros = vec![in alloc; Line { w: [0; 8] }; lines]?;
+    Ok(zeros)
+}
+
+/// Whether the fence of this number fails.
+fn is_failing(failing: &[u64], number: u64) -> bool
+    ensures { result ≡ fails failing.now number }
+{
+    failing.contains(&number)
+}
+
+/// Makes the lines durable that are written back and wait.
+fn settle(fenced: &mut Vec<Line>, read: &[Line], backed: &[bool], waiting: &mut Waiting)
+    requires as_fenced { length fenced.old.items ≡ length read.now }
+    requires as_backed { length backed.now ≡ length read.now }
+    requires as_marked { length waiting.old.marks ≡ length read.now }
+    requires even { EvenBut waiting.old.marks (words_of fenced.old.items) (words_of read.now) backed.now }
+    ensures settled { words_of fenced.new.items ≡ settled backed.now (words_of fenced.old.items) (words_of read.now) }
+    ensures even { EvenBut waiting.new.marks (words_of fenced.new.items) (words_of read.now) backed.now }
+    ensures lines { length fenced.new.items ≡ length read.now }
+    ensures marks { length waiting.new.marks ≡ length read.now }
+{
+    while let Some(line) = waiting.take() {
+        if backed[line as usize] {
+            fenced[line as usize] = read[line as usize];
+        }
+    }
+}
+
+/// A device in memory, whose fences fail as told beforehand.
+#[derive(Drop)]
+pub struct MemPmem {
+    fenced: Vec<Line>,
+    read: Vec<Line>,
+    backed: Vec<bool>,
+    waiting: Waiting,
+    failing: Vec<u64>,
+    fences: u64,
+    faults: u64,
+}
+
+impl Model for MemPmem {
+    ghost use Rattle.onll_pmem.specs.Pmem.{words_of};
+    ghost use Rattle.onll_pmem.specs.Memory.{MemoryState, memory_of, Keeps};
+
+    ghost Value = { MemoryState };
+
+    ghost view = { λ m. memory_of (words_of m.fenced.items) (words_of m.read.items) m.backed.items m.fences m.failing.items };
+
+    ghost invariant = { λ m. Keeps (memory_of (words_of m.fenced.items) (words_of m.read.items) m.backed.items m.fences m.failing.items) m.waiting.marks m.faults };
+}
+
+impl MemPmem {
+    fn try_new(alloc: Global, lines: usize, failing: Vec<u64>) -> Result<MemPmem, AllocError>
+        requires { lines ≤ 1000000 }
+        ensures { IfOk result (λ m. m ≡ record { device = new_device lines; failing = failing.items }) }
+    {
+        Ok(MemPmem {
+            fenced: zeros(alloc, lines)?,
+            read: zeros(alloc, lines)?,
+            backed: vec![in alloc; false; lines]?,
+            waiting: Waiting::new(alloc, lines)?,
+            failing,
+            fences: 0,
+            faults: 0,
+        })
+    }
+
+    /// A device of zeros, whose fences fail that have these numbers, from 1.
+    pub fn new(alloc: Global, lines: u64, failing: Vec<u64>) -> Result<MemPmem, NoMemory>
+        requires { lines ≤ 1000000 }
+        ensures { IfOk result (λ m. m ≡ record { device = new_device lines; failing = failing.items }) }
+    {
+        MemPmem::try_new(alloc, lines as usize, failing).map_err(|_| NoMemory)
+    }
+
+    /// What a crash leaves: a pending word, one that reads otherwise than it is fenced, is as it reads where `keep` has
+    /// the bit of its number modulo 64, and else as fenced. Pending words are numbered from 0 by line and then by word.
+    pub fn image(&self, alloc: Global, keep: u64) -> Result<Vec<Line>, NoMemory>
+        ensures exact { IfOk result (λ image. words_of image.items ≡ image_of self.now.device keep) }
+        ensures member { IfOk result (λ image. IsImage self.now.device (words_of image.items)) }
+    {
+        kept_lines(alloc, keep, &self.fenced, &self.read).map_err(|_| NoMemory)
+    }
+}
+
+impl Pmem for MemPmem {
+    ghost means = { memory_view };
+
+    fn lines(&self) -> u64 {
+        self.read.len() as u64
+    }
+
+    fn read(&self, line: u64) -> Line {
+        self.read[line as usize]
+    }
+
+    fn write(&mut self, line: u64, value: Line)
+        requires within { line < length self.old.device.read }
+        requires fills { FillsWords (line_at self.old.device.read line) value.w }
+        ensures { self.new ≡ stepped self.old (Write line value.w) }
+    {
+        self.read[line as usize] = value;
+        self.backed[line as usize] = false;
+    }
+
+    fn write_back(&mut self, line: u64)
+        requires { line < length self.old.device.read }
+        ensures { self.new ≡ stepped self.old (WriteBack line) }
+    {
+        if !self.backed[line as usize] {
+            self.backed[line as usize] = true;
+            self.waiting.add(line);
+        }
+    }
+
+    fn fence(&mut self) -> Result<(), FenceFailed>
+        requires { self.old.device.fences < 2 ^ 64 - 1 }
+        ensures ok { OnOk result (self.new ≡ stepped self.old Fence) }
+        ensures failed { OnErr result (self.new ≡ stepped self.old FailedFence) }
+        ensures answer { is_ok result ≡ not (fails self.old.failing (self.old.device.fences + 1)) }
+    {
+        self.fences += 1;
+        if is_failing(&self.failing, self.fences) {
+            self.faults += 1;
+            return Err(FenceFailed);
+        }
+        settle(
+            &mut self.fenced,
+            &self.read,
+            &self.backed,
+            &mut self.waiting,
+        );
+        Ok(())
+    }
+
+    fn fences(&self) -> u64 {
+        self.fences
+    }
+
+    fn faults(&self) -> u64 {
+        self.faults
+    }
+
+    ghost few_faults = { λ device. faults_in_le device.failing device.device.fences };
+}

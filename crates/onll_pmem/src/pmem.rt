@@ -1,0 +1,61 @@
+ghost use Rattle.std.specs.Prelude.{◌≡◌, ℕ, ◌+◌, ◌-◌, ◌^◌, ◌<◌, ◌≤◌, length, slice_set, OnOk, OnErr};
+ghost use Rattle.onll_pmem.specs.Device.{line_at, FillsWords};
+ghost use Rattle.onll_pmem.specs.Pmem.{DeviceView, told_written, told_backed, told_fenced};
+
+use onll_words::Line;
+
+/// A fence did not take effect: nothing new is durable, and what was pending stays pending.
+#[derive(Clone, Copy, Debug, PartialEq, Eq)]
+pub struct FenceFailed;
+
+/// A row of lines that outlives a crash: a line is durable once it was written, written back and fenced with success.
+/// After a crash each other word that was written since is, by itself, its fenced value or the one written since.
+pub trait Pmem {
+    ghost means: { Self → DeviceView };
+
+    /// How many lines there are.
+    fn lines(&self) -> u64
+        ensures { result ≡ length (means self.now).read };
+
+    /// A line as it was last written, durable or not.
+    fn read(&self, line: u64) -> Line
+        requires { line < length (means self.now).read }
+        ensures { result.w ≡ line_at (means self.now).read line };
+
+    /// Writes a line. No word that isn't zero may change.
+    fn write(&mut self, line: u64, value: Line)
+        requires within { line < length (means self.old).read }
+        requires fills { FillsWords (line_at (means self.old).read line) value.w }
+        ensures read { (means self.new).read ≡ slice_set (means self.old).read line value.w }
+        ensures fences { (means self.new).fences ≡ (means self.old).fences }
+        ensures faults { (means self.new).faults ≡ (means self.old).faults }
+        ensures told { (means self.new).told ≡ told_written (means self.old).told line };
+
+    /// Hands a line over to the next fence.
+    fn write_back(&mut self, line: u64)
+        requires { line < length (means self.old).read }
+        ensures read { (means self.new).read ≡ (means self.old).read }
+        ensures fences { (means self.new).fences ≡ (means self.old).fences }
+        ensures faults { (means self.new).faults ≡ (means self.old).faults }
+        ensures told { (means self.new).told ≡ told_backed (means self.old).told line };
+
+    /// Makes every line durable that was written back since it was last written.
+    fn fence(&mut self) -> Result<(), FenceFailed>
+        requires { (means self.old).fences < 2 ^ 64 - 1 }
+        ensures read { (means self.new).read ≡ (means self.old).read }
+        ensures fences { (means self.new).fences ≡ (means self.old).fences + 1 }
+        ensures ok { OnOk result ((means self.new).faults ≡ (means self.old).faults) }
+        ensures durable { OnOk result ((means self.new).told ≡ told_fenced (means self.old).told (means self.old).read) }
+        ensures failed { OnErr result ((means self.new).faults ≡ (means self.old).faults + 1) }
+        ensures kept { OnErr result ((means self.new).told ≡ (means self.old).told) };
+
+    /// How many fences were called.
+    fn fences(&self) -> u64
+        ensures { result ≡ (means self.now).fences };
+
+    /// How many fences failed.
+    fn faults(&self) -> u64
+        ensures { result ≡ (means self.now).faults };
+
+    ghost few_faults: { (device : Self) → (means device).faults ≤ (means device).fences };
+}

@@ -1,0 +1,5 @@
+use Rattle.onll_text.proofs.BankReadBack.{bank_reads_back}
+use Rattle.onll_text.proofs.read_back.bank_reads_back.Goals as goal
+
+pub returns : goal.returns
+returns c = bank_reads_back

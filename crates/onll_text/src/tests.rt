@@ -1,0 +1,204 @@
+use crate::{AnyObject, Reason, Report, TextFault, read_init, read_script};
+use onll_bank::{Bank, BankOp, BankQuery, BankReply};
+use onll_model::{Call, CallEnd, Node, Object};
+use onll_words::NoMemory;
+use std::alloc::Global;
+use std::test::Fail;
+
+/// The line of call 20 of thread 1.
+fn call_text(alloc: Global, call: &Call<Bank>, end: &CallEnd<Bank>) -> Result<Vec<u8>, NoMemory> {
+    let mut report = Report::new(alloc);
+    report.call_line(1, 20, call, end)?;
+    Ok(report.into_bytes())
+}
+
+#[test]
+fn lines_of_answered_calls(rt: HostRuntime) -> Result<(), Fail> {
+    let alloc = rt.alloc();
+    let lines = [
+        (
+            Call::Update(BankOp::Deposit { a: 0, x: 25 }),
+            BankReply::Done,
+            "call 1 20 deposit 0 25 -> ok at 9\n",
+        ),
+        (
+            Call::Update(BankOp::Deposit { a: 1, x: u64::MAX }),
+            BankReply::Over,
+            "call 1 20 deposit 1 18446744073709551615 -> over at 9\n",
+        ),
+        (
+            Call::Update(BankOp::Withdraw { a: 1, x: 7 }),
+            BankReply::TooLittle,
+            "call 1 20 withdraw 1 7 -> short at 9\n",
+        ),
+        (
+            Call::Update(BankOp::Transfer { a: 1, b: 12, x: 7 }),
+            BankReply::NoAccount,
+            "call 1 20 transfer 1 12 7 -> no-account at 9\n",
+        ),
+        (
+            Call::Ask(BankQuery::Balance { a: 3 }),
+            BankReply::Amount(100),
+            "call 1 20 balance 3 -> 100 at 9\n",
+        ),
+        (
+            Call::Ask(BankQuery::Total),
+            BankReply::Amount(0),
+            "call 1 20 total -> 0 at 9\n",
+        ),
+    ];
+    for (call, reply, text) in lines {
+        let line = call_text(alloc, &call, &CallEnd::Answered { reply, place: 9 })?;
+        assert_eq!(rt; line.as_slice(), text.as_bytes(), "{text}");
+    }
+    Ok(())
+}
+
+#[test]
+fn lines_of_other_calls(rt: HostRuntime) -> Result<(), Fail> {
+    let alloc = rt.alloc();
+    let call = Call::Update(BankOp::Withdraw { a: 1, x: 7 });
+    let lines = [
+        (CallEnd::Running, "call 1 20 withdraw 1 7 -> running\n"),
+        (
+            CallEnd::Ordered { place: 10 },
+            "call 1 20 withdraw 1 7 -> ordered at 10\n",
+        ),
+        (
+            CallEnd::FenceFailed { place: 11 },
+            "call 1 20 withdraw 1 7 -> fence failed at 11\n",
+        ),
+        (
+            CallEnd::Broken { place: 12 },
+            "call 1 20 withdraw 1 7 -> broken at 12\n",
+        ),
+    ];
+    for (end, text) in lines {
+        let line = call_text(alloc, &call, &end)?;
+        assert_eq!(rt; line.as_slice(), text.as_bytes(), "{text}");
+    }
+    Ok(())
+}
+
+/// The line of update 3 of thread 0, at place 4.
+fn node_text(alloc: Global, flag: Option<bool>) -> Result<Vec<u8>, NoMemory> {
+    let node = Node {
+        thread: 0,
+        number: 3,
+        row: Bank::op_row(BankOp::Transfer { a: 1, b: 0, x: 5 }),
+    };
+    let mut report = Report::new(alloc);
+    report.node_line::<Bank>(4, node, flag)?;
+    Ok(report.into_bytes())
+}
+
+#[test]
+fn lines_of_nodes(rt: HostRuntime) -> Result<(), Fail> {
+    let alloc = rt.alloc();
+    let lines = [
+        (None, "node 4 0 3 transfer 1 0 5\n"),
+        (Some(true), "node 4 0 3 set transfer 1 0 5\n"),
+        (Some(false), "node 4 0 3 unset transfer 1 0 5\n"),
+    ];
+    for (flag, text) in lines {
+        let line = node_text(alloc, flag)?;
+        assert_eq!(rt; line.as_slice(), text.as_bytes(), "{text}");
+    }
+    Ok(())
+}
+
+#[test]
+fn lines_of_logs_and_traces(rt: HostRuntime) -> Result<(), Fail> {
+    let alloc = rt.alloc();
+    let mut fenced = Report::new(alloc);
+    fenced.log_line(2, 5, 11, Some(6))?;
+    assert_eq!(rt;
+        fenced.bytes(),
+        b"log 2 entries 5 lines 11 fences 6\n".as_slice()
+    );
+    let mut unfenced = Report::new(alloc);
+    unfenced.log_line(0, 0, 1, None)?;
+    assert_eq!(rt; unfenced.bytes(), b"log 0 entries 0 lines 1\n".as_slice());
+    let mut trace = Report::new(alloc);
+    trace.trace_line(30)?;
+    assert_eq!(rt; trace.bytes(), b"trace 30\n".as_slice());
+    Ok(())
+}
+
+#[test]
+fn a_state_that_is_read(rt: HostRuntime) -> Result<(), Fail> {
+    let alloc = rt.alloc();
+    let text = b"# balances\n\n bank\t3\r\naccount 2 0050\n#\naccount 0 7";
+    let AnyObject::Bank(bank) = read_init(alloc, text)?;
+    let mut report = Report::new(alloc);
+    report.state_lines(&bank)?;
+    assert_eq!(rt;
+        report.bytes(),
+        b"state\nbank 3\naccount 0 7\naccount 1 0\naccount 2 50\n".as_slice()
+    );
+    Ok(())
+}
+
+#[test]
+fn a_script_that_is_read(rt: HostRuntime) -> Result<(), Fail> {
+    let alloc = rt.alloc();
+    let text = b"deposit 0 25\n\n# later\n\tbalance  0 \r\ntransfer 0 1 5";
+    let calls = read_script::<Bank>(alloc, text)?;
+    let lines = [
+        "call 1 20 deposit 0 25 -> running\n",
+        "call 1 20 balance 0 -> running\n",
+        "call 1 20 transfer 0 1 5 -> running\n",
+    ];
+    assert_eq!(rt; calls.len(), lines.len());
+    for (call, text) in calls.iter().zip(lines) {
+        let line = call_text(alloc, call, &CallEnd::Running)?;
+        assert_eq!(rt; line.as_slice(), text.as_bytes(), "{text}");
+    }
+    assert_eq!(rt; read_script::<Bank>(alloc, b"")?.len(), 0);
+    Ok(())
+}
+
+#[test]
+fn refused_texts(rt: HostRuntime) {
+    let alloc = rt.alloc();
+    let texts = [
+        ("# none\n", 0, Reason::Missing),
+        ("tree x y", 1, Reason::UnknownObject),
+        ("bank 4097", 1, Reason::OutOfRange),
+        ("bank 2\n\npair 0 1\naccount 5 5", 3, Reason::UnknownWord),
+        ("bank 2\naccount 2", 2, Reason::WrongCount),
+        ("bank 2\naccount 2 x", 2, Reason::BadNumber),
+        ("bank 2\naccount 1 1\naccount 2 1", 3, Reason::OutOfRange),
+        ("bank 2\naccount 1 1\naccount 1 1", 3, Reason::Repeated),
+        (
+            "bank 2\naccount 1 1\naccount 0 18446744073709551615",
+            3,
+            Reason::TooLarge,
+        ),
+    ];
+    for (text, line, reason) in texts {
+        let read = read_init(alloc, text.as_bytes()).map(|_| ());
+        assert_eq!(rt; read, Err(TextFault::Refused { line, reason }), "{text}");
+    }
+}
+
+#[test]
+fn texts_of_reasons(rt: HostRuntime) {
+    let texts = [
+        (Reason::TooLong, "too long"),
+        (Reason::Missing, "missing"),
+        (Reason::UnknownObject, "unknown object"),
+        (Reason::UnknownWord, "unknown word"),
+        (Reason::WrongCount, "wrong count"),
+        (Reason::BadNumber, "bad number"),
+        (Reason::BadWord, "bad word"),
+        (Reason::OutOfRange, "out of range"),
+        (Reason::Repeated, "repeated"),
+        (Reason::TooMany, "too many"),
+        (Reason::TooLarge, "too large"),
+        (Reason::AfterCrash, "after crash"),
+    ];
+    for (reason, text) in texts {
+        assert_eq!(rt; reason.text(), text.as_bytes());
+    }
+}

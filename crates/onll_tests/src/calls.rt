@@ -69,26 +69,50 @@ pub(crate) fn fold(alloc: Global, init: &[u8], script: &[u8]) -> Result<Outcome,
 }
 
 impl Outcome {
-    /// Asserts the status and the whole text of a case.
+    /// Asserts the status and the whole text of a case. A failure shows the first line that differs.
     pub(crate) fn expect(&self, rt: &impl Abort, case: &str, status: u8, text: &str) {
-        let taken = str::from_utf8(&self.taken).unwrap_or("not a text");
-        assert_eq!(rt; taken, text, "{case}");
         assert_eq!(rt; self.status, status, "{case}");
+        let taken = str::from_utf8(&self.taken).unwrap_or("no text");
+        let mut wanted = text.lines();
+        for line in taken.lines() {
+            assert_eq!(rt; line, wanted.next().unwrap_or("the end"), "{case}");
+        }
+        assert!(rt; taken == text, "{case}: the end differs");
     }
 }
 
-/// A text of so many equal lines, or other pieces.
+/// The name of a case, a text, and the whole output.
+pub(crate) type Case<'a> = (&'a str, &'a [u8], &'a str);
+
+/// A case whose text is long: a start, so many equal pieces, and an end.
+#[derive(Clone, Copy)]
+pub(crate) struct LongCase<'a> {
+    pub(crate) name: &'a str,
+    pub(crate) start: &'a [u8],
+    pub(crate) piece: &'a [u8],
+    pub(crate) count: usize,
+    pub(crate) end: &'a [u8],
+    pub(crate) status: u8,
+    pub(crate) output: &'a str,
+}
+
+impl LongCase<'_> {
+    /// The text.
+    pub(crate) fn text(&self, alloc: Global) -> Result<Vec<u8>, AllocError> {
+        let mut text = Vec::from_slice(alloc, self.start)?;
+        for _ in 0..self.count {
+            text.extend_from_slice(self.piece)?;
+        }
+        text.extend_from_slice(self.end)?;
+        Ok(text)
+    }
+}
+
+/// A text of so many equal pieces.
 pub(crate) fn repeated(alloc: Global, piece: &[u8], count: usize) -> Result<Vec<u8>, AllocError> {
     let mut text = Vec::new(alloc);
     for _ in 0..count {
         text.extend_from_slice(piece)?;
     }
-    Ok(text)
-}
-
-/// A text after another.
-pub(crate) fn joined(alloc: Global, first: &[u8], second: &[u8]) -> Result<Vec<u8>, AllocError> {
-    let mut text = Vec::from_slice(alloc, first)?;
-    text.extend_from_slice(second)?;
     Ok(text)
 }

@@ -1,188 +1,437 @@
-use crate::calls::{LONGEST, fold, joined, repeated};
+use crate::calls::{Case, LONGEST, LongCase, fold};
 use std::test::Fail;
+
+const REFUSED: &[Case<'static>] = &[
+    (
+        "no such call",
+        b"depositt 0 1\n",
+        "refused s 1 unknown word\n",
+    ),
+    (
+        "a call of another object",
+        b"put a b\n",
+        "refused s 1 unknown word\n",
+    ),
+    (
+        "a call in capitals",
+        b"Deposit 0 1\n",
+        "refused s 1 unknown word\n",
+    ),
+    (
+        "a first half of a call",
+        b"deposi 0 1\n",
+        "refused s 1 unknown word\n",
+    ),
+    (
+        "an initial state",
+        b"bank 1\n",
+        "refused s 1 unknown word\n",
+    ),
+    (
+        "a line of an initial state",
+        b"account 0 1\n",
+        "refused s 1 unknown word\n",
+    ),
+    ("a lone byte 0", b"\0\n", "refused s 1 unknown word\n"),
+    (
+        "a byte 0 in a word",
+        b"dep\0osit 0 1\n",
+        "refused s 1 unknown word\n",
+    ),
+    (
+        "a byte 255 in a word",
+        b"\xFFdeposit 0 1\n",
+        "refused s 1 unknown word\n",
+    ),
+    (
+        "a vertical tab, which is no blank",
+        b"total\x0B\n",
+        "refused s 1 unknown word\n",
+    ),
+    (
+        "no such call, with a wrong count",
+        b"depositt 0\n",
+        "refused s 1 unknown word\n",
+    ),
+    (
+        "a deposit of nothing",
+        b"deposit 0\n",
+        "refused s 1 wrong count\n",
+    ),
+    (
+        "a deposit of two numbers",
+        b"deposit 0 1 2\n",
+        "refused s 1 wrong count\n",
+    ),
+    (
+        "a withdrawal of nothing",
+        b"withdraw 0\n",
+        "refused s 1 wrong count\n",
+    ),
+    (
+        "a withdrawal alone",
+        b"withdraw\n",
+        "refused s 1 wrong count\n",
+    ),
+    (
+        "a transfer of nothing",
+        b"transfer 0 0\n",
+        "refused s 1 wrong count\n",
+    ),
+    (
+        "a transfer of two numbers",
+        b"transfer 0 0 1 1\n",
+        "refused s 1 wrong count\n",
+    ),
+    (
+        "a balance of no account",
+        b"balance\n",
+        "refused s 1 wrong count\n",
+    ),
+    (
+        "a balance of two accounts",
+        b"balance 0 0\n",
+        "refused s 1 wrong count\n",
+    ),
+    (
+        "a total of an account",
+        b"total 0\n",
+        "refused s 1 wrong count\n",
+    ),
+    (
+        "a comment behind a call",
+        b"total # all\n",
+        "refused s 1 wrong count\n",
+    ),
+    (
+        "a wrong count of words that are no numbers",
+        b"deposit x\n",
+        "refused s 1 wrong count\n",
+    ),
+    (
+        "a negative number",
+        b"deposit 0 -1\n",
+        "refused s 1 bad number\n",
+    ),
+    (
+        "a number with a point",
+        b"deposit 0 1.0\n",
+        "refused s 1 bad number\n",
+    ),
+    (
+        "words for numbers",
+        b"transfer a b c\n",
+        "refused s 1 bad number\n",
+    ),
+    (
+        "a last word that is no number",
+        b"transfer 0 0 c\n",
+        "refused s 1 bad number\n",
+    ),
+    (
+        "a number of 65 bits",
+        b"deposit 0 18446744073709551616\n",
+        "refused s 1 bad number\n",
+    ),
+    (
+        "21 digits",
+        b"balance 000000000000000000000\n",
+        "refused s 1 bad number\n",
+    ),
+    (
+        "a byte 0 in a number",
+        b"withdraw 0 1\0\n",
+        "refused s 1 bad number\n",
+    ),
+    (
+        "a byte 255 for a number",
+        b"withdraw \xFF 1\n",
+        "refused s 1 bad number\n",
+    ),
+    (
+        "no account, and a number of 65 bits",
+        b"deposit 7 18446744073709551616\n",
+        "refused s 1 bad number\n",
+    ),
+    ("no line end", b"deposit 0", "refused s 1 wrong count\n"),
+    (
+        "comments and empty lines count",
+        b"total\n# a\r\n\n\tbalance 0\n \t# b\n\r\ndeposit 0 x\n",
+        "refused s 7 bad number\n",
+    ),
+    (
+        "the first refused line",
+        b"total\ndeposit 0 x\ndeposit\nput a b\n",
+        "refused s 2 bad number\n",
+    ),
+];
+
+const ACCEPTED: &[Case<'static>] = &[
+    (
+        "a line end after each line",
+        b"deposit 0 5\nbalance 0\n",
+        "call 0 1 deposit 0 5 -> ok at 1\ncall 0 2 balance 0 -> 5 at 1\ntrace 1\nnode 1 0 1 deposit 0 5\nstate\nbank 1\naccount 0 5\n",
+    ),
+    (
+        "no line end after the last",
+        b"deposit 0 5\nbalance 0",
+        "call 0 1 deposit 0 5 -> ok at 1\ncall 0 2 balance 0 -> 5 at 1\ntrace 1\nnode 1 0 1 deposit 0 5\nstate\nbank 1\naccount 0 5\n",
+    ),
+    (
+        "carriage returns",
+        b"deposit 0 5\r\nbalance 0\r\n",
+        "call 0 1 deposit 0 5 -> ok at 1\ncall 0 2 balance 0 -> 5 at 1\ntrace 1\nnode 1 0 1 deposit 0 5\nstate\nbank 1\naccount 0 5\n",
+    ),
+    (
+        "carriage returns between words",
+        b"\rdeposit\r0\r5\r\n\rbalance\r0",
+        "call 0 1 deposit 0 5 -> ok at 1\ncall 0 2 balance 0 -> 5 at 1\ntrace 1\nnode 1 0 1 deposit 0 5\nstate\nbank 1\naccount 0 5\n",
+    ),
+    (
+        "tabs",
+        b"\tdeposit\t0\t5\t\n\t\tbalance\t\t0\t\n",
+        "call 0 1 deposit 0 5 -> ok at 1\ncall 0 2 balance 0 -> 5 at 1\ntrace 1\nnode 1 0 1 deposit 0 5\nstate\nbank 1\naccount 0 5\n",
+    ),
+    (
+        "comments and empty lines",
+        b"#\n# total\n\ndeposit 0 5\n\t #\xFF\0 total\n\nbalance 0\n\n#",
+        "call 0 1 deposit 0 5 -> ok at 1\ncall 0 2 balance 0 -> 5 at 1\ntrace 1\nnode 1 0 1 deposit 0 5\nstate\nbank 1\naccount 0 5\n",
+    ),
+    (
+        "20 digits",
+        b"deposit 00000000000000000000 00000000000000000005\nbalance 00000000000000000000\n",
+        "call 0 1 deposit 0 5 -> ok at 1\ncall 0 2 balance 0 -> 5 at 1\ntrace 1\nnode 1 0 1 deposit 0 5\nstate\nbank 1\naccount 0 5\n",
+    ),
+    (
+        "64 bits",
+        b"deposit 0 18446744073709551615\ntotal\n",
+        "call 0 1 deposit 0 18446744073709551615 -> ok at 1\ncall 0 2 total -> 18446744073709551615 at 1\ntrace 1\nnode 1 0 1 deposit 0 18446744073709551615\nstate\nbank 1\naccount 0 18446744073709551615\n",
+    ),
+    (
+        "accounts out of range, which the bank answers",
+        b"deposit 1 0\nwithdraw 18446744073709551615 1\ntransfer 1 0 0\ntransfer 0 4096 0\nbalance 1\n",
+        "call 0 1 deposit 1 0 -> no-account at 1\ncall 0 2 withdraw 18446744073709551615 1 -> no-account at 2\ncall 0 3 transfer 1 0 0 -> no-account at 3\ncall 0 4 transfer 0 4096 0 -> no-account at 4\ncall 0 5 balance 1 -> no-account at 4\ntrace 4\nnode 1 0 1 deposit 1 0\nnode 2 0 2 withdraw 18446744073709551615 1\nnode 3 0 3 transfer 1 0 0\nnode 4 0 4 transfer 0 4096 0\nstate\nbank 1\naccount 0 0\n",
+    ),
+    ("no bytes", b"", "trace 0\nstate\nbank 1\naccount 0 0\n"),
+    (
+        "blanks alone",
+        b" \t\r",
+        "trace 0\nstate\nbank 1\naccount 0 0\n",
+    ),
+    (
+        "a comment alone",
+        b"# deposit 0 1\n",
+        "trace 0\nstate\nbank 1\naccount 0 0\n",
+    ),
+];
+
+const LONG: &[LongCase<'static>] = &[
+    LongCase {
+        name: "a comment as long as a text can be",
+        start: b"",
+        piece: b"#",
+        count: LONGEST,
+        end: b"",
+        status: 0,
+        output: "trace 0\nstate\nbank 1\naccount 0 0\n",
+    },
+    LongCase {
+        name: "as many empty lines as there can be",
+        start: b"",
+        piece: b"\n",
+        count: LONGEST,
+        end: b"",
+        status: 0,
+        output: "trace 0\nstate\nbank 1\naccount 0 0\n",
+    },
+    LongCase {
+        name: "a comment that is too long",
+        start: b"",
+        piece: b"#",
+        count: LONGEST,
+        end: b"#",
+        status: 3,
+        output: "refused s 0 too long\n",
+    },
+    LongCase {
+        name: "too long behind a line to be refused",
+        start: b"deposit 0\n",
+        piece: b"#",
+        count: LONGEST,
+        end: b"",
+        status: 3,
+        output: "refused s 0 too long\n",
+    },
+    LongCase {
+        name: "calls as long as a text can be",
+        start: b"deposit 0 5\n",
+        piece: b"#",
+        count: LONGEST - 12,
+        end: b"",
+        status: 0,
+        output: "call 0 1 deposit 0 5 -> ok at 1\ntrace 1\nnode 1 0 1 deposit 0 5\nstate\nbank 1\naccount 0 5\n",
+    },
+    LongCase {
+        name: "calls that are too long by a line end",
+        start: b"deposit 0 5\n",
+        piece: b"#",
+        count: LONGEST - 12,
+        end: b"\n",
+        status: 3,
+        output: "refused s 0 too long\n",
+    },
+    LongCase {
+        name: "a line of blanks before a call",
+        start: b"",
+        piece: b" ",
+        count: 1_000_000,
+        end: b"\ntotal\n",
+        status: 0,
+        output: "call 0 1 total -> 0 at 0\ntrace 0\nstate\nbank 1\naccount 0 0\n",
+    },
+    LongCase {
+        name: "blanks before a call",
+        start: b"",
+        piece: b" ",
+        count: 1_000_000,
+        end: b"total\n",
+        status: 0,
+        output: "call 0 1 total -> 0 at 0\ntrace 0\nstate\nbank 1\naccount 0 0\n",
+    },
+    LongCase {
+        name: "a line of blanks before a refused one",
+        start: b"",
+        piece: b" ",
+        count: 1_000_000,
+        end: b"\ndeposit 0\n",
+        status: 3,
+        output: "refused s 2 wrong count\n",
+    },
+    LongCase {
+        name: "a word of many bytes",
+        start: b"deposit 0 ",
+        piece: b"1",
+        count: 1_000_000,
+        end: b"\n",
+        status: 3,
+        output: "refused s 1 bad number\n",
+    },
+];
+
+const CROWDED: &[LongCase<'static>] = &[
+    LongCase {
+        name: "an update after the updates",
+        start: b"",
+        piece: b"deposit 0 0\n",
+        count: 4096,
+        end: b"deposit 0 0\n",
+        status: 3,
+        output: "refused s 4097 too many\n",
+    },
+    LongCase {
+        name: "another kind of update",
+        start: b"",
+        piece: b"deposit 0 0\n",
+        count: 4096,
+        end: b"transfer 0 0 0\n",
+        status: 3,
+        output: "refused s 4097 too many\n",
+    },
+    LongCase {
+        name: "a read after the reads",
+        start: b"",
+        piece: b"balance 0\n",
+        count: 4096,
+        end: b"balance 0\n",
+        status: 3,
+        output: "refused s 4097 too many\n",
+    },
+    LongCase {
+        name: "another kind of read",
+        start: b"",
+        piece: b"balance 0\n",
+        count: 4096,
+        end: b"total\n",
+        status: 3,
+        output: "refused s 4097 too many\n",
+    },
+    LongCase {
+        name: "comments and reads don't count as updates",
+        start: b"# one\n\n",
+        piece: b"deposit 0 0\n",
+        count: 4096,
+        end: b"total\nwithdraw 0 0",
+        status: 3,
+        output: "refused s 4100 too many\n",
+    },
+    LongCase {
+        name: "an update after both in turn",
+        start: b"",
+        piece: b"total\nwithdraw 0 0\n",
+        count: 4096,
+        end: b"withdraw 0 1\n",
+        status: 3,
+        output: "refused s 8193 too many\n",
+    },
+    LongCase {
+        name: "a read after both in turn",
+        start: b"",
+        piece: b"total\nwithdraw 0 0\n",
+        count: 4096,
+        end: b"total\n",
+        status: 3,
+        output: "refused s 8193 too many\n",
+    },
+    LongCase {
+        name: "one too many, with a bad number",
+        start: b"",
+        piece: b"deposit 0 0\n",
+        count: 4096,
+        end: b"deposit 0 x\n",
+        status: 3,
+        output: "refused s 4097 bad number\n",
+    },
+    LongCase {
+        name: "a refused line behind one too many",
+        start: b"",
+        piece: b"deposit 0 0\n",
+        count: 4096,
+        end: b"deposit 0 0\nput a b\n",
+        status: 3,
+        output: "refused s 4097 too many\n",
+    },
+];
 
 #[test]
 fn refused_scripts(rt: HostRuntime) -> Result<(), Fail> {
-    let alloc = rt.alloc();
-    let too_long = repeated(alloc, b"#", LONGEST + 1)?;
-    let too_long_call = joined(alloc, b"deposit 0\n", &too_long)?;
-    let blanks = repeated(alloc, b" ", 1_000_000)?;
-    let after_blanks = joined(alloc, &blanks, b"\ndeposit 0\n")?;
-    let behind_blanks = joined(alloc, &blanks, b"deposit 0\n")?;
-    let cases: [(&str, &[u8], &str); 38] = [
-        ("a comment that is too long", &too_long, "0 too long"),
-        (
-            "a line 1 to be refused, and too long",
-            &too_long_call,
-            "0 too long",
-        ),
-        ("no such call", b"depositt 0 1\n", "1 unknown word"),
-        ("a call of another object", b"put a b\n", "1 unknown word"),
-        ("a call in capitals", b"Deposit 0 1\n", "1 unknown word"),
-        ("a first half of a call", b"deposi 0 1\n", "1 unknown word"),
-        ("an initial state", b"bank 1\n", "1 unknown word"),
-        (
-            "a line of an initial state",
-            b"account 0 1\n",
-            "1 unknown word",
-        ),
-        ("a lone byte 0", b"\0\n", "1 unknown word"),
-        ("a byte 0 in a word", b"dep\0osit 0 1\n", "1 unknown word"),
-        (
-            "a byte 255 in a word",
-            b"\xFFdeposit 0 1\n",
-            "1 unknown word",
-        ),
-        (
-            "a vertical tab, which is no blank",
-            b"total\x0B\n",
-            "1 unknown word",
-        ),
-        (
-            "no such call, with a wrong count",
-            b"depositt 0\n",
-            "1 unknown word",
-        ),
-        ("a deposit of nothing", b"deposit 0\n", "1 wrong count"),
-        (
-            "a deposit of two numbers",
-            b"deposit 0 1 2\n",
-            "1 wrong count",
-        ),
-        ("a withdrawal of nothing", b"withdraw 0\n", "1 wrong count"),
-        ("a withdrawal alone", b"withdraw\n", "1 wrong count"),
-        ("a transfer of nothing", b"transfer 0 0\n", "1 wrong count"),
-        (
-            "a transfer of two numbers",
-            b"transfer 0 0 1 1\n",
-            "1 wrong count",
-        ),
-        ("a balance of no account", b"balance\n", "1 wrong count"),
-        (
-            "a balance of two accounts",
-            b"balance 0 0\n",
-            "1 wrong count",
-        ),
-        ("a total of an account", b"total 0\n", "1 wrong count"),
-        ("a comment behind a call", b"total # all\n", "1 wrong count"),
-        (
-            "a wrong count, with words that are no numbers",
-            b"deposit x\n",
-            "1 wrong count",
-        ),
-        ("a negative number", b"deposit 0 -1\n", "1 bad number"),
-        ("a number with a point", b"deposit 0 1.0\n", "1 bad number"),
-        ("words for numbers", b"transfer a b c\n", "1 bad number"),
-        (
-            "a last word that is no number",
-            b"transfer 0 0 c\n",
-            "1 bad number",
-        ),
-        (
-            "a number of 65 bits",
-            b"deposit 0 18446744073709551616\n",
-            "1 bad number",
-        ),
-        (
-            "21 digits",
-            b"balance 000000000000000000000\n",
-            "1 bad number",
-        ),
-        ("a byte 0 in a number", b"withdraw 0 1\0\n", "1 bad number"),
-        (
-            "a byte 255 for a number",
-            b"withdraw \xFF 1\n",
-            "1 bad number",
-        ),
-        (
-            "no account, and a number of 65 bits",
-            b"deposit 7 18446744073709551616\n",
-            "1 bad number",
-        ),
-        ("no line end", b"deposit 0", "1 wrong count"),
-        (
-            "comments and empty lines count",
-            b"total\n# a\r\n\n\tbalance 0\n \t# b\n\r\ndeposit 0 x\n",
-            "7 bad number",
-        ),
-        (
-            "the first refused line",
-            b"total\ndeposit 0 x\ndeposit\nput a b\n",
-            "2 bad number",
-        ),
-        ("a line of blanks before", &after_blanks, "2 wrong count"),
-        ("blanks before on the line", &behind_blanks, "1 wrong count"),
-    ];
-    for (case, script, refusal) in cases {
-        let text = format!(in alloc; "refused s {refusal}\n")?;
-        fold(alloc, b"bank 1\n", script)?.expect(&rt, case, 3, &text);
+    for (case, script, output) in REFUSED {
+        fold(rt.alloc(), b"bank 1\n", script)?.expect(&rt, case, 3, output);
     }
     Ok(())
 }
 
 #[test]
 fn accepted_scripts(rt: HostRuntime) -> Result<(), Fail> {
-    let alloc = rt.alloc();
-    let blanks = repeated(alloc, b" ", 1_000_000)?;
-    let after_blanks = joined(alloc, &blanks, b"\ndeposit 0 5\nbalance 0\n")?;
-    let behind_blanks = joined(alloc, &blanks, b"deposit 0 5\nbalance 0\n")?;
-    let calls = b"deposit 0 5\nbalance 0\n";
-    let longest = joined(alloc, calls, &repeated(alloc, b"#", LONGEST - calls.len())?)?;
-    let cases: [(&str, &[u8]); 10] = [
-        ("a line end after each line", calls),
-        ("no line end after the last", b"deposit 0 5\nbalance 0"),
-        ("carriage returns", b"deposit 0 5\r\nbalance 0\r\n"),
-        (
-            "carriage returns between words",
-            b"\rdeposit\r0\r5\r\n\rbalance\r0",
-        ),
-        ("tabs", b"\tdeposit\t0\t5\t\n\t\tbalance\t\t0\t\n"),
-        (
-            "comments and empty lines",
-            b"#\n# total\n\ndeposit 0 5\n\t #\xFF\0 total\n\nbalance 0\n\n",
-        ),
-        (
-            "20 digits",
-            b"deposit 00000000000000000000 00000000000000000005\nbalance 00000000000000000000\n",
-        ),
-        ("a line of blanks before", &after_blanks),
-        ("blanks before on the line", &behind_blanks),
-        ("a text as long as can be", &longest),
-    ];
-    for (case, script) in cases {
-        let text =
-            "call 0 1 deposit 0 5 -> ok at 1\ncall 0 2 balance 0 -> 5 at 1\ntrace 1\nnode 1 0 1 deposit 0 5\nstate\nbank 1\naccount 0 5\n";
-        fold(alloc, b"bank 1\n", script)?.expect(&rt, case, 0, text);
+    for (case, script, output) in ACCEPTED {
+        fold(rt.alloc(), b"bank 1\n", script)?.expect(&rt, case, 0, output);
     }
     Ok(())
 }
 
 #[test]
-fn scripts_of_no_calls(rt: HostRuntime) -> Result<(), Fail> {
-    let alloc = rt.alloc();
-    let longest = repeated(alloc, b"#", LONGEST)?;
-    let newlines = repeated(alloc, b"\n", LONGEST)?;
-    let cases: [(&str, &[u8]); 5] = [
-        ("no bytes", b""),
-        ("blanks", b" \t\r"),
-        ("a comment", b"# deposit 0 1\n"),
-        ("a comment as long as a text can be", &longest),
-        ("as many empty lines as there can be", &newlines),
-    ];
-    for (case, script) in cases {
-        let text = "trace 0\nstate\nbank 1\naccount 0 0\n";
-        fold(alloc, b"bank 1\n", script)?.expect(&rt, case, 0, text);
+fn long_scripts(rt: HostRuntime) -> Result<(), Fail> {
+    for case in LONG {
+        let script = case.text(rt.alloc())?;
+        fold(rt.alloc(), b"bank 1\n", &script)?.expect(&rt, case.name, case.status, case.output);
     }
     Ok(())
 }
 
 #[test]
-fn accounts_out_of_range(rt: HostRuntime) -> Result<(), Fail> {
-    let script =
-        b"deposit 1 0\nwithdraw 18446744073709551615 1\ntransfer 1 0 0\ntransfer 0 4096 0\nbalance 1\n";
-    let report =
-        "call 0 1 deposit 1 0 -> no-account at 1\ncall 0 2 withdraw 18446744073709551615 1 -> no-account at 2\ncall 0 3 transfer 1 0 0 -> no-account at 3\ncall 0 4 transfer 0 4096 0 -> no-account at 4\ncall 0 5 balance 1 -> no-account at 4\ntrace 4\nnode 1 0 1 deposit 1 0\nnode 2 0 2 withdraw 18446744073709551615 1\nnode 3 0 3 transfer 1 0 0\nnode 4 0 4 transfer 0 4096 0\nstate\nbank 1\naccount 0 0\n";
-    let outcome = fold(rt.alloc(), b"bank 1\n", script)?;
-    outcome.expect(&rt, "answered by the bank, not refused", 0, report);
+fn one_call_too_many(rt: HostRuntime) -> Result<(), Fail> {
+    for case in CROWDED {
+        let script = case.text(rt.alloc())?;
+        fold(rt.alloc(), b"bank 1\n", &script)?.expect(&rt, case.name, case.status, case.output);
+    }
     Ok(())
 }

@@ -1,4 +1,4 @@
-use crate::calls::{fold, joined, repeated};
+use crate::calls::{fold, repeated};
 use std::alloc::{AllocError, Global};
 use std::fmt::Write;
 use std::test::Fail;
@@ -35,72 +35,6 @@ fn as_many_reads_as_there_can_be(rt: HostRuntime) -> Result<(), Fail> {
     let script = repeated(alloc, b"total\n", 4096)?;
     let outcome = fold(alloc, b"bank 1\naccount 0 7\n", &script)?;
     outcome.expect(&rt, "4,096 totals", 0, &report);
-    Ok(())
-}
-
-#[test]
-fn one_call_too_many(rt: HostRuntime) -> Result<(), Fail> {
-    let alloc = rt.alloc();
-    let updates = repeated(alloc, b"deposit 0 0\n", 4096)?;
-    let reads = repeated(alloc, b"balance 0\n", 4096)?;
-    let both = joined(alloc, &reads, &updates)?;
-    let mixed = repeated(alloc, b"total\nwithdraw 0 0\n", 4096)?;
-    let cases: [(&str, &[u8], &[u8], &str); 9] = [
-        (
-            "an update after the updates",
-            &updates,
-            b"deposit 0 0\n",
-            "4097 too many",
-        ),
-        (
-            "another kind of update",
-            &updates,
-            b"transfer 0 0 0\n",
-            "4097 too many",
-        ),
-        (
-            "a read after the reads",
-            &reads,
-            b"balance 0\n",
-            "4097 too many",
-        ),
-        ("another kind of read", &reads, b"total\n", "4097 too many"),
-        (
-            "comments count as lines and not as calls",
-            &updates,
-            b"# one\n\ntotal\nwithdraw 0 0",
-            "4100 too many",
-        ),
-        (
-            "an update after both",
-            &both,
-            b"withdraw 0 1\n",
-            "8193 too many",
-        ),
-        (
-            "a read after both in turn",
-            &mixed,
-            b"total\n",
-            "8193 too many",
-        ),
-        (
-            "one too many with a bad number",
-            &updates,
-            b"deposit 0 x\n",
-            "4097 bad number",
-        ),
-        (
-            "a refused line behind one too many",
-            &updates,
-            b"deposit 0 0\nput a b\n",
-            "4097 too many",
-        ),
-    ];
-    for (case, calls, more, refusal) in cases {
-        let script = joined(alloc, calls, more)?;
-        let text = format!(in alloc; "refused s {refusal}\n")?;
-        fold(alloc, b"bank 1\n", &script)?.expect(&rt, case, 3, &text);
-    }
     Ok(())
 }
 

@@ -11,47 +11,49 @@ const TRANSFER_REPORT: &str =
 const USAGE: &str =
     "usage: onll fold INIT SCRIPT\n       onll show IMAGE\n       onll recover INIT LOGS T\n       onll replay INIT SCHEDULE LOGS SCRIPT..\n       onll run INIT LOGS SCRIPT..\n       onll make T N SEED\n";
 
+/// The name of a case, an initial state, a script and its report.
+const REPORTS: &[(&str, &[u8], &[u8], &str)] = &[
+    (
+        "a transfer, and the balance of the other account",
+        TRANSFER_INIT,
+        TRANSFER_SCRIPT,
+        TRANSFER_REPORT,
+    ),
+    (
+        "an empty script",
+        TRANSFER_INIT,
+        b"",
+        "trace 0\nstate\nbank 2\naccount 0 100\naccount 1 0\n",
+    ),
+    (
+        "deposits into a full bank and into no account",
+        b"bank 1\naccount 0 18446744073709551615\n",
+        b"deposit 0 1\ndeposit 0 0\ndeposit 1 0\n",
+        "call 0 1 deposit 0 1 -> over at 1\ncall 0 2 deposit 0 0 -> ok at 2\ncall 0 3 deposit 1 0 -> no-account at 3\ntrace 3\nnode 1 0 1 deposit 0 1\nnode 2 0 2 deposit 0 0\nnode 3 0 3 deposit 1 0\nstate\nbank 1\naccount 0 18446744073709551615\n",
+    ),
+    (
+        "withdrawals, and reads before and after them",
+        b"bank 2\naccount 1 5\naccount 0 10\n",
+        b"total\nwithdraw 0 11\nwithdraw 0 4\nwithdraw 2 1\nbalance 0\nbalance 2\ntotal\n",
+        "call 0 1 total -> 15 at 0\ncall 0 2 withdraw 0 11 -> short at 1\ncall 0 3 withdraw 0 4 -> ok at 2\ncall 0 4 withdraw 2 1 -> no-account at 3\ncall 0 5 balance 0 -> 6 at 3\ncall 0 6 balance 2 -> no-account at 3\ncall 0 7 total -> 11 at 3\ntrace 3\nnode 1 0 1 withdraw 0 11\nnode 2 0 2 withdraw 0 4\nnode 3 0 3 withdraw 2 1\nstate\nbank 2\naccount 0 6\naccount 1 5\n",
+    ),
+    (
+        "transfers to the same account and to no account",
+        b"bank 2\naccount 0 6\naccount 1 5\n",
+        b"transfer 1 1 5\ntransfer 1 1 6\ntransfer 0 2 1\ntransfer 2 0 0\ntransfer 0 1 7\ntransfer 0 1 6\ntotal\n",
+        "call 0 1 transfer 1 1 5 -> ok at 1\ncall 0 2 transfer 1 1 6 -> short at 2\ncall 0 3 transfer 0 2 1 -> no-account at 3\ncall 0 4 transfer 2 0 0 -> no-account at 4\ncall 0 5 transfer 0 1 7 -> short at 5\ncall 0 6 transfer 0 1 6 -> ok at 6\ncall 0 7 total -> 11 at 6\ntrace 6\nnode 1 0 1 transfer 1 1 5\nnode 2 0 2 transfer 1 1 6\nnode 3 0 3 transfer 0 2 1\nnode 4 0 4 transfer 2 0 0\nnode 5 0 5 transfer 0 1 7\nnode 6 0 6 transfer 0 1 6\nstate\nbank 2\naccount 0 0\naccount 1 11\n",
+    ),
+    (
+        "a deposit that the total has no room for, though its account has",
+        b"bank 2\naccount 0 18446744073709551614\n",
+        b"deposit 1 2\ndeposit 1 1\ntotal\n",
+        "call 0 1 deposit 1 2 -> over at 1\ncall 0 2 deposit 1 1 -> ok at 2\ncall 0 3 total -> 18446744073709551615 at 2\ntrace 2\nnode 1 0 1 deposit 1 2\nnode 2 0 2 deposit 1 1\nstate\nbank 2\naccount 0 18446744073709551614\naccount 1 1\n",
+    ),
+];
+
 #[test]
 fn reports_of_scripts(rt: HostRuntime) -> Result<(), Fail> {
-    let cases: [(&str, &[u8], &[u8], &str); 6] = [
-        (
-            "a transfer, and the balance of the other account",
-            TRANSFER_INIT,
-            TRANSFER_SCRIPT,
-            TRANSFER_REPORT,
-        ),
-        (
-            "an empty script",
-            TRANSFER_INIT,
-            b"",
-            "trace 0\nstate\nbank 2\naccount 0 100\naccount 1 0\n",
-        ),
-        (
-            "deposits into a full bank and into no account",
-            b"bank 1\naccount 0 18446744073709551615\n",
-            b"deposit 0 1\ndeposit 0 0\ndeposit 1 0\n",
-            "call 0 1 deposit 0 1 -> over at 1\ncall 0 2 deposit 0 0 -> ok at 2\ncall 0 3 deposit 1 0 -> no-account at 3\ntrace 3\nnode 1 0 1 deposit 0 1\nnode 2 0 2 deposit 0 0\nnode 3 0 3 deposit 1 0\nstate\nbank 1\naccount 0 18446744073709551615\n",
-        ),
-        (
-            "withdrawals, and reads before and after them",
-            b"bank 2\naccount 1 5\naccount 0 10\n",
-            b"total\nwithdraw 0 11\nwithdraw 0 4\nwithdraw 2 1\nbalance 0\nbalance 2\ntotal\n",
-            "call 0 1 total -> 15 at 0\ncall 0 2 withdraw 0 11 -> short at 1\ncall 0 3 withdraw 0 4 -> ok at 2\ncall 0 4 withdraw 2 1 -> no-account at 3\ncall 0 5 balance 0 -> 6 at 3\ncall 0 6 balance 2 -> no-account at 3\ncall 0 7 total -> 11 at 3\ntrace 3\nnode 1 0 1 withdraw 0 11\nnode 2 0 2 withdraw 0 4\nnode 3 0 3 withdraw 2 1\nstate\nbank 2\naccount 0 6\naccount 1 5\n",
-        ),
-        (
-            "transfers to the same account and to no account",
-            b"bank 2\naccount 0 6\naccount 1 5\n",
-            b"transfer 1 1 5\ntransfer 1 1 6\ntransfer 0 2 1\ntransfer 2 0 0\ntransfer 0 1 7\ntransfer 0 1 6\ntotal\n",
-            "call 0 1 transfer 1 1 5 -> ok at 1\ncall 0 2 transfer 1 1 6 -> short at 2\ncall 0 3 transfer 0 2 1 -> no-account at 3\ncall 0 4 transfer 2 0 0 -> no-account at 4\ncall 0 5 transfer 0 1 7 -> short at 5\ncall 0 6 transfer 0 1 6 -> ok at 6\ncall 0 7 total -> 11 at 6\ntrace 6\nnode 1 0 1 transfer 1 1 5\nnode 2 0 2 transfer 1 1 6\nnode 3 0 3 transfer 0 2 1\nnode 4 0 4 transfer 2 0 0\nnode 5 0 5 transfer 0 1 7\nnode 6 0 6 transfer 0 1 6\nstate\nbank 2\naccount 0 0\naccount 1 11\n",
-        ),
-        (
-            "a deposit that the total has no room for, though its account has",
-            b"bank 2\naccount 0 18446744073709551614\n",
-            b"deposit 1 2\ndeposit 1 1\ntotal\n",
-            "call 0 1 deposit 1 2 -> over at 1\ncall 0 2 deposit 1 1 -> ok at 2\ncall 0 3 total -> 18446744073709551615 at 2\ntrace 2\nnode 1 0 1 deposit 1 2\nnode 2 0 2 deposit 1 1\nstate\nbank 2\naccount 0 18446744073709551614\naccount 1 1\n",
-        ),
-    ];
-    for (case, init, script, report) in cases {
+    for (case, init, script, report) in REPORTS {
         fold(rt.alloc(), init, script)?.expect(&rt, case, 0, report);
     }
     Ok(())
@@ -64,19 +66,21 @@ fn ample_memory_is_enough(rt: HostRuntime) -> Result<(), Fail> {
     Ok(())
 }
 
+/// The name of a case, and the words.
+const NO_COMMANDS: &[(&str, &[&str])] = &[
+    ("no words", &[]),
+    ("one empty word", &[""]),
+    ("no command of that name", &["folds", "i", "s"]),
+    ("a command in capitals", &["FOLD", "i", "s"]),
+    ("the command alone", &["fold"]),
+    ("no script", &["fold", "i"]),
+    ("one word too many", &["fold", "i", "s", "s"]),
+    ("an empty word too many", &["fold", "i", "s", ""]),
+];
+
 #[test]
 fn words_of_no_command(rt: HostRuntime) -> Result<(), Fail> {
-    let cases: [(&str, &[&str]); 8] = [
-        ("no words", &[]),
-        ("one empty word", &[""]),
-        ("no command of that name", &["folds", "i", "s"]),
-        ("a command in capitals", &["FOLD", "i", "s"]),
-        ("the command alone", &["fold"]),
-        ("no script", &["fold", "i"]),
-        ("one word too many", &["fold", "i", "s", "s"]),
-        ("an empty word too many", &["fold", "i", "s", ""]),
-    ];
-    for (case, words) in cases {
+    for (case, words) in NO_COMMANDS {
         let program = Program {
             words,
             files: &[("i", TRANSFER_INIT), ("s", TRANSFER_SCRIPT)],

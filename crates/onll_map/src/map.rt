@@ -1,4 +1,6 @@
-ghost use Rattle.std.specs.Prelude.{◌≡◌, ◌<◌, ◌≤◌, [], length, IfOk};
+ghost use Rattle.std.specs.Prelude.{◌≡◌, ◌<◌, ◌≤◌, [], length, IfOk, IfErr, slice_index_or};
+ghost use Rattle.onll_map.specs.Map.{IsMap, value_at, key_from, map_next, map_reply};
+ghost use Rattle.onll_map.specs.Places.{IsPlace, IsGap};
 
 use crate::operation::{MapOp, MapQuery, MapReply};
 use onll_model::Object;
@@ -42,8 +44,77 @@ impl Map {
 
     /// How many pairs there are.
     pub fn count(&self) -> u64
-        ensures { result ≡ length self.now.pairs }
+        ensures count { result ≡ length self.now.pairs }
+        ensures map { IsMap self.now }
     {
         self.pairs.len() as u64
+    }
+
+    /// A key and its value by their place in the order of the keys, from 0.
+    pub fn pair(&self, i: u64) -> (Short, Short)
+        requires { i < length self.now.pairs }
+        ensures { result ≡ slice_index_or self.now.pairs i result }
+    {
+        self.pairs[i as usize]
+    }
+
+    /// Where the key is, or where it would go.
+    fn place(&self, key: Short) -> Result<usize, usize>
+        ensures found { IfOk result (IsPlace self.now.pairs key) }
+        ensures absent { IfErr result (IsGap self.now.pairs key) }
+    {
+        self.pairs.binary_search_by_key(&key, |pair| pair.0)
+    }
+
+    fn value(&self, key: Short) -> Option<Short>
+        ensures { result ≡ value_at self.now.pairs key }
+    {
+        match self.place(key) {
+            Ok(at) => Some(self.pairs[at].1),
+            Err(_) => None,
+        }
+    }
+
+    /// The least key that is not below this one.
+    fn key_from(&self, key: Short) -> Option<Short>
+        ensures { result ≡ key_from self.now.pairs key }
+    {
+        match self.place(key) {
+            Ok(at) => Some(self.pairs[at].0),
+            Err(at) if at < self.pairs.len() => Some(self.pairs[at].0),
+            Err(_) => None,
+        }
+    }
+
+    fn put(&mut self, k: Short, v: Short) -> MapReply
+        ensures next { self.new ≡ map_next self.old (MapOp.Put k v) }
+        ensures reply { result ≡ map_reply self.old (MapOp.Put k v) }
+    {
+        match self.place(k) {
+            Ok(at) => {
+                let old = self.pairs[at].1;
+                self.pairs[at].1 = v;
+                MapReply::Old(old)
+            }
+            Err(at) => {
+                if self.pairs.len() as u64 == self.room {
+                    return MapReply::Full;
+                }
+                match self.pairs.insert(at, (k, v)) {
+                    Ok(()) => MapReply::New,
+                    Err(_) => unreachable!(),
+                }
+            }
+        }
+    }
+
+    fn del(&mut self, k: Short) -> MapReply
+        ensures next { self.new ≡ map_next self.old (MapOp.Del k) }
+        ensures reply { result ≡ map_reply self.old (MapOp.Del k) }
+    {
+        match self.place(k) {
+            Ok(at) => MapReply::Old(self.pairs.remove(at).1),
+            Err(_) => MapReply::Absent,
+        }
     }
 }

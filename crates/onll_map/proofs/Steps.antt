@@ -58,7 +58,7 @@ module _ (s : Entries) (k : ShortText) (i : ℕ) where
       let there = value_at-place s.pairs k i e p in
       let put = insert_entry-here key_total k s.pairs i v e p.in_range p.below p.here in
       let done : set s.pairs i (e.0, v) ≡ cond (is_some (value_at s.pairs k) || has_room s) (pairs_put s.pairs k v) s.pairs =
-          ap (λ (x : ShortText × ShortText). set s.pairs i (x.0, v)) h ∙ sym put ∙ sym (ap (λ o. cond (is_some o || has_room s) (pairs_put s.pairs k v) s.pairs) there) in
+      ap (λ (x : ShortText × ShortText). set s.pairs i (x.0, v)) h ∙ sym put ∙ sym (ap (λ o. cond (is_some o || has_room s) (pairs_put s.pairs k v) s.pairs) there) in
       ap (λ (xs : Pairs). record { pairs = xs; room = s.room }) done
 
   pub put_reply-place : (v : ShortText) (e : ShortText × ShortText) → IsPlace s.pairs k i → e ≡ get_or s.pairs i e → Old e.1 ≡ map_reply s (Put k v)
@@ -69,8 +69,8 @@ module _ (s : Entries) (k : ShortText) (i : ℕ) where
   put-gap v g h =
       let put = insert_entry-gap key_total k s.pairs i v g.in_range g.below g.above in
       let done : insert s.pairs i (k, v) ≡ cond (is_some (value_at s.pairs k) || has_room s) (pairs_put s.pairs k v) s.pairs =
-          sym put
-          ∙ sym (ap (λ o. cond (is_some o || has_room s) (pairs_put s.pairs k v) s.pairs) (value_at-gap s.pairs k i g) ∙ ap (λ b. cond b (pairs_put s.pairs k v) s.pairs) (room_for s h)) in
+      sym put
+      ∙ sym (ap (λ o. cond (is_some o || has_room s) (pairs_put s.pairs k v) s.pairs) (value_at-gap s.pairs k i g) ∙ ap (λ b. cond b (pairs_put s.pairs k v) s.pairs) (room_for s h)) in
       ap (λ (xs : Pairs). record { pairs = xs; room = s.room }) done
 
   pub put_reply-gap : (v : ShortText) → IsGap s.pairs k i → length s.pairs < s.room → New ≡ map_reply s (Put k v)
@@ -80,7 +80,7 @@ module _ (s : Entries) (k : ShortText) (i : ℕ) where
   pub put-full : (v : ShortText) → IsGap s.pairs k i → length s.pairs ≡ s.room → s ≡ map_next s (Put k v)
   put-full v g h =
       let done : s.pairs ≡ cond (is_some (value_at s.pairs k) || has_room s) (pairs_put s.pairs k v) s.pairs =
-          sym (ap (λ o. cond (is_some o || has_room s) (pairs_put s.pairs k v) s.pairs) (value_at-gap s.pairs k i g) ∙ ap (λ b. cond b (pairs_put s.pairs k v) s.pairs) (no_room_for s h)) in
+      sym (ap (λ o. cond (is_some o || has_room s) (pairs_put s.pairs k v) s.pairs) (value_at-gap s.pairs k i g) ∙ ap (λ b. cond b (pairs_put s.pairs k v) s.pairs) (no_room_for s h)) in
       ap (λ (xs : Pairs). record { pairs = xs; room = s.room }) done
 
   pub put_reply-full : (v : ShortText) → IsGap s.pairs k i → length s.pairs ≡ s.room → Full ≡ map_reply s (Put k v)

@@ -1,5 +1,7 @@
 ghost use Rattle.std.specs.Prelude.{◌≡◌, ◌<◌, ◌≤◌, [], length, IfOk, IfErr, slice_index_or};
+ghost use Rattle.std.proofs.Common.{rules};
 ghost use Rattle.onll_map.specs.Map.{IsMap, value_at, key_from, map_next, map_reply};
+ghost use Rattle.onll_map.specs.Object.{map_object};
 ghost use Rattle.onll_map.specs.Places.{IsPlace, IsGap};
 
 use crate::operation::{MapOp, MapQuery, MapReply};
@@ -117,4 +119,93 @@ impl Map {
             Err(_) => MapReply::Absent,
         }
     }
+}
+
+impl Object for Map {
+    type Op = MapOp;
+
+    type Query = MapQuery;
+
+    type Reply = MapReply;
+
+    const CODE: u64 = 2;
+
+    ghost CODE = { 2 };
+
+    ghost means = { map_object };
+
+    fn apply(&mut self, op: MapOp) -> MapReply {
+        match op {
+            MapOp::Put { k, v } => self.put(k, v),
+            MapOp::Del { k } => self.del(k),
+        }
+    }
+
+    fn ask(&self, query: MapQuery) -> MapReply {
+        match query {
+            MapQuery::Get { k } => match self.value(k) {
+                Some(v) => MapReply::Value(v),
+                None => MapReply::Absent,
+            },
+            MapQuery::Next { k } => match self.key_from(k) {
+                Some(key) => MapReply::Key(key),
+                None => MapReply::Absent,
+            },
+            MapQuery::Count => MapReply::Count(self.count()),
+        }
+    }
+
+    fn op_row(op: MapOp) -> OpRow {
+        match op {
+            MapOp::Put { k, v } => {
+                let [a, b, c] = k.words();
+                let [d, e, f] = v.words();
+                OpRow {
+                    w: [1, a, b, c, d, e, f],
+                }
+            }
+            MapOp::Del { k } => {
+                let [a, b, c] = k.words();
+                OpRow {
+                    w: [2, a, b, c, 0, 0, 0],
+                }
+            }
+        }
+    }
+
+    fn op_of_row(row: OpRow) -> Option<MapOp> {
+        let [code, a, b, c, d, e, f] = row.w;
+        match code {
+            1 => {
+                let k = Short::of_words([a, b, c])?;
+                let v = Short::of_words([d, e, f])?;
+                Some(MapOp::Put { k, v })
+            }
+            2 if d == 0 && e == 0 && f == 0 => {
+                let k = Short::of_words([a, b, c])?;
+                Some(MapOp::Del { k })
+            }
+            _ => None,
+        }
+    }
+
+    fn copy(&self, alloc: Global) -> Result<Self, NoMemory> {
+        let mut copy = Map::make(alloc, self.room)?;
+        copy.restore(self);
+        Ok(copy)
+    }
+
+    fn restore(&mut self, from: &Self) {
+        self.pairs.clear();
+        match self.pairs.extend_from_slice(&from.pairs) {
+            Ok(()) => {}
+            Err(_) => unreachable!(),
+        }
+    }
+
+    fn capacity(&self) -> u64 {
+        self.room
+    }
+
+    ghost code_in_range = { Prim.search rules };
 }

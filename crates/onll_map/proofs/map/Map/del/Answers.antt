@@ -28,8 +28,8 @@ invariant_of-self c =
     let s : Entries = record { pairs = c.self.inside.pairs.items; room = c.self.inside.room } in
     let place = subst (λ (t : Entries). IsPlace t.pairs c.args.k c.in-Ok.at) (sym c.self.view_is) c.in-Ok.ensures.found in
     let step =
-        ap (λ (xs : Pairs). record { pairs = xs; room = c.self.inside.room }) c.remove.ensures.items
-        ∙ del-place s c.args.k c.in-Ok.at place in
+    ap (λ (xs : Pairs). record { pairs = xs; room = c.self.inside.room }) c.remove.ensures.items
+    ∙ del-place s c.args.k c.in-Ok.at place in
     (subst IsMap (sym step) (IsMap-next s (Del c.args.k) c.self.invariant.0), rw c.remove.ensures.capacity c.self.invariant.1)
 
 pub returns-in-Err-clause-next : goal.returns-in-Err-clause-next

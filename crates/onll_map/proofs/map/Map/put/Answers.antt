@@ -58,6 +58,6 @@ invariant_of-self-in-Err c =
     let gap = subst (λ (t : Entries). IsGap t.pairs c.args.k c.in-Err.at) (sym c.self.view_is) c.in-Err.ensures.absent in
     let fits : length s.pairs < s.room = omega (arith, c.self.invariant.0.fits) in
     let step =
-        ap (λ (xs : Pairs). record { pairs = xs; room = c.self.inside.room }) c.in-Ok-insert.ensures.items
-        ∙ put-gap s c.args.k c.in-Err.at c.args.v gap fits in
+    ap (λ (xs : Pairs). record { pairs = xs; room = c.self.inside.room }) c.in-Ok-insert.ensures.items
+    ∙ put-gap s c.args.k c.in-Err.at c.args.v gap fits in
     (subst IsMap (sym step) (IsMap-next s (Put c.args.k c.args.v) c.self.invariant.0), omega (arith, c.self.invariant.1, c.in-Ok-insert.ensures.capacity))

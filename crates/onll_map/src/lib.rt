@@ -3,6 +3,8 @@
 
 mod map;
 mod operation;
+#[cfg(test)]
+mod tests;
 
 pub use map::Map;
 pub use operation::{MapOp, MapQuery, MapReply};

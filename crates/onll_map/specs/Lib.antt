@@ -1,0 +1,5 @@
+pub mod Laws
+pub mod Map
+pub mod Object
+pub mod Places
+pub mod Rows

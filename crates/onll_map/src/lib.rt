@@ -1,0 +1,10 @@
+//! An ordered map from short texts to short texts, of a greatest number of pairs.
+#![tactic(auto)]
+
+mod map;
+mod operation;
+#[cfg(test)]
+mod tests;
+
+pub use map::Map;
+pub use operation::{MapOp, MapQuery, MapReply};

@@ -3,7 +3,7 @@ ghost use Rattle.onll_text.specs.Bytes.{begins_line, with_word, with_words, Keep
 ghost use Rattle.onll_text.specs.Pieces.{piece_word};
 
 use itoa::Buffer;
-use onll_words::NoMemory;
+use onll_words::{NoMemory, Short};
 use std::alloc::Global;
 use std::marker::Model;
 
@@ -11,8 +11,23 @@ use std::marker::Model;
 #[derive(Clone, Copy, Debug)]
 pub enum Piece<'a> {
     Text(&'a [u8]),
+    Short(Short),
     /// A number, in the shortest decimal form.
     Number(u64),
+}
+
+/// The greatest length of a short text.
+const LONGEST_SHORT: usize = 23;
+
+/// The bytes of a short text, written into the buffer.
+fn short_bytes(text: Short, buffer: &mut [u8; LONGEST_SHORT]) -> &[u8]
+    ensures { result.now ≡ text.bytes }
+{
+    let length = text.length() as usize;
+    for i in 0..length {
+        buffer[i] = text.byte(i as u64);
+    }
+    &buffer[..length]
 }
 
 /// The bytes of a report, seen as that list. After want of memory the bytes before stay, and a front of what was to be appended may stand behind them.
@@ -95,6 +110,15 @@ impl Report {
         self.word(buffer.format(n).as_bytes())
     }
 
+    /// A short text, as a word.
+    fn short(&mut self, text: Short) -> Result<(), NoMemory>
+        ensures ok { OnOk result (self.new ≡ with_word self.old text.bytes) }
+        ensures keeps { Keeps self.old self.new }
+    {
+        let mut buffer = [0; LONGEST_SHORT];
+        self.word(short_bytes(text, &mut buffer))
+    }
+
     /// The end of a line.
     pub fn end_line(&mut self) -> Result<(), NoMemory>
         ensures ok { OnOk result (self.new ≡ self.old ++ 10 ∷ []) }
@@ -110,6 +134,7 @@ impl Report {
     {
         match piece {
             Piece::Text(text) => self.word(text),
+            Piece::Short(text) => self.short(text),
             Piece::Number(n) => self.number(n),
         }
     }

@@ -1,5 +1,6 @@
-use Rattle.std.specs.Prelude.{ℕ, Bool, true, false, ◌||◌, List, [], ◌∷◌, Option, Some, None, if◌then◌else◌, length, nat_lt, is_some, ◌≤◌}
+use Rattle.std.specs.Prelude.{ℕ, Bool, true, false, ◌||◌, List, [], ◌∷◌, Option, Some, None, if◌then◌else◌, length, nat_lt, is_some, IsSome, ◌≡◌, ◌≤◌}
 use Rattle.std.specs.declared.cmp.Ordering.{Ordering}
+use Rattle.std.specs.declared.cmp.Ordering.TheVariants.{Less}
 use Rattle.std.specs.Ordering.{nat_cmp, on, is_lt}
 use Rattle.std.specs.Cmp.Lexicographic.{slice_cmp}
 use Rattle.std.specs.Map.{keys_of, lookup, remove_entry}
@@ -41,6 +42,16 @@ value_at pairs k = lookup (is_at (key_cmp k)) pairs
 abbrev pub key_from : Pairs → ShortText → Option ShortText
 key_from [] k = None
 key_from (pair ∷ pairs) k = if is_lt (key_cmp pair.0 k) then key_from pairs k else Some pair.0
+
+-- q is the least key not below k
+pub record IsLeastFrom (pairs : Pairs) (k q : ShortText) : Type 0 where
+  pub there : IsSome (value_at pairs q)
+  pub not_below : is_lt (key_cmp q k) ≡ false
+  pub least : (j : ShortText) → IsSome (value_at pairs j) → is_lt (key_cmp j k) ≡ false → is_lt (key_cmp j q) ≡ false
+
+-- each key is below k
+abbrev pub NoneFrom : Pairs → ShortText → Type 0
+NoneFrom pairs k = (j : ShortText) → IsSome (value_at pairs j) → key_cmp j k ≡ Less
 
 -- the pairs with the value v at k, in k's place in the order
 abbrev pub pairs_put : Pairs → ShortText → ShortText → Pairs

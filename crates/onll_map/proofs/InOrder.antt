@@ -13,7 +13,7 @@ use Rattle.std.proofs.lemmas.List.{length-append}
 use Rattle.onll_words.specs.Short.{ShortText}
 use Rattle.onll_map.specs.declared.operation.MapOp.TheVariants.{Put}
 use Rattle.onll_map.specs.declared.operation.MapReply.TheVariants.{New}
-use Rattle.onll_map.specs.Map.{Entries, Pairs, IsMap, key_cmp, value_at, has_room, put_reply, map_reply, pairs_put, map_next}
+use Rattle.onll_map.specs.Map.{Entries, Pairs, IsMap, key_cmp, value_at, has_room, put_reply, map_reply, pairs_put, map_next, puts}
 use Rattle.onll_map.proofs.Maps.{key_total}
 use Rattle.onll_map.proofs.Steps.{room_for}
 
@@ -59,11 +59,6 @@ module _ (done rest : Pairs) (k v : ShortText) (room : ℕ) (whole : IsMap (reco
           ∙ ap (λ b. cond b (pairs_put done k v) done) has_room-in_order
           ∙ insert_entry-in_order key_total k v rest done whole.rising in
       ap (λ (xs : Pairs). record { pairs = xs; room = room }) done_at
-
--- the state after the pairs were put in turn
-abbrev pub puts : Entries → Pairs → Entries
-puts s [] = s
-puts s (pair ∷ pairs) = puts (map_next s (Put pair.0 pair.1)) pairs
 
 puts_rest : (done rest : Pairs) (room : ℕ) → IsMap (record { pairs = done ++ rest; room = room }) → puts (record { pairs = done; room = room }) rest ≡ record { pairs = done ++ rest; room = room }
 puts_rest done [] room h = ap (λ (xs : Pairs). record { pairs = xs; room = room }) (sym (append-nil done))

@@ -4,4 +4,5 @@ pub mod InOrder
 pub mod Least
 pub mod Maps
 pub mod Order
+pub mod Sets
 pub mod Steps

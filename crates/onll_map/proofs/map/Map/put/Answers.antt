@@ -1,5 +1,6 @@
 use Rattle.std.proofs.Common.{◌≡◌, ◌<◌, length, arith}
 use Rattle.onll_map.specs.declared.operation.MapOp.TheVariants.{Put}
+use Rattle.onll_map.proofs.Sets.{put_sets}
 use Rattle.onll_map.proofs.Steps.{put-place, put_reply-place, put-gap, put_reply-gap, put-full, put_reply-full, still_map}
 use Rattle.onll_map.proofs.map.Map.put.Goals as goal
 
@@ -45,3 +46,11 @@ invariant_of-self-in-Err c =
     let fits : length c.self.inside.pairs.items < c.self.inside.room = omega (arith, c.self.invariant.0.fits) in
     let step = put-gap _ _ c.self.view_is c.args.k c.in-Err.at c.args.v c.insert.new.self.items c.in-Err.ensures.absent fits c.in-Ok-insert.ensures.items in
     (still_map _ _ _ (Put c.args.k c.args.v) c.self.view_is c.self.invariant.0 step, omega (arith, c.self.invariant.1, c.in-Ok-insert.ensures.capacity))
+
+-- what each key has then
+
+pub returns-in-Ok-clause-sets : goal.returns-in-Ok-clause-sets
+returns-in-Ok-clause-sets c = put_sets c.args.self.now _ c.args.k c.args.v _ (returns-in-Ok-clause-next c) (returns-in-Ok-clause-reply c)
+
+pub returns-in-Ok-insert-clause-sets : goal.returns-in-Ok-insert-clause-sets
+returns-in-Ok-insert-clause-sets c = put_sets c.args.self.now _ c.args.k c.args.v _ (returns-in-Ok-insert-clause-next c) (returns-in-Ok-insert-clause-reply c)

@@ -1,7 +1,7 @@
 use mathlib.Core.List.{append-nil}
-use Rattle.std.proofs.Common.{ℕ, ◌+◌, ◌<◌, ◌≤◌, ◌≡◌, Bool, true, false, ◌||◌, cond, List, [], ◌∷◌, ◌++◌, Option, Some, None, length, refl, ap, sym, subst, ◌∙◌, append_assoc, arith}
+use Rattle.std.proofs.Common.{ℕ, ◌<◌, ◌≡◌, true, ◌||◌, cond, List, [], ◌∷◌, ◌++◌, Some, None, length, refl, ap, sym, subst, ◌∙◌, append_assoc, arith}
 use Rattle.std.specs.declared.cmp.Ordering.{Ordering}
-use Rattle.std.specs.declared.cmp.Ordering.TheVariants.{Less, Equal, Greater}
+use Rattle.std.specs.declared.cmp.Ordering.TheVariants.{Less, Greater}
 use Rattle.std.specs.Ordering.{is_eq, ordering_reverse, match_ordering}
 use Rattle.std.specs.Cmp.{IsTotalOrder}
 use Rattle.std.specs.Option.{is_some}
@@ -13,7 +13,7 @@ use Rattle.std.proofs.lemmas.List.{length-append}
 use Rattle.onll_words.specs.Short.{ShortText}
 use Rattle.onll_map.specs.declared.operation.MapOp.TheVariants.{Put}
 use Rattle.onll_map.specs.declared.operation.MapReply.TheVariants.{New}
-use Rattle.onll_map.specs.Map.{Entries, Pairs, IsMap, key_cmp, value_at, has_room, put_reply, map_reply, pairs_put, map_next, puts}
+use Rattle.onll_map.specs.Map.{Entries, Pairs, IsMap, value_at, has_room, put_reply, map_reply, pairs_put, map_next, puts}
 use Rattle.onll_map.proofs.Maps.{key_total}
 use Rattle.onll_map.proofs.Steps.{room_for}
 
@@ -55,9 +55,9 @@ module _ (done rest : Pairs) (k v : ShortText) (room : ℕ) (whole : IsMap (reco
   pub map_next-in_order : map_next (record { pairs = done; room = room }) (Put k v) ≡ record { pairs = done ++ (k, v) ∷ []; room = room }
   map_next-in_order =
       let done_at : cond (is_some (value_at done k) || has_room (record { pairs = done; room = room })) (pairs_put done k v) done ≡ done ++ (k, v) ∷ [] =
-          ap (λ o. cond (is_some o || has_room (record { pairs = done; room = room })) (pairs_put done k v) done) value_at-in_order
-          ∙ ap (λ b. cond b (pairs_put done k v) done) has_room-in_order
-          ∙ insert_entry-in_order key_total k v rest done whole.rising in
+      ap (λ o. cond (is_some o || has_room (record { pairs = done; room = room })) (pairs_put done k v) done) value_at-in_order
+      ∙ ap (λ b. cond b (pairs_put done k v) done) has_room-in_order
+      ∙ insert_entry-in_order key_total k v rest done whole.rising in
       ap (λ (xs : Pairs). record { pairs = xs; room = room }) done_at
 
 puts_rest : (done rest : Pairs) (room : ℕ) → IsMap (record { pairs = done ++ rest; room = room }) → puts (record { pairs = done; room = room }) rest ≡ record { pairs = done ++ rest; room = room }

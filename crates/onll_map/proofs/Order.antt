@@ -1,4 +1,4 @@
-use Rattle.std.proofs.Common.{ℕ, ◌+◌, ◌<◌, ◌≤◌, ◌≡◌, Bool, true, false, cond, List, [], ◌∷◌, Option, Some, None, length, ◌⊎◌, inl, inr, refl, ap, sym, ◌∙◌, arith}
+use Rattle.std.proofs.Common.{◌+◌, ◌≤◌, ◌≡◌, Bool, true, false, cond, List, [], ◌∷◌, Some, length, ◌⊎◌, inl, inr, refl, ap, sym, ◌∙◌, arith}
 use mathlib.Core.Bool.{false≢true}
 use Rattle.std.specs.declared.cmp.Ordering.{Ordering}
 use Rattle.std.specs.declared.cmp.Ordering.TheVariants.{Less, Equal, Greater}
@@ -93,6 +93,6 @@ module _ {K X : Type 0} {R : K → K → Ordering} (o : IsTotalOrder R) (k : K) 
   length-insert_entry_found v (e ∷ es) s h =
       let put = λ (r : Ordering). length (match_ordering r ((k, v) ∷ e ∷ es) ((e.0, v) ∷ es) (e ∷ insert_entry R es k v)) in
       elim (head_or_later e es s h) [
-      | inl g ↦ ap put g
-      | inr g ↦ let rest = length-insert_entry_found v es s.1 g.1 in omega (arith, ap put g.0, rest)
+        | inl g ↦ ap put g
+        | inr g ↦ let rest = length-insert_entry_found v es s.1 g.1 in omega (arith, ap put g.0, rest)
       ]

@@ -1,6 +1,5 @@
-use Rattle.std.proofs.Common.{ℕ, zero, suc, ◌+◌, ◌<◌, ◌≤◌, ◌≡◌, Bool, true, false, ◌||◌, nat_lt, cond, List, [], ◌∷◌, Option, Some, None, length, get_or, set, refl, ap, sym, subst, ◌∙◌, arith}
-use Rattle.std.specs.declared.cmp.Ordering.{Ordering}
-use Rattle.std.specs.declared.cmp.Ordering.TheVariants.{Less, Equal, Greater}
+use Rattle.std.proofs.Common.{ℕ, zero, suc, ◌<◌, ◌≤◌, ◌≡◌, true, false, ◌||◌, cond, [], ◌∷◌, Some, None, length, get_or, set, refl, ap, sym, subst, ◌∙◌, arith}
+use Rattle.std.specs.declared.cmp.Ordering.TheVariants.{Less}
 use Rattle.std.specs.Ordering.{is_lt}
 use Rattle.std.specs.Option.{is_some}
 use Rattle.std.specs.List.{insert, remove}
@@ -72,8 +71,8 @@ module _ (s t : Entries) (same : s ≡ t) (k : ShortText) (i : ℕ) where
       let q = place_in p in
       let written = insert_entry-here key_total k s.pairs i v e q.in_range q.below q.here in
       let done : set s.pairs i (e.0, v) ≡ pairs_next s (Put k v) =
-          ap (λ (x : ShortText × ShortText). set s.pairs i (x.0, v)) h ∙ sym written
-          ∙ sym (ap (λ o. cond (is_some o || has_room s) (pairs_put s.pairs k v) s.pairs) (value_is e p h)) in
+      ap (λ (x : ShortText × ShortText). set s.pairs i (x.0, v)) h ∙ sym written
+      ∙ sym (ap (λ o. cond (is_some o || has_room s) (pairs_put s.pairs k v) s.pairs) (value_is e p h)) in
       ap (λ (xs : Pairs). record { pairs = xs; room = s.room }) done ∙ ap (λ u. map_next u (Put k v)) same
 
   pub put_reply-place : (v : ShortText) (e : ShortText × ShortText) → IsPlace t.pairs k i → e ≡ get_or s.pairs i e → Old e.1 ≡ map_reply t (Put k v)
@@ -85,8 +84,8 @@ module _ (s t : Entries) (same : s ≡ t) (k : ShortText) (i : ℕ) where
       let q = gap_in g in
       let put = insert_entry-gap key_total k s.pairs i v q.in_range q.below q.above in
       let done : xs ≡ pairs_next s (Put k v) =
-          e ∙ sym put
-          ∙ sym (ap (λ o. cond (is_some o || has_room s) (pairs_put s.pairs k v) s.pairs) (none_is g) ∙ ap (λ b. cond b (pairs_put s.pairs k v) s.pairs) (room_for s h)) in
+      e ∙ sym put
+      ∙ sym (ap (λ o. cond (is_some o || has_room s) (pairs_put s.pairs k v) s.pairs) (none_is g) ∙ ap (λ b. cond b (pairs_put s.pairs k v) s.pairs) (room_for s h)) in
       ap (λ (ys : Pairs). record { pairs = ys; room = s.room }) done ∙ ap (λ u. map_next u (Put k v)) same
 
   pub put_reply-gap : (v : ShortText) → IsGap t.pairs k i → length s.pairs < s.room → New ≡ map_reply t (Put k v)
@@ -96,7 +95,7 @@ module _ (s t : Entries) (same : s ≡ t) (k : ShortText) (i : ℕ) where
   pub put-full : (v : ShortText) → IsGap t.pairs k i → length s.pairs ≡ s.room → t ≡ map_next t (Put k v)
   put-full v g h =
       let done : s.pairs ≡ pairs_next s (Put k v) =
-          sym (ap (λ o. cond (is_some o || has_room s) (pairs_put s.pairs k v) s.pairs) (none_is g) ∙ ap (λ b. cond b (pairs_put s.pairs k v) s.pairs) (no_room_for s h)) in
+      sym (ap (λ o. cond (is_some o || has_room s) (pairs_put s.pairs k v) s.pairs) (none_is g) ∙ ap (λ b. cond b (pairs_put s.pairs k v) s.pairs) (no_room_for s h)) in
       sym same ∙ ap (λ (xs : Pairs). record { pairs = xs; room = s.room }) done ∙ ap (λ u. map_next u (Put k v)) same
 
   pub put_reply-full : (v : ShortText) → IsGap t.pairs k i → length s.pairs ≡ s.room → Full ≡ map_reply t (Put k v)

@@ -1,15 +1,15 @@
-use Rattle.std.proofs.Common.{ℕ, ◌+◌, ◌<◌, ◌≤◌, ◌≡◌, Bool, true, false, ◌||◌, nat_lt, cond, List, [], ◌∷◌, Option, Some, None, length, refl, ap, sym, ◌∙◌, arith}
+use Rattle.std.proofs.Common.{ℕ, ◌<◌, ◌≤◌, ◌≡◌, Bool, true, false, ◌||◌, cond, [], length, refl, sym, arith}
 use Rattle.std.proofs.lemmas.Bool.Decides.{nat_tests}
 use Rattle.std.specs.Cmp.{IsTotalOrder}
 use Rattle.std.specs.List.Sorted.{IsStrictlySortedBy}
-use Rattle.std.specs.Map.{keys_of, lookup, remove_entry}
+use Rattle.std.specs.Map.{keys_of}
 use Rattle.std.specs.Option.{is_some}
-use Rattle.std.specs.BTreeMap.{insert_entry, is_at}
+use Rattle.std.specs.BTreeMap.{is_at}
 use Rattle.std.proofs.lemmas.Cmp.{on_total, nat_list_cmp_total}
 use Rattle.onll_words.specs.Short.{ShortText}
 use Rattle.onll_map.specs.declared.operation.MapOp.{MapOp}
 use Rattle.onll_map.specs.declared.operation.MapOp.TheVariants.{Put, Del}
-use Rattle.onll_map.specs.Map.{Entries, Pairs, IsMap, key_cmp, value_at, has_room, pairs_put, pairs_next, map_next}
+use Rattle.onll_map.specs.Map.{Entries, IsMap, key_cmp, value_at, has_room, pairs_put, map_next}
 use Rattle.onll_map.proofs.Order.{rising-insert_entry, rising-remove_entry, length-insert_entry, length-insert_entry_found, length-remove_entry}
 
 -- Keys are in a total order, and each operation keeps a map a map.

@@ -1,4 +1,4 @@
-use Rattle.std.proofs.Common.{ℕ, ◌+◌, ◌<◌, ◌≤◌, ◌≡◌, Bool, true, false, cond, List, [], ◌∷◌, Option, Some, None, length, refl, ap, sym, ◌∙◌, arith}
+use Rattle.std.proofs.Common.{◌+◌, ◌≤◌, ◌≡◌, Bool, true, false, cond, List, [], ◌∷◌, Some, length, ◌⊎◌, inl, inr, refl, ap, sym, ◌∙◌, arith}
 use mathlib.Core.Bool.{false≢true}
 use Rattle.std.specs.declared.cmp.Ordering.{Ordering}
 use Rattle.std.specs.declared.cmp.Ordering.TheVariants.{Less, Equal, Greater}
@@ -75,15 +75,24 @@ module _ {K X : Type 0} {R : K → K → Ordering} (o : IsTotalOrder R) (k : K) 
       by Equal h = omega arith
       by Greater h = omega arith
 
-  -- a key that is there makes no more pairs
-  pub length-insert_entry_found : (es : List (K × X)) → IsStrictlySortedBy R (keys_of es) → is_some (lookup (is_at (R k)) es) ≡ true → length (insert_entry R es k v) ≡ length es
-  unfolding IsStrictlySortedBy
-  length-insert_entry_found [] s h = cc
-  length-insert_entry_found (e ∷ es) s h = by (R k e.0) refl (length-insert_entry_found es s.1)
+module _ {K X : Type 0} {R : K → K → Ordering} (o : IsTotalOrder R) (k : K) where
+  -- a key that is there is the first, or is above it
+  pub head_or_later : (e : K × X) (es : List (K × X)) → IsStrictlySortedBy R (keys_of (e ∷ es)) → is_some (lookup (is_at (R k)) (e ∷ es)) ≡ true
+      → (R k e.0 ≡ Equal) ⊎ ((R k e.0 ≡ Greater) × (is_some (lookup (is_at (R k)) es) ≡ true))
+  head_or_later e es s h = by (R k e.0) refl
     where
-      by : (r : Ordering) → R k e.0 ≡ r → (is_some (lookup (is_at (R k)) es) ≡ true → length (insert_entry R es k v) ≡ length es) → length (match_ordering r ((k, v) ∷ e ∷ es) ((e.0, v) ∷ es) (e ∷ insert_entry R es k v)) ≡ length (e ∷ es)
-      by Less g rest = let none = ap is_some (lookup-none (is_at (R k)) (e ∷ es) (none_below_head o k e es s g)) in absurd (false≢true (sym none ∙ h))
-      by Equal g rest = refl
-      by Greater g rest =
-          let later : is_some (lookup (is_at (R k)) es) ≡ true = sym (ap (λ r. is_some (cond (is_eq r) (Some e.1) (lookup (is_at (R k)) es))) g) ∙ h in
-          omega (arith, rest later)
+      by : (r : Ordering) → R k e.0 ≡ r → (R k e.0 ≡ Equal) ⊎ ((R k e.0 ≡ Greater) × (is_some (lookup (is_at (R k)) es) ≡ true))
+      by Less g = let none = ap is_some (lookup-none (is_at (R k)) (e ∷ es) (none_below_head o k e es s g)) in absurd (false≢true (sym none ∙ h))
+      by Equal g = inl g
+      by Greater g = inr (g, sym (ap (λ r. is_some (cond (is_eq r) (Some e.1) (lookup (is_at (R k)) es))) g) ∙ h)
+
+  -- a key that is there makes no more pairs
+  pub length-insert_entry_found : (v : X) (es : List (K × X)) → IsStrictlySortedBy R (keys_of es) → is_some (lookup (is_at (R k)) es) ≡ true → length (insert_entry R es k v) ≡ length es
+  unfolding IsStrictlySortedBy
+  length-insert_entry_found v [] s h = cc
+  length-insert_entry_found v (e ∷ es) s h =
+      let put = λ (r : Ordering). length (match_ordering r ((k, v) ∷ e ∷ es) ((e.0, v) ∷ es) (e ∷ insert_entry R es k v)) in
+      elim (head_or_later e es s h) [
+        | inl g ↦ ap put g
+        | inr g ↦ let rest = length-insert_entry_found v es s.1 g.1 in omega (arith, ap put g.0, rest)
+      ]

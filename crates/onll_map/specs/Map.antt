@@ -1,6 +1,7 @@
-use Rattle.std.specs.Prelude.{ℕ, Bool, true, false, ◌||◌, List, [], ◌∷◌, Option, Some, None, if◌then◌else◌, length, nat_lt, is_some, ◌≤◌}
+use Rattle.std.specs.Prelude.{ℕ, Bool, true, false, ◌||◌, List, [], ◌∷◌, Option, Some, None, if◌then◌else◌, length, nat_lt, is_some, IsSome, ◌≡◌, ◌≤◌}
 use Rattle.std.specs.declared.cmp.Ordering.{Ordering}
-use Rattle.std.specs.Ordering.{nat_cmp, on, is_lt}
+use Rattle.std.specs.declared.cmp.Ordering.TheVariants.{Less}
+use Rattle.std.specs.Ordering.{nat_cmp, on, is_lt, is_eq}
 use Rattle.std.specs.Cmp.Lexicographic.{slice_cmp}
 use Rattle.std.specs.Map.{keys_of, lookup, remove_entry}
 use Rattle.std.specs.BTreeMap.{insert_entry, is_at}
@@ -42,6 +43,16 @@ abbrev pub key_from : Pairs → ShortText → Option ShortText
 key_from [] k = None
 key_from (pair ∷ pairs) k = if is_lt (key_cmp pair.0 k) then key_from pairs k else Some pair.0
 
+-- q is the least key not below k
+pub record IsLeastFrom (pairs : Pairs) (k q : ShortText) : Type 0 where
+  pub there : IsSome (value_at pairs q)
+  pub not_below : is_lt (key_cmp q k) ≡ false
+  pub least : (j : ShortText) → IsSome (value_at pairs j) → is_lt (key_cmp j k) ≡ false → is_lt (key_cmp j q) ≡ false
+
+-- each key is below k
+abbrev pub NoneFrom : Pairs → ShortText → Type 0
+NoneFrom pairs k = (j : ShortText) → IsSome (value_at pairs j) → key_cmp j k ≡ Less
+
 -- the pairs with the value v at k, in k's place in the order
 abbrev pub pairs_put : Pairs → ShortText → ShortText → Pairs
 pairs_put pairs k v = insert_entry key_cmp pairs k v
@@ -49,6 +60,10 @@ pairs_put pairs k v = insert_entry key_cmp pairs k v
 -- the pairs without k
 abbrev pub pairs_without : Pairs → ShortText → Pairs
 pairs_without pairs k = remove_entry (is_at (key_cmp k)) pairs
+
+-- new has v at k, and at each other key what old has
+abbrev pub Sets : Pairs → Pairs → ShortText → Option ShortText → Type 0
+Sets old new k v = (q : ShortText) → value_at new q ≡ (if is_eq (key_cmp q k) then v else value_at old q)
 
 abbrev pub has_room : Entries → Bool
 has_room s = nat_lt (length s.pairs) s.room
@@ -74,6 +89,11 @@ pairs_next s (Del k) = pairs_without s.pairs k
 
 abbrev pub map_next : Entries → MapOp → Entries
 map_next s op = record { pairs = pairs_next s op; room = s.room }
+
+-- the state after these pairs were put in turn
+abbrev pub puts : Entries → Pairs → Entries
+puts s [] = s
+puts s (pair ∷ pairs) = puts (map_next s (Put pair.0 pair.1)) pairs
 
 abbrev pub value_answer : Option ShortText → MapReply
 value_answer (Some v) = Value v

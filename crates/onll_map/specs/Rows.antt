@@ -1,4 +1,4 @@
-use Rattle.std.specs.Prelude.{ℕ, Bool, true, false, List, [], ◌∷◌, ◌++◌, ◌≡◌, Option, Some, None, if◌then◌else◌, length, cond, ◌==◌, ◌&&◌}
+use Rattle.std.specs.Prelude.{ℕ, List, [], ◌∷◌, ◌++◌, Option, Some, None, if◌then◌else◌, ◌==◌, ◌&&◌}
 use Rattle.onll_words.specs.declared.line.OpRow.{OpRow}
 use Rattle.onll_words.specs.Short.{ShortText, packed, unpacked}
 use Rattle.onll_map.specs.declared.operation.MapOp.{MapOp}

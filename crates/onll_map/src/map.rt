@@ -1,6 +1,6 @@
-ghost use Rattle.std.specs.Prelude.{◌≡◌, ◌<◌, ◌≤◌, [], length, IfOk, IfErr, slice_index_or};
+ghost use Rattle.std.specs.Prelude.{◌≡◌, ◌≢◌, ◌<◌, ◌≤◌, [], length, IfOk, IfErr, MatchOption, slice_index_or};
 ghost use Rattle.std.proofs.Common.{rules};
-ghost use Rattle.onll_map.specs.Map.{IsMap, value_at, key_from, map_next, map_reply};
+ghost use Rattle.onll_map.specs.Map.{IsMap, Sets, IsLeastFrom, NoneFrom, value_at, key_from, map_next, map_reply};
 ghost use Rattle.onll_map.specs.Object.{map_object};
 ghost use Rattle.onll_map.specs.Places.{IsPlace, IsGap};
 
@@ -79,7 +79,8 @@ impl Map {
 
     /// The least key that is not below this one.
     fn key_from(&self, key: Short) -> Option<Short>
-        ensures { result ≡ key_from self.now.pairs key }
+        ensures key { result ≡ key_from self.now.pairs key }
+        ensures least { MatchOption result (NoneFrom self.now.pairs key) (IsLeastFrom self.now.pairs key) }
     {
         match self.place(key) {
             Ok(at) => Some(self.pairs[at].0),
@@ -91,6 +92,8 @@ impl Map {
     fn put(&mut self, k: Short, v: Short) -> MapReply
         ensures next { self.new ≡ map_next self.old (MapOp.Put k v) }
         ensures reply { result ≡ map_reply self.old (MapOp.Put k v) }
+        ensures sets { result ≢ MapReply.Full → Sets self.old.pairs self.new.pairs k (Some v) }
+        ensures full { result ≡ MapReply.Full → self.new ≡ self.old }
     {
         match self.place(k) {
             Ok(at) => {
@@ -113,6 +116,7 @@ impl Map {
     fn del(&mut self, k: Short) -> MapReply
         ensures next { self.new ≡ map_next self.old (MapOp.Del k) }
         ensures reply { result ≡ map_reply self.old (MapOp.Del k) }
+        ensures sets { Sets self.old.pairs self.new.pairs k None }
     {
         match self.place(k) {
             Ok(at) => MapReply::Old(self.pairs.remove(at).1),

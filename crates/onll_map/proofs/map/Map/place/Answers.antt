@@ -1,6 +1,5 @@
-use Rattle.std.proofs.Common.{ap, subst, rules}
+use Rattle.std.proofs.Common.{rules}
 use Rattle.std.proofs.lemmas.List.Sorted.{answers_always}
-use Rattle.onll_map.specs.Map.{Entries, IsMap}
 use Rattle.onll_map.proofs.Found.{searched}
 use Rattle.onll_map.proofs.map.Map.place.Goals as goal
 

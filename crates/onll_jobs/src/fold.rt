@@ -145,6 +145,7 @@ pub(crate) fn answer<S: Store>(
 {
     match init_file(alloc, init, store) {
         Ok(AnyObject::Bank(mut bank)) => fold_object(alloc, &mut bank, script, store),
+        Ok(AnyObject::Map(mut map)) => fold_object(alloc, &mut map, script, store),
         Err(stop) => stop.answer(),
     }
 }

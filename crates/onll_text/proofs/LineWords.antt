@@ -12,7 +12,11 @@ use Rattle.onll_model.specs.Object.{Behaviour}
 use Rattle.onll_text.specs.Bytes.{begins_line, with_word, with_words, with_lines}
 use Rattle.onll_text.specs.Wording.{Wording}
 use Rattle.onll_text.specs.Lines.{at_words, call_words, end_words, call_line, flag_words, row_words, node_line, fence_words, log_line}
+use Rattle.onll_words.specs.Short.{ShortText}
+use Rattle.onll_words.proofs.ShortWord.{IsWord-short}
+use Rattle.onll_map.specs.Map.{Pairs}
 use Rattle.onll_text.specs.BankText.{account_line, account_lines}
+use Rattle.onll_text.specs.MapText.{pair_line, pair_lines}
 use Rattle.onll_text.proofs.Appending.{with_words-append, with_words-line, begins_line-line}
 
 pub AreWords-append : (vs ws : List (List ℕ)) → AreWords vs → AreWords ws → AreWords (vs ++ ws)
@@ -122,5 +126,15 @@ pub account_lines_more : (bytes balances : List ℕ) (a : ℕ) → a < length ba
 account_lines_more bytes balances a h =
     append_assoc bytes (line_text (account_line a (slice_index_or balances a 0))) (flat_map line_text (account_lines (a + 1) (drop (a + 1) balances)))
     ∙ sym (ap (λ t. with_lines bytes (account_lines a t)) (drop_more balances a 0 h))
+
+pub pair_line_in_words : (pair : ShortText × ShortText) → AreWords (pair_line pair)
+pair_line_in_words pair = (record { some = refl; bytes = refl }, (IsWord-short pair.0, (IsWord-short pair.1, tt)))
+
+-- one pair's line before those of the rest
+pub pair_lines_more : (bytes : List ℕ) (pairs : Pairs) (i : ℕ) (d : ShortText × ShortText) → i < length pairs
+    → with_lines (bytes ++ line_text (pair_line (slice_index_or pairs i d))) (pair_lines (drop (i + 1) pairs)) ≡ with_lines bytes (pair_lines (drop i pairs))
+pair_lines_more bytes pairs i d h =
+    append_assoc bytes (line_text (pair_line (slice_index_or pairs i d))) (flat_map line_text (pair_lines (drop (i + 1) pairs)))
+    ∙ sym (ap (λ t. with_lines bytes (pair_lines t)) (drop_more pairs i d h))
 
 pub ruleset appending = with_words-append

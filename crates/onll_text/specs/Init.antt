@@ -12,10 +12,15 @@ use Rattle.onll_text.specs.Refusal.{Refusal, refused, ◌>>=◌, only_if, at_lin
 use Rattle.onll_text.specs.Words.{one_number}
 use Rattle.onll_text.specs.Script.{is_too_long}
 use Rattle.onll_text.specs.BankText.{no_accounts, with_account_line}
+use Rattle.onll_text.specs.MapText.{no_pairs, with_pair_line}
+use Rattle.onll_map.specs.Map.{Entries}
 
 -- the kind of object that a first word names
 abbrev pub kind_of : List ℕ → Result Kind Reason
-kind_of word = if bytes_eq word (codes "bank") then Ok kinds.Bank else Err UnknownObject
+kind_of word =
+    if bytes_eq word (codes "bank") then Ok kinds.Bank
+    else (if bytes_eq word (codes "map") then Ok kinds.Map
+    else Err UnknownObject)
 
 -- the capacity of an object
 abbrev pub capacity_of : List (List ℕ) → Result ℕ Reason
@@ -35,9 +40,14 @@ after_lines with_line made (l ∷ lines) = at_line l.number (with_line made (wor
 abbrev pub bank_of_lines : ℕ → List Numbered → Result (List ℕ) Refusal
 bank_of_lines capacity lines = after_lines with_account_line (no_accounts capacity) lines >>= λ made. Ok made.balances
 
+-- the map of at most so many pairs, with further lines
+abbrev pub map_of_lines : ℕ → List Numbered → Result Entries Refusal
+map_of_lines capacity lines = after_lines with_pair_line (no_pairs capacity) lines
+
 -- the object of this kind and capacity, with further lines
 abbrev pub object_of : Kind → ℕ → List Numbered → Result AnyObject Refusal
 object_of kinds.Bank capacity lines = bank_of_lines capacity lines >>= λ balances. Ok (objects.Bank balances)
+object_of kinds.Map capacity lines = map_of_lines capacity lines >>= λ entries. Ok (objects.Map entries)
 
 abbrev pub init_of_lines : List Numbered → Result AnyObject Refusal
 init_of_lines [] = Err (refused 0 Missing)

@@ -7,5 +7,7 @@ pub mod Lines
 pub mod Script
 pub mod BankText
 pub mod BankWording
+pub mod MapText
+pub mod MapWording
 pub mod Init
 pub mod ReadBack

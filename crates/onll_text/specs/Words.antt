@@ -1,7 +1,8 @@
 use Rattle.std.specs.Prelude.{ℕ, List, [], ◌∷◌, Result, Ok, Err}
 use Rattle.onll_words.specs.Numbers.{number_of}
+use Rattle.onll_words.specs.Short.{ShortText, short_of}
 use Rattle.onll_text.specs.declared.reason.Reason.{Reason}
-use Rattle.onll_text.specs.declared.reason.Reason.TheVariants.{WrongCount, BadNumber}
+use Rattle.onll_text.specs.declared.reason.Reason.TheVariants.{WrongCount, BadNumber, BadWord}
 use Rattle.onll_text.specs.Refusal.{◌>>=◌, or_reason}
 
 -- The arguments of a line, as so many words of these kinds: the wrong count comes before any bad word, and of bad
@@ -25,3 +26,14 @@ two_numbers _ = Err WrongCount
 abbrev pub three_numbers : List (List ℕ) → Result (ℕ × ℕ × ℕ) Reason
 three_numbers (a ∷ b ∷ c ∷ []) = word_as_number a >>= λ x. word_as_number b >>= λ y. word_as_number c >>= λ z. Ok (x, y, z)
 three_numbers _ = Err WrongCount
+
+abbrev pub word_as_short : List ℕ → Result ShortText Reason
+word_as_short word = or_reason BadWord (short_of word)
+
+abbrev pub one_short : List (List ℕ) → Result ShortText Reason
+one_short (a ∷ []) = word_as_short a
+one_short _ = Err WrongCount
+
+abbrev pub two_shorts : List (List ℕ) → Result (ShortText × ShortText) Reason
+two_shorts (a ∷ b ∷ []) = word_as_short a >>= λ k. word_as_short b >>= λ v. Ok (k, v)
+two_shorts _ = Err WrongCount

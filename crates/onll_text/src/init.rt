@@ -2,7 +2,7 @@ ghost use Rattle.std.specs.Prelude.{◌≡◌, ◌≤◌, ℕ, List, Result, Mat
 ghost use Rattle.onll_text.specs.declared.reason.Reason.{Reason};
 ghost use Rattle.onll_words.specs.Texts.{words_of};
 ghost use Rattle.onll_text.specs.Refusal.{Fails};
-ghost use Rattle.onll_text.specs.Init.{kind_of, capacity_of, head_of, after_lines, bank_of_lines, object_of, init_of};
+ghost use Rattle.onll_text.specs.Init.{kind_of, capacity_of, head_of, after_lines, bank_of_lines, map_of_lines, object_of, init_of};
 
 use crate::any_object::{AnyObject, Kind};
 use crate::bank_init::BankInit;
@@ -10,6 +10,7 @@ use crate::reason::{Reason, TextFault};
 use crate::script::is_too_long;
 use crate::words::{is_text, one_number};
 use onll_bank::Bank;
+use onll_map::Map;
 use onll_words::{Cut, Lines, NumberedLine, split_word};
 use std::alloc::Global;
 
@@ -52,6 +53,8 @@ fn read_kind(word: &[u8]) -> Result<Kind, Reason>
 {
     if is_text(word, b"bank") {
         Ok(Kind::Bank)
+    } else if is_text(word, b"map") {
+        Ok(Kind::Map)
     } else {
         Err(Reason::UnknownObject)
     }
@@ -92,6 +95,18 @@ fn read_bank(alloc: Global, capacity: u64, lines: &mut Lines<'_>) -> Result<Bank
     Ok(made.finish())
 }
 
+/// The map of at most so many pairs, with the lines that are left.
+fn read_map(alloc: Global, capacity: u64, lines: &mut Lines<'_>) -> Result<Map, TextFault>
+    requires { (1 ≤ capacity) × (capacity ≤ 4096) }
+    ensures { MatchResult result (λ map. map_of_lines capacity lines.old ≡ Ok map) (λ fault. Fails fault (map_of_lines capacity lines.old)) }
+{
+    let Ok(mut map) = Map::make(alloc, capacity) else {
+        return Err(TextFault::NoMemory);
+    };
+    add_lines(&mut map, lines)?;
+    Ok(map)
+}
+
 fn read_object(alloc: Global, head: Head, lines: &mut Lines<'_>) -> Result<AnyObject, TextFault>
     requires { (1 ≤ head.capacity) × (head.capacity ≤ 4096) }
     ensures { MatchResult result (λ object. object_of head.kind head.capacity lines.old ≡ Ok object) (λ fault. Fails fault (object_of head.kind head.capacity lines.old)) }
@@ -100,6 +115,10 @@ fn read_object(alloc: Global, head: Head, lines: &mut Lines<'_>) -> Result<AnyOb
         Kind::Bank => {
             let bank = read_bank(alloc, head.capacity, lines)?;
             Ok(AnyObject::Bank(bank))
+        }
+        Kind::Map => {
+            let map = read_map(alloc, head.capacity, lines)?;
+            Ok(AnyObject::Map(map))
         }
     }
 }

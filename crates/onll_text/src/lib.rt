@@ -6,6 +6,7 @@ mod bank;
 mod bank_init;
 mod init;
 mod lines;
+mod map;
 mod read_back;
 mod reason;
 mod report;

@@ -128,14 +128,14 @@ impl Report {
         self.put(b"\n")
     }
 
-    fn piece(&mut self, piece: Piece<'_>) -> Result<(), NoMemory>
-        ensures ok { OnOk result (self.new ≡ with_word self.old (piece_word piece.entry)) }
+    fn piece(&mut self, piece: &Piece<'_>) -> Result<(), NoMemory>
+        ensures ok { OnOk result (self.new ≡ with_word self.old (piece_word piece.now)) }
         ensures keeps { Keeps self.old self.new }
     {
         match piece {
             Piece::Text(text) => self.word(text),
-            Piece::Short(text) => self.short(text),
-            Piece::Number(n) => self.number(n),
+            Piece::Short(text) => self.short(*text),
+            Piece::Number(n) => self.number(*n),
         }
     }
 
@@ -145,7 +145,7 @@ impl Report {
         ensures keeps { Keeps self.old self.new }
     {
         for piece in pieces {
-            self.piece(*piece)?;
+            self.piece(piece)?;
         }
         Ok(())
     }

@@ -1,10 +1,10 @@
 ghost use Rattle.std.specs.Prelude.{◌≡◌, ◌∷◌, [], MatchResult, Err};
 ghost use Rattle.std.specs.Str.{bytes_eq};
 ghost use Rattle.onll_words.specs.Texts.{words_of};
-ghost use Rattle.onll_text.specs.Words.{word_as_number, no_word, one_number, two_numbers, three_numbers};
+ghost use Rattle.onll_text.specs.Words.{word_as_number, word_as_short, no_word, one_number, two_numbers, three_numbers, one_short, two_shorts};
 
 use crate::reason::Reason;
-use onll_words::{Cut, split_word, whole_number};
+use onll_words::{Cut, Short, split_word, whole_number};
 
 /// Whether a word is this text.
 pub(crate) fn is_text(word: &[u8], text: &[u8]) -> bool
@@ -97,4 +97,31 @@ pub(crate) fn three_numbers(args: &[u8]) -> Result<(u64, u64, u64), Reason>
     let y = number(b)?;
     let z = number(c)?;
     Ok((x, y, z))
+}
+
+fn short(word: &[u8]) -> Result<Short, Reason>
+    ensures { result ≡ word_as_short word.now }
+{
+    Short::read(word).ok_or(Reason::BadWord)
+}
+
+/// The one short text of a line's arguments.
+pub(crate) fn one_short(args: &[u8]) -> Result<Short, Reason>
+    ensures { result ≡ one_short (words_of args.now) }
+{
+    let a = next_word(args)?;
+    no_word(a.rest)?;
+    short(a.word)
+}
+
+/// The two short texts of a line's arguments.
+pub(crate) fn two_shorts(args: &[u8]) -> Result<(Short, Short), Reason>
+    ensures { result ≡ two_shorts (words_of args.now) }
+{
+    let a = next_word(args)?;
+    let b = next_word(a.rest)?;
+    no_word(b.rest)?;
+    let k = short(a.word)?;
+    let v = short(b.word)?;
+    Ok((k, v))
 }

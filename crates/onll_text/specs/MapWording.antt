@@ -1,0 +1,54 @@
+use Rattle.std.specs.Prelude.{ℕ, List, [], ◌∷◌, codes, refl}
+use Rattle.onll_words.specs.Texts.{IsWord, AreWords, AreMeaningful}
+use Rattle.onll_words.specs.Short.{ShortText}
+use Rattle.onll_words.proofs.Decimals.{IsWord-decimal}
+use Rattle.onll_words.proofs.ShortWord.{IsWord-short}
+use Rattle.onll_map.specs.declared.operation.MapOp.{MapOp}
+use Rattle.onll_map.specs.declared.operation.MapOp.TheVariants.{Put, Del}
+use Rattle.onll_map.specs.declared.operation.MapQuery.{MapQuery}
+use Rattle.onll_map.specs.declared.operation.MapQuery.TheVariants.{Get, Next, Count}
+use Rattle.onll_map.specs.declared.operation.MapReply.{MapReply}
+use Rattle.onll_map.specs.declared.operation.MapReply.TheVariants.{New, Old, Full, Absent, Value, Key, Count as Counted}
+use Rattle.onll_map.specs.Map.{Pairs, Entries}
+use Rattle.onll_text.specs.Wording.{Wording}
+use Rattle.onll_text.specs.MapText.{map_call_of, map_op_words, map_query_words, map_reply_words, pair_lines, map_state_lines}
+
+pub op_in_words : (op : MapOp) → AreWords (map_op_words op)
+op_in_words (Put k v) = (record { some = refl; bytes = refl }, (IsWord-short k, (IsWord-short v, tt)))
+op_in_words (Del k) = (record { some = refl; bytes = refl }, (IsWord-short k, tt))
+
+pub query_in_words : (query : MapQuery) → AreWords (map_query_words query)
+query_in_words (Get k) = (record { some = refl; bytes = refl }, (IsWord-short k, tt))
+query_in_words (Next k) = (record { some = refl; bytes = refl }, (IsWord-short k, tt))
+query_in_words Count = (record { some = refl; bytes = refl }, tt)
+
+pub reply_in_words : (reply : MapReply) → AreWords (map_reply_words reply)
+reply_in_words New = (record { some = refl; bytes = refl }, tt)
+reply_in_words (Old v) = (record { some = refl; bytes = refl }, (IsWord-short v, tt))
+reply_in_words Full = (record { some = refl; bytes = refl }, tt)
+reply_in_words Absent = (record { some = refl; bytes = refl }, tt)
+reply_in_words (Value v) = (record { some = refl; bytes = refl }, (IsWord-short v, tt))
+reply_in_words (Key k) = (record { some = refl; bytes = refl }, (IsWord-short k, tt))
+reply_in_words (Counted n) = (record { some = refl; bytes = refl }, (IsWord-decimal n, tt))
+
+pub pairs_in_lines : (pairs : Pairs) → AreMeaningful (pair_lines pairs)
+pairs_in_lines [] = tt
+pairs_in_lines (pair ∷ pairs) =
+    ((record { some = refl; bytes = refl }, (IsWord-short pair.0, (IsWord-short pair.1, tt))), refl, pairs_in_lines pairs)
+
+pub state_in_lines : (s : Entries) → AreMeaningful (map_state_lines s)
+state_in_lines s = ((record { some = refl; bytes = refl }, (IsWord-decimal s.room, tt)), refl, pairs_in_lines s.pairs)
+
+-- how a map is written
+abbrev pub map_wording : Wording Entries MapOp MapQuery MapReply
+map_wording = record {
+  call_of = map_call_of;
+  op_words = map_op_words;
+  query_words = map_query_words;
+  reply_words = map_reply_words;
+  state_lines = map_state_lines;
+  op_in_words = op_in_words;
+  query_in_words = query_in_words;
+  reply_in_words = reply_in_words;
+  state_in_lines = state_in_lines;
+}

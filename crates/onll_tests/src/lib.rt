@@ -13,4 +13,6 @@ mod hostile_scripts;
 #[cfg(test)]
 mod large;
 #[cfg(test)]
+mod maps;
+#[cfg(test)]
 mod worked;

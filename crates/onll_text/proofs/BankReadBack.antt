@@ -1,4 +1,4 @@
-use Rattle.std.proofs.Common.{ℕ, suc, Bool, true, false, List, [], ◌∷◌, ◌++◌, ◌≡◌, ◌+◌, ◌*◌, ◌^◌, ◌<◌, ◌≤◌, ◌&&◌, nat_lt, nat_le, not, length, map, sum, decimal, codes, replicate, refl, sym, ap, ◌∙◌, arith, Ok, Some, Result, append_assoc, length-append, slice_get, slice_set, zero-add}
+use Rattle.std.proofs.Common.{ℕ, suc, Bool, true, false, List, [], ◌∷◌, ◌++◌, ◌≡◌, ◌+◌, ◌*◌, ◌^◌, ◌<◌, ◌≤◌, nat_lt, not, length, map, sum, decimal, codes, replicate, refl, sym, ap, ◌∙◌, arith, Ok, Some, Result, append_assoc, length-append, slice_get, slice_set, zero-add}
 use Rattle.std.specs.List.{flat_map}
 use Rattle.std.proofs.Math.Seq.{get_or-append_seam, set-append_seam}
 use Rattle.std.proofs.lemmas.List.Sums.{sum_by-cons, sum_by-append}
@@ -16,7 +16,7 @@ use Rattle.onll_text.specs.BankWording.{bank_wording, state_in_lines}
 use Rattle.onll_text.specs.Init.{head_of, after_lines}
 use Rattle.onll_text.specs.ReadBack.{ReadsBack, IsBank}
 use Rattle.onll_text.proofs.LineWords.{account_line_in_words}
-use Rattle.onll_text.proofs.ReadBack.{one_number-decimal, two_numbers-decimal, length-decimal, after_lines-joined, init_of-flat_map}
+use Rattle.onll_text.proofs.ReadBack.{capacity_of-decimal, two_numbers-decimal, length-decimal, after_lines-joined, init_of-flat_map}
 
 -- the lines of a bank are short
 
@@ -51,10 +51,7 @@ length-state s h =
 -- the first line
 
 head_of-bank : (n : ℕ) → 1 ≤ n → n ≤ 4096 → head_of (codes "bank" ∷ decimal n ∷ []) ≡ Ok (record { kind = kinds.Bank; capacity = n })
-head_of-bank n some few =
-    let within : (nat_le 1 n && nat_le n 4096) ≡ true = grind (arith, nat_tests) in
-    ap (λ v. (v >>= λ k. only_if (nat_le 1 k && nat_le k 4096) OutOfRange k) >>= λ k. Ok (record { kind = kinds.Bank; capacity = k })) (one_number-decimal n (omega arith))
-    ∙ ap (λ t. only_if t OutOfRange n >>= λ k. Ok (record { kind = kinds.Bank; capacity = k })) within
+head_of-bank n some few = ap (λ (v : Result ℕ Reason). v >>= λ k. Ok (record { kind = kinds.Bank; capacity = k })) (capacity_of-decimal n some few)
 
 -- the lines of the accounts
 

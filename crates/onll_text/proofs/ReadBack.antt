@@ -1,4 +1,4 @@
-use Rattle.std.proofs.Common.{ℕ, false, List, [], ◌∷◌, ◌≡◌, ◌^◌, ◌<◌, ◌≤◌, cond, length, map, decimal, ap, ◌∙◌, arith, Ok, Err, Result}
+use Rattle.std.proofs.Common.{ℕ, true, false, ◌&&◌, nat_le, List, [], ◌∷◌, ◌≡◌, ◌^◌, ◌<◌, ◌≤◌, cond, length, map, decimal, ap, ◌∙◌, arith, Ok, Err, Result}
 use Rattle.std.specs.List.{flat_map}
 use Rattle.std.proofs.lemmas.Fmt.{length-decimal-le}
 use Rattle.std.proofs.lemmas.Bool.Decides.{nat_tests}
@@ -6,17 +6,23 @@ use Rattle.onll_words.specs.Texts.{Numbered, meaningful_lines, numbered, joined,
 use Rattle.onll_words.proofs.Decimals.{number_of-decimal}
 use Rattle.onll_words.proofs.Joined.{words_of-joined, meaningful_lines-flat_map}
 use Rattle.onll_text.specs.declared.reason.Reason.{Reason}
-use Rattle.onll_text.specs.declared.reason.Reason.TheVariants.{BadNumber, TooLong}
+use Rattle.onll_text.specs.declared.reason.Reason.TheVariants.{BadNumber, OutOfRange, TooLong}
 use Rattle.onll_text.specs.declared.init.Head.{Head}
-use Rattle.onll_text.specs.Refusal.{refused, ◌>>=◌, or_reason, at_line}
+use Rattle.onll_text.specs.Refusal.{refused, ◌>>=◌, only_if, or_reason, at_line}
 use Rattle.onll_text.specs.Words.{word_as_number, one_number, two_numbers}
 use Rattle.onll_text.specs.Script.{longest_text, is_too_long}
-use Rattle.onll_text.specs.Init.{head_of, after_lines, object_of, init_of_lines, init_of}
+use Rattle.onll_text.specs.Init.{capacity_of, head_of, after_lines, object_of, init_of_lines, init_of}
 
 -- numbers that are written in decimal are read back
 
 pub one_number-decimal : (n : ℕ) → n < 2 ^ 64 → one_number (decimal n ∷ []) ≡ Ok n
 one_number-decimal n h = ap (or_reason BadNumber) (number_of-decimal n h)
+
+pub capacity_of-decimal : (n : ℕ) → 1 ≤ n → n ≤ 4096 → capacity_of (decimal n ∷ []) ≡ Ok n
+capacity_of-decimal n some few =
+    let within : (nat_le 1 n && nat_le n 4096) ≡ true = grind (arith, nat_tests) in
+    ap (λ v. v >>= λ k. only_if (nat_le 1 k && nat_le k 4096) OutOfRange k) (one_number-decimal n (omega arith))
+    ∙ ap (λ t. only_if t OutOfRange n) within
 
 pub two_numbers-decimal : (a b : ℕ) → a < 2 ^ 64 → b < 2 ^ 64 → two_numbers (decimal a ∷ decimal b ∷ []) ≡ Ok (a, b)
 two_numbers-decimal a b h k =

@@ -1,0 +1,4 @@
+pub mod Items
+pub mod Queue
+pub mod Laws
+pub mod Object

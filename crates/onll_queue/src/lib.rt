@@ -1,0 +1,8 @@
+//! A bounded queue of numbers: it refuses where it is full, and its items leave in the order in which they came.
+#![tactic(auto)]
+
+mod operation;
+mod queue;
+
+pub use operation::{QueueOp, QueueQuery, QueueReply};
+pub use queue::Queue;

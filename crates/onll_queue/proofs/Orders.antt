@@ -1,4 +1,5 @@
 use Rattle.std.proofs.Common.{ℕ, Bool, true, false, List, [], ◌∷◌, ◌++◌, ◌≡◌, ◌+◌, ◌-◌, ◌≤◌, ◌<◌, length, drop, nat_lt, cond, refl, ap, sym, ◌∙◌, append_assoc, arith, length-append, length-drop}
+use Rattle.std.proofs.lemmas.List.{append-nil}
 use Rattle.std.proofs.lemmas.Bool.Decides.{nat_tests}
 use Rattle.onll_queue.specs.Items.{Items}
 use Rattle.onll_queue.specs.declared.operation.QueueOp.{QueueOp}
@@ -25,12 +26,8 @@ ordered_pop : (room : ℕ) (items : List ℕ) (ops : List QueueOp) → ((s : Ite
 ordered_pop room [] ops h = h (items_in room [])
 ordered_pop room (x ∷ items) ops h = ap (λ l. x ∷ l) (h (items_in room items))
 
-append_nil : (xs : List ℕ) → xs ++ [] ≡ xs
-append_nil [] = refl
-append_nil (x ∷ xs) = ap (λ l. x ∷ l) (append_nil xs)
-
 pub order_law : OrderLaw
-order_law s [] = append_nil s.items
+order_law s [] = append-nil s.items
 order_law s (Push x ∷ ops) = ordered_push (nat_lt (length s.items) s.room) s.room x s.items ops (λ t. order_law t ops)
 order_law s (Pop ∷ ops) = ordered_pop s.room s.items ops (λ t. order_law t ops)
 

@@ -1,9 +1,9 @@
 use Rattle.std.specs.Prelude.{ℕ, List, [], ◌∷◌, ◌++◌, ◌≡◌, ◌≤◌, length}
 use Rattle.onll_queue.specs.Items.{Items}
 use Rattle.onll_queue.specs.declared.operation.QueueOp.{QueueOp}
-use Rattle.onll_queue.specs.declared.operation.QueueOp.TheVariants.{Push, Pop}
+use Rattle.onll_queue.specs.declared.operation.QueueOp.TheVariants.{Push}
 use Rattle.onll_queue.specs.declared.operation.QueueReply.{QueueReply}
-use Rattle.onll_queue.specs.declared.operation.QueueReply.TheVariants.{Done, Full, Empty, Item, Length}
+use Rattle.onll_queue.specs.declared.operation.QueueReply.TheVariants.{Done, Item}
 use Rattle.onll_queue.specs.Queue.{queue_reply, queue_next}
 
 -- Operations done in order on a queue.

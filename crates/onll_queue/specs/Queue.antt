@@ -1,4 +1,4 @@
-use Rattle.std.specs.Prelude.{ℕ, Bool, List, [], ◌∷◌, ◌++◌, Option, Some, None, if◌then◌else◌, length, drop, nat_lt, ◌==◌, ◌&&◌}
+use Rattle.std.specs.Prelude.{ℕ, Bool, List, [], ◌∷◌, ◌++◌, Option, Some, None, if◌then◌else◌, length, drop, ◌==◌, ◌&&◌}
 use Rattle.onll_words.specs.declared.line.OpRow.{OpRow}
 use Rattle.onll_queue.specs.Items.{Items}
 use Rattle.onll_queue.specs.declared.operation.QueueOp.{QueueOp}
@@ -12,8 +12,8 @@ use Rattle.onll_queue.specs.declared.operation.QueueReply.TheVariants.{Done, Ful
 abbrev pub items_in : ℕ → List ℕ → Items
 items_in room items = record { items = items; room = room }
 
-abbrev pub has_room : Items → Bool
-has_room s = nat_lt (length s.items) s.room
+abbrev pub is_full : Items → Bool
+is_full s = length s.items == s.room
 
 -- the first item, where there is one
 abbrev pub first_of : List ℕ → QueueReply
@@ -21,12 +21,12 @@ first_of [] = Empty
 first_of (x ∷ xs) = Item x
 
 abbrev pub queue_reply : Items → QueueOp → QueueReply
-queue_reply s (Push x) = if has_room s then Done else Full
+queue_reply s (Push x) = if is_full s then Full else Done
 queue_reply s Pop = first_of s.items
 
--- the items after an operation: a push that has room puts its item last, a pop takes the first away, if there is one
+-- the items after an operation: a push puts its item last, where they are not full; a pop takes the first away, where there is one
 abbrev pub items_after : Items → QueueOp → List ℕ
-items_after s (Push x) = if has_room s then s.items ++ x ∷ [] else s.items
+items_after s (Push x) = if is_full s then s.items else s.items ++ x ∷ []
 items_after s Pop = drop 1 s.items
 
 -- the queue after an operation

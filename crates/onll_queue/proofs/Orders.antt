@@ -12,7 +12,7 @@ use Rattle.onll_queue.specs.Order.{queue_after, replies_of, taken_in, given_out,
 abbrev Ordered : List QueueOp → Items → Type 0
 Ordered ops s = s.items ++ taken_in ops (replies_of s ops) ≡ given_out (replies_of s ops) ++ (queue_after s ops).items
 
--- it holds of a push before them, whether or not it is full
+-- it holds of a push before them, whether or not the queue is full
 ordered_push : (t : Bool) (room x : ℕ) (items : List ℕ) (ops : List QueueOp) → ((s : Items) → Ordered ops s)
     → let after = items_in room (cond t items (items ++ x ∷ [])) in
     items ++ taken_in (Push x ∷ ops) (cond t Full Done ∷ replies_of after ops) ≡ given_out (cond t Full Done ∷ replies_of after ops) ++ (queue_after after ops).items

@@ -15,6 +15,7 @@ fn refill(ring: &mut HeapCircularBuffer<u64>, from: &HeapCircularBuffer<u64>)
     requires { ring.old.capacity ≡ from.now.capacity }
     ensures { ring.new ≡ from.now }
 {
+    // the items of a ring are within its capacity, so both parts fit
     let _capacity = from.capacity();
     let (front, back) = from.as_slices();
     ring.clear();
@@ -40,7 +41,7 @@ impl Model for Queue {
 }
 
 impl Queue {
-    /// An empty queue that has room for this many items.
+    /// An empty queue that has room for this many items. The room is taken here, so no later call takes memory.
     pub fn make(alloc: Global, capacity: u64) -> Result<Queue, NoMemory>
         requires { (1 ≤ capacity) × (capacity ≤ 4096) }
         ensures { IfOk result (λ made. made ≡ items_in capacity []) }

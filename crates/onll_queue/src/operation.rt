@@ -1,0 +1,30 @@
+/// What changes a queue.
+#[derive(Clone, Copy, Debug, PartialEq, Eq)]
+pub enum QueueOp {
+    /// Puts x behind the last item.
+    Push { x: u64 },
+    /// Takes the first item away.
+    Pop,
+}
+
+/// What a queue is asked.
+#[derive(Clone, Copy, Debug, PartialEq, Eq)]
+pub enum QueueQuery {
+    /// The first item, which stays.
+    Front,
+    /// How many items there are.
+    Length,
+}
+
+/// What a queue replies and answers.
+#[derive(Clone, Copy, Debug, PartialEq, Eq)]
+pub enum QueueReply {
+    /// It was done.
+    Done,
+    /// There are as many items as there is room for.
+    Full,
+    /// There is no item.
+    Empty,
+    Item(u64),
+    Length(u64),
+}

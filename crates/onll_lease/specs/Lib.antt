@@ -1,0 +1,4 @@
+pub mod Entry
+pub mod Lease
+pub mod Rows
+pub mod Object

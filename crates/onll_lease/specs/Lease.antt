@@ -1,4 +1,4 @@
-use Rattle.std.specs.Prelude.{ℕ, List, [], ◌∷◌, ◌+◌, if◌then◌else◌, length, nat_lt, slice_index_or, slice_set}
+use Rattle.std.specs.Prelude.{ℕ, List, ◌+◌, if◌then◌else◌, length, nat_lt, slice_index_or, slice_set}
 use Rattle.onll_lease.specs.declared.entry.LeaseEntry.{LeaseEntry}
 use Rattle.onll_lease.specs.declared.operation.LeaseOp.{LeaseOp}
 use Rattle.onll_lease.specs.declared.operation.LeaseOp.TheVariants.{Grant, Renew, Release}

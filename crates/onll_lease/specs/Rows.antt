@@ -1,10 +1,8 @@
-use Rattle.std.proofs.Common.{ℕ, Bool, true, false, List, [], ◌∷◌, ◌≡◌, ◌==◌, ◌&&◌, if◌then◌else◌, Option, Some, None, cond, length, refl, ap, length-set, arith}
+use Rattle.std.proofs.Common.{ℕ, Bool, true, false, List, [], ◌∷◌, ◌≡◌, ◌==◌, ◌&&◌, if◌then◌else◌, Option, Some, None, cond, refl, ap, arith}
 use Rattle.std.proofs.lemmas.Bool.Decides.{nat_tests}
 use Rattle.onll_words.specs.declared.line.OpRow.{OpRow}
-use Rattle.onll_lease.specs.declared.entry.LeaseEntry.{LeaseEntry}
 use Rattle.onll_lease.specs.declared.operation.LeaseOp.{LeaseOp}
 use Rattle.onll_lease.specs.declared.operation.LeaseOp.TheVariants.{Grant, Renew, Release}
-use Rattle.onll_lease.specs.Lease.{lease_next}
 
 -- the row of an operation: its code, its arguments, and zeros
 abbrev pub lease_row : LeaseOp → OpRow
@@ -23,9 +21,6 @@ op_of_words _ = None
 
 abbrev pub lease_op_at : OpRow → Option LeaseOp
 lease_op_at row = op_of_words row.w
-
-pub length-lease_next : (s : List LeaseEntry) (op : LeaseOp) → length (lease_next s op) ≡ length s
-length-lease_next s op = length-set s _ _
 
 pub op_of_its_row : (op : LeaseOp) → lease_op_at (lease_row op) ≡ Some op
 op_of_its_row (Grant r h now ttl) = refl

@@ -2,9 +2,13 @@
 #![tactic(auto)]
 
 mod entry;
+mod laws;
 mod lease;
 mod operation;
+#[cfg(test)]
+mod tests;
 
 pub use entry::LeaseEntry;
+pub use laws::{held_law, stale_law, token_law};
 pub use lease::Lease;
 pub use operation::{LeaseOp, LeaseQuery, LeaseReply};

@@ -1,5 +1,6 @@
-use Rattle.std.proofs.Common.{ℕ, zero, suc, Bool, true, false, List, [], ◌∷◌, ◌++◌, ◌≡◌, ◌≢◌, ◌==◌, ◌+◌, ◌<◌, inl, inr, cond, nat_lt, length, AllPairs, refl, sym, ap, ◌∙◌, add-one, arith, length-append, get_or-set_same, get_or-set_other}
+use Rattle.std.proofs.Common.{ℕ, zero, suc, Bool, true, false, List, [], ◌∷◌, ◌++◌, ◌≡◌, ◌≢◌, ◌==◌, ◌&&◌, ◌+◌, ◌<◌, inl, inr, cond, nat_lt, length, All, AllPairs, refl, sym, ap, ◌∙◌, add-one, arith, length-append, get_or-set_same, get_or-set_other}
 use Rattle.std.proofs.lemmas.List.{set_past, get_or_past, set-get_or}
+use Rattle.std.proofs.lemmas.List.Elements.{All-get_or, All-set}
 use Rattle.std.proofs.lemmas.List.Kept.{AllPairs-from_increasing}
 use Rattle.std.specs.List.{AllByRecursion}
 use Rattle.std.specs.List.Sorted.{IsStrictlyIncreasing}
@@ -10,10 +11,10 @@ use Rattle.onll_lease.specs.declared.operation.LeaseOp.{LeaseOp}
 use Rattle.onll_lease.specs.declared.operation.LeaseOp.TheVariants.{Renew, Release}
 use Rattle.onll_lease.specs.declared.operation.LeaseReply.{LeaseReply}
 use Rattle.onll_lease.specs.declared.operation.LeaseReply.TheVariants.{NoResource}
-use Rattle.onll_lease.specs.Entry.{no_lease}
+use Rattle.onll_lease.specs.Entry.{IsEntry, no_lease, is_held}
 use Rattle.onll_lease.specs.Lease.{entry_at, resource_of, entry_next, lease_reply, lease_next}
 use Rattle.onll_lease.specs.Laws.{leases_after, token_in, token_granted, tokens_granted, IsOfOthers, IsStale}
-use Rattle.onll_lease.proofs.Entries.{Grants, Grants-entry, kept_by_others, none_to_others}
+use Rattle.onll_lease.proofs.Entries.{Grants, Grants-entry, kept_by_others, none_to_others, IsEntry-next, zero_never_holds}
 
 -- Laws of tables, over one operation and over lists of them.
 
@@ -124,3 +125,26 @@ pub stale-leases_after : (s : List LeaseEntry) (ops : List LeaseOp) (r t now ttl
 stale-leases_after s ops r t now ttl below =
     let above : t < (entry_at (leases_after s ops) r).token = omega (arith, token-leases_after s ops r) in
     stale_now (leases_after s ops) r t now ttl above
+
+All-lease_next : (s : List LeaseEntry) (op : LeaseOp) → All IsEntry s → All IsEntry (lease_next s op)
+All-lease_next s op all = All-set IsEntry s (resource_of op) (entry_next (entry_at s (resource_of op)) op) (IsEntry-next (entry_at s (resource_of op)) op was) all
+  where
+    was : IsEntry (entry_at s (resource_of op))
+    was = elim (cases_lt (resource_of op) (length s)) [
+      | inl in_range ↦ All-get_or IsEntry s (resource_of op) no_lease in_range all
+      | inr past ↦ rw (get_or_past s (resource_of op) no_lease past) (λ none. (refl, refl))
+    ]
+
+pub All-leases_after : (s : List LeaseEntry) (ops : List LeaseOp) → All IsEntry s → All IsEntry (leases_after s ops)
+All-leases_after s [] all = all
+All-leases_after s (op ∷ ops) all = All-leases_after (lease_next s op) ops (All-lease_next s op all)
+
+pub zero_stale : (s : List LeaseEntry) (r now ttl : ℕ) → All IsEntry s → r < length s → IsStale s (Renew r 0 now ttl) × IsStale s (Release r 0)
+zero_stale s r now ttl all in_range =
+    let was : IsEntry (entry_at s r) = All-get_or IsEntry s r no_lease in_range all in
+    let here : nat_lt r (length s) ≡ true = lt-ltb r (length s) in_range in
+    let not_now : (0 == (entry_at s r).token && is_held (entry_at s r) now) ≡ false = zero_never_holds (entry_at s r) now was in
+    let never : (0 == (entry_at s r).token && is_held (entry_at s r) 0) ≡ false = zero_never_holds (entry_at s r) 0 was in (
+      (rw (here, not_now) refl, same_table s (Renew r 0 now ttl) (rw not_now refl)),
+      (rw (here, never) refl, same_table s (Release r 0) (rw never refl)),
+    )

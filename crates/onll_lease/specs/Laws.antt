@@ -1,10 +1,11 @@
-use Rattle.std.specs.Prelude.{ℕ, Bool, true, false, List, [], ◌∷◌, ◌++◌, ◌≡◌, ◌≢◌, ◌==◌, ◌+◌, ◌<◌, if◌then◌else◌, length, AllPairs}
+use Rattle.std.specs.Prelude.{ℕ, Bool, true, false, List, [], ◌∷◌, ◌++◌, ◌≡◌, ◌≢◌, ◌==◌, ◌+◌, ◌<◌, if◌then◌else◌, length, All, AllPairs}
 use Rattle.std.specs.List.{AllByRecursion}
 use Rattle.onll_lease.specs.declared.entry.LeaseEntry.{LeaseEntry}
 use Rattle.onll_lease.specs.declared.operation.LeaseOp.{LeaseOp}
 use Rattle.onll_lease.specs.declared.operation.LeaseOp.TheVariants.{Grant, Renew, Release}
 use Rattle.onll_lease.specs.declared.operation.LeaseReply.{LeaseReply}
 use Rattle.onll_lease.specs.declared.operation.LeaseReply.TheVariants.{HeldUntil, Granted, Renewed, Stale, Released}
+use Rattle.onll_lease.specs.Entry.{IsEntry}
 use Rattle.onll_lease.specs.Lease.{entry_at, resource_of, lease_reply, lease_next}
 
 -- What the users of a lock service rely on, whatever operations anybody does on whatever table.
@@ -74,3 +75,11 @@ is_done reply = false
 -- what is refused changes nothing
 abbrev pub RefusedLaw : Type 0
 RefusedLaw = (s : List LeaseEntry) (op : LeaseOp) → is_done (lease_reply s op) ≡ false → lease_next s op ≡ s
+
+-- a resource that was never granted has no holder and no end, after whatever operations
+abbrev pub EntryLaw : Type 0
+EntryLaw = (s : List LeaseEntry) (ops : List LeaseOp) → All IsEntry s → All IsEntry (leases_after s ops)
+
+-- nobody has the token 0: it never renews or releases
+abbrev pub ZeroLaw : Type 0
+ZeroLaw = (s : List LeaseEntry) (r now ttl : ℕ) → All IsEntry s → r < length s → IsStale s (Renew r 0 now ttl) × IsStale s (Release r 0)

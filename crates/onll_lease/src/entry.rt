@@ -1,5 +1,5 @@
 ghost use Rattle.std.specs.Prelude.{◌≡◌, ◌+◌};
-ghost use Rattle.onll_lease.specs.Entry.{grant_reply, renew_reply, release_reply, holder_answer, left_by_grant, left_by_renew, left_by_release};
+ghost use Rattle.onll_lease.specs.Entry.{is_held, grant_reply, renew_reply, release_reply, holder_answer, left_by_grant, left_by_renew, left_by_release};
 ghost use Rattle.onll_lease.specs.Lease.{entry_reply, entry_next};
 
 use crate::operation::{LeaseOp, LeaseReply};
@@ -13,39 +13,45 @@ pub struct LeaseEntry {
 }
 
 impl LeaseEntry {
+    fn is_held(&self, now: u64) -> bool
+        ensures { result ≡ is_held self.now now }
+    {
+        now < self.until
+    }
+
     fn grant(&mut self, h: u64, now: u64, ttl: u64) -> LeaseReply
         ensures next { self.new ≡ left_by_grant (grant_reply self.old now ttl) h (now + ttl) self.old }
         ensures reply { result ≡ grant_reply self.old now ttl }
     {
-        if now < self.until {
+        if self.is_held(now) {
             return LeaseReply::HeldUntil(self.until);
         }
-        if ttl > u64::MAX - now {
+        let Some(until) = now.checked_add(ttl) else {
             return LeaseReply::Late;
-        }
-        if self.token == u64::MAX {
-            return LeaseReply::Spent;
-        }
-        *self = LeaseEntry {
-            token: self.token + 1,
-            holder: h,
-            until: now + ttl,
         };
-        LeaseReply::Granted(self.token)
+        let Some(token) = self.token.checked_add(1) else {
+            return LeaseReply::Spent;
+        };
+        *self = LeaseEntry {
+            token,
+            holder: h,
+            until,
+        };
+        LeaseReply::Granted(token)
     }
 
     fn renew(&mut self, token: u64, now: u64, ttl: u64) -> LeaseReply
         ensures next { self.new ≡ left_by_renew (renew_reply self.old token now ttl) self.old }
         ensures reply { result ≡ renew_reply self.old token now ttl }
     {
-        if token != self.token || now >= self.until {
+        if token != self.token || !self.is_held(now) {
             return LeaseReply::Stale;
         }
-        if ttl > u64::MAX - now {
+        let Some(until) = now.checked_add(ttl) else {
             return LeaseReply::Late;
-        }
-        self.until = now + ttl;
-        LeaseReply::Renewed(self.until)
+        };
+        self.until = until;
+        LeaseReply::Renewed(until)
     }
 
     fn release(&mut self, token: u64) -> LeaseReply
@@ -80,14 +86,13 @@ impl LeaseEntry {
     pub(crate) fn holder_at(&self, now: u64) -> LeaseReply
         ensures { result ≡ holder_answer self.now now }
     {
-        if now < self.until {
-            LeaseReply::HeldBy {
-                holder: self.holder,
-                token: self.token,
-                until: self.until,
-            }
-        } else {
-            LeaseReply::Free
+        if !self.is_held(now) {
+            return LeaseReply::Free;
+        }
+        LeaseReply::HeldBy {
+            holder: self.holder,
+            token: self.token,
+            until: self.until,
         }
     }
 }

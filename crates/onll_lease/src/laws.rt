@@ -1,4 +1,4 @@
-ghost use Rattle.onll_lease.specs.Laws.{RisingLaw, CountLaw, HeldLaw, KeptLaw, StaleLaw, RefusedLaw};
+ghost use Rattle.onll_lease.specs.Laws.{RisingLaw, CountLaw, HeldLaw, KeptLaw, StaleLaw, RefusedLaw, EntryLaw, ZeroLaw};
 
 /// A law: the tokens that are granted for a resource only rise, one by one. It does nothing when called.
 pub fn token_law()
@@ -16,4 +16,10 @@ pub fn held_law()
 pub fn stale_law()
     ensures stale { StaleLaw }
     ensures refused { RefusedLaw }
+{}
+
+/// A law: a resource whose token is 0 was never granted, and nobody has that token. It does nothing when called.
+pub fn zero_law()
+    ensures entries { EntryLaw }
+    ensures zero { ZeroLaw }
 {}

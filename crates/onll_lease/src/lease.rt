@@ -1,4 +1,4 @@
-ghost use Rattle.std.specs.Prelude.{◌≡◌, ◌<◌, ◌≤◌, length, replicate, slice_set, IfOk};
+ghost use Rattle.std.specs.Prelude.{◌≡◌, ◌<◌, ◌≤◌, length, replicate, slice_set, IfOk, All};
 ghost use Rattle.std.proofs.Common.{rules};
 ghost use Rattle.onll_lease.specs.Entry.{IsEntry, no_lease};
 ghost use Rattle.onll_lease.specs.Lease.{entry_at};
@@ -54,6 +54,13 @@ impl Lease {
         ensures never_granted { IsEntry result }
     {
         self.entries[r as usize]
+    }
+
+    /// A law: where a resource's token is 0, its holder and its end are 0. It does nothing when called.
+    pub fn entries_law(&self)
+        ensures { All IsEntry self.now }
+    {
+        let _ = &self.entries;
     }
 
     /// Sets the last token given for a resource, its holder and the moment at which its lease ends.

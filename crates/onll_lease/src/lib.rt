@@ -9,6 +9,6 @@ mod operation;
 mod tests;
 
 pub use entry::LeaseEntry;
-pub use laws::{held_law, stale_law, token_law};
+pub use laws::{held_law, stale_law, token_law, zero_law};
 pub use lease::Lease;
 pub use operation::{LeaseOp, LeaseQuery, LeaseReply};

@@ -16,6 +16,7 @@ use Rattle.onll_lease.specs.Laws.{token_in, IsOfOthers}
 pub record Grants (t : ℕ) (granted : List ℕ) (after : ℕ) : Type 0 where
   pub which : ((granted ≡ []) × (after ≡ t)) ⊎ ((granted ≡ (t + 1) ∷ []) × (after ≡ t + 1))
 
+-- of a grant, by its tests in turn
 by_grant : (e : LeaseEntry) (h u : ℕ) (held late spent : Bool)
     → let reply : LeaseReply = cond held (HeldUntil e.until) (cond late Late (cond spent Spent (Granted (e.token + 1)))) in
     Grants e.token (token_in reply) (left_by_grant reply h u e).token
@@ -24,6 +25,7 @@ by_grant e h u false true spent = record { which = inl (refl, refl) }
 by_grant e h u false false true = record { which = inl (refl, refl) }
 by_grant e h u false false false = record { which = inr (refl, refl) }
 
+-- of a renewal
 by_renew : (e : LeaseEntry) (u : ℕ) (current late : Bool)
     → let reply : LeaseReply = cond current (cond late Late (Renewed u)) Stale in
     Grants e.token (token_in reply) (left_by_renew reply e).token
@@ -31,6 +33,7 @@ by_renew e u true true = record { which = inl (refl, refl) }
 by_renew e u true false = record { which = inl (refl, refl) }
 by_renew e u false late = record { which = inl (refl, refl) }
 
+-- of a release
 by_release : (e : LeaseEntry) (current : Bool)
     → let reply : LeaseReply = cond current Released Stale in
     Grants e.token (token_in reply) (left_by_release reply e).token
@@ -54,6 +57,7 @@ none_to_others e (Grant r h now ttl) other = rw (lt-ltb now e.until (other refl)
 none_to_others e (Renew r t now ttl) other = rw (ne_eqb t e.token (other refl)) refl
 none_to_others e (Release r t) other = rw (ne_eqb t e.token (other refl)) refl
 
+-- where the token is 0 after a grant, it was refused
 never_granted_grant : (e : LeaseEntry) (h u : ℕ) (held late spent : Bool) → IsEntry e
     → IsEntry (left_by_grant (cond held (HeldUntil e.until) (cond late Late (cond spent Spent (Granted (e.token + 1))))) h u e)
 never_granted_grant e h u true late spent was = was
@@ -61,16 +65,19 @@ never_granted_grant e h u false true spent was = was
 never_granted_grant e h u false false true was = was
 never_granted_grant e h u false false false was = λ none. absurd (omega arith)
 
+-- a renewal has the token of a resource that is held
 never_granted_renew : (e : LeaseEntry) (u : ℕ) (current late : Bool) → (current ≡ true → 0 < e.until) → IsEntry e
     → IsEntry (left_by_renew (cond current (cond late Late (Renewed u)) Stale) e)
 never_granted_renew e u true true held was = was
 never_granted_renew e u true false held was = λ none. absurd (let no_end : e.until ≡ 0 = (was none).1 in let some_end : 0 < e.until = held refl in omega arith)
 never_granted_renew e u false late held was = was
 
+-- a release leaves no end
 never_granted_release : (e : LeaseEntry) (current : Bool) → IsEntry e → IsEntry (left_by_release (cond current Released Stale) e)
 never_granted_release e true was = λ none. ((was none).0, refl)
 never_granted_release e false was = was
 
+-- what is held has an end
 held_ends : (e : LeaseEntry) (t now : ℕ) → (t == e.token && is_held e now) ≡ true → 0 < e.until
 held_ends e t now held = grind (arith, nat_tests)
 

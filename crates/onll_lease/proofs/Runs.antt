@@ -29,6 +29,7 @@ Grants-own s op = elim (cases_lt (resource_of op) (length s)) [
   | inr past ↦ rw (le-ltb (resource_of op) (length s) past, set_past s (resource_of op) (entry_next (entry_at s (resource_of op)) op) past) (record { which = inl (refl, refl) })
 ]
 
+-- so is that of each resource
 Grants-table : (s : List LeaseEntry) (op : LeaseOp) (r : ℕ) → Grants (entry_at s r).token (token_granted r s op) (entry_at (lease_next s op) r).token
 Grants-table s op r = elim (eqb_tells (resource_of op) r) [
   | inl same ↦ rw (same.0, ← same.1) (Grants-own s op)
@@ -40,6 +41,7 @@ abbrev CountsUp : ℕ → List ℕ → Type 0
 CountsUp t [] = Unit {0}
 CountsUp t (x ∷ xs) = (x ≡ t + 1) × CountsUp x xs
 
+-- what an operation grants, before what later ones do
 CountsUp-joined : (t after : ℕ) (granted later : List ℕ) → Grants t granted after → CountsUp after later → CountsUp t (granted ++ later)
 CountsUp-joined t after granted later step up = elim step.which [
   | inl kept ↦ rw (kept.0, ← kept.1) up
@@ -50,6 +52,7 @@ CountsUp-tokens : (s : List LeaseEntry) (ops : List LeaseOp) (r : ℕ) → Count
 CountsUp-tokens s [] r = tt
 CountsUp-tokens s (op ∷ ops) r = CountsUp-joined _ _ (token_granted r s op) (tokens_granted r (lease_next s op) ops) (Grants-table s op r) (CountsUp-tokens (lease_next s op) ops r)
 
+-- numbers that count up are each below the next
 increasing : (t : ℕ) (xs : List ℕ) → CountsUp t xs → IsStrictlyIncreasing (t ∷ xs)
 increasing t [] up k below = absurd (omega arith)
 increasing t (x ∷ xs) up zero below = omega (arith, up.0)
@@ -60,6 +63,7 @@ increasing t (x ∷ xs) up (suc k) below =
 pub AllPairs-tokens : (s : List LeaseEntry) (ops : List LeaseOp) (r : ℕ) → AllPairs (λ earlier later. earlier < later) ((entry_at s r).token ∷ tokens_granted r s ops)
 AllPairs-tokens s ops r = AllPairs-from_increasing ((entry_at s r).token ∷ tokens_granted r s ops) (increasing _ (tokens_granted r s ops) (CountsUp-tokens s ops r))
 
+-- the token rises by how many are granted
 counted : (t after : ℕ) (granted : List ℕ) → Grants t granted after → after ≡ t + length granted
 counted t after granted step = elim step.which [
   | inl kept ↦ rw (kept.0) (omega (arith, kept.1))
@@ -77,18 +81,19 @@ token-leases_after s (op ∷ ops) r =
 same_table : (s : List LeaseEntry) (op : LeaseOp) → entry_next (entry_at s (resource_of op)) op ≡ entry_at s (resource_of op) → lease_next s op ≡ s
 same_table s op same = rw same (set-get_or s (resource_of op) no_lease)
 
+-- where there is no resource, no token is granted either
 none_in : (here : Bool) (reply : LeaseReply) → token_in reply ≡ [] → token_in (cond here reply NoResource) ≡ []
 none_in true reply none = none
 none_in false reply none = refl
 
--- the same of its own resource
+-- what others do to an operation's own resource leaves it, and gives no token for it
 kept_own : (s : List LeaseEntry) (op : LeaseOp) → IsOfOthers (resource_of op) (entry_at s (resource_of op)) op
     → (entry_at (lease_next s op) (resource_of op) ≡ entry_at s (resource_of op)) × (token_in (lease_reply s op) ≡ [])
 kept_own s op others =
     let same : lease_next s op ≡ s = same_table s op (kept_by_others (entry_at s (resource_of op)) op others) in
     (ap (λ (t : List LeaseEntry). entry_at t (resource_of op)) same, none_in (nat_lt (resource_of op) (length s)) _ (none_to_others (entry_at s (resource_of op)) op others))
 
--- what others do leaves a resource, and gives no token for it
+-- and so of each resource
 kept_once : (s : List LeaseEntry) (op : LeaseOp) (r : ℕ) → IsOfOthers r (entry_at s r) op
     → (entry_at (lease_next s op) r ≡ entry_at s r) × (token_granted r s op ≡ [])
 kept_once s op r others = elim (eqb_tells (resource_of op) r) [
@@ -112,6 +117,7 @@ in_table s r t below = elim (cases_lt r (length s)) [
   | inr past ↦ absurd (let none : entry_at s r ≡ no_lease = get_or_past s r no_lease past in let zero_token : (entry_at s r).token ≡ 0 = ap (λ (e : LeaseEntry). e.token) none in omega arith)
 ]
 
+-- a token below the resource's is stale
 stale_now : (s : List LeaseEntry) (r t now ttl : ℕ) → t < (entry_at s r).token → IsStale s (Renew r t now ttl) × IsStale s (Release r t)
 stale_now s r t now ttl below =
     let in_range : nat_lt r (length s) ≡ true = lt-ltb r (length s) (in_table s r t below) in
@@ -126,6 +132,7 @@ stale-leases_after s ops r t now ttl below =
     let above : t < (entry_at (leases_after s ops) r).token = omega (arith, token-leases_after s ops r) in
     stale_now (leases_after s ops) r t now ttl above
 
+-- an operation keeps the entries of resources that were never granted
 All-lease_next : (s : List LeaseEntry) (op : LeaseOp) → All IsEntry s → All IsEntry (lease_next s op)
 All-lease_next s op all = All-set IsEntry s (resource_of op) (entry_next (entry_at s (resource_of op)) op) (IsEntry-next (entry_at s (resource_of op)) op was) all
   where

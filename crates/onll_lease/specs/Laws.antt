@@ -44,8 +44,8 @@ abbrev pub HeldLaw : Type 0
 HeldLaw = (s : List LeaseEntry) (r h now ttl : ℕ) → now < (entry_at s r).until
     → (lease_reply s (Grant r h now ttl) ≡ HeldUntil (entry_at s r).until) × (lease_next s (Grant r h now ttl) ≡ s)
 
--- what others than the holder do to a resource of this entry while it is held: they have another token, and the
--- moments at which they ask for it are before its end
+-- what others than the one with its token do to a resource of this entry: they ask for it at moments before its end,
+-- and renew or release with another token
 abbrev pub IsOfOthers : ℕ → LeaseEntry → LeaseOp → Type 0
 IsOfOthers r e (Grant q h now ttl) = q ≡ r → now < e.until
 IsOfOthers r e (Renew q t now ttl) = q ≡ r → t ≢ e.token

@@ -1,0 +1,168 @@
+use crate::{
+    Lease, LeaseEntry, LeaseOp, LeaseQuery, LeaseReply, held_law, stale_law, token_law, zero_law,
+};
+use onll_model::{Object, capacity_kept, op_of_its_row, row_of_its_op, undone};
+use onll_words::OpRow;
+use std::test::Fail;
+
+const LAST: u64 = u64::MAX;
+
+fn grant(r: u64, h: u64, now: u64, ttl: u64) -> LeaseOp {
+    LeaseOp::Grant { r, h, now, ttl }
+}
+
+fn renew(r: u64, token: u64, now: u64, ttl: u64) -> LeaseOp {
+    LeaseOp::Renew { r, token, now, ttl }
+}
+
+fn release(r: u64, token: u64) -> LeaseOp {
+    LeaseOp::Release { r, token }
+}
+
+fn holder(r: u64, now: u64) -> LeaseQuery {
+    LeaseQuery::Holder { r, now }
+}
+
+#[test]
+fn a_lease_from_grant_to_grant(rt: HostRuntime) -> Result<(), Fail> {
+    let mut lease = Lease::make(rt.alloc(), 2)?;
+    let table = [
+        (release(0, 0), LeaseReply::Stale),
+        (renew(0, 0, 0, 5), LeaseReply::Stale),
+        (grant(0, 7, 100, 50), LeaseReply::Granted(1)),
+        (grant(0, 8, 149, 50), LeaseReply::HeldUntil(150)),
+        (renew(0, 1, 149, 11), LeaseReply::Renewed(160)),
+        (renew(0, 1, 160, 10), LeaseReply::Stale),
+        (grant(0, 8, 160, 10), LeaseReply::Granted(2)),
+        (renew(0, 1, 161, 10), LeaseReply::Stale),
+        (release(0, 1), LeaseReply::Stale),
+        (release(0, 2), LeaseReply::Released),
+        (release(0, 2), LeaseReply::Stale),
+        (renew(0, 2, 161, 10), LeaseReply::Stale),
+        (grant(0, 9, 0, 0), LeaseReply::Granted(3)),
+        (release(0, 3), LeaseReply::Stale),
+        (grant(2, 9, 0, 1), LeaseReply::NoResource),
+        (renew(2, 0, 0, 1), LeaseReply::NoResource),
+        (release(LAST, 0), LeaseReply::NoResource),
+    ];
+    for (op, reply) in table {
+        assert_eq!(rt; lease.apply(op), reply, "{op:?}");
+    }
+    assert_eq!(rt; lease.capacity(), 2);
+    assert_eq!(rt;
+        lease.entry(0),
+        LeaseEntry {
+            token: 3,
+            holder: 9,
+            until: 0
+        }
+    );
+    assert_eq!(rt;
+        lease.entry(1),
+        LeaseEntry {
+            token: 0,
+            holder: 0,
+            until: 0
+        }
+    );
+    Ok(())
+}
+
+#[test]
+fn the_last_moment_and_the_last_token(rt: HostRuntime) -> Result<(), Fail> {
+    let mut lease = Lease::make(rt.alloc(), 3)?;
+    lease.hold(1, LAST, 4, 10);
+    lease.hold(2, LAST - 1, 5, 10);
+    let table = [
+        (grant(0, 1, LAST, 1), LeaseReply::Late),
+        (grant(0, 1, 1, LAST), LeaseReply::Late),
+        (grant(0, 1, 1, LAST - 1), LeaseReply::Granted(1)),
+        (grant(0, 1, LAST, LAST), LeaseReply::Late),
+        (renew(0, 1, 3, LAST - 2), LeaseReply::Late),
+        (renew(0, 1, 3, LAST - 3), LeaseReply::Renewed(LAST)),
+        (renew(0, 1, LAST, 0), LeaseReply::Stale),
+        (grant(1, 1, 9, 1), LeaseReply::HeldUntil(10)),
+        (grant(1, 1, 10, LAST), LeaseReply::Late),
+        (grant(1, 1, 10, 1), LeaseReply::Spent),
+        (grant(2, 1, 10, 1), LeaseReply::Granted(LAST)),
+        (grant(2, 1, 11, 1), LeaseReply::Spent),
+    ];
+    for (op, reply) in table {
+        assert_eq!(rt; lease.apply(op), reply, "{op:?}");
+    }
+    let held = LeaseReply::HeldBy {
+        holder: 4,
+        token: LAST,
+        until: 10,
+    };
+    let answers = [
+        (holder(1, 9), held),
+        (holder(1, 10), LeaseReply::Free),
+        (holder(3, 0), LeaseReply::NoResource),
+    ];
+    for (query, answer) in answers {
+        assert_eq!(rt; lease.ask(query), answer, "{query:?}");
+    }
+    Ok(())
+}
+
+#[test]
+fn rows_of_no_operation(rt: HostRuntime) {
+    let rows = [
+        [0, 0, 0, 0, 0, 0, 0],
+        [4, 0, 0, 0, 0, 0, 0],
+        [1, 0, 7, 1, 2, 1, 0],
+        [2, 0, 1, 1, 2, 0, 1],
+        [3, 0, 1, 1, 0, 0, 0],
+        [3, 0, 1, 0, 1, 0, 0],
+    ];
+    for w in rows {
+        assert_eq!(rt; Lease::op_of_row(OpRow { w }), None, "{w:?}");
+    }
+}
+
+#[test]
+fn rows_and_operations_are_one_to_one(rt: HostRuntime) {
+    let table = [
+        (grant(3, 4, 5, 6), [1, 3, 4, 5, 6, 0, 0]),
+        (renew(3, 4, 5, 6), [2, 3, 4, 5, 6, 0, 0]),
+        (release(3, 4), [3, 3, 4, 0, 0, 0, 0]),
+    ];
+    for (op, w) in table {
+        assert_eq!(rt; Lease::op_row(op), OpRow { w });
+        assert_eq!(rt; op_of_its_row::<Lease>(op), Some(op));
+        assert_eq!(rt; row_of_its_op::<Lease>(OpRow { w }), Some(OpRow { w }));
+    }
+}
+
+#[test]
+fn a_copy_restores(rt: HostRuntime) -> Result<(), Fail> {
+    let alloc = rt.alloc();
+    let mut lease = Lease::make(alloc, 3)?;
+    let _ = lease.apply(grant(1, 7, 0, 5));
+    let copy = lease.copy(alloc)?;
+    let held = LeaseReply::HeldBy {
+        holder: 7,
+        token: 1,
+        until: 5,
+    };
+    assert_eq!(rt; copy.capacity(), 3);
+    assert_eq!(rt; copy.ask(holder(1, 4)), held);
+    let _ = lease.apply(release(1, 1));
+    lease.restore(&copy);
+    assert_eq!(rt; lease.ask(holder(1, 4)), held);
+    undone(alloc, &mut lease, release(1, 1))?;
+    assert_eq!(rt; lease.ask(holder(1, 4)), held);
+    assert!(rt; capacity_kept(&mut lease, release(1, 1)));
+    Ok(())
+}
+
+#[test]
+fn laws_do_nothing(rt: HostRuntime) -> Result<(), Fail> {
+    Lease::make(rt.alloc(), 1)?.entries_law();
+    token_law();
+    held_law();
+    stale_law();
+    zero_law();
+    Ok(())
+}

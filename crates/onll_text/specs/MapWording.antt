@@ -1,6 +1,5 @@
-use Rattle.std.specs.Prelude.{ℕ, List, [], ◌∷◌, codes, refl}
-use Rattle.onll_words.specs.Texts.{IsWord, AreWords, AreMeaningful}
-use Rattle.onll_words.specs.Short.{ShortText}
+use Rattle.std.specs.Prelude.{[], ◌∷◌, refl}
+use Rattle.onll_words.specs.Texts.{AreWords, AreMeaningful}
 use Rattle.onll_words.proofs.Decimals.{IsWord-decimal}
 use Rattle.onll_words.proofs.ShortWord.{IsWord-short}
 use Rattle.onll_map.specs.declared.operation.MapOp.{MapOp}

@@ -129,7 +129,9 @@ fn lines_of_logs_and_traces(rt: HostRuntime) -> Result<(), Fail> {
 fn a_state_that_is_read(rt: HostRuntime) -> Result<(), Fail> {
     let alloc = rt.alloc();
     let text = b"# balances\n\n bank\t3\r\naccount 2 0050\n#\naccount 0 7";
-    let AnyObject::Bank(bank) = read_init(alloc, text)?;
+    let AnyObject::Bank(bank) = read_init(alloc, text)? else {
+        return Err(Fail::from("not a bank"));
+    };
     let mut report = Report::new(alloc);
     report.state_lines(&bank)?;
     assert_eq!(rt;

@@ -1,76 +1,97 @@
-use Rattle.std.proofs.Common.{ℕ, List, ◌≡◌, ◌⊎◌, inl, inr, Option, Some, None, Result, Ok, Err, refl, sym, ap, ◌∙◌, subst, arith}
-use Rattle.onll_outside.specs.Views.{StoreView, Puts}
+use Rattle.std.proofs.Common.{ℕ, zero, suc, List, ◌≡◌, ◌⊎◌, inl, inr, Option, Some, None, refl, sym, ap, ◌∙◌, subst, arith}
+use Rattle.onll_outside.specs.Views.{Puts}
 use Rattle.onll_text.specs.declared.any_object.AnyObject.{AnyObject}
-use Rattle.onll_text.specs.Refusal.{Refusal}
+use Rattle.onll_text.specs.declared.any_object.AnyObject.TheVariants as objects
+use Rattle.onll_bank.specs.Object.{bank}
+use Rattle.onll_map.specs.Object.{map_object}
+use Rattle.onll_model.specs.declared.call.Call.{Call}
+use Rattle.onll_model.specs.Object.{Behaviour}
+use Rattle.onll_text.specs.Wording.{Wording}
+use Rattle.onll_text.specs.BankWording.{bank_wording}
+use Rattle.onll_text.specs.MapWording.{map_wording}
+use Rattle.onll_text.specs.Script.{script_of}
 use Rattle.onll_text.specs.Init.{init_of}
+use Rattle.onll_jobs.specs.Fold.{fold_report}
 use Rattle.onll_jobs.specs.declared.ending.Ending.{Ending}
-use Rattle.onll_jobs.specs.declared.ending.Ending.TheVariants.{Done, Usage, Refused, ReadFault}
+use Rattle.onll_jobs.specs.declared.ending.Ending.TheVariants.{Done, Usage, Refused, BadLog, ReadFault}
 use Rattle.onll_jobs.specs.declared.ending.Exit.{Exit}
 use Rattle.onll_jobs.specs.declared.ending.Exit.TheVariants.{Said, SinkFault, NoMemory}
 use Rattle.onll_jobs.specs.Seen.{Seen}
 use Rattle.onll_jobs.specs.Command.{Form, Fold, form_of}
-use Rattle.onll_jobs.specs.Reading.{Holds, Reads, Stops}
-use Rattle.onll_jobs.specs.Printed.{usage_text, refusal_text, exit_status}
-use Rattle.onll_jobs.specs.FoldSays.{FoldSays, ScriptSays, fold_on}
-use Rattle.onll_jobs.specs.Says.{UsageSays, FormSays, PutWhole, OutOfMemory, SinkFailed, ExitSays, IsTold, NoneRose, SaysThis, SaysRead}
+use Rattle.onll_jobs.specs.Printed.{usage_text, status_of, exit_status}
+use Rattle.onll_jobs.specs.Job.{Say, JobSays, Never, Decides}
+use Rattle.onll_jobs.specs.FoldJob.{script_job, script_job_on, fold_job}
+use Rattle.onll_jobs.specs.Says.{job_of, PutWhole, OutOfMemory, SinkFailed, ExitSays, NoneRose, SaysThis}
+use Rattle.onll_jobs.proofs.Jobs.{decided, never_says, reading_never}
 
--- each status is that of one exit
-pub done_of : (w : Seen) (x : Exit) → exit_status x ≡ 0 → ExitSays w x → PutWhole w Done
-done_of w (Said Done) e h = h
-done_of w (Said Usage) e h = absurd (omega arith)
-done_of w (Said Refused) e h = absurd (omega arith)
-done_of w (Said ReadFault) e h = absurd (omega arith)
-done_of w SinkFault e h = absurd (omega arith)
-done_of w NoMemory e h = absurd (omega arith)
+-- the ending of a status
+ending_at : ℕ → Ending
+ending_at zero = Done
+ending_at (suc (suc zero)) = Usage
+ending_at (suc (suc (suc zero))) = Refused
+ending_at (suc (suc (suc (suc zero)))) = BadLog
+ending_at _ = ReadFault
 
--- the usage text is put for words of no form alone
-usage_text_of : (w : Seen) (form : Option Form) (text : List ℕ) → FormSays form w.store w.store_after Usage text → (form ≡ None) × (text ≡ usage_text)
-usage_text_of w None text h = (refl, h)
-usage_text_of w (Some (Fold init script)) text (inl h) = absurd h
-usage_text_of w (Some (Fold init script)) text (inr h) = absurd h.says
+ending_at_status : (e : Ending) → ending_at (status_of e) ≡ e
+unfolding ending_at
+ending_at_status Done = refl
+ending_at_status Usage = refl
+ending_at_status Refused = refl
+ending_at_status BadLog = refl
+ending_at_status ReadFault = refl
 
-usage_put : (w : Seen) → PutWhole w Usage → (form_of w.words ≡ None) × Puts w.sink w.sink_after usage_text
-usage_put w h = let said = usage_text_of w (form_of w.words) h.text h.allowed in (said.0, subst (Puts w.sink w.sink_after) said.1 h.put)
+same_ending : (d e : Ending) → status_of d ≡ status_of e → d ≡ e
+same_ending d e h = sym (ending_at_status d) ∙ (ap ending_at h ∙ ending_at_status e)
 
-pub usage_of : (w : Seen) (x : Exit) → exit_status x ≡ 2 → ExitSays w x → (form_of w.words ≡ None) × Puts w.sink w.sink_after usage_text
-usage_of w (Said Done) e h = absurd (omega arith)
-usage_of w (Said Usage) e h = usage_put w h
-usage_of w (Said Refused) e h = absurd (omega arith)
-usage_of w (Said ReadFault) e h = absurd (omega arith)
-usage_of w SinkFault e h = absurd (omega arith)
-usage_of w NoMemory e h = absurd (omega arith)
+not_six : (e : Ending) → status_of e ≡ 6 → ⊥
+not_six Done h = omega arith
+not_six Usage h = omega arith
+not_six Refused h = omega arith
+not_six BadLog h = omega arith
+not_six ReadFault h = omega arith
 
-pub refused_of : (w : Seen) (x : Exit) → exit_status x ≡ 3 → ExitSays w x → PutWhole w Refused
-refused_of w (Said Done) e h = absurd (omega arith)
-refused_of w (Said Usage) e h = absurd (omega arith)
-refused_of w (Said Refused) e h = h
-refused_of w (Said ReadFault) e h = absurd (omega arith)
-refused_of w SinkFault e h = absurd (omega arith)
-refused_of w NoMemory e h = absurd (omega arith)
+not_nine : (e : Ending) → status_of e ≡ 9 → ⊥
+not_nine Done h = omega arith
+not_nine Usage h = omega arith
+not_nine Refused h = omega arith
+not_nine BadLog h = omega arith
+not_nine ReadFault h = omega arith
 
-pub unread_of : (w : Seen) (x : Exit) → exit_status x ≡ 5 → ExitSays w x → PutWhole w ReadFault
-unread_of w (Said Done) e h = absurd (omega arith)
-unread_of w (Said Usage) e h = absurd (omega arith)
-unread_of w (Said Refused) e h = absurd (omega arith)
-unread_of w (Said ReadFault) e h = h
-unread_of w SinkFault e h = absurd (omega arith)
-unread_of w NoMemory e h = absurd (omega arith)
+-- the status of an ending says that its text was put
+pub said_of : (w : Seen) (x : Exit) (e : Ending) → exit_status x ≡ status_of e → ExitSays w x → PutWhole w e
+said_of w (Said d) e h s = subst (PutWhole w) (same_ending d e h) s
+said_of w SinkFault e h s = absurd (not_six e (sym h))
+said_of w NoMemory e h s = absurd (not_nine e (sym h))
 
 pub sink_failed_of : (w : Seen) (x : Exit) → exit_status x ≡ 6 → ExitSays w x → SinkFailed w
-sink_failed_of w (Said Done) e h = absurd (omega arith)
-sink_failed_of w (Said Usage) e h = absurd (omega arith)
-sink_failed_of w (Said Refused) e h = absurd (omega arith)
-sink_failed_of w (Said ReadFault) e h = absurd (omega arith)
-sink_failed_of w SinkFault e h = h
-sink_failed_of w NoMemory e h = absurd (omega arith)
+sink_failed_of w (Said e) h s = absurd (not_six e h)
+sink_failed_of w SinkFault h s = s
+sink_failed_of w NoMemory h s = absurd (omega arith)
 
 pub no_memory_of : (w : Seen) (x : Exit) → exit_status x ≡ 9 → ExitSays w x → OutOfMemory w
-no_memory_of w (Said Done) e h = absurd (omega arith)
-no_memory_of w (Said Usage) e h = absurd (omega arith)
-no_memory_of w (Said Refused) e h = absurd (omega arith)
-no_memory_of w (Said ReadFault) e h = absurd (omega arith)
-no_memory_of w SinkFault e h = absurd (omega arith)
-no_memory_of w NoMemory e h = h
+no_memory_of w (Said e) h s = absurd (not_nine e h)
+no_memory_of w SinkFault h s = absurd (omega arith)
+no_memory_of w NoMemory h s = s
+
+report_never : {State Op Query Reply : Type 0} (b : Behaviour State Op Query Reply) (w : Wording State Op Query Reply) (s : State) (script : List ℕ) → Never Usage (script_job b w s script)
+report_never {State} {Op} {Query} {Reply} b w s script =
+    let never : (calls : List (Call State Op Query Reply)) → Done ≡ Usage → ⊥ = (λ calls e. cc) in
+    reading_never script (script_of w) (λ calls. Say Done (fold_report b w s calls)) never
+
+script_never : (script : List ℕ) (object : AnyObject) → Never Usage (script_job_on script object)
+script_never script (objects.Bank s) = report_never bank bank_wording s script
+script_never script (objects.Map s) = report_never map_object map_wording s script
+
+-- words of a form never get the usage text
+form_never : (form : Form) → Never Usage (job_of (Some form))
+form_never (Fold init script) = reading_never init init_of (script_job_on script) (script_never script)
+
+usage_put : (w : Seen) (form : Option Form) → form_of w.words ≡ form → PutWhole w Usage → (form ≡ None) × Puts w.sink w.sink_after usage_text
+usage_put w None e h = (refl, subst (Puts w.sink w.sink_after) (subst (λ f. JobSays w.store w.store_after (job_of f) Usage h.text) e h.allowed).1 h.put)
+usage_put w (Some form) e h = absurd (never_says w.store w.store_after (job_of (Some form)) h.text (form_never form) (subst (λ f. JobSays w.store w.store_after (job_of f) Usage h.text) e h.allowed))
+
+pub usage_of : (w : Seen) (x : Exit) → exit_status x ≡ 2 → ExitSays w x → (form_of w.words ≡ None) × Puts w.sink w.sink_after usage_text
+usage_of w x h s = usage_put w (form_of w.words) refl (said_of w x Usage h s)
 
 -- the sink's count stays but where the status says that the sink failed
 pub count_of : (w : Seen) (x : Exit) → ExitSays w x → (exit_status x ≡ 6) ⊎ (w.sink_after.faults ≡ w.sink.faults)
@@ -78,107 +99,10 @@ count_of w (Said e) h = inr h.count
 count_of w SinkFault h = inl refl
 count_of w NoMemory h = inr h.count
 
--- where no count rose, an exit is this ending with this text, if each text that is allowed is
-this_only : (w : Seen) (x : Exit) (ending : Ending) (text : List ℕ) → ((e : Ending) (t : List ℕ) → FormSays (form_of w.words) w.store w.store_after e t → (e ≡ ending) × (t ≡ text))
-    → NoneRose w → ExitSays w x → SaysThis w (exit_status x) ending text
-this_only w (Said e) ending text only none h =
-    let said = only e h.text h.allowed in inl (ap (λ end. exit_status (Said end)) said.0, subst (Puts w.sink w.sink_after) said.1 h.put)
-this_only w SinkFault ending text only none h = absurd (none.sink h.rose)
-this_only w NoMemory ending text only none h = inr refl
-
-usage_only : (e : Ending) (t : List ℕ) → UsageSays e t → (e ≡ Usage) × (t ≡ usage_text)
-usage_only Done t h = absurd h
-usage_only Usage t h = (refl, h)
-usage_only Refused t h = absurd h
-usage_only ReadFault t h = absurd h
-
-pub no_form_exactly : (w : Seen) (x : Exit) → form_of w.words ≡ None → NoneRose w → ExitSays w x → SaysThis w (exit_status x) Usage usage_text
-no_form_exactly w x e none h =
-    this_only w x Usage usage_text (λ end t said. usage_only end t (subst (λ form. FormSays form w.store w.store_after end t) e said)) none h
-
--- a told file holds its bytes alone
-held_bytes : (store : StoreView) (name bytes found : List ℕ) → IsTold store name bytes → Holds store name found → found ≡ bytes
-held_bytes store name bytes found told held = let e = held told.tells in let f = told.file in cc
-
--- a refused file ends the call so alone
-refused_only : {A : Type 0} (w : Seen) (grammar : List ℕ → Result A Refusal) (name bytes : List ℕ) (refusal : Refusal) (e : Ending) (t : List ℕ) → IsTold w.store name bytes → grammar bytes ≡ Err refusal → NoneRose w
-    → Stops w.store w.store_after grammar name e t → (e ≡ Refused) × (t ≡ refusal_text name refusal)
-refused_only w grammar name bytes refusal Done t told outside none h = absurd h
-refused_only w grammar name bytes refusal Usage t told outside none h = absurd h
-refused_only w grammar name bytes refusal Refused t told outside none h =
-    let same = held_bytes w.store name bytes h.bytes told h.held in
-    let read = sym (ap grammar same ∙ outside) ∙ h.outside in
-    let found : refusal ≡ h.refusal = cc read in
-    (refl, h.line ∙ ap (refusal_text name) (sym found))
-refused_only w grammar name bytes refusal ReadFault t told outside none h = absurd (none.store h.rose)
-
--- an accepted file doesn't end the call
-none_stops : {A : Type 0} (w : Seen) (grammar : List ℕ → Result A Refusal) (name bytes : List ℕ) (value : A) (e : Ending) (t : List ℕ) → IsTold w.store name bytes → grammar bytes ≡ Ok value → NoneRose w
-    → Stops w.store w.store_after grammar name e t → ⊥
-none_stops w grammar name bytes value Done t told accepted none h = h
-none_stops w grammar name bytes value Usage t told accepted none h = h
-none_stops w grammar name bytes value Refused t told accepted none h =
-    let same = held_bytes w.store name bytes h.bytes told h.held in
-    let read = sym (ap grammar same ∙ accepted) ∙ h.outside in cc read
-none_stops w grammar name bytes value ReadFault t told accepted none h = none.store h.rose
-
--- an accepted file is read as its value alone
-reads_only : {A : Type 0} (store : StoreView) (grammar : List ℕ → Result A Refusal) (name bytes : List ℕ) (value found : A) → IsTold store name bytes → grammar bytes ≡ Ok value → Reads store grammar name found → found ≡ value
-reads_only store grammar name bytes value found told accepted h =
-    let same = held_bytes store name bytes h.bytes told h.held in
-    let read = sym (ap grammar same ∙ accepted) ∙ h.accepted in sym (cc read)
-
-reads_none : {A : Type 0} (store : StoreView) (grammar : List ℕ → Result A Refusal) (name bytes : List ℕ) (refusal : Refusal) (found : A) → IsTold store name bytes → grammar bytes ≡ Err refusal → Reads store grammar name found → ⊥
-reads_none store grammar name bytes refusal found told outside h =
-    let same = held_bytes store name bytes h.bytes told h.held in
-    let read = sym (ap grammar same ∙ outside) ∙ h.accepted in cc read
-
-init_only : (w : Seen) (init script bytes : List ℕ) (refusal : Refusal) (e : Ending) (t : List ℕ) → IsTold w.store init bytes → init_of bytes ≡ Err refusal → NoneRose w
-    → FoldSays w.store w.store_after init script e t → (e ≡ Refused) × (t ≡ refusal_text init refusal)
-init_only w init script bytes refusal e t told outside none (inl h) = refused_only w init_of init bytes refusal e t told outside none h
-init_only w init script bytes refusal e t told outside none (inr h) = absurd (reads_none w.store init_of init bytes refusal h.object told outside h.initial)
-
-pub init_exactly : (w : Seen) (x : Exit) (init script bytes : List ℕ) (refusal : Refusal) → form_of w.words ≡ Some (Fold init script) → IsTold w.store init bytes → init_of bytes ≡ Err refusal → NoneRose w
-    → ExitSays w x → SaysThis w (exit_status x) Refused (refusal_text init refusal)
-init_exactly w x init script bytes refusal form told outside none h =
-    this_only w x Refused (refusal_text init refusal)
-    (λ e t said. init_only w init script bytes refusal e t told outside none (subst (λ f. FormSays f w.store w.store_after e t) form said)) none h
-
-script_refused_only : (w : Seen) (folded : List ℕ → Result (List ℕ) Refusal) (name bytes : List ℕ) (refusal : Refusal) (e : Ending) (t : List ℕ) → IsTold w.store name bytes → folded bytes ≡ Err refusal → NoneRose w
-    → ScriptSays w.store w.store_after folded name e t → (e ≡ Refused) × (t ≡ refusal_text name refusal)
-script_refused_only w folded name bytes refusal Done t told outside none h = absurd (reads_none w.store folded name bytes refusal t told outside h)
-script_refused_only w folded name bytes refusal Usage t told outside none h = absurd h
-script_refused_only w folded name bytes refusal Refused t told outside none h = refused_only w folded name bytes refusal Refused t told outside none h
-script_refused_only w folded name bytes refusal ReadFault t told outside none h = refused_only w folded name bytes refusal ReadFault t told outside none h
-
-script_done_only : (w : Seen) (folded : List ℕ → Result (List ℕ) Refusal) (name bytes text : List ℕ) (e : Ending) (t : List ℕ) → IsTold w.store name bytes → folded bytes ≡ Ok text → NoneRose w
-    → ScriptSays w.store w.store_after folded name e t → (e ≡ Done) × (t ≡ text)
-script_done_only w folded name bytes text Done t told accepted none h = (refl, reads_only w.store folded name bytes text t told accepted h)
-script_done_only w folded name bytes text Usage t told accepted none h = absurd h
-script_done_only w folded name bytes text Refused t told accepted none h = absurd (none_stops w folded name bytes text Refused t told accepted none h)
-script_done_only w folded name bytes text ReadFault t told accepted none h = absurd (none_stops w folded name bytes text ReadFault t told accepted none h)
-
--- once the initial state is known, the script decides
-on_script : (w : Seen) (init script bytes : List ℕ) (object : AnyObject) (P : Type 0) (e : Ending) (t : List ℕ) → IsTold w.store init bytes → init_of bytes ≡ Ok object → NoneRose w
-    → (ScriptSays w.store w.store_after (fold_on object) script e t → P) → FoldSays w.store w.store_after init script e t → P
-on_script w init script bytes object P e t told accepted none f (inl h) = absurd (none_stops w init_of init bytes object e t told accepted none h)
-on_script w init script bytes object P e t told accepted none f (inr h) =
-    f (subst (λ o. ScriptSays w.store w.store_after (fold_on o) script e t) (reads_only w.store init_of init bytes object h.object told accepted h.initial) h.says)
-
-by_fold : (w : Seen) (x : Exit) (init script bytes calls : List ℕ) (object : AnyObject) (r : Result (List ℕ) Refusal) → fold_on object calls ≡ r → form_of w.words ≡ Some (Fold init script) → IsTold w.store init bytes → init_of bytes ≡ Ok object
-    → IsTold w.store script calls → NoneRose w → ExitSays w x → SaysRead w (exit_status x) script r
-by_fold w x init script bytes calls object (Ok text) e form told accepted told_script none h =
-    this_only w x Done text
-    (λ end t said. on_script w init script bytes object ((end ≡ Done) × (t ≡ text)) end t told accepted none
-    (script_done_only w (fold_on object) script calls text end t told_script e none) (subst (λ f. FormSays f w.store w.store_after end t) form said))
-    none h
-by_fold w x init script bytes calls object (Err refusal) e form told accepted told_script none h =
-    this_only w x Refused (refusal_text script refusal)
-    (λ end t said. on_script w init script bytes object ((end ≡ Refused) × (t ≡ refusal_text script refusal)) end t told accepted none
-    (script_refused_only w (fold_on object) script calls refusal end t told_script e none) (subst (λ f. FormSays f w.store w.store_after end t) form said))
-    none h
-
-pub script_exactly : (w : Seen) (x : Exit) (init script bytes calls : List ℕ) (object : AnyObject) → form_of w.words ≡ Some (Fold init script) → IsTold w.store init bytes → init_of bytes ≡ Ok object
-    → IsTold w.store script calls → NoneRose w → ExitSays w x → SaysRead w (exit_status x) script (fold_on object calls)
-script_exactly w x init script bytes calls object form told accepted told_script none h =
-    by_fold w x init script bytes calls object (fold_on object calls) refl form told accepted told_script none h
+-- where no count rose, the words and the told files decide the status and the text, but for memory
+pub decided_exactly : (w : Seen) (x : Exit) (ending : Ending) (text : List ℕ) → Decides w.store (job_of (form_of w.words)) ending text → NoneRose w → ExitSays w x → SaysThis w (exit_status x) ending text
+decided_exactly w (Said e) ending text d none h =
+    let said = decided w.store w.store_after (job_of (form_of w.words)) ending e text h.text none.store d h.allowed in
+    inl (ap status_of said.0, subst (Puts w.sink w.sink_after) said.1 h.put)
+decided_exactly w SinkFault ending text d none h = absurd (none.sink h.rose)
+decided_exactly w NoMemory ending text d none h = inr refl

@@ -2,3 +2,4 @@ mod Cuts
 mod ExitCauses
 mod FoldSteps
 mod Stops
+pub mod Jobs

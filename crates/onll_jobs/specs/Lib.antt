@@ -1,7 +1,8 @@
 pub mod Command
 pub mod Exits
 pub mod Fold
-pub mod FoldSays
+pub mod FoldJob
+pub mod Job
 pub mod Printed
 pub mod Reading
 pub mod Says

@@ -1,6 +1,6 @@
 use Rattle.std.specs.Prelude.{ℕ, List, ◌++◌, codes, decimal}
 use Rattle.onll_jobs.specs.declared.ending.Ending.{Ending}
-use Rattle.onll_jobs.specs.declared.ending.Ending.TheVariants.{Done, Usage, Refused, ReadFault}
+use Rattle.onll_jobs.specs.declared.ending.Ending.TheVariants.{Done, Usage, Refused, BadLog, ReadFault}
 use Rattle.onll_jobs.specs.declared.ending.Exit.{Exit}
 use Rattle.onll_jobs.specs.declared.ending.Exit.TheVariants.{Said, SinkFault, NoMemory}
 use Rattle.onll_text.specs.Refusal.{Refusal, reason_text}
@@ -24,6 +24,7 @@ abbrev pub status_of : Ending → ℕ
 status_of Done = 0
 status_of Usage = 2
 status_of Refused = 3
+status_of BadLog = 4
 status_of ReadFault = 5
 
 -- the exit status of a call

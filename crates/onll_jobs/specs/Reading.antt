@@ -13,6 +13,11 @@ use Rattle.onll_jobs.specs.Printed.{refusal_text, read_fault_text}
 abbrev pub Holds : StoreView → List ℕ → List ℕ → Type 0
 Holds store name bytes = store.tells ≡ true → store.file name ≡ Some bytes
 
+-- the named file is told, and has these bytes
+pub record IsTold (store : StoreView) (name bytes : List ℕ) : Type 0 where
+  pub tells : store.tells ≡ true
+  pub file : store.file name ≡ Some bytes
+
 -- the text is what the named file holds, or its front with one byte that is too many
 pub record IsCut (store : StoreView) (name text : List ℕ) : Type 0 where
   pub bytes : List ℕ
@@ -38,6 +43,11 @@ pub record Unread (store after : StoreView) (name text : List ℕ) : Type 0 wher
   pub rose : Rose store.faults after.faults
   pub last : after.last ≡ Some (record { kind = kinds.Read; name = name })
   pub line : text ≡ read_fault_text name
+
+-- a read of the file fails, and the call ends so
+abbrev pub CannotRead : StoreView → StoreView → List ℕ → Ending → List ℕ → Type 0
+CannotRead store after name ReadFault text = Unread store after name text
+CannotRead store after name ending text = ⊥
 
 -- how the reading of a file ends a call
 abbrev pub Stops : {A : Type 0} → StoreView → StoreView → (List ℕ → Result A Refusal) → List ℕ → Ending → List ℕ → Type 0

@@ -1,24 +1,23 @@
-use Rattle.std.specs.Prelude.{ℕ, List, ◌≡◌, ◌⊎◌, Option, Some, None, true, Result, Ok, Err}
-use Rattle.onll_text.specs.Refusal.{Refusal}
+use Rattle.std.specs.Prelude.{ℕ, List, ◌≡◌, ◌⊎◌, Option, Some, None}
 use Rattle.onll_outside.specs.Views.{StoreView, Puts, PutsFront, Rose}
 use Rattle.onll_jobs.specs.declared.ending.Ending.{Ending}
-use Rattle.onll_jobs.specs.declared.ending.Ending.TheVariants.{Done, Usage, Refused}
+use Rattle.onll_jobs.specs.declared.ending.Ending.TheVariants.{Usage}
 use Rattle.onll_jobs.specs.declared.ending.Exit.{Exit}
 use Rattle.onll_jobs.specs.declared.ending.Exit.TheVariants.{Said, SinkFault, NoMemory}
 use Rattle.onll_jobs.specs.Seen.{Seen}
 use Rattle.onll_jobs.specs.Command.{Form, Fold, form_of}
-use Rattle.onll_jobs.specs.Printed.{usage_text, refusal_text, status_of, exit_status}
-use Rattle.onll_jobs.specs.FoldSays.{FoldSays}
+use Rattle.onll_jobs.specs.Printed.{usage_text, status_of, exit_status}
+use Rattle.onll_jobs.specs.Job.{Job, Say, JobSays}
+use Rattle.onll_jobs.specs.FoldJob.{fold_job}
 
--- words of no form: the usage text
-abbrev pub UsageSays : Ending → List ℕ → Type 0
-UsageSays Usage text = text ≡ usage_text
-UsageSays ending text = ⊥
+-- what a call does by its words: those of no form get the usage text
+abbrev pub job_of : Option Form → Job
+job_of None = Say Usage usage_text
+job_of (Some (Fold init script)) = fold_job init script
 
--- how a form may end, and with which text
+-- how words may end the call, and with which text
 abbrev pub FormSays : Option Form → StoreView → StoreView → Ending → List ℕ → Type 0
-FormSays None store after ending text = UsageSays ending text
-FormSays (Some (Fold init script)) store after ending text = FoldSays store after init script ending text
+FormSays form store after ending text = JobSays store after (job_of form) ending text
 
 -- the words and the files allow this ending with this text
 abbrev pub Allows : Seen → Ending → List ℕ → Type 0
@@ -64,11 +63,6 @@ pub record Ended (seen : Seen) (status : ℕ) : Type 0 where
   pub is : status ≡ exit_status exit
   pub says : ExitSays seen exit
 
--- the named file is told, and has these bytes
-pub record IsTold (store : StoreView) (name bytes : List ℕ) : Type 0 where
-  pub tells : store.tells ≡ true
-  pub file : store.file name ≡ Some bytes
-
 -- no count of faults rose
 pub record NoneRose (seen : Seen) : Type 0 where
   pub store : Rose seen.store.faults seen.store_after.faults → ⊥
@@ -77,8 +71,3 @@ pub record NoneRose (seen : Seen) : Type 0 where
 -- this ending's status, and its text whole; or memory could not be had
 abbrev pub SaysThis : Seen → ℕ → Ending → List ℕ → Type 0
 SaysThis seen status ending text = ((status ≡ status_of ending) × Puts seen.sink seen.sink_after text) ⊎ (status ≡ 9)
-
--- the same for a text that was read or refused
-abbrev pub SaysRead : Seen → ℕ → List ℕ → Result (List ℕ) Refusal → Type 0
-SaysRead seen status name (Ok text) = SaysThis seen status Done text
-SaysRead seen status name (Err refusal) = SaysThis seen status Refused (refusal_text name refusal)

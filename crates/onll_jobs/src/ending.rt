@@ -10,6 +10,8 @@ pub enum Ending {
     Usage,
     /// A text that was read is outside its grammar.
     Refused,
+    /// An image is no log, or the logs give no state.
+    BadLog,
     /// A file could not be read.
     ReadFault,
 }
@@ -23,6 +25,7 @@ impl Ending {
             Ending::Done => 0,
             Ending::Usage => 2,
             Ending::Refused => 3,
+            Ending::BadLog => 4,
             Ending::ReadFault => 5,
         }
     }

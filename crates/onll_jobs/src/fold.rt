@@ -6,7 +6,8 @@ ghost use Rattle.onll_text.specs.Bytes.{begins_line, with_lines};
 ghost use Rattle.onll_text.specs.Lines.{call_lines, node_lines};
 ghost use Rattle.onll_outside.specs.Views.{SameFiles};
 ghost use Rattle.onll_jobs.specs.Fold.{fold_report};
-ghost use Rattle.onll_jobs.specs.FoldSays.{fold_text, ScriptSays, FoldSays};
+ghost use Rattle.onll_jobs.specs.FoldJob.{script_job, fold_job};
+ghost use Rattle.onll_jobs.specs.Job.{JobSays};
 
 use crate::answer::Answer;
 use crate::ending::Ending;
@@ -117,8 +118,8 @@ fn fold_object<O: Texted, S: Store>(
     script: &str,
     store: &mut S,
 ) -> Result<Answer, NoMemory>
-    ensures says { let folded = fold_text O.means O.wording object.old in
-        IfOk result (λ answer. ScriptSays (S.seen store.old) (S.seen store.new) folded script.now answer.ending answer.text.items) }
+    ensures says { let job = script_job O.means O.wording object.old script.now in
+        IfOk result (λ answer. JobSays (S.seen store.old) (S.seen store.new) job answer.ending answer.text.items) }
     ensures same { SameFiles (S.seen store.old) (S.seen store.new) }
 {
     match script_file::<O, S>(alloc, script, store) {
@@ -140,7 +141,7 @@ pub(crate) fn answer<S: Store>(
     script: &str,
     store: &mut S,
 ) -> Result<Answer, NoMemory>
-    ensures says { IfOk result (λ answer. FoldSays (S.seen store.old) (S.seen store.new) init.now script.now answer.ending answer.text.items) }
+    ensures says { IfOk result (λ answer. JobSays (S.seen store.old) (S.seen store.new) (fold_job init.now script.now) answer.ending answer.text.items) }
     ensures same { SameFiles (S.seen store.old) (S.seen store.new) }
 {
     match init_file(alloc, init, store) {

@@ -1,15 +1,12 @@
-ghost use Rattle.std.specs.Prelude.{◌≡◌, ◌⊎◌, ℕ, List, map, string_bytes, Some, None, Ok, Err, IfOk};
+ghost use Rattle.std.specs.Prelude.{◌≡◌, ◌⊎◌, ℕ, List, map, string_bytes, Some, None, IfOk};
 ghost use Rattle.onll_outside.specs.Views.{Puts, SameFiles};
-ghost use Rattle.onll_text.specs.declared.any_object.AnyObject.{AnyObject};
-ghost use Rattle.onll_text.specs.Refusal.{Refusal};
-ghost use Rattle.onll_text.specs.Init.{init_of};
 ghost use Rattle.onll_jobs.specs.declared.ending.Ending.{Ending};
-ghost use Rattle.onll_jobs.specs.Command.{Fold, form_of};
+ghost use Rattle.onll_jobs.specs.Command.{form_of, form_in};
 ghost use Rattle.onll_jobs.specs.Exits.{PutExits};
 ghost use Rattle.onll_jobs.specs.Seen.{seen_by};
-ghost use Rattle.onll_jobs.specs.Says.{FormSays, ExitSays, Ended, PutWhole, OutOfMemory, SinkFailed, IsTold, NoneRose, SaysThis, SaysRead};
-ghost use Rattle.onll_jobs.specs.FoldSays.{fold_on};
-ghost use Rattle.onll_jobs.specs.Printed.{usage_text, refusal_text};
+ghost use Rattle.onll_jobs.specs.Says.{job_of, FormSays, ExitSays, Ended, PutWhole, OutOfMemory, SinkFailed, NoneRose, SaysThis};
+ghost use Rattle.onll_jobs.specs.Job.{Decides};
+ghost use Rattle.onll_jobs.specs.Printed.{usage_text};
 
 use crate::answer::{Answer, usage};
 use crate::command::Command;
@@ -19,6 +16,21 @@ use onll_outside::{OutsideFault, Sink, Store};
 use onll_words::NoMemory;
 use std::alloc::Global;
 
+/// What a command makes the call say.
+fn command_answer<S: Store>(
+    alloc: Global,
+    command: Command<'_>,
+    store: &mut S,
+) -> Result<Answer, NoMemory>
+    ensures says { let form = form_in command.entry in
+        IfOk result (λ answer. FormSays (Some form) (S.seen store.old) (S.seen store.new) answer.ending answer.text.items) }
+    ensures same { SameFiles (S.seen store.old) (S.seen store.new) }
+{
+    match command {
+        Command::Fold { init, script } => fold::answer(alloc, init, script, store),
+    }
+}
+
 /// What the words make the call say.
 fn answer_to<S: Store>(alloc: Global, words: &[String], store: &mut S) -> Result<Answer, NoMemory>
     ensures says { let form = form_of (map string_bytes words.now) in
@@ -26,7 +38,7 @@ fn answer_to<S: Store>(alloc: Global, words: &[String], store: &mut S) -> Result
     ensures same { SameFiles (S.seen store.old) (S.seen store.new) }
 {
     match Command::read(words) {
-        Some(Command::Fold { init, script }) => fold::answer(alloc, init, script, store),
+        Some(command) => command_answer(alloc, command, store),
         None => usage(alloc),
     }
 }
@@ -69,6 +81,8 @@ pub fn onll<S: Store, K: Sink>(alloc: Global, words: &[String], store: &mut S, o
         (form_of (map string_bytes words.now) ≡ None) × Puts (K.held out.old) (K.held out.new) usage_text }
     ensures refused { let seen = seen_by (map string_bytes words.now) (S.seen store.old) (S.seen store.new) (K.held out.old) (K.held out.new) in
         result ≡ 3 → PutWhole seen Ending.Refused }
+    ensures bad_log { let seen = seen_by (map string_bytes words.now) (S.seen store.old) (S.seen store.new) (K.held out.old) (K.held out.new) in
+        result ≡ 4 → PutWhole seen Ending.BadLog }
     ensures unread { let seen = seen_by (map string_bytes words.now) (S.seen store.old) (S.seen store.new) (K.held out.old) (K.held out.new) in
         result ≡ 5 → PutWhole seen Ending.ReadFault }
     ensures sink_failed { let seen = seen_by (map string_bytes words.now) (S.seen store.old) (S.seen store.new) (K.held out.old) (K.held out.new) in
@@ -80,16 +94,9 @@ pub fn onll<S: Store, K: Sink>(alloc: Global, words: &[String], store: &mut S, o
     ensures sink_count { (result ≡ 6) ⊎ ((K.held out.new).faults ≡ (K.held out.old).faults) }
 
     // When it comes: where no count of faults rose, the words and the bytes of the files decide, but for memory.
-    ensures no_form { let seen = seen_by (map string_bytes words.now) (S.seen store.old) (S.seen store.new) (K.held out.old) (K.held out.new) in
-        form_of seen.words ≡ None → NoneRose seen → SaysThis seen result Ending.Usage usage_text }
-    ensures init_refused { let seen = seen_by (map string_bytes words.now) (S.seen store.old) (S.seen store.new) (K.held out.old) (K.held out.new) in
-        (init script bytes : List ℕ) (refusal : Refusal) →
-        form_of seen.words ≡ Some (Fold init script) → IsTold seen.store init bytes → init_of bytes ≡ Err refusal →
-        NoneRose seen → SaysThis seen result Ending.Refused (refusal_text init refusal) }
-    ensures script_read { let seen = seen_by (map string_bytes words.now) (S.seen store.old) (S.seen store.new) (K.held out.old) (K.held out.new) in
-        (init script bytes calls : List ℕ) (object : AnyObject) →
-        form_of seen.words ≡ Some (Fold init script) → IsTold seen.store init bytes → init_of bytes ≡ Ok object →
-        IsTold seen.store script calls → NoneRose seen → SaysRead seen result script (fold_on object calls) }
+    ensures decided { let seen = seen_by (map string_bytes words.now) (S.seen store.old) (S.seen store.new) (K.held out.old) (K.held out.new) in
+        (ending : Ending) (text : List ℕ) → Decides seen.store (job_of (form_of seen.words)) ending text →
+        NoneRose seen → SaysThis seen result ending text }
 
     // No file changes.
     ensures files { SameFiles (S.seen store.old) (S.seen store.new) }

@@ -3,6 +3,8 @@
 
 mod decoded;
 mod head;
+mod image;
 
 pub use decoded::{Decoded, Entries, Entry, Nodes};
 pub use head::LogHead;
+pub use image::{LONGEST_IMAGE, image_lines};

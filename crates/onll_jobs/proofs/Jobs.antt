@@ -1,0 +1,85 @@
+use Rattle.std.proofs.Common.{ℕ, List, ◌≡◌, ◌⊎◌, inl, inr, Some, Result, Ok, Err, refl, sym, ap, ◌∙◌, subst}
+use Rattle.std.specs.Result.{IfOk, MatchResult}
+use Rattle.onll_words.specs.declared.NoMemory.{NoMemory}
+use Rattle.onll_outside.specs.Views.{StoreView, SameFiles, SameFaults, Rose}
+use Rattle.onll_text.specs.Refusal.{Refusal}
+use Rattle.onll_jobs.specs.declared.ending.Ending.{Ending}
+use Rattle.onll_jobs.specs.declared.ending.Ending.TheVariants.{Done, Usage, Refused, BadLog, ReadFault}
+use Rattle.onll_jobs.specs.declared.answer.Answer.{Answer}
+use Rattle.onll_jobs.specs.declared.answer.Stop.{Stop}
+use Rattle.onll_jobs.specs.declared.answer.Stop.TheVariants as stops
+use Rattle.onll_jobs.specs.Stop.{StopSays}
+use Rattle.onll_jobs.specs.Printed.{refusal_text}
+use Rattle.onll_jobs.specs.Reading.{Holds, IsTold, Reads, Unread, CannotRead, Stops}
+use Rattle.onll_jobs.specs.Job.{Job, Say, Read, JobSays, Decides, Never, on_value, reading}
+
+-- a told file holds its bytes alone
+held_bytes : (store : StoreView) (name bytes found : List ℕ) → IsTold store name bytes → Holds store name found → found ≡ bytes
+held_bytes store name bytes found told held = let e = held told.tells in let f = told.file in cc
+
+cannot : (store after : StoreView) (name : List ℕ) (ending : Ending) (text : List ℕ) → CannotRead store after name ending text → Rose store.faults after.faults
+cannot store after name Done text h = absurd h
+cannot store after name Usage text h = absurd h
+cannot store after name Refused text h = absurd h
+cannot store after name BadLog text h = absurd h
+cannot store after name ReadFault text h = h.rose
+
+-- where no count rose, the told files decide how the job ends
+pub decided : (store after : StoreView) (job : Job) (ending e : Ending) (text t : List ℕ) → (Rose store.faults after.faults → ⊥) → Decides store job ending text → JobSays store after job e t → (e ≡ ending) × (t ≡ text)
+decided store after (Say a b) ending e text t none d h = (h.0 ∙ d.0, h.1 ∙ d.1)
+decided store after (Read name next) ending e text t none d (inl h) = absurd (none (cannot store after name e t h))
+decided store after (Read name next) ending e text t none d (inr h) =
+    let same = held_bytes store name d.0 h.0 d.1.0 h.1.0 in
+    decided store after (next d.0) ending e text t none d.1.1 (subst (λ bytes. JobSays store after (next bytes) e t) same h.1.1)
+
+-- a job that never says the usage doesn't end so
+pub never_says : (store after : StoreView) (job : Job) (text : List ℕ) → Never Usage job → JobSays store after job Usage text → ⊥
+never_says store after (Say e t) text never h = never (sym h.0)
+never_says store after (Read name next) text never (inl h) = h
+never_says store after (Read name next) text never (inr h) = never_says store after (next h.0) text (never h.0) h.1.1
+
+cannot_from : (store mid after : StoreView) (name : List ℕ) (ending : Ending) (text : List ℕ) → SameFaults store mid → CannotRead mid after name ending text → CannotRead store after name ending text
+cannot_from store mid after name Done text same h = h
+cannot_from store mid after name Usage text same h = h
+cannot_from store mid after name Refused text same h = h
+cannot_from store mid after name BadLog text same h = h
+cannot_from store mid after name ReadFault text same h = record { rose = subst (λ n. Rose n after.faults) same.0 h.rose; last = h.last; line = h.line }
+
+-- what a job says of a store it says of the store before, where neither files nor faults changed
+pub says_from : (store mid after : StoreView) (job : Job) (ending : Ending) (text : List ℕ) → SameFiles store mid → SameFaults store mid → JobSays mid after job ending text → JobSays store after job ending text
+says_from store mid after (Say e t) ending text files faults h = h
+says_from store mid after (Read name next) ending text files faults (inl h) = inl (cannot_from store mid after name ending text faults h)
+says_from store mid after (Read name next) ending text files faults (inr h) =
+    inr (h.0, ((λ tells. sym (files.file name) ∙ h.1.0 (files.tells ∙ tells)), says_from store mid after (next h.0) ending text files faults h.1.1))
+
+-- a text was read, and the job went on with its value
+pub read_on : {A : Type 0} (store mid after : StoreView) (name : List ℕ) (grammar : List ℕ → Result A Refusal) (next : A → Job) (value : A) (ending : Ending) (text : List ℕ)
+    → Reads store grammar name value → SameFiles store mid → SameFaults store mid → JobSays mid after (next value) ending text → JobSays store after (reading name grammar next) ending text
+read_on store mid after name grammar next value ending text r files faults h =
+    inr (r.bytes, (r.held, subst (λ v. JobSays store after (on_value name next v) ending text) (sym r.accepted) (says_from store mid after (next value) ending text files faults h)))
+
+-- the reading of a text ended the call
+pub read_stopped : {A : Type 0} (store after : StoreView) (name : List ℕ) (grammar : List ℕ → Result A Refusal) (next : A → Job) (ending : Ending) (text : List ℕ)
+    → Stops store after grammar name ending text → JobSays store after (reading name grammar next) ending text
+read_stopped store after name grammar next Done text h = absurd h
+read_stopped store after name grammar next Usage text h = absurd h
+read_stopped store after name grammar next Refused text h =
+    inr (h.bytes, (h.held, subst (λ v. JobSays store after (on_value name next v) Refused text) (sym h.outside) (refl, h.line)))
+read_stopped store after name grammar next BadLog text h = absurd h
+read_stopped store after name grammar next ReadFault text h = inl h
+
+-- what was said in its place
+pub stopped : {A : Type 0} (store after : StoreView) (name : List ℕ) (grammar : List ℕ → Result A Refusal) (next : A → Job) (s : Stop) (r : Result Answer NoMemory)
+    → MatchResult r (λ answer. s ≡ stops.Says answer) (λ e. s ≡ stops.NoMemory) → StopSays s (Stops store after grammar name)
+    → IfOk r (λ answer. JobSays store after (reading name grammar next) answer.ending answer.text.items)
+stopped store after name grammar next s (Ok answer) m h =
+    read_stopped store after name grammar next answer.ending answer.text.items (subst (λ z. StopSays z (Stops store after grammar name)) m h)
+stopped store after name grammar next s (Err e) m h = tt
+
+-- a job that reads a text and goes on so never says the usage
+pub reading_never : {A : Type 0} (name : List ℕ) (grammar : List ℕ → Result A Refusal) (next : A → Job) → ((value : A) → Never Usage (next value)) → Never Usage (reading name grammar next)
+reading_never {A = A} name grammar next f bytes = by (grammar bytes)
+  where
+    by : (r : Result A Refusal) → Never Usage (on_value name next r)
+    by (Ok value) = f value
+    by (Err refusal) = λ e. cc

@@ -1,0 +1,37 @@
+use Rattle.std.specs.Prelude.{ℕ, List, ◌≡◌, ◌⊎◌, Result, Ok, Err}
+use Rattle.onll_text.specs.Refusal.{Refusal}
+use Rattle.onll_outside.specs.Views.{StoreView}
+use Rattle.onll_jobs.specs.declared.ending.Ending.{Ending}
+use Rattle.onll_jobs.specs.declared.ending.Ending.TheVariants.{Refused}
+use Rattle.onll_jobs.specs.Printed.{refusal_text}
+use Rattle.onll_jobs.specs.Reading.{Holds, CannotRead, IsTold}
+
+-- What a call does, up to the text that it puts: it reads files by their names, each after what the ones before it held, and then says a text.
+pub data Job : Type 0 where
+  Say : Ending → List ℕ → Job
+  Read : List ℕ → (List ℕ → Job) → Job
+
+-- the job may end so over this store: each file that it reads holds some bytes, which it goes on with, or can't be read
+abbrev pub JobSays : StoreView → StoreView → Job → Ending → List ℕ → Type 0
+JobSays store after (Say e t) ending text = (ending ≡ e) × (text ≡ t)
+JobSays store after (Read name next) ending text =
+    CannotRead store after name ending text ⊎ ((bytes : List ℕ) × (Holds store name bytes × JobSays store after (next bytes) ending text))
+
+-- the files that are told decide that it ends so
+abbrev pub Decides : StoreView → Job → Ending → List ℕ → Type 0
+Decides store (Say e t) ending text = (e ≡ ending) × (t ≡ text)
+Decides store (Read name next) ending text = (bytes : List ℕ) × (IsTold store name bytes × Decides store (next bytes) ending text)
+
+-- the job never ends so
+abbrev pub Never : Ending → Job → Type 0
+Never ending (Say e t) = e ≡ ending → ⊥
+Never ending (Read name next) = (bytes : List ℕ) → Never ending (next bytes)
+
+-- goes on with a value, or says why a text is refused
+abbrev pub on_value : {A : Type 0} → List ℕ → (A → Job) → Result A Refusal → Job
+on_value name next (Ok value) = next value
+on_value name next (Err refusal) = Say Refused (refusal_text name refusal)
+
+-- reads a text by its grammar
+abbrev pub reading : {A : Type 0} → List ℕ → (List ℕ → Result A Refusal) → (A → Job) → Job
+reading name grammar next = Read name (λ bytes. on_value name next (grammar bytes))

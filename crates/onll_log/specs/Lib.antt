@@ -3,4 +3,4 @@ pub mod Masks
 pub mod Encoding
 pub mod Grammar
 pub mod Decoded
-pub mod Image
+pub mod ImageFile

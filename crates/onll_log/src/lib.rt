@@ -3,8 +3,8 @@
 
 mod decoded;
 mod head;
-mod image;
+mod image_file;
 
 pub use decoded::{Decoded, Entries, Entry, Nodes};
 pub use head::LogHead;
-pub use image::{LONGEST_IMAGE, image_lines};
+pub use image_file::{LONGEST_IMAGE, image_lines};

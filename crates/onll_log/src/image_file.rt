@@ -1,6 +1,6 @@
 ghost use Rattle.std.specs.Prelude.{◌≡◌, take, IfOk};
 ghost use Rattle.onll_pmem.specs.Pmem.{words_of};
-ghost use Rattle.onll_log.specs.Image.{longest_image, whole_lines, image_lines};
+ghost use Rattle.onll_log.specs.ImageFile.{longest_image, whole_lines, image_lines};
 
 use onll_words::{Line, NoMemory, line_of_bytes};
 use std::alloc::Global;

@@ -1,7 +1,7 @@
 use Rattle.std.proofs.Common.{◌≡◌, map, take}
 use Rattle.onll_words.specs.Lines.{words_of_bytes}
 use Rattle.onll_pmem.specs.Pmem.{words_of}
-use Rattle.onll_log.proofs.image.lines_of.Given as goal
+use Rattle.onll_log.proofs.image_file.lines_of.Given as goal
 
 -- the lines so far are those of the chunks so far
 abbrev pub invariant-loop-chunk : goal.invariant-loop-chunk

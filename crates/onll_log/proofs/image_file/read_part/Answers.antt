@@ -1,7 +1,7 @@
 use Rattle.std.proofs.Common.{◌≤◌, length, sym, arith}
 use Rattle.std.proofs.lemmas.List.{length-take-le, take_all}
-use Rattle.onll_log.specs.Image.{longest_image}
-use Rattle.onll_log.proofs.image.read_part.Goals as goal
+use Rattle.onll_log.specs.ImageFile.{longest_image}
+use Rattle.onll_log.proofs.image_file.read_part.Goals as goal
 
 pub slice_bounds-result-end : goal.slice_bounds-result-end
 slice_bounds-result-end c = sym (length-take-le longest_image c.args.bytes.now (omega arith))

@@ -2,7 +2,9 @@
 #![tactic(auto)]
 
 mod decoded;
+mod digest;
 mod head;
+mod masks;
 
 pub use decoded::{Decoded, Entries, Entry, Nodes};
-pub use head::LogHead;
+pub use head::{LogHead, format_of};

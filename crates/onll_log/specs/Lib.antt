@@ -3,3 +3,4 @@ pub mod Masks
 pub mod Encoding
 pub mod Grammar
 pub mod Decoded
+pub mod Laws

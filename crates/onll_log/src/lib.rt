@@ -3,6 +3,8 @@
 
 mod decoded;
 mod head;
+mod laws;
 
 pub use decoded::{Decoded, Entries, Entry, Nodes};
 pub use head::LogHead;
+pub use laws::encoded_laws;

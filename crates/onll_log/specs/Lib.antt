@@ -4,3 +4,4 @@ pub mod Encoding
 pub mod Grammar
 pub mod Decoded
 pub mod Digest
+pub mod Laws

@@ -4,7 +4,9 @@
 mod decoded;
 mod digest;
 mod head;
+mod laws;
 mod masks;
 
 pub use decoded::{Decoded, Entries, Entry, Nodes};
 pub use head::{LogHead, format_of};
+pub use laws::encoded_laws;

@@ -3,7 +3,11 @@ ghost use Rattle.onll_words.specs.Lines.{bytes_of_words};
 ghost use Rattle.onll_log.specs.Head.{digest_words};
 ghost use Rattle.onll_log.specs.Digest.{IsMessage};
 
+ghost use Rattle.std.specs.List.{flat_map};
+ghost use Rattle.onll_pmem.specs.Pmem.{words_of};
+
 use byteorder::{ByteOrder, LittleEndian};
+use onll_words::{Line, line_bytes};
 use sha2::{Digest, Sha256};
 
 /// A message that is fed piece by piece.
@@ -34,6 +38,15 @@ impl Message {
     {
         for word in words {
             self.add_bytes(&word.to_le_bytes());
+        }
+    }
+
+    /// Adds the bytes of lines at the end.
+    pub fn add_lines(&mut self, lines: &[Line])
+        ensures { (m : List ℕ) → IsMessage self.old m → IsMessage self.new (m ++ flat_map bytes_of_words (words_of lines.now)) }
+    {
+        for line in lines {
+            self.add_bytes(&line_bytes(*line));
         }
     }
 

@@ -1,4 +1,4 @@
-ghost use Rattle.std.specs.Prelude.{◌≡◌, ◌≤◌, ◌<◌, ◌==◌, ◌&&◌, ◌||◌, nat_lt, nat_le, if◌then◌else◌, Option, Some, None};
+ghost use Rattle.std.specs.Prelude.{◌≡◌, ◌≤◌, ◌<◌, ◌==◌, ◌&&◌, ◌||◌, nat_lt, nat_le, if◌then◌else◌, Option, Some, None, IfSome};
 ghost use Rattle.onll_pmem.specs.Pmem.{words_of};
 ghost use Rattle.onll_log.specs.Head.{head_for, head_line, head_of, is_head, FitsHead, log_magic};
 ghost use Rattle.onll_log.specs.Grammar.{format_in};
@@ -70,7 +70,8 @@ impl LogHead {
 
     /// The head that a line says, None where it is no log's first line.
     pub fn of_line(line: &Line) -> Option<LogHead>
-        ensures { result ≡ (if is_head line.now.w then Some (head_of line.now.w) else None) }
+        ensures exact { result ≡ (if is_head line.now.w then Some (head_of line.now.w) else None) }
+        ensures fits { IfSome result (λ head. FitsHead head) }
     {
         let [magic, format, thread, threads, object, a, b, c] = line.w;
         if is_first(magic, format) && are_in_range(thread, threads, object) {

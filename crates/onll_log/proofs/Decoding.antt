@@ -1,9 +1,9 @@
 -- What the decoder's steps make of lines.
-use Rattle.std.proofs.Common.{◌≡◌, ℕ, zero, suc, ◌+◌, ◌-◌, ◌*◌, ◌<◌, ◌≤◌, ◌==◌, eqb, Bool, true, false, true≢false, List, [], ◌∷◌, ◌++◌, length, get_or, set, take, drop, map, replicate, sym, refl, ap, ◌∙◌, subst, arith, append_assoc, append-nil, length-append}
+use Rattle.std.proofs.Common.{◌≡◌, ℕ, zero, suc, ◌+◌, ◌-◌, ◌*◌, ◌<◌, ◌≤◌, ◌==◌, eqb, Bool, true, false, true≢false, List, [], ◌∷◌, ◌++◌, length, get_or, set, take, drop, map, replicate, sym, refl, ap, ◌∙◌, subst, arith, append_assoc, append-nil, length-append, ◌⊎◌, inl, inr}
 use Rattle.std.specs.Prelude.{◌&&◌, nat_le, cond, Option, Some, None}
 use Rattle.std.specs.Cmp.Lexicographic.{pointwise}
 use Rattle.std.specs.List.{All, AllByRecursion}
-use Rattle.std.proofs.lemmas.Bool.{leb-true, le-leb}
+use Rattle.std.proofs.lemmas.Bool.{leb-true, le-leb, cases_Bool}
 use Rattle.std.proofs.lemmas.List.{take_more_set, map_more, map-append, take-map, drop-map, drop-drop, length-map, length-drop, length-take-le, drop_more}
 use Rattle.std.proofs.lemmas.List.Elements.{recursion_from_All}
 use Rattle.onll_words.specs.declared.line.Line.{Line}
@@ -15,7 +15,7 @@ use Rattle.onll_log.specs.declared.head.LogHead.{LogHead}
 use Rattle.onll_log.specs.declared.decoded.Entry.{Entry}
 use Rattle.onll_log.specs.Head.{word, head_of, is_head}
 use Rattle.onll_log.specs.Encoding.{entry_magic, guard, entry_line, entry_front, node_lines}
-use Rattle.onll_log.specs.Grammar.{same_words, all_named, is_entry, node_of_line, segment_of, entries_from, is_zero_line}
+use Rattle.onll_log.specs.Grammar.{same_words, all_named, is_entry, node_of_line, segment_of, entries_from, is_zero_line, lines_in}
 use Rattle.onll_log.specs.Decoded.{segment_in, segments_in, placed_from}
 use Rattle.onll_log.proofs.Accepted.{both_true, and_true, entries_from-entry, entries_from-none, entries_from-drop, Accepted, Accepted-if}
 
@@ -201,3 +201,24 @@ places_of_read es ss e = e ∙ ap (placed_from 1) (sym (segments_of_read es ss e
 -- the lines of an image without its first
 pub words_of-rest : (lines rest : List Line) → rest ≡ drop 1 lines → words_of rest ≡ drop 1 (words_of lines)
 words_of-rest lines rest e = ap words_of e ∙ sym (drop-map (λ (line : Line). line.w) 1 lines)
+
+-- ---- how many lines entries take
+lines_after : (head : LogHead) (before skip : ℕ) (ls : List (List ℕ)) → skip ≤ length ls → skip + lines_in (entries_from head before skip ls) ≤ length ls
+lines_after head before zero [] l = omega arith
+lines_after head before (suc skip) [] l = absurd (omega arith)
+lines_after head before (suc skip) (x ∷ xs) l = let h = lines_after head before skip xs (omega arith) in omega arith
+lines_after head before zero (x ∷ xs) l = at (cases_Bool (is_entry head before x xs)) (λ (w : word x 4 ≤ length xs). lines_after head (suc before) (word x 4) xs w)
+  where
+    at : (is_entry head before x xs ≡ true) ⊎ (is_entry head before x xs ≡ false) → (word x 4 ≤ length xs → word x 4 + lines_in (entries_from head (suc before) (word x 4) xs) ≤ length xs)
+        → 0 + lines_in (entries_from head before 0 (x ∷ xs)) ≤ length (x ∷ xs)
+    at (inl e) more = let whole = (Accepted-if head before x xs e).whole in let h = more whole in
+        let count : length (map node_of_line (take (word x 4) xs)) ≡ word x 4 = length-map (take (word x 4) xs) node_of_line ∙ length-take-le (word x 4) xs whole in
+        let here = ap lines_in (entries_from-entry head before x xs e) in omega arith
+    at (inr e) more = let here = ap lines_in (entries_from-none head before x xs e) in omega arith
+
+pub lines_in-entries_from : (head : LogHead) (before : ℕ) (ls : List (List ℕ)) → lines_in (entries_from head before 0 ls) ≤ length ls
+lines_in-entries_from head before ls = let h = lines_after head before 0 ls (omega arith) in omega arith
+
+-- what is used of an image that begins with a head
+pub used_lines : (head : LogHead) (lines : List Line) → 1 ≤ length lines → suc (lines_in (entries_from head 0 0 (drop 1 (words_of lines)))) ≤ length lines
+used_lines head lines one = let h = lines_in-entries_from head 0 (drop 1 (words_of lines)) in omega (arith, length-drop 1 (words_of lines), length-map lines (λ (l : Line). l.w))

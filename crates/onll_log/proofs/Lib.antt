@@ -1,0 +1,4 @@
+pub mod Accepted
+pub mod Bits
+pub mod Decoding
+pub mod Encoded

@@ -4,3 +4,5 @@ pub mod Encoding
 pub mod Grammar
 pub mod Decoded
 pub mod ImageFile
+pub mod Digest
+pub mod Laws

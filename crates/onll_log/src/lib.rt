@@ -2,9 +2,17 @@
 #![tactic(auto)]
 
 mod decoded;
+mod digest;
+mod entry;
 mod head;
+mod image;
 mod image_file;
+mod laws;
+mod masks;
 
 pub use decoded::{Decoded, Entries, Entry, Nodes};
-pub use head::LogHead;
+pub use entry::entry_head;
+pub use head::{LogHead, format_of};
+pub use image::{DecodeFault, decode};
 pub use image_file::{LONGEST_IMAGE, image_lines};
+pub use laws::encoded_laws;

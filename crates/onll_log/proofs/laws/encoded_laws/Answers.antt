@@ -1,0 +1,11 @@
+use Rattle.onll_log.proofs.Encoded.{is_head-head_line, head_of-head_line, entries_from-entries_lines, entries_from-zero_lines, content_of-log_lines, length-entries_lines}
+use Rattle.onll_log.proofs.laws.encoded_laws.Goals as goal
+
+pub returns : goal.returns
+returns c = record {
+  head = λ head f. record { test = is_head-head_line head f; head_back = head_of-head_line head };
+  entries = entries_from-entries_lines;
+  zeros = entries_from-zero_lines;
+  content = content_of-log_lines;
+  lines = length-entries_lines;
+}

@@ -1,10 +1,12 @@
-use Rattle.std.proofs.Common.{ℕ, Bool, true, false, List, ◌≡◌, ◌+◌, inl, inr, Option, Some, None, refl, sym, ap, ◌∙◌}
+use Rattle.std.proofs.lemmas.List.{take_all}
+use Rattle.std.proofs.Common.{ℕ, zero, suc, Bool, true, false, List, [], ◌∷◌, ◌≡◌, ◌+◌, ◌≤◌, length, take, arith, inl, inr, Option, Some, None, refl, sym, ap, ◌∙◌}
 use Rattle.onll_outside.specs.Views.{StoreView, IsFront, Gives}
+use Rattle.onll_log.specs.ImageFile.{longest_image, whole_lines, image_lines}
 use Rattle.onll_text.specs.Wording.{Wording}
 use Rattle.onll_text.specs.Script.{longest_text, script_of}
 use Rattle.onll_text.specs.Init.{init_of}
 use Rattle.onll_text.proofs.Whole.{init_of-take, script_of-take}
-use Rattle.onll_jobs.specs.Reading.{IsCut}
+use Rattle.onll_jobs.specs.Reading.{IsCut, HoldsImage}
 
 -- what a store that tells its files gives
 told : (s : StoreView) (name text : List ℕ) (found : Option (List ℕ)) → s.file name ≡ found → IsFront (longest_text + 1) found text → IsCut s name text
@@ -31,3 +33,24 @@ script_of-cut w s name text c = elim c.cut [
   | inl whole ↦ ap (script_of w) (sym whole)
   | inr front ↦ sym (script_of-take w c.bytes) ∙ ap (script_of w) (sym front)
 ]
+
+-- an image read up to its limit has the lines of the whole file
+image_lines-take : (bytes : List ℕ) → image_lines (take longest_image bytes) ≡ image_lines bytes
+image_lines-take bytes = ap whole_lines (take_all longest_image (take longest_image bytes) (length-take_at_most longest_image bytes))
+  where
+    length-take_at_most : (n : ℕ) (xs : List ℕ) → length (take n xs) ≤ n
+    length-take_at_most zero xs = omega arith
+    length-take_at_most (suc n) [] = omega arith
+    length-take_at_most (suc n) (x ∷ xs) = let h = length-take_at_most n xs in omega arith
+
+told_image : (s : StoreView) (name text : List ℕ) (found : Option (List ℕ)) → s.file name ≡ found → IsFront longest_image found text → HoldsImage s name (image_lines text)
+told_image s name text None e h = absurd h
+told_image s name text (Some all) e h = record { bytes = all; held = λ _. e; image = ap image_lines h ∙ image_lines-take all }
+
+image_by_telling : (t : Bool) (s : StoreView) (name text : List ℕ) → s.tells ≡ t → Gives s name longest_image text → HoldsImage s name (image_lines text)
+image_by_telling true s name text e h = told_image s name text (s.file name) refl (h e)
+image_by_telling false s name text e h = record { bytes = text; held = λ tells. (cc (e, tells)); image = refl }
+
+-- what a store gives of an image's file has the lines of that file
+pub image_of : (s : StoreView) (name text : List ℕ) → Gives s name longest_image text → HoldsImage s name (image_lines text)
+image_of s name text h = image_by_telling s.tells s name text refl h

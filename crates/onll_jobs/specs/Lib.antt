@@ -7,4 +7,5 @@ pub mod Printed
 pub mod Reading
 pub mod Says
 pub mod Seen
+pub mod ShowJob
 pub mod Stop

@@ -1,4 +1,5 @@
 use Rattle.std.specs.Prelude.{ℕ, List, ◌≡◌, ◌+◌, ◌⊎◌, true, Some, Result, Ok, Err, take}
+use Rattle.onll_log.specs.ImageFile.{image_lines}
 use Rattle.onll_text.specs.Refusal.{Refusal}
 use Rattle.onll_text.specs.Script.{longest_text}
 use Rattle.onll_outside.specs.Views.{StoreView, Rose}
@@ -29,6 +30,12 @@ pub record Reads {A : Type 0} (store : StoreView) (grammar : List ℕ → Result
   pub bytes : List ℕ
   pub held : Holds store name bytes
   pub accepted : grammar bytes ≡ Ok value
+
+-- the named file holds an image with these lines
+pub record HoldsImage (store : StoreView) (name : List ℕ) (lines : List (List ℕ)) : Type 0 where
+  pub bytes : List ℕ
+  pub held : Holds store name bytes
+  pub image : lines ≡ image_lines bytes
 
 -- the file is outside the grammar, and this line says so
 pub record Refuses {A : Type 0} (store : StoreView) (grammar : List ℕ → Result A Refusal) (name text : List ℕ) : Type 0 where

@@ -1,15 +1,18 @@
 ghost use Rattle.std.specs.Prelude.{◌≡◌, IfOk, IfErr, OnOk};
 ghost use Rattle.onll_outside.specs.Views.{SameFiles, SameFaults, FaultsOf};
 ghost use Rattle.onll_outside.specs.declared.store.FaultKind.TheVariants.{Read};
+ghost use Rattle.onll_pmem.specs.Pmem.{words_of};
 ghost use Rattle.onll_text.specs.Init.{init_of};
 ghost use Rattle.onll_text.specs.Script.{script_of};
-ghost use Rattle.onll_jobs.specs.Reading.{IsCut, Reads, Stops};
+ghost use Rattle.onll_jobs.specs.Reading.{IsCut, Reads, HoldsImage, CannotRead, Stops};
 ghost use Rattle.onll_jobs.specs.Stop.{StopSays};
 
 use crate::answer::Stop;
+use onll_log::{LONGEST_IMAGE, image_lines};
 use onll_model::Call;
 use onll_outside::{OutsideFault, Store};
 use onll_text::{AnyObject, LONGEST_TEXT, TextFault, Texted, read_init, read_script};
+use onll_words::{Line, NoMemory};
 use std::alloc::Global;
 
 /// The text of a file, with one byte at most that is too many.
@@ -64,5 +67,27 @@ pub(crate) fn script_file<O: Texted, S: Store>(
         Ok(calls) => Ok(calls),
         Err(TextFault::Refused { line, reason }) => Err(Stop::refused(alloc, name, line, reason)),
         Err(TextFault::NoMemory) => Err(Stop::NoMemory),
+    }
+}
+
+/// The lines of a log's image that a file holds, or what is said in their place.
+pub(crate) fn image_file<S: Store>(
+    alloc: Global,
+    name: &str,
+    store: &mut S,
+) -> Result<Vec<Line>, Stop>
+    ensures lines { IfOk result (λ lines. HoldsImage (S.seen store.old) name.now (words_of lines.items)) }
+    ensures stop { IfErr result (λ stop. StopSays stop (CannotRead (S.seen store.old) (S.seen store.new) name.now)) }
+    ensures same { SameFiles (S.seen store.old) (S.seen store.new) }
+    ensures count { OnOk result (SameFaults (S.seen store.old) (S.seen store.new)) }
+{
+    let bytes = match store.read(alloc, name, LONGEST_IMAGE as u64) {
+        Ok(bytes) => bytes,
+        Err(OutsideFault::Failed) => return Err(Stop::unread(alloc, name)),
+        Err(OutsideFault::NoMemory) => return Err(Stop::NoMemory),
+    };
+    match image_lines(alloc, &bytes) {
+        Ok(lines) => Ok(lines),
+        Err(NoMemory) => Err(Stop::NoMemory),
     }
 }

@@ -20,7 +20,7 @@ mod words;
 
 pub use any_object::{AnyObject, Kind};
 pub use init::read_init;
-pub use read_back::{bank_reads_back, map_reads_back};
+pub use read_back::{bank_reads_back, lease_reads_back, map_reads_back, queue_reads_back};
 pub use reason::{Reason, TextFault};
 pub use report::{Piece, Report};
 pub use script::{LONGEST_TEXT, read_script};

@@ -2,12 +2,16 @@ use Rattle.std.specs.Prelude.{ℕ, List, ◌⊎◌, Result, Ok}
 use Rattle.onll_model.specs.Object.{Behaviour}
 use Rattle.onll_bank.specs.Object.{bank}
 use Rattle.onll_map.specs.Object.{map_object}
+use Rattle.onll_queue.specs.Object.{queue}
+use Rattle.onll_lease.specs.Object.{lease}
 use Rattle.onll_text.specs.declared.any_object.AnyObject.{AnyObject}
 use Rattle.onll_text.specs.declared.any_object.AnyObject.TheVariants as objects
 use Rattle.onll_text.specs.Refusal.{Refusal, ◌>>=◌}
 use Rattle.onll_text.specs.Wording.{Wording}
 use Rattle.onll_text.specs.BankWording.{bank_wording}
 use Rattle.onll_text.specs.MapWording.{map_wording}
+use Rattle.onll_text.specs.QueueWording.{queue_wording}
+use Rattle.onll_text.specs.LeaseWording.{lease_wording}
 use Rattle.onll_text.specs.Script.{script_of}
 use Rattle.onll_text.specs.Init.{init_of}
 use Rattle.onll_outside.specs.Views.{StoreView}
@@ -26,6 +30,8 @@ fold_text b w s script = script_of w script >>= λ calls. Ok (fold_report b w s 
 abbrev pub fold_on : AnyObject → List ℕ → Result (List ℕ) Refusal
 fold_on (objects.Bank s) = fold_text bank bank_wording s
 fold_on (objects.Map s) = fold_text map_object map_wording s
+fold_on (objects.Queue s) = fold_text queue queue_wording s
+fold_on (objects.Lease s) = fold_text lease lease_wording s
 
 -- how the script ends the call: its report is put, where it is read
 abbrev pub ScriptSays : StoreView → StoreView → (List ℕ → Result (List ℕ) Refusal) → List ℕ → Ending → List ℕ → Type 0

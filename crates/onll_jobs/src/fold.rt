@@ -146,6 +146,8 @@ pub(crate) fn answer<S: Store>(
     match init_file(alloc, init, store) {
         Ok(AnyObject::Bank(mut bank)) => fold_object(alloc, &mut bank, script, store),
         Ok(AnyObject::Map(mut map)) => fold_object(alloc, &mut map, script, store),
+        Ok(AnyObject::Queue(mut queue)) => fold_object(alloc, &mut queue, script, store),
+        Ok(AnyObject::Lease(mut lease)) => fold_object(alloc, &mut lease, script, store),
         Err(stop) => stop.answer(),
     }
 }

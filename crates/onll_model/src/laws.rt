@@ -1,4 +1,6 @@
-ghost use Rattle.std.specs.Prelude.{◌≡◌, Some, true, IfSome, IfOk};
+ghost use Rattle.std.specs.Prelude.{◌≡◌, None, Some, true, MatchOption, IfOk};
+ghost use Rattle.onll_model.specs.declared.node.Node.{Node};
+ghost use Rattle.onll_model.specs.Names.{name_of, node_of_name, HasNumber};
 
 use crate::object::Object;
 use onll_words::{NoMemory, OpRow};
@@ -11,9 +13,9 @@ pub fn op_of_its_row<O: Object>(op: O::Op) -> Option<O::Op>
     O::op_of_row(O::op_row(op))
 }
 
-/// A row that is the row of an operation is that operation's row.
+/// A row that is the row of an operation is that operation's row; None exactly where it is the row of none.
 pub fn row_of_its_op<O: Object>(row: OpRow) -> Option<OpRow>
-    ensures { IfSome result (λ back. back ≡ row) }
+    ensures { MatchOption result (O.means.op_at row ≡ None) (λ back. back ≡ row) }
 {
     O::op_of_row(row).map(|op| O::op_row(op))
 }
@@ -36,3 +38,9 @@ pub fn capacity_kept<O: Object>(object: &mut O, op: O::Op) -> bool
     let _ = object.apply(op);
     object.capacity() == before
 }
+
+/// A node is the one that its name and its row give.
+#[tactic(auto, using(crate::proofs::Names::node_of_its_name))]
+pub fn name_law()
+    ensures { (n : Node) → HasNumber n → node_of_name (name_of n) n.row ≡ n }
+{}

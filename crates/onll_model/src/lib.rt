@@ -5,8 +5,12 @@ mod call;
 mod laws;
 mod node;
 mod object;
+mod recovered;
+mod turn;
 
 pub use call::{Call, CallEnd};
-pub use laws::{capacity_kept, op_of_its_row, row_of_its_op, undone};
-pub use node::Node;
+pub use laws::{capacity_kept, name_law, op_of_its_row, row_of_its_op, undone};
+pub use node::{Node, node_line};
 pub use object::Object;
+pub use recovered::{NotOp, fold_nodes};
+pub use turn::Turn;

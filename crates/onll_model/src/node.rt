@@ -1,4 +1,10 @@
-use onll_words::OpRow;
+ghost use Rattle.std.specs.Prelude.{◌≡◌, ◌≤◌};
+ghost use Rattle.onll_model.specs.Names.{name_of, node_of_name, HasNumber, HasName, words_of_node};
+
+use onll_words::{Line, OpRow};
+
+/// How many names a thread has, one for each of its updates.
+const NAMES: u64 = 4096;
 
 /// An update in the trace: its thread, its number in that thread from 1, and the row of its operation.
 #[derive(Clone, Copy, Debug, PartialEq, Eq)]
@@ -6,4 +12,40 @@ pub struct Node {
     pub thread: u64,
     pub number: u64,
     pub row: OpRow,
+}
+
+impl Node {
+    /// The one number, 1 to 65,536, that stands for the thread and the number in a log.
+    pub fn name(&self) -> u64
+        requires { HasName self.now }
+        ensures name { result ≡ name_of self.now }
+        ensures range { (1 ≤ result) × (result ≤ 65536) }
+    {
+        self.thread * NAMES + self.number
+    }
+
+    /// The one node of this name and row.
+    pub fn of_name(name: u64, row: OpRow) -> Node
+        requires { (1 ≤ name) × (name ≤ 65536) }
+        ensures node { result ≡ node_of_name name row }
+        ensures name { name_of result ≡ name }
+        ensures fits { HasName result }
+    {
+        Node {
+            thread: (name - 1) / NAMES,
+            number: (name - 1) % NAMES + 1,
+            row,
+        }
+    }
+}
+
+/// The line of a log that holds a node: its name and the seven words of its row.
+pub fn node_line(node: Node) -> Line
+    requires { HasName node }
+    ensures { result.w ≡ words_of_node node }
+{
+    let [code, a, b, c, d, e, f] = node.row.w;
+    Line {
+        w: [node.name(), code, a, b, c, d, e, f],
+    }
 }

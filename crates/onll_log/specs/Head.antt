@@ -1,0 +1,51 @@
+use Rattle.std.specs.Prelude.{ℕ, ◌≤◌, ◌<◌, ◌≡◌, ◌==◌, ◌&&◌, ◌||◌, ◌++◌, Bool, List, [], ◌∷◌, length, take, drop, nat_le, nat_lt, slice_index_or}
+use Rattle.sha2.specs.Sha256.{sha256}
+use Rattle.onll_words.specs.Lines.{bytes_of_words}
+use Rattle.onll_words.specs.Bytes.{words_in, low_word}
+use Rattle.onll_log.specs.declared.head.LogHead.{LogHead}
+
+-- The first line of a log. A line is a list of eight words.
+
+abbrev pub word : List ℕ → ℕ → ℕ
+word line j = slice_index_or line j 0
+
+-- the bytes ONLLLOG1, the lowest first
+abbrev pub log_magic : ℕ
+log_magic = 0x31474f4c4c4c4e4f
+
+-- three words of the first 24 bytes of SHA-256 (FIPS 180-4) over bytes
+abbrev pub digest_words : List ℕ → List ℕ
+digest_words bytes = words_in low_word 3 (take 24 (sha256 bytes))
+
+-- the words of a head's line before its digest
+abbrev pub head_front : ℕ → ℕ → ℕ → ℕ → List ℕ
+head_front format thread threads object = log_magic ∷ format ∷ thread ∷ threads ∷ object ∷ []
+
+-- the head of a log of the object that these bytes of an initial state begin
+abbrev pub head_for : ℕ → ℕ → ℕ → ℕ → List ℕ → LogHead
+head_for format thread threads object init = record {
+  thread = thread;
+  threads = threads;
+  object = object;
+  digest = digest_words (bytes_of_words (head_front format thread threads object) ++ init);
+  format = format;
+}
+
+abbrev pub head_line : LogHead → List ℕ
+head_line head = head_front head.format head.thread head.threads head.object ++ head.digest
+
+-- the fields that a head can have
+pub record FitsHead (head : LogHead) : Type 0 where
+  pub thread : head.thread < head.threads
+  pub threads : head.threads ≤ 16
+  pub object : (1 ≤ head.object) × (head.object ≤ 4)
+  pub format : (1 ≤ head.format) × (head.format ≤ 2)
+  pub digest : length head.digest ≡ 3
+
+-- whether a line is the head of a log of either format
+abbrev pub is_head : List ℕ → Bool
+is_head line = (word line 0 == log_magic) && (((word line 1 == 1) || (word line 1 == 2)) && (nat_lt (word line 2) (word line 3) && (nat_le (word line 3) 16 && (nat_le 1 (word line 4) && nat_le (word line 4) 4))))
+
+-- the head that a line says
+abbrev pub head_of : List ℕ → LogHead
+head_of line = record { thread = word line 2; threads = word line 3; object = word line 4; digest = drop 5 line; format = word line 1 }

@@ -1,0 +1,5 @@
+pub mod Head
+pub mod Masks
+pub mod Encoding
+pub mod Grammar
+pub mod Decoded

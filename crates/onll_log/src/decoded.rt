@@ -1,0 +1,90 @@
+ghost use Rattle.std.specs.Prelude.{◌≡◌};
+
+use crate::head::LogHead;
+use onll_model::Node;
+use std::marker::Model;
+
+/// Nodes in order, seen as their list.
+#[derive(Drop)]
+pub struct Nodes {
+    nodes: Vec<Node>,
+}
+
+impl Model for Nodes {
+    ghost use Rattle.std.specs.Prelude.{List};
+    ghost use Rattle.onll_model.specs.declared.node.Node.{Node};
+
+    ghost Value = { List Node };
+
+    ghost view = { λ s. s.nodes.items };
+}
+
+impl Nodes {
+    pub fn of_vec(nodes: Vec<Node>) -> Nodes
+        ensures { result ≡ nodes.items }
+    {
+        Nodes { nodes }
+    }
+
+    pub fn as_slice(&self) -> &[Node]
+        ensures { result.now ≡ self.now }
+    {
+        &self.nodes
+    }
+
+    pub fn into_vec(self) -> Vec<Node>
+        ensures { result.items ≡ self }
+    {
+        self.nodes
+    }
+}
+
+/// An accepted entry of a log: the line at which it begins, its nodes, and the place of the last of them.
+#[derive(Drop)]
+pub struct Entry {
+    pub line: u64,
+    pub place: u64,
+    pub nodes: Nodes,
+}
+
+/// Entries in order, seen as their list.
+#[derive(Drop)]
+pub struct Entries {
+    entries: Vec<Entry>,
+}
+
+impl Model for Entries {
+    ghost use Rattle.std.specs.Prelude.{List};
+    ghost use Rattle.onll_log.specs.declared.decoded.Entry.{Entry};
+
+    ghost Value = { List Entry };
+
+    ghost view = { λ s. s.entries.items };
+}
+
+impl Entries {
+    pub fn of_vec(entries: Vec<Entry>) -> Entries
+        ensures { result ≡ entries.items }
+    {
+        Entries { entries }
+    }
+
+    pub fn as_slice(&self) -> &[Entry]
+        ensures { result.now ≡ self.now }
+    {
+        &self.entries
+    }
+
+    pub fn into_vec(self) -> Vec<Entry>
+        ensures { result.items ≡ self }
+    {
+        self.entries
+    }
+}
+
+/// What an image of a log holds: its head, None where it is all zero, and its accepted entries.
+#[derive(Drop)]
+pub struct Decoded {
+    pub head: Option<LogHead>,
+    pub entries: Entries,
+}

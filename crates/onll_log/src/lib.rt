@@ -1,0 +1,8 @@
+//! The log of one thread: its lines, the grammar by which any image of a log is read, and the log over a device.
+#![tactic(auto)]
+
+mod decoded;
+mod head;
+
+pub use decoded::{Decoded, Entries, Entry, Nodes};
+pub use head::LogHead;

@@ -1,4 +1,4 @@
-use Rattle.std.proofs.Common.{ℕ, Bool, true, false, List, [], ◌∷◌, ◌++◌, ◌≡◌, Option, Some, None, codes, decimal, refl, sym, ap, ◌∙◌, ◌+◌, ◌<◌, length, drop, slice_index_or, append_assoc}
+use Rattle.std.proofs.Common.{ℕ, Bool, true, false, List, [], ◌∷◌, ◌++◌, ◌≡◌, Option, Some, None, codes, decimal, refl, sym, ap, ◌∙◌, ◌+◌, ◌<◌, ◌≤◌, length, map, drop, slice_index_or, append_assoc}
 use Rattle.std.specs.List.{flat_map}
 use Rattle.std.proofs.lemmas.List.{append-nil, drop_more}
 use Rattle.onll_words.specs.Texts.{line_text, AreWords}
@@ -10,7 +10,9 @@ use Rattle.onll_model.specs.declared.call.CallEnd.{CallEnd}
 use Rattle.onll_model.specs.declared.call.CallEnd.TheVariants.{Answered, Running, Ordered, FenceFailed, Broken}
 use Rattle.onll_model.specs.Object.{Behaviour}
 use Rattle.onll_text.specs.Bytes.{begins_line, with_word, with_words, with_lines}
+use Rattle.onll_text.specs.Pieces.{piece_word}
 use Rattle.onll_text.specs.Wording.{Wording}
+use Rattle.onll_text.specs.declared.report.Piece.{Piece}
 use Rattle.onll_text.specs.Lines.{at_words, call_words, end_words, call_line, flag_words, row_words, node_line, fence_words, log_line}
 use Rattle.onll_words.specs.Short.{ShortText}
 use Rattle.onll_words.proofs.ShortWord.{IsWord-short}
@@ -121,6 +123,12 @@ pub whole_line : (old began new w : List ℕ) (ws : List (List ℕ)) → began �
 whole_line old began new w ws e₁ e₂ h k =
     let line = e₂ ∙ ap (λ t. t ++ 10 ∷ []) e₁ ∙ with_words-line old w ws h k in
     (line, ap begins_line line ∙ begins_line-line old (w ∷ ws))
+
+-- the same of any words, where there is one
+pub line_of_pieces : (old began new : List ℕ) (pieces : List Piece) → began ≡ with_words old (map piece_word pieces) → new ≡ began ++ 10 ∷ []
+    → begins_line old ≡ true → 1 ≤ length pieces → AreWords (map piece_word pieces) → new ≡ old ++ line_text (map piece_word pieces)
+line_of_pieces old began new [] e₁ e₂ h n k = cc
+line_of_pieces old began new (p ∷ ps) e₁ e₂ h n k = (whole_line old began new (piece_word p) (map piece_word ps) e₁ e₂ h k).0
 
 pub account_line_in_words : (a balance : ℕ) → AreWords (account_line a balance)
 account_line_in_words a balance = (record { some = refl; bytes = refl }, (IsWord-decimal a, (IsWord-decimal balance, tt)))

@@ -4,11 +4,15 @@ use Rattle.onll_text.specs.declared.any_object.AnyObject.{AnyObject}
 use Rattle.onll_text.specs.declared.any_object.AnyObject.TheVariants as objects
 use Rattle.onll_bank.specs.Object.{bank}
 use Rattle.onll_map.specs.Object.{map_object}
+use Rattle.onll_queue.specs.Object.{queue}
+use Rattle.onll_lease.specs.Object.{lease}
 use Rattle.onll_model.specs.declared.call.Call.{Call}
 use Rattle.onll_model.specs.Object.{Behaviour}
 use Rattle.onll_text.specs.Wording.{Wording}
 use Rattle.onll_text.specs.BankWording.{bank_wording}
 use Rattle.onll_text.specs.MapWording.{map_wording}
+use Rattle.onll_text.specs.QueueWording.{queue_wording}
+use Rattle.onll_text.specs.LeaseWording.{lease_wording}
 use Rattle.onll_text.specs.Script.{script_of}
 use Rattle.onll_text.specs.Init.{init_of}
 use Rattle.onll_jobs.specs.Fold.{fold_report}
@@ -81,6 +85,8 @@ report_never {State} {Op} {Query} {Reply} b w s script =
 script_never : (script : List ℕ) (object : AnyObject) → Never Usage (script_job_on script object)
 script_never script (objects.Bank s) = report_never bank bank_wording s script
 script_never script (objects.Map s) = report_never map_object map_wording s script
+script_never script (objects.Queue s) = report_never queue queue_wording s script
+script_never script (objects.Lease s) = report_never lease lease_wording s script
 
 -- words of a form never get the usage text
 form_never : (form : Form) → Never Usage (job_of (Some form))

@@ -6,7 +6,7 @@ ghost use Rattle.onll_text.specs.Bytes.{begins_line, with_lines};
 ghost use Rattle.onll_text.specs.Lines.{call_lines, node_lines};
 ghost use Rattle.onll_outside.specs.Views.{SameFiles};
 ghost use Rattle.onll_jobs.specs.Fold.{fold_report};
-ghost use Rattle.onll_jobs.specs.FoldJob.{script_job, fold_job};
+ghost use Rattle.onll_jobs.specs.FoldJob.{script_job, script_job_on, fold_job};
 ghost use Rattle.onll_jobs.specs.Job.{JobSays};
 
 use crate::answer::Answer;
@@ -134,6 +134,24 @@ fn fold_object<O: Texted, S: Store>(
     }
 }
 
+/// Folds the script of a file on an object of any kind.
+fn fold_any<S: Store>(
+    alloc: Global,
+    object: AnyObject,
+    script: &str,
+    store: &mut S,
+) -> Result<Answer, NoMemory>
+    ensures says { IfOk result (λ answer. JobSays (S.seen store.old) (S.seen store.new) (script_job_on script.now object) answer.ending answer.text.items) }
+    ensures same { SameFiles (S.seen store.old) (S.seen store.new) }
+{
+    match object {
+        AnyObject::Bank(mut bank) => fold_object(alloc, &mut bank, script, store),
+        AnyObject::Map(mut map) => fold_object(alloc, &mut map, script, store),
+        AnyObject::Queue(mut queue) => fold_object(alloc, &mut queue, script, store),
+        AnyObject::Lease(mut lease) => fold_object(alloc, &mut lease, script, store),
+    }
+}
+
 /// Folds the script of a file on the initial state of another.
 pub(crate) fn answer<S: Store>(
     alloc: Global,
@@ -145,8 +163,7 @@ pub(crate) fn answer<S: Store>(
     ensures same { SameFiles (S.seen store.old) (S.seen store.new) }
 {
     match init_file(alloc, init, store) {
-        Ok(AnyObject::Bank(mut bank)) => fold_object(alloc, &mut bank, script, store),
-        Ok(AnyObject::Map(mut map)) => fold_object(alloc, &mut map, script, store),
+        Ok(object) => fold_any(alloc, object, script, store),
         Err(stop) => stop.answer(),
     }
 }

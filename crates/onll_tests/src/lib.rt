@@ -13,6 +13,10 @@ mod hostile_scripts;
 #[cfg(test)]
 mod large;
 #[cfg(test)]
+mod leases;
+#[cfg(test)]
 mod maps;
+#[cfg(test)]
+mod queues;
 #[cfg(test)]
 mod worked;

@@ -4,4 +4,6 @@ pub mod Whole
 pub mod ReadBack
 pub mod BankReadBack
 pub mod MapReadBack
+pub mod QueueReadBack
+pub mod LeaseReadBack
 pub mod Keeping

@@ -1,6 +1,6 @@
-use Rattle.std.proofs.Common.{ℕ, Bool, true, false, List, [], ◌∷◌, ◌++◌, ◌≡◌, Option, Some, None, codes, decimal, refl, sym, ap, ◌∙◌, ◌+◌, ◌<◌, length, drop, slice_index_or, append_assoc}
+use Rattle.std.proofs.Common.{ℕ, Bool, true, false, List, [], ◌∷◌, ◌++◌, ◌≡◌, Option, Some, None, codes, decimal, refl, sym, ap, ◌∙◌, ◌+◌, ◌<◌, ◌≤◌, length, map, drop, slice_index_or, append_assoc}
 use Rattle.std.specs.List.{flat_map}
-use Rattle.std.proofs.lemmas.List.{drop_more}
+use Rattle.std.proofs.lemmas.List.{append-nil, drop_more}
 use Rattle.onll_words.specs.Texts.{line_text, AreWords}
 use Rattle.onll_words.proofs.Decimals.{IsWord-decimal}
 use Rattle.onll_model.specs.declared.node.Node.{Node}
@@ -10,14 +10,21 @@ use Rattle.onll_model.specs.declared.call.CallEnd.{CallEnd}
 use Rattle.onll_model.specs.declared.call.CallEnd.TheVariants.{Answered, Running, Ordered, FenceFailed, Broken}
 use Rattle.onll_model.specs.Object.{Behaviour}
 use Rattle.onll_text.specs.Bytes.{begins_line, with_word, with_words, with_lines}
+use Rattle.onll_text.specs.Pieces.{piece_word}
 use Rattle.onll_text.specs.Wording.{Wording}
+use Rattle.onll_text.specs.declared.report.Piece.{Piece}
 use Rattle.onll_text.specs.Lines.{at_words, call_words, end_words, call_line, flag_words, row_words, node_line, fence_words, log_line}
 use Rattle.onll_words.specs.Short.{ShortText}
 use Rattle.onll_words.proofs.ShortWord.{IsWord-short}
 use Rattle.onll_map.specs.Map.{Pairs}
 use Rattle.onll_text.specs.BankText.{account_line, account_lines}
+use Rattle.onll_lease.specs.declared.entry.LeaseEntry.{LeaseEntry}
+use Rattle.onll_lease.specs.Lease.{entry_at}
+use Rattle.onll_lease.specs.Entry.{no_lease}
 use Rattle.onll_text.specs.MapText.{pair_line, pair_lines}
-use Rattle.onll_text.proofs.Appending.{with_words-append, with_words-line, begins_line-line}
+use Rattle.onll_text.specs.QueueText.{item_line, item_lines}
+use Rattle.onll_text.specs.LeaseText.{held_line, entry_lines, held_lines}
+use Rattle.onll_text.proofs.Appending.{with_words-append, with_words-line, with_lines-append, begins_line-line}
 
 pub AreWords-append : (vs ws : List (List ℕ)) → AreWords vs → AreWords ws → AreWords (vs ++ ws)
 AreWords-append [] ws h k = k
@@ -117,6 +124,12 @@ whole_line old began new w ws e₁ e₂ h k =
     let line = e₂ ∙ ap (λ t. t ++ 10 ∷ []) e₁ ∙ with_words-line old w ws h k in
     (line, ap begins_line line ∙ begins_line-line old (w ∷ ws))
 
+-- the same of any words, where there is one
+pub line_of_pieces : (old began new : List ℕ) (pieces : List Piece) → began ≡ with_words old (map piece_word pieces) → new ≡ began ++ 10 ∷ []
+    → begins_line old ≡ true → 1 ≤ length pieces → AreWords (map piece_word pieces) → new ≡ old ++ line_text (map piece_word pieces)
+line_of_pieces old began new [] e₁ e₂ h n k = cc
+line_of_pieces old began new (p ∷ ps) e₁ e₂ h n k = (whole_line old began new (piece_word p) (map piece_word ps) e₁ e₂ h k).0
+
 pub account_line_in_words : (a balance : ℕ) → AreWords (account_line a balance)
 account_line_in_words a balance = (record { some = refl; bytes = refl }, (IsWord-decimal a, (IsWord-decimal balance, tt)))
 
@@ -136,5 +149,33 @@ pub pair_lines_more : (bytes : List ℕ) (pairs : Pairs) (i : ℕ) (d : ShortTex
 pair_lines_more bytes pairs i d h =
     append_assoc bytes (line_text (pair_line (slice_index_or pairs i d))) (flat_map line_text (pair_lines (drop (i + 1) pairs)))
     ∙ sym (ap (λ t. with_lines bytes (pair_lines t)) (drop_more pairs i d h))
+
+pub item_line_in_words : (x : ℕ) → AreWords (item_line x)
+item_line_in_words x = (record { some = refl; bytes = refl }, (IsWord-decimal x, tt))
+
+-- one item's line before those of the rest
+pub item_lines_more : (bytes items : List ℕ) (i d : ℕ) → i < length items
+    → with_lines (bytes ++ line_text (item_line (slice_index_or items i d))) (item_lines (drop (i + 1) items)) ≡ with_lines bytes (item_lines (drop i items))
+item_lines_more bytes items i d h =
+    append_assoc bytes (line_text (item_line (slice_index_or items i d))) (flat_map line_text (item_lines (drop (i + 1) items)))
+    ∙ sym (ap (λ t. with_lines bytes (item_lines t)) (drop_more items i d h))
+
+pub held_line_in_words : (r : ℕ) (e : LeaseEntry) → AreWords (held_line r e)
+held_line_in_words r e =
+    (record { some = refl; bytes = refl }, (IsWord-decimal r, (IsWord-decimal e.token, (IsWord-decimal e.holder, (IsWord-decimal e.until, tt)))))
+
+-- no line, and one line
+pub no_lines : (bytes : List ℕ) → bytes ≡ with_lines bytes []
+no_lines bytes = sym (append-nil bytes)
+
+pub one_line : (bytes : List ℕ) (ws : List (List ℕ)) → bytes ++ line_text ws ≡ with_lines bytes (ws ∷ [])
+one_line bytes ws = ap (λ t. bytes ++ t) (sym (append-nil (line_text ws)))
+
+-- the lines of one resource before those of the rest
+pub held_lines_more : (bytes : List ℕ) (entries : List LeaseEntry) (r : ℕ) → r < length entries
+    → with_lines (with_lines bytes (entry_lines r (entry_at entries r))) (held_lines (r + 1) (drop (r + 1) entries)) ≡ with_lines bytes (held_lines r (drop r entries))
+held_lines_more bytes entries r h =
+    sym (with_lines-append bytes (entry_lines r (entry_at entries r)) (held_lines (r + 1) (drop (r + 1) entries)))
+    ∙ sym (ap (λ t. with_lines bytes (held_lines r t)) (drop_more entries r no_lease h))
 
 pub ruleset appending = with_words-append

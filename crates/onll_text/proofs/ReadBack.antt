@@ -9,7 +9,7 @@ use Rattle.onll_text.specs.declared.reason.Reason.{Reason}
 use Rattle.onll_text.specs.declared.reason.Reason.TheVariants.{BadNumber, OutOfRange, TooLong}
 use Rattle.onll_text.specs.declared.init.Head.{Head}
 use Rattle.onll_text.specs.Refusal.{refused, ◌>>=◌, only_if, or_reason, at_line}
-use Rattle.onll_text.specs.Words.{word_as_number, one_number, two_numbers}
+use Rattle.onll_text.specs.Words.{word_as_number, one_number, two_numbers, four_numbers}
 use Rattle.onll_text.specs.Script.{longest_text, is_too_long}
 use Rattle.onll_text.specs.Init.{capacity_of, head_of, after_lines, object_of, init_of_lines, init_of}
 
@@ -28,6 +28,13 @@ pub two_numbers-decimal : (a b : ℕ) → a < 2 ^ 64 → b < 2 ^ 64 → two_numb
 two_numbers-decimal a b h k =
     ap (λ n. or_reason BadNumber n >>= λ x. word_as_number (decimal b) >>= λ y. Ok (x, y)) (number_of-decimal a h)
     ∙ ap (λ n. or_reason BadNumber n >>= λ y. Ok (a, y)) (number_of-decimal b k)
+
+pub four_numbers-decimal : (a b c d : ℕ) → a < 2 ^ 64 → b < 2 ^ 64 → c < 2 ^ 64 → d < 2 ^ 64 → four_numbers (decimal a ∷ decimal b ∷ decimal c ∷ decimal d ∷ []) ≡ Ok (a, b, c, d)
+four_numbers-decimal a b c d h i j k =
+    ap (λ n. or_reason BadNumber n >>= λ x. word_as_number (decimal b) >>= λ y. word_as_number (decimal c) >>= λ z. word_as_number (decimal d) >>= λ u. Ok (x, y, z, u)) (number_of-decimal a h)
+    ∙ ap (λ n. or_reason BadNumber n >>= λ y. word_as_number (decimal c) >>= λ z. word_as_number (decimal d) >>= λ u. Ok (a, y, z, u)) (number_of-decimal b i)
+    ∙ ap (λ n. or_reason BadNumber n >>= λ z. word_as_number (decimal d) >>= λ u. Ok (a, b, z, u)) (number_of-decimal c j)
+    ∙ ap (λ n. or_reason BadNumber n >>= λ u. Ok (a, b, c, u)) (number_of-decimal d k)
 
 pub length-decimal : (n : ℕ) → n < 2 ^ 64 → length (decimal n) ≤ 20
 length-decimal n h = length-decimal-le 20 n (omega arith) (omega arith) h

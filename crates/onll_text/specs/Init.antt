@@ -1,4 +1,4 @@
-use Rattle.std.specs.Prelude.{ℕ, List, [], ◌∷◌, Result, Ok, Err, if◌then◌else◌, codes, nat_le, ◌&&◌}
+use Rattle.std.specs.Prelude.{ℕ, List, [], ◌∷◌, Result, Ok, Err, if◌then◌else◌, codes, replicate, nat_le, ◌&&◌}
 use Rattle.std.specs.Str.{bytes_eq}
 use Rattle.onll_words.specs.Texts.{Numbered, words_of, meaningful_lines}
 use Rattle.onll_text.specs.declared.reason.Reason.{Reason}
@@ -13,14 +13,22 @@ use Rattle.onll_text.specs.Words.{one_number}
 use Rattle.onll_text.specs.Script.{is_too_long}
 use Rattle.onll_text.specs.BankText.{no_accounts, with_account_line}
 use Rattle.onll_text.specs.MapText.{no_pairs, with_pair_line}
+use Rattle.onll_text.specs.QueueText.{with_item_line}
+use Rattle.onll_text.specs.LeaseText.{with_held_line}
 use Rattle.onll_map.specs.Map.{Entries}
+use Rattle.onll_queue.specs.Items.{Items}
+use Rattle.onll_queue.specs.Queue.{items_in}
+use Rattle.onll_lease.specs.declared.entry.LeaseEntry.{LeaseEntry}
+use Rattle.onll_lease.specs.Entry.{no_lease}
 
 -- the kind of object that a first word names
 abbrev pub kind_of : List ℕ → Result Kind Reason
 kind_of word =
     if bytes_eq word (codes "bank") then Ok kinds.Bank
     else (if bytes_eq word (codes "map") then Ok kinds.Map
-    else Err UnknownObject)
+    else (if bytes_eq word (codes "queue") then Ok kinds.Queue
+    else (if bytes_eq word (codes "lease") then Ok kinds.Lease
+    else Err UnknownObject)))
 
 -- the capacity of an object
 abbrev pub capacity_of : List (List ℕ) → Result ℕ Reason
@@ -44,10 +52,20 @@ bank_of_lines capacity lines = after_lines with_account_line (no_accounts capaci
 abbrev pub map_of_lines : ℕ → List Numbered → Result Entries Refusal
 map_of_lines capacity lines = after_lines with_pair_line (no_pairs capacity) lines
 
+-- the queue of at most so many items, with further lines
+abbrev pub queue_of_lines : ℕ → List Numbered → Result Items Refusal
+queue_of_lines capacity lines = after_lines with_item_line (items_in capacity []) lines
+
+-- the leases of this many resources, with further lines
+abbrev pub lease_of_lines : ℕ → List Numbered → Result (List LeaseEntry) Refusal
+lease_of_lines capacity lines = after_lines with_held_line (replicate capacity no_lease) lines
+
 -- the object of this kind and capacity, with further lines
 abbrev pub object_of : Kind → ℕ → List Numbered → Result AnyObject Refusal
 object_of kinds.Bank capacity lines = bank_of_lines capacity lines >>= λ balances. Ok (objects.Bank balances)
 object_of kinds.Map capacity lines = map_of_lines capacity lines >>= λ entries. Ok (objects.Map entries)
+object_of kinds.Queue capacity lines = queue_of_lines capacity lines >>= λ items. Ok (objects.Queue items)
+object_of kinds.Lease capacity lines = lease_of_lines capacity lines >>= λ entries. Ok (objects.Lease entries)
 
 abbrev pub init_of_lines : List Numbered → Result AnyObject Refusal
 init_of_lines [] = Err (refused 0 Missing)

@@ -9,5 +9,9 @@ pub mod BankText
 pub mod BankWording
 pub mod MapText
 pub mod MapWording
+pub mod QueueText
+pub mod QueueWording
+pub mod LeaseText
+pub mod LeaseWording
 pub mod Init
 pub mod ReadBack

@@ -27,6 +27,10 @@ abbrev pub three_numbers : List (List ℕ) → Result (ℕ × ℕ × ℕ) Reason
 three_numbers (a ∷ b ∷ c ∷ []) = word_as_number a >>= λ x. word_as_number b >>= λ y. word_as_number c >>= λ z. Ok (x, y, z)
 three_numbers _ = Err WrongCount
 
+abbrev pub four_numbers : List (List ℕ) → Result (ℕ × ℕ × ℕ × ℕ) Reason
+four_numbers (a ∷ b ∷ c ∷ d ∷ []) = word_as_number a >>= λ x. word_as_number b >>= λ y. word_as_number c >>= λ z. word_as_number d >>= λ u. Ok (x, y, z, u)
+four_numbers _ = Err WrongCount
+
 abbrev pub word_as_short : List ℕ → Result ShortText Reason
 word_as_short word = or_reason BadWord (short_of word)
 

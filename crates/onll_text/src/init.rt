@@ -2,7 +2,7 @@ ghost use Rattle.std.specs.Prelude.{◌≡◌, ◌≤◌, ℕ, List, Result, Mat
 ghost use Rattle.onll_text.specs.declared.reason.Reason.{Reason};
 ghost use Rattle.onll_words.specs.Texts.{words_of};
 ghost use Rattle.onll_text.specs.Refusal.{Fails};
-ghost use Rattle.onll_text.specs.Init.{kind_of, capacity_of, head_of, after_lines, bank_of_lines, map_of_lines, object_of, init_of};
+ghost use Rattle.onll_text.specs.Init.{kind_of, capacity_of, head_of, after_lines, bank_of_lines, map_of_lines, queue_of_lines, lease_of_lines, object_of, init_of};
 
 use crate::any_object::{AnyObject, Kind};
 use crate::bank_init::BankInit;
@@ -10,7 +10,9 @@ use crate::reason::{Reason, TextFault};
 use crate::script::is_too_long;
 use crate::words::{is_text, one_number};
 use onll_bank::Bank;
+use onll_lease::Lease;
 use onll_map::Map;
+use onll_queue::Queue;
 use onll_words::{Cut, Lines, NumberedLine, split_word};
 use std::alloc::Global;
 
@@ -55,6 +57,10 @@ fn read_kind(word: &[u8]) -> Result<Kind, Reason>
         Ok(Kind::Bank)
     } else if is_text(word, b"map") {
         Ok(Kind::Map)
+    } else if is_text(word, b"queue") {
+        Ok(Kind::Queue)
+    } else if is_text(word, b"lease") {
+        Ok(Kind::Lease)
     } else {
         Err(Reason::UnknownObject)
     }
@@ -107,6 +113,30 @@ fn read_map(alloc: Global, capacity: u64, lines: &mut Lines<'_>) -> Result<Map, 
     Ok(map)
 }
 
+/// The queue of at most so many items, with the lines that are left.
+fn read_queue(alloc: Global, capacity: u64, lines: &mut Lines<'_>) -> Result<Queue, TextFault>
+    requires { (1 ≤ capacity) × (capacity ≤ 4096) }
+    ensures { MatchResult result (λ queue. queue_of_lines capacity lines.old ≡ Ok queue) (λ fault. Fails fault (queue_of_lines capacity lines.old)) }
+{
+    let Ok(mut queue) = Queue::make(alloc, capacity) else {
+        return Err(TextFault::NoMemory);
+    };
+    add_lines(&mut queue, lines)?;
+    Ok(queue)
+}
+
+/// The leases of this many resources, with the lines that are left.
+fn read_lease(alloc: Global, capacity: u64, lines: &mut Lines<'_>) -> Result<Lease, TextFault>
+    requires { (1 ≤ capacity) × (capacity ≤ 4096) }
+    ensures { MatchResult result (λ lease. lease_of_lines capacity lines.old ≡ Ok lease) (λ fault. Fails fault (lease_of_lines capacity lines.old)) }
+{
+    let Ok(mut lease) = Lease::make(alloc, capacity) else {
+        return Err(TextFault::NoMemory);
+    };
+    add_lines(&mut lease, lines)?;
+    Ok(lease)
+}
+
 fn read_object(alloc: Global, head: Head, lines: &mut Lines<'_>) -> Result<AnyObject, TextFault>
     requires { (1 ≤ head.capacity) × (head.capacity ≤ 4096) }
     ensures { MatchResult result (λ object. object_of head.kind head.capacity lines.old ≡ Ok object) (λ fault. Fails fault (object_of head.kind head.capacity lines.old)) }
@@ -119,6 +149,14 @@ fn read_object(alloc: Global, head: Head, lines: &mut Lines<'_>) -> Result<AnyOb
         Kind::Map => {
             let map = read_map(alloc, head.capacity, lines)?;
             Ok(AnyObject::Map(map))
+        }
+        Kind::Queue => {
+            let queue = read_queue(alloc, head.capacity, lines)?;
+            Ok(AnyObject::Queue(queue))
+        }
+        Kind::Lease => {
+            let lease = read_lease(alloc, head.capacity, lines)?;
+            Ok(AnyObject::Lease(lease))
         }
     }
 }

@@ -1,4 +1,5 @@
-ghost use Rattle.std.specs.Prelude.{◌≡◌, ℕ, ◌++◌, ◌∷◌, [], true, decimal, map, OnOk, OnErr};
+ghost use Rattle.std.specs.Prelude.{◌≡◌, ◌≤◌, ℕ, ◌++◌, ◌∷◌, [], true, decimal, length, map, OnOk, OnErr};
+ghost use Rattle.onll_words.specs.Texts.{AreWords, line_text};
 ghost use Rattle.onll_text.specs.Bytes.{begins_line, with_word, with_words, Keeps};
 ghost use Rattle.onll_text.specs.Pieces.{piece_word};
 
@@ -148,5 +149,17 @@ impl Report {
             self.piece(piece)?;
         }
         Ok(())
+    }
+
+    /// A whole line of these words, each of which is one word.
+    pub fn line(&mut self, pieces: &[Piece<'_>]) -> Result<(), NoMemory>
+        requires begins { begins_line self.old ≡ true }
+        requires some { 1 ≤ length pieces.now }
+        requires words { AreWords (map piece_word pieces.now) }
+        ensures ok { OnOk result (self.new ≡ self.old ++ line_text (map piece_word pieces.now)) }
+        ensures keeps { Keeps self.old self.new }
+    {
+        self.words(pieces)?;
+        self.end_line()
     }
 }

@@ -1,4 +1,4 @@
-use crate::{AnyObject, Reason, Report, TextFault, read_init, read_script};
+use crate::{AnyObject, Piece, Reason, Report, TextFault, read_init, read_script};
 use onll_bank::{Bank, BankOp, BankQuery, BankReply};
 use onll_model::{Call, CallEnd, Node, Object};
 use onll_words::NoMemory;
@@ -121,7 +121,8 @@ fn lines_of_logs_and_traces(rt: HostRuntime) -> Result<(), Fail> {
     assert_eq!(rt; unfenced.bytes(), b"log 0 entries 0 lines 1\n".as_slice());
     let mut trace = Report::new(alloc);
     trace.trace_line(30)?;
-    assert_eq!(rt; trace.bytes(), b"trace 30\n".as_slice());
+    trace.line(&[Piece::Text(b"crash"), Piece::Number(7)])?;
+    assert_eq!(rt; trace.bytes(), b"trace 30\ncrash 7\n".as_slice());
     Ok(())
 }
 

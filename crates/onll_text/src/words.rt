@@ -1,7 +1,7 @@
 ghost use Rattle.std.specs.Prelude.{◌≡◌, ◌∷◌, [], MatchResult, Err};
 ghost use Rattle.std.specs.Str.{bytes_eq};
 ghost use Rattle.onll_words.specs.Texts.{words_of};
-ghost use Rattle.onll_text.specs.Words.{word_as_number, word_as_short, no_word, one_number, two_numbers, three_numbers, one_short, two_shorts};
+ghost use Rattle.onll_text.specs.Words.{word_as_number, word_as_short, no_word, one_number, two_numbers, three_numbers, four_numbers, one_short, two_shorts};
 
 use crate::reason::Reason;
 use onll_words::{Cut, Short, split_word, whole_number};
@@ -97,6 +97,45 @@ pub(crate) fn three_numbers(args: &[u8]) -> Result<(u64, u64, u64), Reason>
     let y = number(b)?;
     let z = number(c)?;
     Ok((x, y, z))
+}
+
+/// Four words.
+struct Four<'a> {
+    a: &'a [u8],
+    b: &'a [u8],
+    c: &'a [u8],
+    d: &'a [u8],
+}
+
+/// The four words of a line's arguments.
+fn four_words(args: &[u8]) -> Result<Four<'_>, Reason>
+    ensures { MatchResult result (λ w. words_of args.now ≡ w.a.now ∷ w.b.now ∷ w.c.now ∷ w.d.now ∷ []) (λ e. four_numbers (words_of args.now) ≡ Err e) }
+{
+    let a = next_word(args)?;
+    let b = next_word(a.rest)?;
+    let c = next_word(b.rest)?;
+    let d = next_word(c.rest)?;
+    match split_word(d.rest) {
+        Some(_) => Err(Reason::WrongCount),
+        None => Ok(Four {
+            a: a.word,
+            b: b.word,
+            c: c.word,
+            d: d.word,
+        }),
+    }
+}
+
+/// The four numbers of a line's arguments.
+pub(crate) fn four_numbers(args: &[u8]) -> Result<(u64, u64, u64, u64), Reason>
+    ensures { result ≡ four_numbers (words_of args.now) }
+{
+    let Four { a, b, c, d } = four_words(args)?;
+    let x = number(a)?;
+    let y = number(b)?;
+    let z = number(c)?;
+    let u = number(d)?;
+    Ok((x, y, z, u))
 }
 
 fn short(word: &[u8]) -> Result<Short, Reason>

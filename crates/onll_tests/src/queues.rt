@@ -1,0 +1,265 @@
+use crate::calls::{Case, fold};
+use std::alloc::{AllocError, Global};
+use std::fmt::Write;
+use std::test::Fail;
+
+/// The name of a case, an initial state, a script and its report.
+const REPORTS: &[(&str, &[u8], &[u8], &str)] = &[
+    (
+        "a queue of two items: full, emptied, and empty",
+        b"queue 2\nitem 4\n",
+        b"push 5\npush 6\npop\npop\npop\nlength\n",
+        "call 0 1 push 5 -> ok at 1\ncall 0 2 push 6 -> full at 2\ncall 0 3 pop -> item 4 at 3\ncall 0 4 pop -> item 5 at 4\ncall 0 5 pop -> empty at 5\ncall 0 6 length -> length 0 at 5\ntrace 5\nnode 1 0 1 push 5\nnode 2 0 2 push 6\nnode 3 0 3 pop\nnode 4 0 4 pop\nnode 5 0 5 pop\nstate\nqueue 2\n",
+    ),
+    (
+        "the front stays, and the items are printed from it",
+        b"queue 3\nitem 7\nitem 18446744073709551615\nitem 0\n",
+        b"front\nfront\nlength\npush 1\npop\npush 007\nfront\n",
+        "call 0 1 front -> item 7 at 0\ncall 0 2 front -> item 7 at 0\ncall 0 3 length -> length 3 at 0\ncall 0 4 push 1 -> full at 1\ncall 0 5 pop -> item 7 at 2\ncall 0 6 push 7 -> ok at 3\ncall 0 7 front -> item 18446744073709551615 at 3\ntrace 3\nnode 1 0 1 push 1\nnode 2 0 2 pop\nnode 3 0 3 push 7\nstate\nqueue 3\nitem 18446744073709551615\nitem 0\nitem 7\n",
+    ),
+    (
+        "an empty queue",
+        b"queue 1\n",
+        b"front\nlength\npop\npush 0\nfront\npush 0\nlength\n",
+        "call 0 1 front -> empty at 0\ncall 0 2 length -> length 0 at 0\ncall 0 3 pop -> empty at 1\ncall 0 4 push 0 -> ok at 2\ncall 0 5 front -> item 0 at 2\ncall 0 6 push 0 -> full at 3\ncall 0 7 length -> length 1 at 3\ntrace 3\nnode 1 0 1 pop\nnode 2 0 2 push 0\nnode 3 0 3 push 0\nstate\nqueue 1\nitem 0\n",
+    ),
+    (
+        "equal items, one after the other",
+        b"# tickets\r\nqueue 3\r\nitem 5\r\n\titem 005\n",
+        b"push 5\npop\nlength\n",
+        "call 0 1 push 5 -> ok at 1\ncall 0 2 pop -> item 5 at 2\ncall 0 3 length -> length 2 at 2\ntrace 2\nnode 1 0 1 push 5\nnode 2 0 2 pop\nstate\nqueue 3\nitem 5\nitem 5\n",
+    ),
+];
+
+#[test]
+fn reports_of_queues(rt: HostRuntime) -> Result<(), Fail> {
+    for (case, init, script, report) in REPORTS {
+        fold(rt.alloc(), init, script)?.expect(&rt, case, 0, report);
+    }
+    Ok(())
+}
+
+const REFUSED_INITS: &[Case<'static>] = &[
+    (
+        "a queue without a number",
+        b"queue\n",
+        "refused i 1 wrong count\n",
+    ),
+    (
+        "a queue with a word for a number",
+        b"queue x\n",
+        "refused i 1 bad number\n",
+    ),
+    (
+        "a queue of no item",
+        b"queue 0\n",
+        "refused i 1 out of range\n",
+    ),
+    (
+        "a queue of too many items",
+        b"queue 4097\n",
+        "refused i 1 out of range\n",
+    ),
+    (
+        "a pair of a queue",
+        b"queue 1\npair a b\n",
+        "refused i 2 unknown word\n",
+    ),
+    (
+        "a second queue",
+        b"queue 1\nqueue 1\n",
+        "refused i 2 unknown word\n",
+    ),
+    (
+        "an item without a number",
+        b"queue 1\nitem\n",
+        "refused i 2 wrong count\n",
+    ),
+    (
+        "two items on one line",
+        b"queue 2\nitem 1 2\n",
+        "refused i 2 wrong count\n",
+    ),
+    (
+        "an item that is no number",
+        b"queue 1\nitem x\n",
+        "refused i 2 bad number\n",
+    ),
+    (
+        "an item below 0",
+        b"queue 1\nitem -1\n",
+        "refused i 2 bad number\n",
+    ),
+    (
+        "an item of 65 bits",
+        b"queue 1\nitem 18446744073709551616\n",
+        "refused i 2 bad number\n",
+    ),
+    (
+        "more items than there is room for",
+        b"queue 1\nitem 1\nitem 2\n",
+        "refused i 3 too many\n",
+    ),
+    (
+        "the same item once more than there is room for",
+        b"queue 2\nitem 1\nitem 1\nitem 1\n",
+        "refused i 4 too many\n",
+    ),
+    (
+        "one too many, and no number",
+        b"queue 1\nitem 1\nitem x\n",
+        "refused i 3 bad number\n",
+    ),
+    (
+        "one too many, and two on a line",
+        b"queue 1\nitem 1\nitem 2 3\n",
+        "refused i 3 wrong count\n",
+    ),
+];
+
+const REFUSED_SCRIPTS: &[Case<'static>] = &[
+    (
+        "a call of a lease table",
+        b"release 0 1\n",
+        "refused s 1 unknown word\n",
+    ),
+    (
+        "a line of an initial state",
+        b"item 1\n",
+        "refused s 1 unknown word\n",
+    ),
+    (
+        "a push that goes on",
+        b"pushh 1\n",
+        "refused s 1 unknown word\n",
+    ),
+    (
+        "a push without an item",
+        b"push\n",
+        "refused s 1 wrong count\n",
+    ),
+    (
+        "a push of two items",
+        b"push 1 2\n",
+        "refused s 1 wrong count\n",
+    ),
+    (
+        "a push of two words that are no numbers",
+        b"push x y\n",
+        "refused s 1 wrong count\n",
+    ),
+    ("a push of a word", b"push x\n", "refused s 1 bad number\n"),
+    (
+        "a push of 65 bits",
+        b"push 18446744073709551616\n",
+        "refused s 1 bad number\n",
+    ),
+    (
+        "a pop of something",
+        b"push 1\npop 1\n",
+        "refused s 2 wrong count\n",
+    ),
+    (
+        "a front of something",
+        b"front 0\n",
+        "refused s 1 wrong count\n",
+    ),
+    (
+        "a length of something",
+        b"length x\n",
+        "refused s 1 wrong count\n",
+    ),
+];
+
+#[test]
+fn refused_queues(rt: HostRuntime) -> Result<(), Fail> {
+    for (case, init, line) in REFUSED_INITS {
+        fold(rt.alloc(), init, b"")?.expect(&rt, case, 3, line);
+    }
+    for (case, script, line) in REFUSED_SCRIPTS {
+        fold(rt.alloc(), b"queue 1\n", script)?.expect(&rt, case, 3, line);
+    }
+    Ok(())
+}
+
+/// How often the one place of the queue is filled and emptied.
+const ROUNDS: u64 = 1000;
+
+/// A push and a pop, so many times, and then one push more.
+fn rounds(alloc: Global) -> Result<String, AllocError> {
+    let mut script = String::new(alloc);
+    for x in 0..ROUNDS {
+        writeln!(script, "push {x}\npop")?;
+    }
+    writeln!(script, "push {ROUNDS}")?;
+    Ok(script)
+}
+
+/// The lines of their calls and nodes, and the state.
+fn round_lines(alloc: Global) -> Result<String, AllocError> {
+    let mut lines = String::new(alloc);
+    for x in 0..ROUNDS {
+        let push = 2 * x + 1;
+        let pop = 2 * x + 2;
+        writeln!(lines, "call 0 {push} push {x} -> ok at {push}")?;
+        writeln!(lines, "call 0 {pop} pop -> item {x} at {pop}")?;
+    }
+    lines.push_str("call 0 2001 push 1000 -> ok at 2001\ntrace 2001\n")?;
+    for x in 0..ROUNDS {
+        let push = 2 * x + 1;
+        let pop = 2 * x + 2;
+        writeln!(
+            lines,
+            "node {push} 0 {push} push {x}\nnode {pop} 0 {pop} pop"
+        )?;
+    }
+    lines.push_str("node 2001 0 2001 push 1000\nstate\nqueue 1\nitem 1000\n")?;
+    Ok(lines)
+}
+
+#[test]
+fn one_place_filled_a_thousand_times(rt: HostRuntime) -> Result<(), Fail> {
+    let alloc = rt.alloc();
+    let script = rounds(alloc)?;
+    let report = round_lines(alloc)?;
+    let outcome = fold(alloc, b"queue 1\n", script.as_bytes())?;
+    outcome.expect(&rt, "a thousand rounds", 0, &report);
+    Ok(())
+}
+
+/// The greatest number of items.
+const MOST: u64 = 4096;
+
+/// A full queue of the greatest room: its items fall.
+fn full_queue(alloc: Global) -> Result<String, AllocError> {
+    let mut init = String::from_str(alloc, "queue 4096\n")?;
+    for number in 0..MOST {
+        let x = u64::MAX - number;
+        writeln!(init, "item {x}")?;
+    }
+    Ok(init)
+}
+
+#[test]
+fn as_many_items_as_there_can_be(rt: HostRuntime) -> Result<(), Fail> {
+    let alloc = rt.alloc();
+    let init = full_queue(alloc)?;
+    let mut report = String::from_str(
+        alloc,
+        "call 0 1 push 3 -> full at 1\ncall 0 2 length -> length 4096 at 1\ntrace 1\nnode 1 0 1 push 3\nstate\n",
+    )?;
+    report.push_str(&init)?;
+    let outcome = fold(alloc, init.as_bytes(), b"push 3\nlength\n")?;
+    outcome.expect(&rt, "4,096 items", 0, &report);
+    Ok(())
+}
+
+#[test]
+fn one_item_too_many_for_the_greatest_room(rt: HostRuntime) -> Result<(), Fail> {
+    let alloc = rt.alloc();
+    let mut init = full_queue(alloc)?;
+    init.push_str("item 0\n")?;
+    let outcome = fold(alloc, init.as_bytes(), b"")?;
+    outcome.expect(&rt, "4,097 items", 3, "refused i 4098 too many\n");
+    Ok(())
+}

@@ -1,0 +1,5 @@
+use Rattle.onll_text.proofs.QueueReadBack.{queue_reads_back}
+use Rattle.onll_text.proofs.read_back.queue_reads_back.Goals as goal
+
+pub returns : goal.returns
+returns c = queue_reads_back

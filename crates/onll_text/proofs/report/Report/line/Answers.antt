@@ -1,0 +1,8 @@
+use Rattle.std.proofs.lemmas.Result.{on_ok_weaker}
+use Rattle.onll_text.proofs.LineWords.{line_of_pieces}
+use Rattle.onll_text.proofs.report.Report.line.Goals as goal
+
+pub returns-clause-ok : goal.returns-clause-ok
+returns-clause-ok c = on_ok_weaker c.end_line.result
+    (λ d. line_of_pieces _ _ _ c.args.pieces.now c.in_ok-words.ensures.ok d c.requires.begins c.requires.some c.requires.words)
+    c.end_line.ensures.ok

@@ -1,0 +1,62 @@
+use Rattle.std.specs.Prelude.{ℕ, Bool, true, false, List, [], ◌∷◌, ◌++◌, ◌+◌, ◌==◌, if◌then◌else◌, refl}
+use Rattle.onll_words.specs.Texts.{AreWords, AreMeaningful}
+use Rattle.onll_words.proofs.Decimals.{IsWord-decimal}
+use Rattle.onll_lease.specs.declared.entry.LeaseEntry.{LeaseEntry}
+use Rattle.onll_lease.specs.declared.operation.LeaseOp.{LeaseOp}
+use Rattle.onll_lease.specs.declared.operation.LeaseOp.TheVariants.{Grant, Renew, Release}
+use Rattle.onll_lease.specs.declared.operation.LeaseQuery.{LeaseQuery}
+use Rattle.onll_lease.specs.declared.operation.LeaseQuery.TheVariants.{Holder}
+use Rattle.onll_lease.specs.declared.operation.LeaseReply.{LeaseReply}
+use Rattle.onll_lease.specs.declared.operation.LeaseReply.TheVariants.{NoResource, HeldUntil, Late, Spent, Granted, Renewed, Stale, Released, HeldBy, Free}
+use Rattle.onll_text.specs.Wording.{Wording}
+use Rattle.onll_text.specs.LeaseText.{lease_call_of, lease_op_words, lease_query_words, lease_reply_words, held_line, held_lines, lease_state_lines}
+
+pub op_in_words : (op : LeaseOp) → AreWords (lease_op_words op)
+op_in_words (Grant r h now ttl) = (record { some = refl; bytes = refl }, (IsWord-decimal r, (IsWord-decimal h, (IsWord-decimal now, (IsWord-decimal ttl, tt)))))
+op_in_words (Renew r t now ttl) = (record { some = refl; bytes = refl }, (IsWord-decimal r, (IsWord-decimal t, (IsWord-decimal now, (IsWord-decimal ttl, tt)))))
+op_in_words (Release r t) = (record { some = refl; bytes = refl }, (IsWord-decimal r, (IsWord-decimal t, tt)))
+
+pub query_in_words : (query : LeaseQuery) → AreWords (lease_query_words query)
+query_in_words (Holder r now) = (record { some = refl; bytes = refl }, (IsWord-decimal r, (IsWord-decimal now, tt)))
+
+pub reply_in_words : (reply : LeaseReply) → AreWords (lease_reply_words reply)
+reply_in_words NoResource = (record { some = refl; bytes = refl }, tt)
+reply_in_words (HeldUntil u) = (record { some = refl; bytes = refl }, (record { some = refl; bytes = refl }, (IsWord-decimal u, tt)))
+reply_in_words Late = (record { some = refl; bytes = refl }, tt)
+reply_in_words Spent = (record { some = refl; bytes = refl }, tt)
+reply_in_words (Granted t) = (record { some = refl; bytes = refl }, (IsWord-decimal t, tt))
+reply_in_words (Renewed u) = (record { some = refl; bytes = refl }, (IsWord-decimal u, tt))
+reply_in_words Stale = (record { some = refl; bytes = refl }, tt)
+reply_in_words Released = (record { some = refl; bytes = refl }, tt)
+reply_in_words (HeldBy h t u) = (
+  record { some = refl; bytes = refl },
+  (IsWord-decimal h, (record { some = refl; bytes = refl }, (IsWord-decimal t, (record { some = refl; bytes = refl }, (IsWord-decimal u, tt))))),
+)
+reply_in_words Free = (record { some = refl; bytes = refl }, tt)
+
+-- one resource's line, or none, before further lines
+one_in_lines : (b : Bool) (r : ℕ) (e : LeaseEntry) (lines : List (List (List ℕ))) → AreMeaningful lines → AreMeaningful ((if b then [] else held_line r e ∷ []) ++ lines)
+one_in_lines true r e lines h = h
+one_in_lines false r e lines h =
+    ((record { some = refl; bytes = refl }, (IsWord-decimal r, (IsWord-decimal e.token, (IsWord-decimal e.holder, (IsWord-decimal e.until, tt))))), refl, h)
+
+held_in_lines : (r : ℕ) (entries : List LeaseEntry) → AreMeaningful (held_lines r entries)
+held_in_lines r [] = tt
+held_in_lines r (e ∷ entries) = one_in_lines (e.token == 0) r e (held_lines (r + 1) entries) (held_in_lines (r + 1) entries)
+
+pub state_in_lines : (s : List LeaseEntry) → AreMeaningful (lease_state_lines s)
+state_in_lines s = ((record { some = refl; bytes = refl }, (IsWord-decimal _, tt)), refl, held_in_lines 0 s)
+
+-- how a table of leases is written
+abbrev pub lease_wording : Wording (List LeaseEntry) LeaseOp LeaseQuery LeaseReply
+lease_wording = record {
+  call_of = lease_call_of;
+  op_words = lease_op_words;
+  query_words = lease_query_words;
+  reply_words = lease_reply_words;
+  state_lines = lease_state_lines;
+  op_in_words = op_in_words;
+  query_in_words = query_in_words;
+  reply_in_words = reply_in_words;
+  state_in_lines = state_in_lines;
+}

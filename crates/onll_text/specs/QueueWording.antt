@@ -1,0 +1,48 @@
+use Rattle.std.specs.Prelude.{ℕ, List, [], ◌∷◌, refl}
+use Rattle.onll_words.specs.Texts.{AreWords, AreMeaningful}
+use Rattle.onll_words.proofs.Decimals.{IsWord-decimal}
+use Rattle.onll_queue.specs.Items.{Items}
+use Rattle.onll_queue.specs.declared.operation.QueueOp.{QueueOp}
+use Rattle.onll_queue.specs.declared.operation.QueueOp.TheVariants.{Push, Pop}
+use Rattle.onll_queue.specs.declared.operation.QueueQuery.{QueueQuery}
+use Rattle.onll_queue.specs.declared.operation.QueueQuery.TheVariants.{Front, Length as AskLength}
+use Rattle.onll_queue.specs.declared.operation.QueueReply.{QueueReply}
+use Rattle.onll_queue.specs.declared.operation.QueueReply.TheVariants.{Done, Full, Empty, Item, Length}
+use Rattle.onll_text.specs.Wording.{Wording}
+use Rattle.onll_text.specs.QueueText.{queue_call_of, queue_op_words, queue_query_words, queue_reply_words, item_lines, queue_state_lines}
+
+pub op_in_words : (op : QueueOp) → AreWords (queue_op_words op)
+op_in_words (Push x) = (record { some = refl; bytes = refl }, (IsWord-decimal x, tt))
+op_in_words Pop = (record { some = refl; bytes = refl }, tt)
+
+pub query_in_words : (query : QueueQuery) → AreWords (queue_query_words query)
+query_in_words Front = (record { some = refl; bytes = refl }, tt)
+query_in_words AskLength = (record { some = refl; bytes = refl }, tt)
+
+pub reply_in_words : (reply : QueueReply) → AreWords (queue_reply_words reply)
+reply_in_words Done = (record { some = refl; bytes = refl }, tt)
+reply_in_words Full = (record { some = refl; bytes = refl }, tt)
+reply_in_words Empty = (record { some = refl; bytes = refl }, tt)
+reply_in_words (Item x) = (record { some = refl; bytes = refl }, (IsWord-decimal x, tt))
+reply_in_words (Length n) = (record { some = refl; bytes = refl }, (IsWord-decimal n, tt))
+
+pub items_in_lines : (items : List ℕ) → AreMeaningful (item_lines items)
+items_in_lines [] = tt
+items_in_lines (x ∷ items) = ((record { some = refl; bytes = refl }, (IsWord-decimal x, tt)), refl, items_in_lines items)
+
+pub state_in_lines : (s : Items) → AreMeaningful (queue_state_lines s)
+state_in_lines s = ((record { some = refl; bytes = refl }, (IsWord-decimal s.room, tt)), refl, items_in_lines s.items)
+
+-- how a queue is written
+abbrev pub queue_wording : Wording Items QueueOp QueueQuery QueueReply
+queue_wording = record {
+  call_of = queue_call_of;
+  op_words = queue_op_words;
+  query_words = queue_query_words;
+  reply_words = queue_reply_words;
+  state_lines = queue_state_lines;
+  op_in_words = op_in_words;
+  query_in_words = query_in_words;
+  reply_in_words = reply_in_words;
+  state_in_lines = state_in_lines;
+}

@@ -21,9 +21,12 @@ use Rattle.onll_jobs.specs.declared.ending.Ending.TheVariants.{Done, Usage, Refu
 use Rattle.onll_jobs.specs.declared.ending.Exit.{Exit}
 use Rattle.onll_jobs.specs.declared.ending.Exit.TheVariants.{Said, SinkFault, NoMemory}
 use Rattle.onll_jobs.specs.Seen.{Seen}
-use Rattle.onll_jobs.specs.Command.{Form, Fold, form_of}
+use Rattle.onll_jobs.specs.Command.{Form, Fold, Show, form_of}
 use Rattle.onll_jobs.specs.Printed.{usage_text, status_of, exit_status}
 use Rattle.onll_jobs.specs.Job.{Say, JobSays, Never, Decides}
+use Rattle.onll_log.specs.Grammar.{Content, content_of}
+use Rattle.onll_log.specs.ImageFile.{image_lines}
+use Rattle.onll_jobs.specs.ShowJob.{shown}
 use Rattle.onll_jobs.specs.FoldJob.{script_job, script_job_on, fold_job}
 use Rattle.onll_jobs.specs.Says.{job_of, PutWhole, OutOfMemory, SinkFailed, ExitSays, NoneRose, SaysThis}
 use Rattle.onll_jobs.proofs.Jobs.{decided, never_says, reading_never}
@@ -88,9 +91,14 @@ script_never script (objects.Map s) = report_never map_object map_wording s scri
 script_never script (objects.Queue s) = report_never queue queue_wording s script
 script_never script (objects.Lease s) = report_never lease lease_wording s script
 
+content_never : (content : Option Content) → Never Usage (shown content)
+content_never None = λ e. cc
+content_never (Some content) = λ e. cc
+
 -- words of a form never get the usage text
 form_never : (form : Form) → Never Usage (job_of (Some form))
 form_never (Fold init script) = reading_never init init_of (script_job_on script) (script_never script)
+form_never (Show image) = λ bytes. content_never (content_of (image_lines bytes))
 
 usage_put : (w : Seen) (form : Option Form) → form_of w.words ≡ form → PutWhole w Usage → (form ≡ None) × Puts w.sink w.sink_after usage_text
 usage_put w None e h = (refl, subst (Puts w.sink w.sink_after) (subst (λ f. JobSays w.store w.store_after (job_of f) Usage h.text) e h.allowed).1 h.put)

@@ -17,6 +17,11 @@ JobSays store after (Say e t) ending text = (ending ≡ e) × (text ≡ t)
 JobSays store after (Read name next) ending text =
     CannotRead store after name ending text ⊎ ((bytes : List ℕ) × (Holds store name bytes × JobSays store after (next bytes) ending text))
 
+-- the job says this without reading any file
+abbrev pub SaysNow : Job → Ending → List ℕ → Type 0
+SaysNow (Say e t) ending text = (ending ≡ e) × (text ≡ t)
+SaysNow (Read name next) ending text = ⊥
+
 -- the files that are told decide that it ends so
 abbrev pub Decides : StoreView → Job → Ending → List ℕ → Type 0
 Decides store (Say e t) ending text = (e ≡ ending) × (t ≡ text)

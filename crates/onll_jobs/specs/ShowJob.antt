@@ -1,4 +1,4 @@
-use Rattle.std.specs.Prelude.{ℕ, List, [], ◌∷◌, ◌++◌, ◌+◌, ◌-◌, ◌==◌, if◌then◌else◌, Option, Some, None, codes, decimal, length, map}
+use Rattle.std.specs.Prelude.{ℕ, List, [], ◌∷◌, ◌++◌, ◌+◌, ◌-◌, ◌==◌, ◌≤◌, if◌then◌else◌, Option, Some, None, codes, decimal, length, map}
 use Rattle.std.specs.List.{flat_map}
 use Rattle.onll_words.specs.Texts.{line_text}
 use Rattle.onll_model.specs.declared.node.Node.{Node}
@@ -61,3 +61,7 @@ shown (Some c) = Say Done (show_report c)
 
 abbrev pub show_job : (image : List ℕ) → Job
 show_job image = Read image (λ bytes. shown (content_of (image_lines bytes)))
+
+-- the entry's nodes stand at places from 1 on
+abbrev pub IsPlaced : Segment → Type 0
+IsPlaced s = length s.nodes ≤ s.place

@@ -5,6 +5,7 @@ ghost use Rattle.onll_jobs.specs.Command.{form_of, form_in};
 #[derive(Clone, Copy, Debug)]
 pub(crate) enum Command<'a> {
     Fold { init: &'a str, script: &'a str },
+    Show { image: &'a str },
 }
 
 impl<'a> Command<'a> {
@@ -16,6 +17,9 @@ impl<'a> Command<'a> {
             [command, init, script] if command.as_str() == "fold" => Some(Command::Fold {
                 init: init.as_str(),
                 script: script.as_str(),
+            }),
+            [command, image] if command.as_str() == "show" => Some(Command::Show {
+                image: image.as_str(),
             }),
             _ => None,
         }

@@ -6,6 +6,7 @@ mod command;
 mod ending;
 mod fold;
 mod program;
+mod show;
 mod texts;
 
 pub use ending::{Ending, Exit};

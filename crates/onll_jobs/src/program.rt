@@ -11,7 +11,7 @@ ghost use Rattle.onll_jobs.specs.Printed.{usage_text};
 use crate::answer::{Answer, usage};
 use crate::command::Command;
 use crate::ending::Exit;
-use crate::fold;
+use crate::{fold, show};
 use onll_outside::{OutsideFault, Sink, Store};
 use onll_words::NoMemory;
 use std::alloc::Global;
@@ -28,6 +28,7 @@ fn command_answer<S: Store>(
 {
     match command {
         Command::Fold { init, script } => fold::answer(alloc, init, script, store),
+        Command::Show { image } => show::answer(alloc, image, store),
     }
 }
 

@@ -1,0 +1,92 @@
+use Rattle.std.proofs.Common.{ℕ, List, [], ◌∷◌, ◌++◌, ◌≡◌, ◌==◌, ◌+◌, ◌<◌, Bool, true, false, cond, Option, Some, length, drop, get_or, map, refl, sym, ap, ◌∙◌, codes, decimal}
+use Rattle.std.proofs.lemmas.List.{drop_more, length-map, append-nil}
+use Rattle.onll_words.specs.Texts.{IsWord, AreWords, line_text}
+use Rattle.onll_words.proofs.Decimals.{IsWord-decimal}
+use Rattle.onll_model.specs.declared.node.Node.{Node}
+use Rattle.onll_model.specs.Segment.{Segment}
+use Rattle.onll_log.specs.declared.head.LogHead.{LogHead}
+use Rattle.onll_log.specs.declared.decoded.Entry.{Entry}
+use Rattle.onll_log.specs.Decoded.{segment_in, segments_in}
+use Rattle.onll_text.specs.Bytes.{begins_line, with_word, with_words, with_lines}
+use Rattle.onll_text.proofs.Appending.{with_words-append, with_words-line, with_lines-one, with_lines-append}
+use Rattle.onll_jobs.specs.ShowJob.{object_name, head_words, row_line, row_lines, entry_words, entry_lines, entries_lines, count_words, content_lines}
+
+-- The lines that `show` prints, as their words are put.
+
+name_is_word : (b c d : Bool) → IsWord (cond b (codes "bank") (cond c (codes "map") (cond d (codes "queue") (codes "lease"))))
+name_is_word true c d = record { some = refl; bytes = refl }
+name_is_word false true d = record { some = refl; bytes = refl }
+name_is_word false false true = record { some = refl; bytes = refl }
+name_is_word false false false = record { some = refl; bytes = refl }
+
+pub IsWord-object_name : (code : ℕ) → IsWord (object_name code)
+IsWord-object_name code = name_is_word (code == 1) (code == 2) (code == 3)
+
+pub head_in_words : (head : LogHead) → AreWords (head_words head)
+head_in_words head = (
+  record { some = refl; bytes = refl },
+  (record { some = refl; bytes = refl }, (IsWord-decimal head.thread, (record { some = refl; bytes = refl }, (IsWord-decimal head.threads, (record { some = refl; bytes = refl }, (IsWord-object_name head.object, tt)))))),
+)
+
+pub entry_in_words : (number : ℕ) (s : Segment) → AreWords (entry_words number s)
+entry_in_words number s = (
+  record { some = refl; bytes = refl },
+  (IsWord-decimal number, (record { some = refl; bytes = refl }, (IsWord-decimal s.place, (record { some = refl; bytes = refl }, (IsWord-decimal (length s.nodes), tt))))),
+)
+
+pub count_in_words : (entries lines : ℕ) → AreWords (count_words entries lines)
+count_in_words entries lines =
+    (record { some = refl; bytes = refl }, (IsWord-decimal entries, (record { some = refl; bytes = refl }, (IsWord-decimal lines, tt))))
+
+numbers_in_words : (numbers : List ℕ) → AreWords (map decimal numbers)
+numbers_in_words [] = tt
+numbers_in_words (n ∷ ns) = (IsWord-decimal n, numbers_in_words ns)
+
+row_in_words : (place : ℕ) (node : Node) → AreWords (row_line place node)
+row_in_words place node =
+    (record { some = refl; bytes = refl }, (IsWord-decimal place, (IsWord-decimal node.thread, (IsWord-decimal node.number, numbers_in_words node.row.w))))
+
+-- one number more after those so far
+pub numbers_more : (out new : List ℕ) (numbers : List ℕ) (i : ℕ) → i < length numbers → new ≡ with_word out (decimal (get_or numbers i 0))
+    → with_words new (map decimal (drop (i + 1) numbers)) ≡ with_words out (map decimal (drop i numbers))
+numbers_more out new numbers i h e =
+    ap (λ t. with_words t (map decimal (drop (i + 1) numbers))) e ∙ sym (ap (λ t. with_words out (map decimal t)) (drop_more numbers i 0 h))
+
+-- the bytes after the parts of a node's line
+pub row_parts : (place : ℕ) (node : Node) (old began counted new : List ℕ) → begins_line old ≡ true
+    → began ≡ with_words old (codes "row" ∷ decimal place ∷ decimal node.thread ∷ decimal node.number ∷ []) → counted ≡ with_words began (map decimal node.row.w)
+    → new ≡ counted ++ 10 ∷ [] → new ≡ old ++ line_text (row_line place node)
+row_parts place node old began counted new h e₁ e₂ e₃ =
+    e₃ ∙ ap (λ t. t ++ 10 ∷ []) (e₂ ∙ ap (λ t. with_words t (map decimal node.row.w)) e₁)
+    ∙ with_words-line old (codes "row") (decimal place ∷ decimal node.thread ∷ decimal node.number ∷ map decimal node.row.w) h (row_in_words place node)
+
+-- one node's line before those of the rest
+pub row_lines_more : (out new : List ℕ) (place i : ℕ) (nodes : List Node) (d : Node) → i < length nodes → new ≡ out ++ line_text (row_line (place + 1) (get_or nodes i d))
+    → with_lines new (row_lines (place + 1) (drop (i + 1) nodes)) ≡ with_lines out (row_lines place (drop i nodes))
+row_lines_more out new place i nodes d h e =
+    ap (λ t. with_lines t (row_lines (place + 1) (drop (i + 1) nodes))) e
+    ∙ sym (with_lines-one out (row_line (place + 1) (get_or nodes i d)) (row_lines (place + 1) (drop (i + 1) nodes)))
+    ∙ sym (ap (λ t. with_lines out (row_lines place t)) (drop_more nodes i d h))
+
+-- one entry's lines before those of the rest
+pub entry_lines_more : (out new : List ℕ) (number i : ℕ) (entries : List Entry) (d : Entry) → i < length entries → new ≡ with_lines out (entry_lines (number + 1) (segment_in (get_or entries i d)))
+    → with_lines new (entries_lines (number + 1) (segments_in (drop (i + 1) entries))) ≡ with_lines out (entries_lines number (segments_in (drop i entries)))
+entry_lines_more out new number i entries d h e =
+    ap (λ t. with_lines t (entries_lines (number + 1) (segments_in (drop (i + 1) entries)))) e
+    ∙ sym (with_lines-append out (entry_lines (number + 1) (segment_in (get_or entries i d))) (entries_lines (number + 1) (segments_in (drop (i + 1) entries))))
+    ∙ sym (ap (λ t. with_lines out (entries_lines number (segments_in t))) (drop_more entries i d h))
+
+-- the bytes after the parts of a log's lines
+pub log_parts : (head : LogHead) (found : Option LogHead) (entries : List Entry) (used count : ℕ) (old headed entered new : List ℕ)
+    → found ≡ Some head → headed ≡ old ++ line_text (head_words head) → entered ≡ with_lines headed (entries_lines 0 (segments_in entries))
+    → count ≡ length entries → new ≡ entered ++ line_text (count_words count used)
+    → new ≡ with_lines old (content_lines found (segments_in entries) used)
+log_parts head found entries used count old headed entered new known e₁ e₂ n e₃ =
+    let ss = segments_in entries in
+    let counts = count_words (length ss) used in
+    e₃ ∙ ap (λ k. entered ++ line_text (count_words k used)) (n ∙ sym (length-map entries segment_in))
+    ∙ ap (λ t. t ++ line_text counts) (e₂ ∙ ap (λ t. with_lines t (entries_lines 0 ss)) e₁)
+    ∙ ap (λ t. with_lines (old ++ line_text (head_words head)) (entries_lines 0 ss) ++ t) (sym (append-nil (line_text counts)))
+    ∙ sym (with_lines-append (old ++ line_text (head_words head)) (entries_lines 0 ss) (counts ∷ []))
+    ∙ sym (with_lines-one old (head_words head) (entries_lines 0 ss ++ counts ∷ []))
+    ∙ ap (λ h. with_lines old (content_lines h ss used)) (sym known)

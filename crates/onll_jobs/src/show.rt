@@ -1,0 +1,228 @@
+ghost use Rattle.std.specs.Prelude.{◌≡◌, ◌∷◌, ◌++◌, ◌+◌, ◌-◌, ◌<◌, ◌≤◌, ◌^◌, [], length, true, IfOk, OnOk, Some, map, decimal};
+ghost use Rattle.std.specs.List.{AllByRecursion};
+ghost use Rattle.onll_words.specs.Texts.{line_text};
+ghost use Rattle.onll_pmem.specs.Pmem.{words_of};
+ghost use Rattle.onll_log.specs.Grammar.{content_of, used_by};
+ghost use Rattle.onll_log.specs.Decoded.{segment_in, segments_in, content_in};
+ghost use Rattle.onll_text.specs.Bytes.{begins_line, with_words, with_lines};
+ghost use Rattle.onll_outside.specs.Views.{SameFiles};
+ghost use Rattle.onll_jobs.specs.Job.{SaysNow, JobSays};
+ghost use Rattle.onll_jobs.specs.ShowJob.{object_name, head_words, row_line, row_lines, entry_words, entry_lines, entries_lines, count_words, content_lines, show_report, not_a_log, shown, show_job, IsPlaced};
+
+use crate::answer::Answer;
+use crate::ending::Ending;
+use crate::texts::image_file;
+use onll_log::{DecodeFault, Decoded, Entry, LogHead, decode};
+use onll_model::Node;
+use onll_outside::Store;
+use onll_text::{Piece, Report};
+use onll_words::{Line, NoMemory};
+use std::alloc::Global;
+
+/// What is said of an image that is no log.
+const NOT_A_LOG: &[u8] = b"not a log\n";
+
+/// The name of the object of a code.
+fn object_name(code: u64) -> &'static [u8]
+    ensures { result.now ≡ object_name code }
+{
+    match code {
+        1 => b"bank",
+        2 => b"map",
+        3 => b"queue",
+        _ => b"lease",
+    }
+}
+
+/// The line of a log's head.
+
+fn put_head(head: &LogHead, out: &mut Report) -> Result<(), NoMemory>
+    requires { begins_line out.old ≡ true }
+    ensures { OnOk result (out.new ≡ out.old ++ line_text (head_words head.now)) }
+{
+    let name = object_name(head.object);
+    out.line(&[
+        Piece::Text(b"log"),
+        Piece::Text(b"thread"),
+        Piece::Number(head.thread),
+        Piece::Text(b"threads"),
+        Piece::Number(head.threads),
+        Piece::Text(b"object"),
+        Piece::Text(name),
+    ])
+}
+
+/// Numbers, as words.
+fn put_numbers(numbers: &[u64], out: &mut Report) -> Result<(), NoMemory>
+    ensures { OnOk result (out.new ≡ with_words out.old (map decimal numbers.now)) }
+{
+    for number in numbers {
+        out.number(*number)?;
+    }
+    Ok(())
+}
+
+/// The line of the node at a place.
+fn put_row(place: u64, node: &Node, out: &mut Report) -> Result<(), NoMemory>
+    requires { begins_line out.old ≡ true }
+    ensures { OnOk result (out.new ≡ out.old ++ line_text (row_line place node.now)) }
+{
+    out.words(&[
+        Piece::Text(b"row"),
+        Piece::Number(place),
+        Piece::Number(node.thread),
+        Piece::Number(node.number),
+    ])?;
+    put_numbers(&node.row.w, out)?;
+    out.end_line()
+}
+
+/// The lines of nodes, the first of them at the place above `below`.
+fn put_rows(below: u64, nodes: &[Node], out: &mut Report) -> Result<(), NoMemory>
+    requires begins { begins_line out.old ≡ true }
+    requires places { below + length nodes.now < 2 ^ 64 }
+    ensures lines { OnOk result (out.new ≡ with_lines out.old (row_lines below nodes.now)) }
+    ensures begins { OnOk result (begins_line out.new ≡ true) }
+{
+    let mut place = below;
+    for node in nodes {
+        place += 1;
+        put_row(place, node, out)?;
+    }
+    Ok(())
+}
+
+/// The lines of an entry.
+
+fn put_entry(number: u64, entry: &Entry, out: &mut Report) -> Result<(), NoMemory>
+    requires begins { begins_line out.old ≡ true }
+    requires placed { IsPlaced (segment_in entry.now) }
+    ensures lines { OnOk result (out.new ≡ with_lines out.old (entry_lines number (segment_in entry.now))) }
+    ensures begins { OnOk result (begins_line out.new ≡ true) }
+{
+    let nodes = entry.nodes.as_slice();
+    let count = nodes.len() as u64;
+    out.line(&[
+        Piece::Text(b"entry"),
+        Piece::Number(number),
+        Piece::Text(b"place"),
+        Piece::Number(entry.place),
+        Piece::Text(b"count"),
+        Piece::Number(count),
+    ])?;
+    put_rows(entry.place - count, nodes, out)
+}
+
+/// The lines of entries.
+fn put_entries(entries: &[Entry], out: &mut Report) -> Result<(), NoMemory>
+    requires begins { begins_line out.old ≡ true }
+    requires placed { AllByRecursion IsPlaced (segments_in entries.now) }
+    ensures lines { OnOk result (out.new ≡ with_lines out.old (entries_lines 0 (segments_in entries.now))) }
+    ensures begins { OnOk result (begins_line out.new ≡ true) }
+{
+    let mut number = 0;
+    for entry in entries {
+        number += 1;
+        put_entry(number, entry, out)?;
+    }
+    Ok(())
+}
+
+/// How many entries there are, and how many lines are used.
+
+fn put_counts(entries: u64, lines: u64, out: &mut Report) -> Result<(), NoMemory>
+    requires { begins_line out.old ≡ true }
+    ensures { OnOk result (out.new ≡ out.old ++ line_text (count_words entries lines)) }
+{
+    out.line(&[
+        Piece::Text(b"entries"),
+        Piece::Number(entries),
+        Piece::Text(b"lines"),
+        Piece::Number(lines),
+    ])
+}
+
+/// The lines of a log with a head.
+fn put_log(head: &LogHead, decoded: &Decoded, out: &mut Report) -> Result<(), NoMemory>
+    requires begins { begins_line out.old ≡ true }
+    requires head { decoded.now.head ≡ Some head.now }
+    requires placed { AllByRecursion IsPlaced (segments_in decoded.now.entries) }
+    requires used { used_by (content_in decoded.now) < 2 ^ 64 }
+    ensures { let content = content_in decoded.now in
+        OnOk result (out.new ≡ with_lines out.old (content_lines content.head content.entries (used_by content))) }
+{
+    let entries = decoded.entries.as_slice();
+    put_head(head, out)?;
+    put_entries(entries, out)?;
+    put_counts(entries.len() as u64, decoded.used(), out)
+}
+
+/// The lines of what an image holds.
+fn put_content(decoded: &Decoded, out: &mut Report) -> Result<(), NoMemory>
+    requires begins { begins_line out.old ≡ true }
+    requires placed { AllByRecursion IsPlaced (segments_in decoded.now.entries) }
+    requires used { used_by (content_in decoded.now) < 2 ^ 64 }
+    ensures { let content = content_in decoded.now in
+        OnOk result (out.new ≡ with_lines out.old (content_lines content.head content.entries (used_by content))) }
+{
+    match &decoded.head {
+        None => out.line(&[Piece::Text(b"empty")]),
+        Some(head) => put_log(head, decoded, out),
+    }
+}
+
+/// The report of what an image holds.
+fn report(alloc: Global, decoded: &Decoded) -> Result<Vec<u8>, NoMemory>
+    requires placed { AllByRecursion IsPlaced (segments_in decoded.now.entries) }
+    requires used { used_by (content_in decoded.now) < 2 ^ 64 }
+    ensures { IfOk result (λ bytes. bytes.items ≡ show_report (content_in decoded.now)) }
+{
+    let mut out = Report::new(alloc);
+    put_content(decoded, &mut out)?;
+    Ok(out.into_bytes())
+}
+
+/// The answer for an image that is no log.
+fn not_a_log(alloc: Global) -> Result<Answer, NoMemory>
+    ensures { IfOk result (λ answer. (answer.ending ≡ Ending.BadLog) × (answer.text.items ≡ not_a_log)) }
+{
+    match Vec::from_slice(alloc, NOT_A_LOG) {
+        Ok(text) => Ok(Answer {
+            ending: Ending::BadLog,
+            text,
+        }),
+        Err(_) => Err(NoMemory),
+    }
+}
+
+/// What is said of an image's lines.
+fn shown(alloc: Global, lines: &[Line]) -> Result<Answer, NoMemory>
+    ensures { IfOk result (λ answer. SaysNow (shown (content_of (words_of lines.now))) answer.ending answer.text.items) }
+{
+    match decode(alloc, lines) {
+        Ok(decoded) => {
+            let text = report(alloc, &decoded)?;
+            Ok(Answer {
+                ending: Ending::Done,
+                text,
+            })
+        }
+        Err(DecodeFault::NotLog) => not_a_log(alloc),
+        Err(DecodeFault::NoMemory) => Err(NoMemory),
+    }
+}
+
+/// Shows the image of a file.
+pub(crate) fn answer<S: Store>(
+    alloc: Global,
+    image: &str,
+    store: &mut S,
+) -> Result<Answer, NoMemory>
+    ensures says { IfOk result (λ answer. JobSays (S.seen store.old) (S.seen store.new) (show_job image.now) answer.ending answer.text.items) }
+    ensures same { SameFiles (S.seen store.old) (S.seen store.new) }
+{
+    match image_file(alloc, image, store) {
+        Ok(lines) => shown(alloc, &lines),
+        Err(stop) => stop.answer(),
+    }
+}

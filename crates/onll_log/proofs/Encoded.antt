@@ -13,7 +13,7 @@ use Rattle.onll_model.proofs.Names.{node_of_its_name}
 use Rattle.onll_log.specs.declared.head.LogHead.{LogHead}
 use Rattle.onll_log.specs.Head.{word, log_magic, head_line, head_of, is_head, FitsHead}
 use Rattle.onll_log.specs.Encoding.{entry_magic, guard, entry_front, entry_line, entry_lines, entries_lines, log_lines, node_lines, FitsNode, FitsEntry, FitEntries}
-use Rattle.onll_log.specs.Grammar.{all_named, is_entry, node_of_line, segment_of, entries_from, Content, are_zero_lines, content_of, lines_in}
+use Rattle.onll_log.specs.Grammar.{all_named, is_entry, node_of_line, segment_of, entries_from, Content, are_zero_lines, content_of, lines_in, used_with}
 use Rattle.onll_log.proofs.Accepted.{and_true, Accepted, is_entry-Accepted, entries_from-entry, entries_from-none, is_entry-no_magic}
 
 -- ---- the head
@@ -27,6 +27,10 @@ pub is_head-head_line : (head : LogHead) → FitsHead head → is_head (head_lin
 is_head-head_line head f =
     and_true _ _ (eq-eqb log_magic log_magic refl) (and_true _ _ (format_test head.format f.format.0 f.format.1) (and_true _ _ (lt-ltb _ _ f.thread)
     (and_true _ _ (le-leb _ _ f.threads) (and_true _ _ (le-leb _ _ f.object.0) (le-leb _ _ f.object.1)))))
+
+-- different heads have different lines
+pub head_line-differs : (a b : LogHead) → a ≢ b → head_line a ≢ head_line b
+head_line-differs a b n e = n (ap head_of e)
 
 pub head_of-head_line : (head : LogHead) → head_of (head_line head) ≡ head
 head_of-head_line head = refl
@@ -141,6 +145,18 @@ entries_lines-more head ss s = entries_lines-more_after head 0 ss s ∙ (let e :
 
 pub log_lines-more : (head : LogHead) (ss : List Segment) (s : Segment) → log_lines head (ss ++ s ∷ []) ≡ log_lines head ss ++ entry_lines head (length ss) s
 log_lines-more head ss s = ap (λ (l : List (List ℕ)). head_line head ∷ l) (entries_lines-more head ss s)
+
+-- ---- lists of entries
+pub FitEntries-append : (threads : ℕ) (ss more : List Segment) → FitEntries threads ss → FitEntries threads more → FitEntries threads (ss ++ more)
+FitEntries-append threads [] more f g = g
+FitEntries-append threads (s ∷ ss) more f g = (f.0, FitEntries-append threads ss more f.1 g)
+
+pub lines_in-append : (ss more : List Segment) → lines_in (ss ++ more) ≡ lines_in ss + lines_in more
+lines_in-append [] more = omega arith
+lines_in-append (s ∷ ss) more = let h = lines_in-append ss more in omega arith
+
+pub used_with-append : (head : LogHead) (ss more : List Segment) → used_with (Some head) (ss ++ more) ≡ used_with (Some head) ss + lines_in more
+used_with-append head ss more = let h = lines_in-append ss more in omega arith
 
 -- ---- how many lines
 pub length-entry_lines : (head : LogHead) (before : ℕ) (s : Segment) → length (entry_lines head before s) ≡ suc (length s.nodes)

@@ -1,2 +1,4 @@
 pub mod Accepted
 pub mod Encoded
+pub mod Masks
+pub mod Torn

@@ -3,4 +3,5 @@ pub mod Masks
 pub mod Encoding
 pub mod Grammar
 pub mod Decoded
+pub mod Torn
 pub mod Laws

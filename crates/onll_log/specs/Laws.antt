@@ -1,11 +1,12 @@
 -- Laws over the grammar of logs, whatever code reads and writes them.
-use Rattle.std.specs.Prelude.{ℕ, ◌≡◌, List, [], ◌∷◌, ◌++◌, length, Option, Some, None, true}
-use Rattle.onll_pmem.specs.Device.{zero_lines}
+use Rattle.std.specs.Prelude.{ℕ, ◌≡◌, ◌+◌, ◌-◌, ◌≤◌, List, [], ◌∷◌, ◌++◌, length, take, Option, Some, None, true}
+use Rattle.onll_pmem.specs.Device.{zero_lines, Mixed}
 use Rattle.onll_model.specs.Segment.{Segment}
 use Rattle.onll_log.specs.declared.head.LogHead.{LogHead}
 use Rattle.onll_log.specs.Head.{head_line, head_of, is_head, FitsHead}
-use Rattle.onll_log.specs.Encoding.{entries_lines, log_lines, FitEntries}
+use Rattle.onll_log.specs.Encoding.{entry_lines, entries_lines, log_lines, FitsEntry, FitEntries}
 use Rattle.onll_log.specs.Grammar.{entries_from, content_of, lines_in}
+use Rattle.onll_log.specs.Torn.{AreLines, Among, log_image, Holds, TornOrWhole}
 
 -- ---- what is encoded is read back
 pub record ReadBack (head : LogHead) : Type 0 where
@@ -24,11 +25,35 @@ EntriesLaw = (head : LogHead) (ss : List Segment) (rest : List (List ℕ)) → F
 abbrev pub ZerosLaw : Type 0
 ZerosLaw = (head : LogHead) (before count : ℕ) → entries_from head before 0 (zero_lines count) ≡ []
 
--- an image of a log with zeros after it holds that head and those entries
+-- a log with zeros after it holds its head and its entries
 abbrev pub ContentLaw : Type 0
-ContentLaw = (head : LogHead) (ss : List Segment) (count : ℕ) → FitsHead head → FitEntries head.threads ss
-    → content_of (log_lines head ss ++ zero_lines count) ≡ Some (record { head = Some head; entries = ss })
+ContentLaw = (head : LogHead) (ss : List Segment) (zeros : ℕ) → FitsHead head → FitEntries head.threads ss → Holds (log_image head ss zeros) head ss
+
+-- zeros alone are the empty log
+abbrev pub EmptyLaw : Type 0
+EmptyLaw = (count : ℕ) → 1 ≤ count → content_of (zero_lines count) ≡ Some (record { head = None; entries = [] })
+
+-- an entry more stands after the others
+abbrev pub MoreLaw : Type 0
+MoreLaw = (head : LogHead) (ss : List Segment) (s : Segment) → log_lines head (ss ++ s ∷ []) ≡ log_lines head ss ++ entry_lines head (length ss) s
 
 -- entries take as many lines as they are said to
 abbrev pub LinesLaw : Type 0
 LinesLaw = (head : LogHead) (before : ℕ) (ss : List Segment) → length (entries_lines head before ss) ≡ lines_in ss
+
+-- ---- the torn entry of format 2
+-- between a log and that log with an entry more, every image holds the entry more exactly where it is the whole
+abbrev pub TornLaw : Type 0
+TornLaw = (head : LogHead) (ss : List Segment) (s : Segment) (before after : ℕ) (image : List (List ℕ)) → FitsHead head → head.format ≡ 2
+    → FitEntries head.threads ss → FitsEntry head.threads s → Mixed (log_image head ss before) (log_image head (ss ++ s ∷ []) after) image
+    → TornOrWhole head ss s (log_image head (ss ++ s ∷ []) after) image
+
+-- the same where only some words of the entry were written
+abbrev pub PartLaw : Type 0
+PartLaw = (head : LogHead) (ss : List Segment) (s : Segment) (before after : ℕ) (read image : List (List ℕ)) → FitsHead head → head.format ≡ 2
+    → FitEntries head.threads ss → FitsEntry head.threads s → Among (entry_lines head (length ss) s ++ zero_lines after) read
+    → Mixed (log_image head ss before) (log_lines head ss ++ read) image → TornOrWhole head ss s (log_image head (ss ++ s ∷ []) after) image
+
+-- the first lines of an entry and zeros in the place of the others are among the whole
+abbrev pub FrontLaw : Type 0
+FrontLaw = (lines : List (List ℕ)) (front zeros : ℕ) → AreLines lines → Among (lines ++ zero_lines zeros) (take front lines ++ zero_lines (length lines - front + zeros))

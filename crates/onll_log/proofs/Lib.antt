@@ -2,3 +2,4 @@ pub mod Accepted
 pub mod Encoded
 pub mod Masks
 pub mod Torn
+pub mod Written

@@ -4,4 +4,5 @@ pub mod Encoding
 pub mod Grammar
 pub mod Decoded
 pub mod Torn
+pub mod Written
 pub mod Laws

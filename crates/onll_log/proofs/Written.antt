@@ -1,9 +1,10 @@
 -- What is read was encoded: the lines of a log are those of its entries.
 use Rattle.std.proofs.Common.{ℕ, zero, suc, ◌≡◌, ◌+◌, ◌-◌, ◌*◌, ◌/◌, ◌%◌, ◌<◌, ◌≤◌, Bool, true, false, List, [], ◌∷◌, ◌++◌, length, take, drop, map, sym, refl, ap, ◌∙◌, subst, ⊎_elim, ◌⊎◌, inl, inr, arith, true≢false, ◌==◌, eqb-true, cond, append_assoc, append-nil, length-append}
-use Rattle.std.specs.Prelude.{◌&&◌, ◌||◌, nat_le, Option, Some, None}
+use Rattle.std.specs.Prelude.{◌&&◌, ◌||◌, ◌↔◌, nat_le, replicate, Option, Some, None}
 use Rattle.std.specs.List.{AllByRecursion}
 use Rattle.std.proofs.lemmas.Bool.{leb-true, ltb-true, cases_Bool}
 use Rattle.std.proofs.lemmas.List.{length-map, length-take-le, take-append-drop, drop_at}
+use Rattle.onll_pmem.specs.Device.{zero_line, zero_lines}
 use Rattle.onll_words.specs.declared.line.OpRow.{OpRow}
 use Rattle.onll_model.specs.declared.node.Node.{Node}
 use Rattle.onll_model.specs.Names.{words_of_node}
@@ -11,11 +12,11 @@ use Rattle.onll_model.specs.Segment.{Segment}
 use Rattle.onll_log.specs.declared.head.LogHead.{LogHead}
 use Rattle.onll_log.specs.Head.{word, log_magic, head_line, head_of, is_head, FitsHead}
 use Rattle.onll_log.specs.Encoding.{entry_magic, guard, entry_front, entry_line, entry_lines, entries_lines, log_lines, node_lines, FitsNode, FitsEntry, FitEntries}
-use Rattle.onll_log.specs.Grammar.{all_named, is_entry, node_of_line, segment_of, entries_from, Content, are_zero_lines, content_of, lines_in, used_with}
+use Rattle.onll_log.specs.Grammar.{all_named, is_entry, node_of_line, segment_of, entries_from, Content, is_zero_line, are_zero_lines, content_of, lines_in, used_with}
 use Rattle.onll_log.specs.Torn.{IsLine, AreLines, Holds}
-use Rattle.onll_log.specs.Written.{IsWritten}
+use Rattle.onll_log.specs.Written.{IsWritten, IsEmptyLog}
 use Rattle.onll_log.proofs.Accepted.{both_true, Accepted, Accepted-if, entries_from-entry, entries_from-none, entries_from-drop}
-use Rattle.onll_log.proofs.Encoded.{content_of-head, content_of-head_line, entries_from-entries_lines, length-log_lines}
+use Rattle.onll_log.proofs.Encoded.{content_of-head, content_of-head_line, content_of-zero_lines, entries_from-entries_lines, length-log_lines}
 
 -- ---- the head
 either_true : (a b : Bool) → a || b ≡ true → (a ≡ true) ⊎ (b ≡ true)
@@ -214,3 +215,37 @@ Holds-IsWritten image head ss w =
     let rest : List (List ℕ) = drop (used_with (Some head) ss) image in
     ap content_of w.lines ∙ (content_of-head_line head (entries_lines head 0 ss ++ rest) w.fits_head ∙
     ap (λ (l : List Segment). Some (record { head = Some head; entries = l })) (entries_from-entries_lines head ss rest w.fit_entries ∙ (ap (λ (l : List Segment). ss ++ l) w.ended ∙ append-nil ss)))
+
+-- an image holds what is written in it, and nothing else
+pub Holds-exactly : (image : List (List ℕ)) (head : LogHead) (ss : List Segment) → AreLines image → Holds image head ss ↔ IsWritten image head ss
+Holds-exactly image head ss eights = (IsWritten-Holds image head ss eights, Holds-IsWritten image head ss)
+
+-- ---- the empty log
+zero_line-tested : (line : List ℕ) → IsLine line → is_zero_line line ≡ true → line ≡ zero_line
+zero_line-tested line eight e = zeros line e ∙ ap (λ (n : ℕ). replicate n 0) eight
+  where
+    zeros : (ws : List ℕ) → is_zero_line ws ≡ true → ws ≡ replicate (length ws) 0
+    zeros [] e = refl
+    zeros (w ∷ ws) e = let h = both_true (w == 0) (is_zero_line ws) e in let here = eqb-true w 0 h.0 in let rest = zeros ws h.1 in λ i. here i ∷ rest i
+
+zero_lines-tested : (lines : List (List ℕ)) → AreLines lines → are_zero_lines lines ≡ true → lines ≡ zero_lines (length lines)
+zero_lines-tested [] eights e = refl
+zero_lines-tested (l ∷ ls) eights e = let h = both_true (is_zero_line l) (are_zero_lines ls) e in let here = zero_line-tested l eights.0 h.0 in let rest = zero_lines-tested ls eights.1 h.1 in λ i. here i ∷ rest i
+
+none_parts : (ss : List Segment) (b : Bool) → cond {A = Option Content} b (Some (record { head = None; entries = [] })) None ≡ Some (record { head = None; entries = ss }) → (b ≡ true) × (ss ≡ [])
+none_parts ss true e = (refl, sym (ap entries_in e))
+none_parts ss false e = absurd (cc)
+
+-- an image without a head is all zero
+pub IsEmptyLog-no_head : (image : List (List ℕ)) (ss : List Segment) → AreLines image → content_of image ≡ Some (record { head = None; entries = ss }) → IsEmptyLog image ss
+IsEmptyLog-no_head [] ss eights h = absurd (cc)
+IsEmptyLog-no_head (l ∷ ls) ss eights h = ⊎_elim (λ (e : is_head l ≡ true). absurd (true≢false (sym (ap headed (content_of-head l ls e)) ∙ ap headed h))) (λ (e : is_head l ≡ false). read (none_parts ss (are_zero_lines (l ∷ ls)) (sym (content_of-no_head l ls e) ∙ h))) (cases_Bool (is_head l))
+  where
+    read : (are_zero_lines (l ∷ ls) ≡ true) × (ss ≡ []) → IsEmptyLog (l ∷ ls) ss
+    read p = record { some_lines = omega arith; zeros = zero_lines-tested (l ∷ ls) eights p.0; no_entries = p.1 }
+
+pub no_head-IsEmptyLog : (image : List (List ℕ)) (ss : List Segment) → IsEmptyLog image ss → content_of image ≡ Some (record { head = None; entries = ss })
+no_head-IsEmptyLog image ss f = ap content_of f.zeros ∙ (content_of-zero_lines (length image) f.some_lines ∙ ap (λ (l : List Segment). Some (record { head = None; entries = l })) (sym f.no_entries))
+
+pub no_head-exactly : (image : List (List ℕ)) (ss : List Segment) → AreLines image → (content_of image ≡ Some (record { head = None; entries = ss })) ↔ IsEmptyLog image ss
+no_head-exactly image ss eights = (IsEmptyLog-no_head image ss eights, no_head-IsEmptyLog image ss)

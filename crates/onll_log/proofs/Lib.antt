@@ -3,3 +3,4 @@ pub mod Encoded
 pub mod Masks
 pub mod Torn
 pub mod Written
+pub mod MaskBits

@@ -5,4 +5,5 @@ pub mod Grammar
 pub mod Decoded
 pub mod Torn
 pub mod Written
+pub mod MaskBits
 pub mod Laws

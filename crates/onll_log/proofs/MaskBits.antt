@@ -102,3 +102,86 @@ bit_at-past ls k e l n p = bit_at-mask_of ls k e l ∙ ap one_of (⊎_elim
   where
     above : 63 ≤ k → 63 < k
     above b = omega (arith, n)
+
+-- ---- the three masks
+-- the lines of a mask
+abbrev part : List (List ℕ) → ℕ → List (List ℕ)
+part lines m = take 7 (drop (7 * m) lines)
+
+take-all : (n : ℕ) (xs : List (List ℕ)) → length xs ≤ n → take n xs ≡ xs
+take-all zero [] l = refl
+take-all zero (x ∷ xs) l = absurd (omega arith)
+take-all (suc n) [] l = refl
+take-all (suc n) (x ∷ xs) l = ap (λ (z : List (List ℕ)). x ∷ z) (take-all n xs (omega arith))
+
+word-masks : (lines : List (List ℕ)) (m : ℕ) → length lines ≤ 16 → m < 3 → word (masks lines) m ≡ mask_of (part lines m)
+word-masks lines zero few l = refl
+word-masks lines (suc zero) few l = refl
+word-masks lines (suc (suc zero)) few l = ap mask_of (sym (take-all 7 (drop 14 lines) (omega (arith, length-drop 14 lines))))
+word-masks lines (suc (suc (suc m))) few l = absurd (omega arith)
+
+AreLines-take : (n : ℕ) (xs : List (List ℕ)) → AreLines xs → AreLines (take n xs)
+AreLines-take zero xs e = tt
+AreLines-take (suc n) [] e = tt
+AreLines-take (suc n) (x ∷ xs) e = (e.0, AreLines-take n xs e.1)
+
+AreLines-drop : (n : ℕ) (xs : List (List ℕ)) → AreLines xs → AreLines (drop n xs)
+AreLines-drop zero xs e = e
+AreLines-drop (suc n) [] e = tt
+AreLines-drop (suc n) (x ∷ xs) e = AreLines-drop n xs e.1
+
+AreLines-part : (lines : List (List ℕ)) (m : ℕ) → AreLines lines → AreLines (part lines m)
+AreLines-part lines m e = AreLines-take 7 (drop (7 * m) lines) (AreLines-drop (7 * m) lines e)
+
+length-part : (lines : List (List ℕ)) (m : ℕ) → length (part lines m) ≡ min 7 (length lines - 7 * m)
+length-part lines m = length-take 7 (drop (7 * m) lines) ∙ ap (λ (n : ℕ). min 7 n) (length-drop (7 * m) lines)
+
+line_at-part : (lines : List (List ℕ)) (m i : ℕ) → i < 7 → line_at (part lines m) i ≡ line_at lines (7 * m + i)
+line_at-part lines m i l = get_or-take 7 (drop (7 * m) lines) i [] l ∙ get_or-drop (7 * m) lines i []
+
+mask_bit-part : (lines : List (List ℕ)) (m k : ℕ) → length lines ≤ 16 → m < 3 → mask_bit lines m k ≡ bit_at (mask_of (part lines m)) k
+mask_bit-part lines m k few l = ap (λ (n : ℕ). bit_at n k) (word-masks lines m few l)
+
+length-part-le : (lines : List (List ℕ)) (m : ℕ) → length (part lines m) ≤ 7
+length-part-le lines m = omega (arith, length-part lines m)
+
+turned : (b : Bool) → one_of (not b) ≡ cond {A = ℕ} b 0 1
+turned true = refl
+turned false = refl
+
+-- the bit for word j of the line at place i of mask m
+mask_bit-word : (lines : List (List ℕ)) (m i j : ℕ) → AreLines lines → length lines ≤ 16 → m < 3 → i < 7 → 7 * m + i < length lines → j < 8
+    → mask_bit lines m (8 * i + j) ≡ cond {A = ℕ} (word_at lines (7 * m + i) j == 0) 0 1
+mask_bit-word lines m i j e few l a b c =
+    mask_bit-part lines m (8 * i + j) few l ∙ (bit_at-word (part lines m) i j (AreLines-part lines m e) (length-part-le lines m) (omega (arith, length-part lines m)) c ∙
+    (ap (λ (z : List ℕ). one_of (not (word z j == 0))) (line_at-part lines m i a) ∙ turned (word_at lines (7 * m + i) j == 0)))
+
+mask_bit-each : (lines : List (List ℕ)) → AreLines lines → length lines ≤ 16 → (mask bit line j : ℕ) → IsBitOf lines mask bit line j
+    → mask_bit lines mask bit ≡ cond {A = ℕ} (word_at lines (line - 1) j == 0) 0 1
+mask_bit-each lines e few mask bit line j is =
+    let low = is.from_one in let high = is.a_line in let small = is.a_word in let here = is.mask_word in let at = is.place in
+    let i : ℕ = (line - 1) % 7 in let back : 7 * mask + (line - 1) % 7 ≡ line - 1 = omega arith in
+    ap (mask_bit lines mask) at ∙ (mask_bit-word lines mask i j e few (omega arith) (omega arith) (omega arith) small ∙
+    ap (λ (n : ℕ). cond {A = ℕ} (word_at lines n j == 0) 0 1) back)
+
+mask_bit-top : (lines : List (List ℕ)) → AreLines lines → length lines ≤ 16 → (mask : ℕ) → mask < 3 → mask_bit lines mask 63 ≡ 1
+mask_bit-top lines e few mask l = mask_bit-part lines mask 63 few l ∙ bit_at-top (part lines mask) (AreLines-part lines mask e) (length-part-le lines mask)
+
+mask_bit-others : (lines : List (List ℕ)) → AreLines lines → length lines ≤ 16 → (mask bit : ℕ) → mask < 3 → (bit ≡ 63 → ⊥) → ((line j : ℕ) → IsBitOf lines mask bit line j → ⊥) → mask_bit lines mask bit ≡ 0
+mask_bit-others lines e few mask bit l n free = mask_bit-part lines mask bit few l ∙ ⊎_elim
+    (λ (a : bit < 8 * length (part lines mask)). absurd (free (7 * mask + bit / 8 + 1) (bit % 8) (within a)))
+    (λ (a : 8 * length (part lines mask) ≤ bit). bit_at-past (part lines mask) bit (AreLines-part lines mask e) (length-part-le lines mask) n a)
+    (cases_lt bit (8 * length (part lines mask)))
+  where
+    within : bit < 8 * length (part lines mask) → IsBitOf lines mask bit (7 * mask + bit / 8 + 1) (bit % 8)
+    within a = let s : bit / 8 < length (part lines mask) = omega arith in let seven = length-part-le lines mask in let size = length-part lines mask in record {
+      from_one = omega arith;
+      a_line = omega arith;
+      a_word = omega arith;
+      mask_word = omega arith;
+      place = omega arith;
+    }
+
+-- the masks of an entry's lines are what they are said to be
+pub AreMasks-masks : (lines : List (List ℕ)) → AreLines lines → length lines ≤ 16 → AreMasks lines
+AreMasks-masks lines e few = record { each = mask_bit-each lines e few; top = mask_bit-top lines e few; others = mask_bit-others lines e few }

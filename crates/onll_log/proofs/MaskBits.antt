@@ -10,6 +10,7 @@ use Rattle.onll_log.specs.Head.{word}
 use Rattle.onll_log.specs.Masks.{bits, marks_in, marks, mask_of, masks}
 use Rattle.onll_log.specs.MaskBits.{mask_bit, IsBitOf, AreMasks}
 use Rattle.onll_log.specs.Torn.{IsLine, AreLines}
+use Rattle.onll_log.proofs.Lines.{AreLines-take, AreLines-drop}
 
 -- ---- bits of a number
 abbrev one_of : Bool → ℕ
@@ -119,16 +120,6 @@ word-masks lines zero few l = refl
 word-masks lines (suc zero) few l = refl
 word-masks lines (suc (suc zero)) few l = ap mask_of (sym (take-all 7 (drop 14 lines) (omega (arith, length-drop 14 lines))))
 word-masks lines (suc (suc (suc m))) few l = absurd (omega arith)
-
-AreLines-take : (n : ℕ) (xs : List (List ℕ)) → AreLines xs → AreLines (take n xs)
-AreLines-take zero xs e = tt
-AreLines-take (suc n) [] e = tt
-AreLines-take (suc n) (x ∷ xs) e = (e.0, AreLines-take n xs e.1)
-
-AreLines-drop : (n : ℕ) (xs : List (List ℕ)) → AreLines xs → AreLines (drop n xs)
-AreLines-drop zero xs e = e
-AreLines-drop (suc n) [] e = tt
-AreLines-drop (suc n) (x ∷ xs) e = AreLines-drop n xs e.1
 
 AreLines-part : (lines : List (List ℕ)) (m : ℕ) → AreLines lines → AreLines (part lines m)
 AreLines-part lines m e = AreLines-take 7 (drop (7 * m) lines) (AreLines-drop (7 * m) lines e)

@@ -5,7 +5,7 @@ use Rattle.std.specs.List.{AllByRecursion}
 use Rattle.std.proofs.lemmas.Bool.{cases_Bool}
 use Rattle.std.proofs.lemmas.List.{length-map, drop_at}
 use Rattle.onll_pmem.specs.Device.{zero_line, zero_lines, FillsWords, MixedWords, Mixed}
-use Rattle.onll_pmem.proofs.Mixes.{MixedWords-same}
+use Rattle.onll_pmem.proofs.Mixes.{FillsWords-self, FillsLines-self, FillsLines-then, MixedWords-same}
 use Rattle.onll_model.specs.declared.node.Node.{Node}
 use Rattle.onll_model.specs.Names.{words_of_node}
 use Rattle.onll_model.specs.Segment.{Segment}
@@ -15,6 +15,7 @@ use Rattle.onll_log.specs.Masks.{masks}
 use Rattle.onll_log.specs.Encoding.{guard, entry_front, entry_line, entry_lines, entries_lines, log_lines, node_lines, FitsNode, FitsEntry, FitEntries}
 use Rattle.onll_log.specs.Grammar.{is_entry, entries_from, Content, content_of}
 use Rattle.onll_log.specs.Torn.{IsLine, AreLines, AmongWords, Among, log_image, Holds, TornOrWhole}
+use Rattle.onll_log.proofs.Lines.{zero_line-zeros, FillsWords-zero_line}
 use Rattle.onll_log.proofs.Accepted.{Accepted, Accepted-if, entries_from-none}
 use Rattle.onll_log.proofs.Encoded.{is_entry-entry_line, entries_from-entry_lines, entries_from-entries_lines, entries_from-zero_lines, content_of-head_line, content_of-log_lines, drop-node_lines, log_lines-more, FitEntries-append}
 use Rattle.onll_log.proofs.Masks.{guard-masks, Among-take, Among-drop, same_by_parts, Among-masks, masks-not_zero}
@@ -22,9 +23,6 @@ use Rattle.onll_log.proofs.Masks.{guard-masks, Among-take, Among-drop, same_by_p
 -- ---- words that are zero
 abbrev AreZero : List ℕ → Type 0
 AreZero ws = AllByRecursion (λ (w : ℕ). w ≡ 0) ws
-
-zero_line-zero : AreZero zero_line
-zero_line-zero = (refl, (refl, (refl, (refl, (refl, (refl, (refl, (refl, tt))))))))
 
 AmongWords-zero : (xs ys : List ℕ) → AmongWords xs ys → AreZero xs → ys ≡ xs
 AmongWords-zero [] [] a z = refl
@@ -37,7 +35,7 @@ Among-zero_lines : (k : ℕ) (ys : List (List ℕ)) → Among (zero_lines k) ys 
 Among-zero_lines zero [] a = refl
 Among-zero_lines zero (y ∷ ys) a = absurd a
 Among-zero_lines (suc k) [] a = absurd a
-Among-zero_lines (suc k) (y ∷ ys) a = let here : y ≡ zero_line = AmongWords-zero zero_line y a.0 zero_line-zero in let rest : ys ≡ zero_lines k = Among-zero_lines k ys a.1 in λ i. here i ∷ rest i
+Among-zero_lines (suc k) (y ∷ ys) a = let here : y ≡ zero_line = AmongWords-zero zero_line y a.0 zero_line-zeros in let rest : ys ≡ zero_lines k = Among-zero_lines k ys a.1 in λ i. here i ∷ rest i
 
 -- ---- the first line of an entry
 word_drop : (k j : ℕ) (l : List ℕ) → word (drop k l) j ≡ word l (k + j)
@@ -108,48 +106,17 @@ entries_from-Among head before s k (l ∷ image) masked f a = ⊎_elim
     whole : (l ≡ entry_line head before s) × (take (length s.nodes) image ≡ take (length s.nodes) (node_lines s.nodes ++ zero_lines k)) → l ∷ image ≡ entry_lines head before s ++ zero_lines k
     whole e = let here = e.0 in let there = same_by_parts (length s.nodes) (node_lines s.nodes ++ zero_lines k) image e.1 (zeros ∙ sym after) in λ i. here i ∷ there i
 
--- ---- what is among what is among
-AmongWords-self : (xs : List ℕ) → AmongWords xs xs
-AmongWords-self [] = tt
-AmongWords-self (x ∷ xs) = (inr refl, AmongWords-self xs)
-
-pub Among-self : (xs : List (List ℕ)) → Among xs xs
-Among-self [] = tt
-Among-self (x ∷ xs) = (AmongWords-self x, Among-self xs)
-
-AmongWords-then : (xs ys zs : List ℕ) → AmongWords xs ys → AmongWords ys zs → AmongWords xs zs
-AmongWords-then [] [] [] a b = tt
-AmongWords-then [] [] (z ∷ zs) a b = absurd b
-AmongWords-then [] (y ∷ ys) zs a b = absurd a
-AmongWords-then (x ∷ xs) [] zs a b = absurd a
-AmongWords-then (x ∷ xs) (y ∷ ys) [] a b = absurd b
-AmongWords-then (x ∷ xs) (y ∷ ys) (z ∷ zs) a b = (⊎_elim (λ (e : z ≡ 0). inl e) (λ (e : z ≡ y). ⊎_elim (λ (k : y ≡ 0). inl (e ∙ k)) (λ (k : y ≡ x). inr (e ∙ k)) a.0) b.0, AmongWords-then xs ys zs a.1 b.1)
-
-pub Among-then : (xs ys zs : List (List ℕ)) → Among xs ys → Among ys zs → Among xs zs
-Among-then [] [] [] a b = tt
-Among-then [] [] (z ∷ zs) a b = absurd b
-Among-then [] (y ∷ ys) zs a b = absurd a
-Among-then (x ∷ xs) [] zs a b = absurd a
-Among-then (x ∷ xs) (y ∷ ys) [] a b = absurd b
-Among-then (x ∷ xs) (y ∷ ys) (z ∷ zs) a b = (AmongWords-then x y z a.0 b.0, Among-then xs ys zs a.1 b.1)
-
 -- ---- a front of lines, and zeros in the place of the others
-AmongWords-zeros : (line zeros : List ℕ) → length line ≡ length zeros → AreZero zeros → AmongWords line zeros
-AmongWords-zeros [] [] l z = tt
-AmongWords-zeros [] (x ∷ xs) l z = absurd (omega arith)
-AmongWords-zeros (w ∷ ws) [] l z = absurd (omega arith)
-AmongWords-zeros (w ∷ ws) (x ∷ xs) l z = (inl z.0, AmongWords-zeros ws xs (omega arith) z.1)
-
 pub Among-zeros : (lines : List (List ℕ)) (k : ℕ) → AreLines lines → Among (lines ++ zero_lines k) (zero_lines (length lines + k))
-Among-zeros [] k e = let z : 0 + k ≡ k = omega arith in subst (λ (n : ℕ). Among (zero_lines k) (zero_lines n)) (sym z) (Among-self (zero_lines k))
+Among-zeros [] k e = let z : 0 + k ≡ k = omega arith in subst (λ (n : ℕ). Among (zero_lines k) (zero_lines n)) (sym z) (FillsLines-self (zero_lines k))
 Among-zeros (l ∷ ls) k e = let z : suc (length ls) + k ≡ suc (length ls + k) = omega arith in
-    subst (λ (n : ℕ). Among (l ∷ (ls ++ zero_lines k)) (zero_lines n)) (sym z) (AmongWords-zeros l zero_line e.0 zero_line-zero, Among-zeros ls k e.1)
+    subst (λ (n : ℕ). Among (l ∷ (ls ++ zero_lines k)) (zero_lines n)) (sym z) (FillsWords-zero_line l e.0, Among-zeros ls k e.1)
 
 pub Among-front : (lines : List (List ℕ)) (front k : ℕ) → AreLines lines → Among (lines ++ zero_lines k) (take front lines ++ zero_lines (length lines - front + k))
 Among-front lines zero k e = let z : length lines - 0 + k ≡ length lines + k = omega arith in subst (λ (m : ℕ). Among (lines ++ zero_lines k) (zero_lines m)) (sym z) (Among-zeros lines k e)
-Among-front [] (suc n) k e = let z : 0 - suc n + k ≡ k = omega arith in subst (λ (m : ℕ). Among (zero_lines k) (zero_lines m)) (sym z) (Among-self (zero_lines k))
+Among-front [] (suc n) k e = let z : 0 - suc n + k ≡ k = omega arith in subst (λ (m : ℕ). Among (zero_lines k) (zero_lines m)) (sym z) (FillsLines-self (zero_lines k))
 Among-front (l ∷ ls) (suc n) k e = let z : suc (length ls) - suc n + k ≡ length ls - n + k = omega arith in
-    subst (λ (m : ℕ). Among (l ∷ (ls ++ zero_lines k)) (l ∷ (take n ls ++ zero_lines m))) (sym z) (AmongWords-self l, Among-front ls n k e.1)
+    subst (λ (m : ℕ). Among (l ∷ (ls ++ zero_lines k)) (l ∷ (take n ls ++ zero_lines m))) (sym z) (FillsWords-self l, Among-front ls n k e.1)
 
 -- ---- images of a device
 -- where the one and the other begin alike, so does a mix of them
@@ -173,7 +140,7 @@ Among-mixed zero [] (y ∷ ys) m = absurd m
 Among-mixed zero (x ∷ xs) ys m = absurd m
 Among-mixed (suc k) [] ys m = absurd m
 Among-mixed (suc k) (x ∷ xs) [] m = absurd m
-Among-mixed (suc k) (x ∷ xs) (y ∷ ys) m = (AmongWords-mixed zero_line x y zero_line-zero m.0, Among-mixed k xs ys m.1)
+Among-mixed (suc k) (x ∷ xs) (y ∷ ys) m = (AmongWords-mixed zero_line x y zero_line-zeros m.0, Among-mixed k xs ys m.1)
 
 -- the image with the entry, by its parts
 log_image-more : (head : LogHead) (ss : List Segment) (s : Segment) (k : ℕ) → log_image head (ss ++ s ∷ []) k ≡ log_lines head ss ++ (entry_lines head (length ss) s ++ zero_lines k)
@@ -202,7 +169,7 @@ TornOrWhole-Among head ss s n k read image h masked f g a m = record {
     torn = λ e. subst (λ (l : List (List ℕ)). Holds l head ss) (sym front.1) (⊎_elim
       (λ (t : Holds (log_lines head ss ++ front.0) head ss). t)
       (λ (t : front.0 ≡ entry_lines head (length ss) s ++ zero_lines k). absurd (e (front.1 ∙ (ap (λ (l : List (List ℕ)). log_lines head ss ++ l) t ∙ sym (log_image-more head ss s k)))))
-      (Holds-among head ss s k front.0 h masked f g (Among-then (entry_lines head (length ss) s ++ zero_lines k) read front.0 a (Among-mixed n read front.0 front.2))));
+      (Holds-among head ss s k front.0 h masked f g (FillsLines-then front.0 read (entry_lines head (length ss) s ++ zero_lines k) (Among-mixed n read front.0 front.2) a)));
   }
   where
     front : (rest : List (List ℕ)) × (image ≡ log_lines head ss ++ rest) × Mixed (zero_lines n) read rest
@@ -213,4 +180,4 @@ pub TornOrWhole-Mixed : (head : LogHead) (ss : List Segment) (s : Segment) (n k 
     → Mixed (log_image head ss n) (log_image head (ss ++ s ∷ []) k) image → TornOrWhole head ss s (log_image head (ss ++ s ∷ []) k) image
 TornOrWhole-Mixed head ss s n k image h masked f g m =
     let whole : List (List ℕ) = entry_lines head (length ss) s ++ zero_lines k in
-    TornOrWhole-Among head ss s n k whole image h masked f g (Among-self whole) (subst (λ (l : List (List ℕ)). Mixed (log_image head ss n) l image) (log_image-more head ss s k) m)
+    TornOrWhole-Among head ss s n k whole image h masked f g (FillsLines-self whole) (subst (λ (l : List (List ℕ)). Mixed (log_image head ss n) l image) (log_image-more head ss s k) m)

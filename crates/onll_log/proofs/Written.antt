@@ -15,6 +15,7 @@ use Rattle.onll_log.specs.Encoding.{entry_magic, guard, entry_front, entry_line,
 use Rattle.onll_log.specs.Grammar.{all_named, is_entry, node_of_line, segment_of, entries_from, Content, is_zero_line, are_zero_lines, content_of, lines_in, used_with}
 use Rattle.onll_log.specs.Torn.{IsLine, AreLines, Holds}
 use Rattle.onll_log.specs.Written.{IsWritten, IsEmptyLog}
+use Rattle.onll_log.proofs.Lines.{AreLines-take, AreLines-drop}
 use Rattle.onll_log.proofs.Accepted.{both_true, Accepted, Accepted-if, entries_from-entry, entries_from-none, entries_from-drop}
 use Rattle.onll_log.proofs.Encoded.{content_of-head, content_of-head_line, content_of-zero_lines, entries_from-entries_lines, length-log_lines}
 
@@ -62,16 +63,6 @@ FitsHead-head_of line eight e =
     }
 
 -- ---- lists of lines
-AreLines-take : (n : ℕ) (xs : List (List ℕ)) → AreLines xs → AreLines (take n xs)
-AreLines-take zero xs e = tt
-AreLines-take (suc n) [] e = tt
-AreLines-take (suc n) (x ∷ xs) e = (e.0, AreLines-take n xs e.1)
-
-pub AreLines-drop : (n : ℕ) (xs : List (List ℕ)) → AreLines xs → AreLines (drop n xs)
-AreLines-drop zero xs e = e
-AreLines-drop (suc n) [] e = tt
-AreLines-drop (suc n) (x ∷ xs) e = AreLines-drop n xs e.1
-
 length-drop-le : (n : ℕ) (xs : List (List ℕ)) → length (drop n xs) ≤ length xs
 length-drop-le zero xs = omega arith
 length-drop-le (suc n) [] = omega arith

@@ -1,6 +1,6 @@
-use Rattle.std.specs.Prelude.{ℕ, ◌≡◌, ◌⊎◌, List, [], ◌∷◌, ◌++◌, length, Option, Some}
+use Rattle.std.specs.Prelude.{ℕ, ◌≡◌, List, [], ◌∷◌, ◌++◌, length, Option, Some}
 use Rattle.std.specs.List.{AllByRecursion}
-use Rattle.onll_pmem.specs.Device.{zero_lines}
+use Rattle.onll_pmem.specs.Device.{zero_lines, FillsWords, FillsLines}
 use Rattle.onll_model.specs.Segment.{Segment}
 use Rattle.onll_log.specs.declared.head.LogHead.{LogHead}
 use Rattle.onll_log.specs.Encoding.{log_lines}
@@ -17,14 +17,10 @@ AreLines lines = AllByRecursion IsLine lines
 
 -- each word of the second is zero or the word of the first, the whole
 abbrev pub AmongWords : List ℕ → List ℕ → Type 0
-AmongWords [] [] = Unit {0}
-AmongWords (x ∷ xs) (y ∷ ys) = ((y ≡ 0) ⊎ (y ≡ x)) × AmongWords xs ys
-AmongWords xs ys = ⊥
+AmongWords whole line = FillsWords line whole
 
 abbrev pub Among : List (List ℕ) → List (List ℕ) → Type 0
-Among [] [] = Unit {0}
-Among (x ∷ xs) (y ∷ ys) = AmongWords x y × Among xs ys
-Among xs ys = ⊥
+Among whole lines = FillsLines lines whole
 
 -- the lines of a log with these entries, and this many lines of zeros after them
 abbrev pub log_image : LogHead → List Segment → ℕ → List (List ℕ)

@@ -32,6 +32,10 @@ is_head-head_line head f =
 pub head_line-differs : (a b : LogHead) → a ≢ b → head_line a ≢ head_line b
 head_line-differs a b n e = n (ap head_of e)
 
+-- so the heads of the two formats have
+pub head_line-formats : (a b : LogHead) → a.format ≢ b.format → head_line a ≢ head_line b
+head_line-formats a b n e = n (ap (λ (line : List ℕ). word line 1) e)
+
 pub head_of-head_line : (head : LogHead) → head_of (head_line head) ≡ head
 head_of-head_line head = refl
 

@@ -1,14 +1,17 @@
 -- Laws over the grammar of logs, whatever code reads and writes them.
-use Rattle.std.specs.Prelude.{ℕ, ◌≡◌, ◌+◌, ◌-◌, ◌≤◌, List, [], ◌∷◌, ◌++◌, length, take, Option, Some, None, true}
+use Rattle.std.specs.Prelude.{ℕ, ◌≡◌, ◌+◌, ◌-◌, ◌≤◌, ◌↔◌, List, [], ◌∷◌, ◌++◌, length, take, Option, Some, None, true}
 use Rattle.onll_pmem.specs.Device.{zero_lines, Mixed}
 use Rattle.onll_model.specs.Segment.{Segment}
 use Rattle.onll_log.specs.declared.head.LogHead.{LogHead}
 use Rattle.onll_log.specs.Head.{head_line, head_of, is_head, FitsHead}
 use Rattle.onll_log.specs.Encoding.{entry_lines, entries_lines, log_lines, FitsEntry, FitEntries}
 use Rattle.onll_log.specs.Grammar.{entries_from, content_of, lines_in}
+use Rattle.onll_log.specs.MaskBits.{AreMasks}
+use Rattle.onll_log.specs.Written.{IsWritten, IsEmptyLog}
 use Rattle.onll_log.specs.Torn.{AreLines, Among, log_image, Holds, TornOrWhole}
 
 -- ---- what is encoded is read back
+-- a head is read back from its line
 pub record ReadBack (head : LogHead) : Type 0 where
   pub test : is_head (head_line head) ≡ true
   pub head_back : head_of (head_line head) ≡ head
@@ -37,6 +40,10 @@ EmptyLaw = (count : ℕ) → 1 ≤ count → content_of (zero_lines count) ≡ S
 abbrev pub MoreLaw : Type 0
 MoreLaw = (head : LogHead) (ss : List Segment) (s : Segment) → log_lines head (ss ++ s ∷ []) ≡ log_lines head ss ++ entry_lines head (length ss) s
 
+-- lines of a log have eight words
+abbrev pub EightLaw : Type 0
+EightLaw = (head : LogHead) (ss : List Segment) (zeros : ℕ) → FitsHead head → FitEntries head.threads ss → AreLines (log_image head ss zeros)
+
 -- entries take as many lines as they are said to
 abbrev pub LinesLaw : Type 0
 LinesLaw = (head : LogHead) (before : ℕ) (ss : List Segment) → length (entries_lines head before ss) ≡ lines_in ss
@@ -57,3 +64,16 @@ PartLaw = (head : LogHead) (ss : List Segment) (s : Segment) (before after : ℕ
 -- the first lines of an entry and zeros in the place of the others are among the whole
 abbrev pub FrontLaw : Type 0
 FrontLaw = (lines : List (List ℕ)) (front zeros : ℕ) → AreLines lines → Among (lines ++ zero_lines zeros) (take front lines ++ zero_lines (length lines - front + zeros))
+
+-- ---- what is read was written
+-- an image holds a head and entries exactly where they are written in it, whatever stands after them
+abbrev pub WrittenLaw : Type 0
+WrittenLaw = (image : List (List ℕ)) (head : LogHead) (ss : List Segment) → AreLines image → Holds image head ss ↔ IsWritten image head ss
+
+-- an image is a log without a head exactly where it is the empty log
+abbrev pub NoHeadLaw : Type 0
+NoHeadLaw = (image : List (List ℕ)) (ss : List Segment) → AreLines image → (content_of image ≡ Some (record { head = None; entries = ss })) ↔ IsEmptyLog image ss
+
+-- the masks of up to sixteen lines are those of the format
+abbrev pub MasksLaw : Type 0
+MasksLaw = (lines : List (List ℕ)) → AreLines lines → length lines ≤ 16 → AreMasks lines

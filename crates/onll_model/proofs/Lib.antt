@@ -5,3 +5,5 @@ pub mod Lists
 pub mod Segments
 pub mod Traces
 pub mod Flags
+pub mod FrameParts
+pub mod FrameSteps

@@ -1,0 +1,8 @@
+//! The step core: a model of single atomic steps on which every interleaving of threads is one list of turns.
+#![tactic(auto)]
+
+mod phase;
+mod returned;
+
+pub use phase::Phase;
+pub use returned::{Current, Returned, Stepped};

@@ -1,3 +1,5 @@
 pub mod Core
 pub mod Step
 pub mod CoreFrame
+pub mod Tie
+pub mod Consistent

@@ -143,14 +143,14 @@ Among-mixed (suc k) (x ∷ xs) [] m = absurd m
 Among-mixed (suc k) (x ∷ xs) (y ∷ ys) m = (AmongWords-mixed zero_line x y zero_line-zeros m.0, Among-mixed k xs ys m.1)
 
 -- the image with the entry, by its parts
-log_image-more : (head : LogHead) (ss : List Segment) (s : Segment) (k : ℕ) → log_image head (ss ++ s ∷ []) k ≡ log_lines head ss ++ (entry_lines head (length ss) s ++ zero_lines k)
+pub log_image-more : (head : LogHead) (ss : List Segment) (s : Segment) (k : ℕ) → log_image head (ss ++ s ∷ []) k ≡ log_lines head ss ++ (entry_lines head (length ss) s ++ zero_lines k)
 log_image-more head ss s k = ap (λ (l : List (List ℕ)). l ++ zero_lines k) (log_lines-more head ss s) ∙ append_assoc (log_lines head ss) (entry_lines head (length ss) s) (zero_lines k)
 
 pub Holds-log_image : (head : LogHead) (ss : List Segment) (k : ℕ) → FitsHead head → FitEntries head.threads ss → Holds (log_image head ss k) head ss
 Holds-log_image head ss k h f = content_of-log_lines head ss k h f
 
 -- a log that ends with what is among an entry holds it, or doesn't
-Holds-among : (head : LogHead) (ss : List Segment) (s : Segment) (k : ℕ) (tail : List (List ℕ)) → FitsHead head → head.format ≡ 2 → FitEntries head.threads ss → FitsEntry head.threads s
+pub Holds-among : (head : LogHead) (ss : List Segment) (s : Segment) (k : ℕ) (tail : List (List ℕ)) → FitsHead head → head.format ≡ 2 → FitEntries head.threads ss → FitsEntry head.threads s
     → Among (entry_lines head (length ss) s ++ zero_lines k) tail
     → Holds (log_lines head ss ++ tail) head ss ⊎ (tail ≡ entry_lines head (length ss) s ++ zero_lines k)
 Holds-among head ss s k tail h masked f g a = ⊎_elim

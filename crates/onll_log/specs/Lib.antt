@@ -6,4 +6,5 @@ pub mod Decoded
 pub mod Torn
 pub mod Written
 pub mod MaskBits
+pub mod Remains
 pub mod Laws

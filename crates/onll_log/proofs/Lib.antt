@@ -6,3 +6,4 @@ pub mod MaskBits
 pub mod Torn
 pub mod Written
 pub mod Remains
+pub mod Append

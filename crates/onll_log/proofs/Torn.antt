@@ -3,8 +3,8 @@ use Rattle.std.proofs.Common.{ℕ, zero, suc, ◌≡◌, ◌≢◌, ◌+◌, ◌
 use Rattle.std.specs.Prelude.{Some}
 use Rattle.std.specs.List.{AllByRecursion}
 use Rattle.std.proofs.lemmas.Bool.{cases_Bool}
-use Rattle.onll_pmem.specs.Device.{zero_line, zero_lines, MixedWords, Mixed}
-use Rattle.onll_pmem.proofs.Mixes.{FillsWords-self, FillsLines-self, FillsLines-then, MixedWords-same}
+use Rattle.onll_pmem.specs.Device.{DeviceState, Step, after_steps, AreLegal, IsImage, NonePending, zero_line, zero_lines, MixedWords, Mixed}
+use Rattle.onll_pmem.proofs.Mixes.{FillsWords-self, FillsLines-self, FillsLines-then, MixedWords-same, Mixed-image}
 use Rattle.onll_model.specs.Segment.{Segment}
 use Rattle.onll_log.specs.declared.head.LogHead.{LogHead}
 use Rattle.onll_log.specs.Head.{word, FitsHead}
@@ -183,3 +183,11 @@ pub TornOrWhole-Mixed : (head : LogHead) (ss : List Segment) (s : Segment) (n k 
 TornOrWhole-Mixed head ss s n k image h masked f g m =
     let whole : List (List ℕ) = entry_lines head (length ss) s ++ zero_lines k in
     TornOrWhole-Among head ss s n k whole image h masked f g (FillsLines-self whole) (subst (λ (l : List (List ℕ)). Mixed (log_image head ss n) l image) (log_image-more head ss s k) m)
+
+-- a device that is between a log and that log with an entry more
+pub TornOrWhole-steps : (head : LogHead) (ss : List Segment) (s : Segment) (n k : ℕ) (d : DeviceState) (done rest : List Step) (image : List (List ℕ)) → FitsHead head → head.format ≡ 2 → FitEntries head.threads ss → FitsEntry head.threads s
+    → NonePending d → d.read ≡ log_image head ss n → AreLegal d (done ++ rest) → (after_steps d (done ++ rest)).read ≡ log_image head (ss ++ s ∷ []) k → IsImage (after_steps d done) image
+    → TornOrWhole head ss s (log_image head (ss ++ s ∷ []) k) image
+TornOrWhole-steps head ss s n k d done rest image h masked f g settled before legal after i =
+    TornOrWhole-Mixed head ss s n k image h masked f g (subst (λ (l : List (List ℕ)). Mixed (log_image head ss n) l image) after
+    (subst (λ (l : List (List ℕ)). Mixed l (after_steps d (done ++ rest)).read image) before (Mixed-image d done rest image settled legal i)))

@@ -1,6 +1,6 @@
 -- Laws over the grammar of logs, whatever code reads and writes them.
 use Rattle.std.specs.Prelude.{ℕ, ◌≡◌, ◌+◌, ◌-◌, ◌≤◌, ◌↔◌, List, [], ◌∷◌, ◌++◌, length, take, Some, None, true}
-use Rattle.onll_pmem.specs.Device.{zero_lines, FillsLines, Mixed}
+use Rattle.onll_pmem.specs.Device.{DeviceState, Step, after_steps, AreLegal, IsImage, NonePending, zero_lines, FillsLines, Mixed}
 use Rattle.onll_model.specs.Segment.{Segment}
 use Rattle.onll_log.specs.declared.head.LogHead.{LogHead}
 use Rattle.onll_log.specs.Head.{head_line, head_of, is_head, FitsHead}
@@ -62,6 +62,13 @@ abbrev pub PartLaw : Type 0
 PartLaw = (head : LogHead) (ss : List Segment) (s : Segment) (before after : ℕ) (read image : List (List ℕ)) → FitsHead head → head.format ≡ 2
     → FitEntries head.threads ss → FitsEntry head.threads s → Among (entry_lines head (length ss) s ++ zero_lines after) read
     → Mixed (log_image head ss before) (log_lines head ss ++ read) image → TornOrWhole head ss s (log_image head (ss ++ s ∷ []) after) image
+
+-- from a device that holds a log, with no word pending, to where it reads as that log with an entry more:
+-- every image of every state on the way holds the entry more exactly where it is the whole
+abbrev pub CrashLaw : Type 0
+CrashLaw = (head : LogHead) (ss : List Segment) (s : Segment) (before after : ℕ) (d : DeviceState) (done rest : List Step) (image : List (List ℕ)) → FitsHead head → head.format ≡ 2
+    → FitEntries head.threads ss → FitsEntry head.threads s → NonePending d → d.read ≡ log_image head ss before → AreLegal d (done ++ rest)
+    → (after_steps d (done ++ rest)).read ≡ log_image head (ss ++ s ∷ []) after → IsImage (after_steps d done) image → TornOrWhole head ss s (log_image head (ss ++ s ∷ []) after) image
 
 -- the first lines and zeros in the place of the others are among the whole
 abbrev pub FrontLaw : Type 0

@@ -1,20 +1,19 @@
 -- What is encoded is read back.
-use Rattle.std.proofs.Common.{ℕ, zero, suc, ◌≡◌, ◌≢◌, ◌+◌, ◌-◌, ◌*◌, ◌<◌, ◌≤◌, Bool, true, false, List, [], ◌∷◌, ◌++◌, length, take, drop, map, sym, refl, ap, ◌∙◌, inl, inr, arith, append_assoc, append-nil, length-append, eq-eqb}
+use Rattle.std.proofs.Common.{ℕ, zero, suc, ◌≡◌, ◌≢◌, ◌+◌, ◌*◌, ◌≤◌, Bool, true, List, [], ◌∷◌, ◌++◌, length, take, drop, map, sym, refl, ap, ◌∙◌, arith, append_assoc, append-nil, length-append, eq-eqb}
 use Rattle.std.specs.Prelude.{Option, Some, None, ◌==◌, ◌||◌, nat_le, cond}
 use Rattle.std.specs.List.{AllByRecursion}
 use Rattle.std.proofs.lemmas.Bool.{le-leb, lt-ltb}
 use Rattle.std.proofs.lemmas.List.{length-map, take_at, drop_at}
 use Rattle.onll_pmem.specs.Device.{zero_line, zero_lines}
-use Rattle.onll_words.specs.declared.line.OpRow.{OpRow}
 use Rattle.onll_model.specs.declared.node.Node.{Node}
-use Rattle.onll_model.specs.Names.{name_of, words_of_node, HasNumber}
+use Rattle.onll_model.specs.Names.{name_of, words_of_node}
 use Rattle.onll_model.specs.Segment.{Segment}
 use Rattle.onll_model.proofs.Names.{node_of_its_name}
 use Rattle.onll_log.specs.declared.head.LogHead.{LogHead}
 use Rattle.onll_log.specs.Head.{word, log_magic, head_line, head_of, is_head, FitsHead}
-use Rattle.onll_log.specs.Encoding.{entry_magic, guard, entry_front, entry_line, entry_lines, entries_lines, log_lines, node_lines, FitsNode, FitsEntry, FitEntries}
+use Rattle.onll_log.specs.Encoding.{guard, entry_front, entry_line, entry_lines, entries_lines, log_lines, node_lines, FitsNode, FitsEntry, FitEntries}
 use Rattle.onll_log.specs.Grammar.{all_named, is_entry, node_of_line, segment_of, entries_from, Content, are_zero_lines, content_of, lines_in, used_with}
-use Rattle.onll_log.proofs.Accepted.{and_true, Accepted, is_entry-Accepted, entries_from-entry, entries_from-none, is_entry-no_magic}
+use Rattle.onll_log.proofs.Accepted.{and_true, is_entry-Accepted, entries_from-entry, entries_from-none, is_entry-no_magic}
 
 -- ---- the head
 format_test : (format : ℕ) → 1 ≤ format → format ≤ 2 → (format == 1) || (format == 2) ≡ true

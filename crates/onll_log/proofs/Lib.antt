@@ -5,3 +5,5 @@ pub mod Masks
 pub mod MaskBits
 pub mod Torn
 pub mod Written
+pub mod Remains
+pub mod Append

@@ -1,5 +1,5 @@
 -- Lines of eight words.
-use Rattle.std.proofs.Common.{ℕ, zero, suc, ◌≡◌, ◌+◌, List, [], ◌∷◌, ◌++◌, length, take, drop, map, refl, ap, arith, true, false, Bool, cond, ◌==◌, inl}
+use Rattle.std.proofs.Common.{ℕ, zero, suc, ◌≡◌, List, [], ◌∷◌, ◌++◌, length, take, drop, refl, ap, arith, true, false, Bool, cond, ◌==◌, inl}
 use Rattle.std.specs.List.{AllByRecursion}
 use Rattle.onll_words.specs.Bytes.{words_in, low_word}
 use Rattle.onll_pmem.specs.Device.{zero_line, zero_lines, FillsWords, FillsLines}

@@ -1,5 +1,5 @@
 -- The bits of masks.
-use Rattle.std.proofs.Common.{ℕ, zero, suc, ◌≡◌, ◌≢◌, ◌+◌, ◌-◌, ◌*◌, ◌/◌, ◌%◌, ◌<◌, ◌≤◌, Bool, true, false, List, [], ◌∷◌, ◌++◌, length, get_or, take, drop, sym, refl, ap, ◌∙◌, subst, ⊎_elim, ◌⊎◌, inl, inr, arith, cond, ◌==◌, length-append}
+use Rattle.std.proofs.Common.{ℕ, zero, suc, ◌≡◌, ◌≢◌, ◌+◌, ◌-◌, ◌*◌, ◌/◌, ◌%◌, ◌<◌, ◌≤◌, Bool, true, false, List, [], ◌∷◌, ◌++◌, length, get_or, take, drop, sym, refl, ap, ◌∙◌, ⊎_elim, arith, cond, ◌==◌, length-append}
 use Rattle.std.specs.Prelude.{not, ◌^◌, min}
 use Rattle.std.specs.Int.{bit_at}
 use Rattle.std.proofs.lemmas.Bool.{cases_lt}
@@ -9,7 +9,7 @@ use Rattle.onll_pmem.specs.Device.{line_at, word_at}
 use Rattle.onll_log.specs.Head.{word}
 use Rattle.onll_log.specs.Masks.{bits, marks_in, marks, mask_of, masks}
 use Rattle.onll_log.specs.MaskBits.{mask_bit, IsBitOf, AreMasks}
-use Rattle.onll_log.specs.Torn.{IsLine, AreLines}
+use Rattle.onll_log.specs.Torn.{AreLines}
 use Rattle.onll_log.proofs.Lines.{AreLines-take, AreLines-drop}
 
 -- ---- bits of a number

@@ -1,23 +1,20 @@
 -- An entry of format 2 of which a changed word is missing is not accepted.
-use Rattle.std.proofs.Common.{ℕ, zero, suc, ◌≡◌, ◌≢◌, ◌+◌, ◌-◌, ◌*◌, ◌<◌, ◌≤◌, Bool, true, false, List, [], ◌∷◌, ◌++◌, length, take, drop, map, sym, refl, ap, ◌∙◌, subst, ⊎_elim, ◌⊎◌, inl, inr, arith, append_assoc, append-nil, length-append}
-use Rattle.std.specs.Prelude.{Option, Some, None}
+use Rattle.std.proofs.Common.{ℕ, zero, suc, ◌≡◌, ◌≢◌, ◌+◌, ◌-◌, ◌<◌, true, false, List, [], ◌∷◌, ◌++◌, length, take, drop, sym, refl, ap, ◌∙◌, subst, ⊎_elim, ◌⊎◌, inl, inr, arith, append_assoc, append-nil}
+use Rattle.std.specs.Prelude.{Some}
 use Rattle.std.specs.List.{AllByRecursion}
 use Rattle.std.proofs.lemmas.Bool.{cases_Bool}
-use Rattle.std.proofs.lemmas.List.{length-map, drop_at}
-use Rattle.onll_pmem.specs.Device.{zero_line, zero_lines, FillsWords, MixedWords, Mixed}
-use Rattle.onll_pmem.proofs.Mixes.{FillsWords-self, FillsLines-self, FillsLines-then, MixedWords-same}
-use Rattle.onll_model.specs.declared.node.Node.{Node}
-use Rattle.onll_model.specs.Names.{words_of_node}
+use Rattle.onll_pmem.specs.Device.{DeviceState, Step, after_steps, AreLegal, IsImage, NonePending, zero_line, zero_lines, MixedWords, Mixed}
+use Rattle.onll_pmem.proofs.Mixes.{FillsWords-self, FillsLines-self, FillsLines-then, MixedWords-same, Mixed-image}
 use Rattle.onll_model.specs.Segment.{Segment}
 use Rattle.onll_log.specs.declared.head.LogHead.{LogHead}
-use Rattle.onll_log.specs.Head.{word, head_line, FitsHead}
+use Rattle.onll_log.specs.Head.{word, FitsHead}
 use Rattle.onll_log.specs.Masks.{masks}
-use Rattle.onll_log.specs.Encoding.{guard, entry_front, entry_line, entry_lines, entries_lines, log_lines, node_lines, FitsNode, FitsEntry, FitEntries}
-use Rattle.onll_log.specs.Grammar.{is_entry, entries_from, Content, content_of}
+use Rattle.onll_log.specs.Encoding.{entry_front, entry_line, entry_lines, entries_lines, log_lines, node_lines, FitsEntry, FitEntries}
+use Rattle.onll_log.specs.Grammar.{is_entry, entries_from}
 use Rattle.onll_log.specs.Torn.{IsLine, AreLines, AmongWords, Among, log_image, Holds, TornOrWhole}
 use Rattle.onll_log.proofs.Lines.{zero_line-zeros, FillsWords-zero_line}
-use Rattle.onll_log.proofs.Accepted.{Accepted, Accepted-if, entries_from-none}
-use Rattle.onll_log.proofs.Encoded.{is_entry-entry_line, entries_from-entry_lines, entries_from-entries_lines, entries_from-zero_lines, content_of-head_line, content_of-log_lines, drop-node_lines, log_lines-more, FitEntries-append}
+use Rattle.onll_log.proofs.Accepted.{Accepted-if, entries_from-none}
+use Rattle.onll_log.proofs.Encoded.{is_entry-entry_line, entries_from-entries_lines, content_of-head_line, content_of-log_lines, drop-node_lines, log_lines-more, FitEntries-append}
 use Rattle.onll_log.proofs.Masks.{guard-masks, Among-take, Among-drop, same_by_parts, Among-masks, masks-not_zero}
 
 -- ---- words that are zero
@@ -77,8 +74,8 @@ is_entry-Among head before line rest read image masked eight at a b accepted =
     let big : (j : ℕ) → j < 3 → word (drop 5 read) j ≢ 0 = (λ j l e. masks-not_zero (take (word read 4) image) j l (ap (λ (z : List ℕ). word z j) (sym guarded) ∙ e)) in
     let mark : (j : ℕ) → j < 3 → word read (5 + j) ≢ 0 = (λ j l e. big j l (word_drop 5 j read ∙ e)) in
     let same : read ≡ line = AmongWords-same line read a (λ j l. of_eight (λ j. (word read j ≢ 0) ⊎ (word read j ≡ word line j))
-      (inl (λ e. let m = g.magic in omega arith)) (inr (g.own ∙ sym f.own)) (inr (g.next ∙ sym f.next)) (inl (λ e. let m = g.some_nodes in let p = g.from_one in omega arith)) (inl (λ e. let m = g.some_nodes in omega arith))
-      (inl (mark 0 (omega arith))) (inl (mark 1 (omega arith))) (inl (mark 2 (omega arith))) j (omega arith)) in
+    (inl (λ e. let m = g.magic in omega arith)) (inr (g.own ∙ sym f.own)) (inr (g.next ∙ sym f.next)) (inl (λ e. let m = g.some_nodes in let p = g.from_one in omega arith)) (inl (λ e. let m = g.some_nodes in omega arith))
+    (inl (mark 0 (omega arith))) (inl (mark 1 (omega arith))) (inl (mark 2 (omega arith))) j (omega arith)) in
     let count : word read 4 ≡ word line 4 = ap (λ (z : List ℕ). word z 4) same in
     let whole : drop 5 line ≡ masks (take (word line 4) rest) = f.guarded ∙ guard-masks head (take 5 line) (take (word line 4) rest) masked in
     let nodes : masks (take (word line 4) image) ≡ masks (take (word line 4) rest) = ap (λ (n : ℕ). masks (take n image)) (sym count) ∙ (sym guarded ∙ (ap (drop 5) same ∙ whole)) in
@@ -95,14 +92,19 @@ entries_from-Among head before s k (l ∷ image) masked f a = ⊎_elim
   where
     line : List ℕ
     line = entry_line head before s
+
     rest : List (List ℕ)
     rest = node_lines s.nodes ++ zero_lines k
+
     eight : IsLine (entry_line head before s)
     eight = ap (λ (z : List ℕ). length (entry_front head before s ++ z)) (guard-masks head (entry_front head before s) (node_lines s.nodes) masked)
+
     after : drop (length s.nodes) (node_lines s.nodes ++ zero_lines k) ≡ zero_lines k
     after = drop-node_lines s.nodes (zero_lines k)
+
     zeros : drop (length s.nodes) image ≡ zero_lines k
     zeros = Among-zero_lines k (drop (length s.nodes) image) (subst (λ (z : List (List ℕ)). Among z (drop (length s.nodes) image)) after (Among-drop (length s.nodes) rest image a.1))
+
     whole : (l ≡ entry_line head before s) × (take (length s.nodes) image ≡ take (length s.nodes) (node_lines s.nodes ++ zero_lines k)) → l ∷ image ≡ entry_lines head before s ++ zero_lines k
     whole e = let here = e.0 in let there = same_by_parts (length s.nodes) (node_lines s.nodes ++ zero_lines k) image e.1 (zeros ∙ sym after) in λ i. here i ∷ there i
 
@@ -143,19 +145,19 @@ Among-mixed (suc k) (x ∷ xs) [] m = absurd m
 Among-mixed (suc k) (x ∷ xs) (y ∷ ys) m = (AmongWords-mixed zero_line x y zero_line-zeros m.0, Among-mixed k xs ys m.1)
 
 -- the image with the entry, by its parts
-log_image-more : (head : LogHead) (ss : List Segment) (s : Segment) (k : ℕ) → log_image head (ss ++ s ∷ []) k ≡ log_lines head ss ++ (entry_lines head (length ss) s ++ zero_lines k)
+pub log_image-more : (head : LogHead) (ss : List Segment) (s : Segment) (k : ℕ) → log_image head (ss ++ s ∷ []) k ≡ log_lines head ss ++ (entry_lines head (length ss) s ++ zero_lines k)
 log_image-more head ss s k = ap (λ (l : List (List ℕ)). l ++ zero_lines k) (log_lines-more head ss s) ∙ append_assoc (log_lines head ss) (entry_lines head (length ss) s) (zero_lines k)
 
 pub Holds-log_image : (head : LogHead) (ss : List Segment) (k : ℕ) → FitsHead head → FitEntries head.threads ss → Holds (log_image head ss k) head ss
 Holds-log_image head ss k h f = content_of-log_lines head ss k h f
 
 -- a log that ends with what is among an entry holds it, or doesn't
-Holds-among : (head : LogHead) (ss : List Segment) (s : Segment) (k : ℕ) (tail : List (List ℕ)) → FitsHead head → head.format ≡ 2 → FitEntries head.threads ss → FitsEntry head.threads s
+pub Holds-among : (head : LogHead) (ss : List Segment) (s : Segment) (k : ℕ) (tail : List (List ℕ)) → FitsHead head → head.format ≡ 2 → FitEntries head.threads ss → FitsEntry head.threads s
     → Among (entry_lines head (length ss) s ++ zero_lines k) tail
     → Holds (log_lines head ss ++ tail) head ss ⊎ (tail ≡ entry_lines head (length ss) s ++ zero_lines k)
 Holds-among head ss s k tail h masked f g a = ⊎_elim
     (λ (e : entries_from head (length ss) 0 tail ≡ []). inl (content_of-head_line head (entries_lines head 0 ss ++ tail) h ∙
-      ap (λ (l : List Segment). Some (record { head = Some head; entries = l })) (entries_from-entries_lines head ss tail f ∙ (ap (λ (l : List Segment). ss ++ l) e ∙ append-nil ss))))
+    ap (λ (l : List Segment). Some (record { head = Some head; entries = l })) (entries_from-entries_lines head ss tail f ∙ (ap (λ (l : List Segment). ss ++ l) e ∙ append-nil ss))))
     (λ (e : tail ≡ entry_lines head (length ss) s ++ zero_lines k). inr e)
     (entries_from-Among head (length ss) s k tail masked g a)
 
@@ -165,12 +167,12 @@ pub TornOrWhole-Among : (head : LogHead) (ss : List Segment) (s : Segment) (n k 
     → Among (entry_lines head (length ss) s ++ zero_lines k) read → Mixed (log_image head ss n) (log_lines head ss ++ read) image
     → TornOrWhole head ss s (log_image head (ss ++ s ∷ []) k) image
 TornOrWhole-Among head ss s n k read image h masked f g a m = record {
-    appended = λ e. subst (λ (l : List (List ℕ)). Holds l head (ss ++ s ∷ [])) (sym e) (Holds-log_image head (ss ++ s ∷ []) k h (FitEntries-append head.threads ss (s ∷ []) f (g, tt)));
-    torn = λ e. subst (λ (l : List (List ℕ)). Holds l head ss) (sym front.1) (⊎_elim
+  appended = λ e. subst (λ (l : List (List ℕ)). Holds l head (ss ++ s ∷ [])) (sym e) (Holds-log_image head (ss ++ s ∷ []) k h (FitEntries-append head.threads ss (s ∷ []) f (g, tt)));
+  torn = λ e. subst (λ (l : List (List ℕ)). Holds l head ss) (sym front.1) (⊎_elim
       (λ (t : Holds (log_lines head ss ++ front.0) head ss). t)
       (λ (t : front.0 ≡ entry_lines head (length ss) s ++ zero_lines k). absurd (e (front.1 ∙ (ap (λ (l : List (List ℕ)). log_lines head ss ++ l) t ∙ sym (log_image-more head ss s k)))))
       (Holds-among head ss s k front.0 h masked f g (FillsLines-then front.0 read (entry_lines head (length ss) s ++ zero_lines k) (Among-mixed n read front.0 front.2) a)));
-  }
+}
   where
     front : (rest : List (List ℕ)) × (image ≡ log_lines head ss ++ rest) × Mixed (zero_lines n) read rest
     front = Mixed-front (log_lines head ss) (zero_lines n) read image m
@@ -181,3 +183,11 @@ pub TornOrWhole-Mixed : (head : LogHead) (ss : List Segment) (s : Segment) (n k 
 TornOrWhole-Mixed head ss s n k image h masked f g m =
     let whole : List (List ℕ) = entry_lines head (length ss) s ++ zero_lines k in
     TornOrWhole-Among head ss s n k whole image h masked f g (FillsLines-self whole) (subst (λ (l : List (List ℕ)). Mixed (log_image head ss n) l image) (log_image-more head ss s k) m)
+
+-- a device that is between a log and that log with an entry more
+pub TornOrWhole-steps : (head : LogHead) (ss : List Segment) (s : Segment) (n k : ℕ) (d : DeviceState) (done rest : List Step) (image : List (List ℕ)) → FitsHead head → head.format ≡ 2 → FitEntries head.threads ss → FitsEntry head.threads s
+    → NonePending d → d.read ≡ log_image head ss n → AreLegal d (done ++ rest) → (after_steps d (done ++ rest)).read ≡ log_image head (ss ++ s ∷ []) k → IsImage (after_steps d done) image
+    → TornOrWhole head ss s (log_image head (ss ++ s ∷ []) k) image
+TornOrWhole-steps head ss s n k d done rest image h masked f g settled before legal after i =
+    TornOrWhole-Mixed head ss s n k image h masked f g (subst (λ (l : List (List ℕ)). Mixed (log_image head ss n) l image) after
+    (subst (λ (l : List (List ℕ)). Mixed l (after_steps d (done ++ rest)).read image) before (Mixed-image d done rest image settled legal i)))

@@ -1,11 +1,10 @@
 -- What is read was encoded: the lines of a log are those of its entries.
-use Rattle.std.proofs.Common.{ℕ, zero, suc, ◌≡◌, ◌+◌, ◌-◌, ◌*◌, ◌/◌, ◌%◌, ◌<◌, ◌≤◌, Bool, true, false, List, [], ◌∷◌, ◌++◌, length, take, drop, map, sym, refl, ap, ◌∙◌, subst, ⊎_elim, ◌⊎◌, inl, inr, arith, true≢false, ◌==◌, eqb-true, cond, append_assoc, append-nil, length-append}
-use Rattle.std.specs.Prelude.{◌&&◌, ◌||◌, ◌↔◌, nat_le, replicate, Option, Some, None}
+use Rattle.std.proofs.Common.{ℕ, zero, suc, ◌≡◌, ◌+◌, ◌-◌, ◌*◌, ◌/◌, ◌%◌, ◌≤◌, Bool, true, false, List, [], ◌∷◌, ◌++◌, length, take, drop, map, sym, refl, ap, ◌∙◌, subst, ⊎_elim, ◌⊎◌, inl, inr, arith, true≢false, ◌==◌, eqb-true, cond, append_assoc, append-nil}
+use Rattle.std.specs.Prelude.{◌||◌, ◌↔◌, nat_le, replicate, Option, Some, None}
 use Rattle.std.specs.List.{AllByRecursion}
 use Rattle.std.proofs.lemmas.Bool.{leb-true, ltb-true, cases_Bool}
 use Rattle.std.proofs.lemmas.List.{length-map, length-take-le, take-append-drop, drop_at}
 use Rattle.onll_pmem.specs.Device.{zero_line, zero_lines}
-use Rattle.onll_words.specs.declared.line.OpRow.{OpRow}
 use Rattle.onll_model.specs.declared.node.Node.{Node}
 use Rattle.onll_model.specs.Names.{words_of_node}
 use Rattle.onll_model.specs.Segment.{Segment}
@@ -16,7 +15,7 @@ use Rattle.onll_log.specs.Grammar.{all_named, is_entry, node_of_line, segment_of
 use Rattle.onll_log.specs.Torn.{IsLine, AreLines, Holds}
 use Rattle.onll_log.specs.Written.{IsWritten, IsEmptyLog}
 use Rattle.onll_log.proofs.Lines.{AreLines-take, AreLines-drop}
-use Rattle.onll_log.proofs.Accepted.{both_true, Accepted, Accepted-if, entries_from-entry, entries_from-none, entries_from-drop}
+use Rattle.onll_log.proofs.Accepted.{both_true, Accepted-if, entries_from-entry, entries_from-none, entries_from-drop}
 use Rattle.onll_log.proofs.Encoded.{content_of-head, content_of-head_line, content_of-zero_lines, entries_from-entries_lines, length-log_lines}
 
 -- ---- the head
@@ -124,11 +123,14 @@ SomeWritten-entry head before line rest eight eights k others =
     let s : Segment = segment_of line rest in let a = entry_lines-segment_of head before line rest eight eights k in let w = others.1 in
     let all : entries_from head before 0 (line ∷ rest) ≡ s ∷ more = entries_from-entry head before line rest k ∙ ap (λ (F : List Segment). s ∷ F) (entries_from-drop head (suc before) (word line 4) rest) in
     let z : suc before + length more ≡ before + suc (length more) = omega arith in
-    subst (SomeWritten head before (line ∷ rest)) (sym all) (others.0, record {
-      all = a.0 ∙ (ap (λ (l : List (List ℕ)). entry_lines head before s ++ l) w.all ∙ sym (append_assoc (entry_lines head before s) (entries_lines head (suc before) more) others.0));
-      ended = ap (λ (m : ℕ). entries_from head m 0 others.0) (sym z) ∙ w.ended;
-      fit = (a.1, w.fit);
-    })
+    subst (SomeWritten head before (line ∷ rest)) (sym all) (
+      others.0,
+      record {
+        all = a.0 ∙ (ap (λ (l : List (List ℕ)). entry_lines head before s ++ l) w.all ∙ sym (append_assoc (entry_lines head before s) (entries_lines head (suc before) more) others.0));
+        ended = ap (λ (m : ℕ). entries_from head m 0 others.0) (sym z) ∙ w.ended;
+        fit = (a.1, w.fit);
+      },
+    )
 
 SomeWritten-entries_from : (fuel : ℕ) (head : LogHead) (before : ℕ) (lines : List (List ℕ)) → length lines ≤ fuel → AreLines lines → SomeWritten head before lines (entries_from head before 0 lines)
 SomeWritten-entries_from fuel head before [] l e = ([], record { all = refl; ended = refl; fit = tt })
@@ -139,6 +141,10 @@ SomeWritten-entries_from (suc fuel) head before (h ∷ ls) l e =
     ⊎_elim (λ (t : is_entry head before h ls ≡ true). SomeWritten-entry head before h ls e.0 e.1 t others)
     (λ (t : is_entry head before h ls ≡ false). SomeWritten-none head before h ls t)
     (cases_Bool (is_entry head before h ls))
+
+-- so what is accepted fits
+pub FitEntries-entries_from : (head : LogHead) (before : ℕ) (lines : List (List ℕ)) → AreLines lines → FitEntries head.threads (entries_from head before 0 lines)
+FitEntries-entries_from head before lines eights = (SomeWritten-entries_from (length lines) head before lines (omega arith) eights).1.fit
 
 -- ---- an image
 IsWritten-head : (line : List ℕ) (rest : List (List ℕ)) → IsLine line → AreLines rest → is_head line ≡ true → IsWritten (line ∷ rest) (head_of line) (entries_from (head_of line) 0 0 rest)

@@ -1,6 +1,6 @@
 -- Laws over the grammar of logs, whatever code reads and writes them.
-use Rattle.std.specs.Prelude.{ℕ, ◌≡◌, ◌+◌, ◌-◌, ◌≤◌, ◌↔◌, List, [], ◌∷◌, ◌++◌, length, take, Option, Some, None, true}
-use Rattle.onll_pmem.specs.Device.{zero_lines, Mixed}
+use Rattle.std.specs.Prelude.{ℕ, ◌≡◌, ◌+◌, ◌-◌, ◌≤◌, ◌↔◌, List, [], ◌∷◌, ◌++◌, length, take, Some, None, true}
+use Rattle.onll_pmem.specs.Device.{DeviceState, Step, after_steps, AreLegal, IsImage, NonePending, zero_lines, FillsLines, Mixed}
 use Rattle.onll_model.specs.Segment.{Segment}
 use Rattle.onll_log.specs.declared.head.LogHead.{LogHead}
 use Rattle.onll_log.specs.Head.{head_line, head_of, is_head, FitsHead}
@@ -8,6 +8,8 @@ use Rattle.onll_log.specs.Encoding.{entry_lines, entries_lines, log_lines, FitsE
 use Rattle.onll_log.specs.Grammar.{entries_from, content_of, lines_in}
 use Rattle.onll_log.specs.MaskBits.{AreMasks}
 use Rattle.onll_log.specs.Written.{IsWritten, IsEmptyLog}
+use Rattle.onll_log.specs.Append.{written_front}
+use Rattle.onll_log.specs.Remains.{HasRemains, IsWiped}
 use Rattle.onll_log.specs.Torn.{AreLines, Among, log_image, Holds, TornOrWhole}
 
 -- ---- what is encoded is read back
@@ -61,9 +63,30 @@ PartLaw = (head : LogHead) (ss : List Segment) (s : Segment) (before after : ℕ
     → FitEntries head.threads ss → FitsEntry head.threads s → Among (entry_lines head (length ss) s ++ zero_lines after) read
     → Mixed (log_image head ss before) (log_lines head ss ++ read) image → TornOrWhole head ss s (log_image head (ss ++ s ∷ []) after) image
 
--- the first lines of an entry and zeros in the place of the others are among the whole
+-- from a device that holds a log, with no word pending, to where it reads as that log with an entry more:
+-- every image of every state on the way holds the entry more exactly where it is the whole
+abbrev pub CrashLaw : Type 0
+CrashLaw = (head : LogHead) (ss : List Segment) (s : Segment) (before after : ℕ) (d : DeviceState) (done rest : List Step) (image : List (List ℕ)) → FitsHead head → head.format ≡ 2
+    → FitEntries head.threads ss → FitsEntry head.threads s → NonePending d → d.read ≡ log_image head ss before → AreLegal d (done ++ rest)
+    → (after_steps d (done ++ rest)).read ≡ log_image head (ss ++ s ∷ []) after → IsImage (after_steps d done) image → TornOrWhole head ss s (log_image head (ss ++ s ∷ []) after) image
+
+-- the first lines and zeros in the place of the others are among the whole
 abbrev pub FrontLaw : Type 0
 FrontLaw = (lines : List (List ℕ)) (front zeros : ℕ) → AreLines lines → Among (lines ++ zero_lines zeros) (take front lines ++ zero_lines (length lines - front + zeros))
+
+-- while the lines of an entry are written, only words that were zero have changed, to those of the whole
+abbrev pub AppendLaw : Type 0
+AppendLaw = (head : LogHead) (ss : List Segment) (s : Segment) (front zeros : ℕ) → FitsEntry head.threads s
+    → FillsLines (written_front (log_lines head ss) (entry_lines head (length ss) s) front zeros) (log_image head (ss ++ s ∷ []) zeros)
+
+-- between a log and that log with an entry more, an image that isn't the whole has remains
+abbrev pub LeavesLaw : Type 0
+LeavesLaw = (head : LogHead) (ss : List Segment) (s : Segment) (before after : ℕ) (image : List (List ℕ)) → head.format ≡ 2 → FitsEntry head.threads s
+    → Mixed (log_image head ss before) (log_image head (ss ++ s ∷ []) after) image → (image ≡ log_image head (ss ++ s ∷ []) after → ⊥) → HasRemains head ss image
+
+-- whatever words of remains are wiped, the entries stay
+abbrev pub WipedLaw : Type 0
+WipedLaw = (head : LogHead) (ss : List Segment) (image wiped : List (List ℕ)) → AreLines image → Holds image head ss → HasRemains head ss image → IsWiped head ss image wiped → Holds wiped head ss
 
 -- ---- what is read was written
 -- an image holds a head and entries exactly where they are written in it, whatever stands after them

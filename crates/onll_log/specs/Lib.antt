@@ -6,4 +6,6 @@ pub mod Decoded
 pub mod Torn
 pub mod Written
 pub mod MaskBits
+pub mod Append
+pub mod Remains
 pub mod Laws

@@ -1,10 +1,10 @@
-use Rattle.std.specs.Prelude.{ℕ, ◌≡◌, List, [], ◌∷◌, ◌++◌, length, Option, Some}
+use Rattle.std.specs.Prelude.{ℕ, ◌≡◌, List, [], ◌∷◌, ◌++◌, length, Some}
 use Rattle.std.specs.List.{AllByRecursion}
 use Rattle.onll_pmem.specs.Device.{zero_lines, FillsWords, FillsLines}
 use Rattle.onll_model.specs.Segment.{Segment}
 use Rattle.onll_log.specs.declared.head.LogHead.{LogHead}
 use Rattle.onll_log.specs.Encoding.{log_lines}
-use Rattle.onll_log.specs.Grammar.{Content, content_of}
+use Rattle.onll_log.specs.Grammar.{content_of}
 
 -- What may stand in a log whose last append came to no end.
 

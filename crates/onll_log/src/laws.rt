@@ -1,6 +1,6 @@
 //! What the grammar of logs promises, whatever code reads and writes them.
 
-ghost use Rattle.onll_log.specs.Laws.{HeadLaw, EntriesLaw, ZerosLaw, ContentLaw, EmptyLaw, MoreLaw, EightLaw, LinesLaw, WrittenLaw, NoHeadLaw, MasksLaw, TornLaw, PartLaw, FrontLaw};
+ghost use Rattle.onll_log.specs.Laws.{HeadLaw, EntriesLaw, ZerosLaw, ContentLaw, EmptyLaw, MoreLaw, EightLaw, LinesLaw, WrittenLaw, NoHeadLaw, MasksLaw, TornLaw, PartLaw, CrashLaw, FrontLaw, AppendLaw, LeavesLaw, WipedLaw};
 
 /// What is encoded is read back, in either format.
 pub fn encoded_laws()
@@ -29,5 +29,13 @@ pub fn masks_law()
 pub fn torn_laws()
     ensures torn { TornLaw }
     ensures part { PartLaw }
+    ensures crash { CrashLaw }
     ensures front { FrontLaw }
+    ensures append { AppendLaw }
+{}
+
+/// What a torn entry of format 2 leaves can be wiped word by word, in any order.
+pub fn remains_laws()
+    ensures leaves { LeavesLaw }
+    ensures wiped { WipedLaw }
 {}

@@ -7,4 +7,4 @@ mod laws;
 
 pub use decoded::{Decoded, Entries, Entry, Nodes};
 pub use head::LogHead;
-pub use laws::{encoded_laws, masks_law, torn_laws, written_laws};
+pub use laws::{encoded_laws, masks_law, remains_laws, torn_laws, written_laws};

@@ -7,3 +7,5 @@ pub mod Traces
 pub mod Flags
 pub mod FrameParts
 pub mod FrameSteps
+pub mod FrameLogs
+pub mod FrameLinks

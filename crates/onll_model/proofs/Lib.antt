@@ -9,3 +9,4 @@ pub mod FrameParts
 pub mod FrameSteps
 pub mod FrameLogs
 pub mod FrameLinks
+pub mod EventLaw

@@ -10,3 +10,4 @@ pub mod FrameSteps
 pub mod FrameLogs
 pub mod FrameLinks
 pub mod EventLaw
+pub mod FirstFrames

@@ -7,3 +7,7 @@ pub mod Traces
 pub mod Flags
 pub mod FrameParts
 pub mod FrameSteps
+pub mod FrameLogs
+pub mod FrameLinks
+pub mod EventLaw
+pub mod FirstFrames

@@ -1,4 +1,4 @@
-use Rattle.std.specs.Prelude.{ℕ, Bool, true, false, List, [], ◌∷◌, ◌++◌, ◌≡◌, ◌≢◌, ◌+◌, ◌-◌, ◌<◌, ◌≤◌, ◌↔◌, length, Option, Some, None, IfSome, option_to_list, slice_get, slice_index_or}
+use Rattle.std.specs.Prelude.{ℕ, Bool, true, false, List, [], ◌∷◌, ◌++◌, ◌≡◌, ◌≢◌, ◌+◌, ◌-◌, ◌<◌, ◌≤◌, ◌↔◌, length, Option, Some, None, IfSome, option_to_list, map, replicate, slice_get, slice_index_or}
 use Rattle.std.specs.List.{AllByRecursion, flat_map}
 use Rattle.onll_model.specs.declared.node.Node.{Node}
 use Rattle.onll_model.specs.Trace.{node_at, IsNumbered}
@@ -153,18 +153,10 @@ pub record Based (b : ℕ) (f : Frame) : Type 0 where
   pub available : (p : ℕ) → p ≤ b → IsAvailable f p
   pub all_seen : EachThread f (λ t th. b ≤ th.seen)
 
--- a thread that has done nothing since the base, of which these are its fenced segments
+-- A thread that has done nothing since the base; these are its fenced segments of it.
 abbrev pub resumed_thread : ℕ → List Segment → Thread
 resumed_thread b fenced = record { seen = b; fenced = fenced; pending = None; stuck = None; activity = Rest }
 
-abbrev pub resumed_threads : ℕ → List (List Segment) → List Thread
-resumed_threads b [] = []
-resumed_threads b (fenced ∷ more) = resumed_thread b fenced ∷ resumed_threads b more
-
-abbrev pub all_set : List Node → List Bool
-all_set [] = []
-all_set (x ∷ xs) = true ∷ all_set xs
-
--- the first frame of a run that goes on from a base, with each thread's fenced segments of it
+-- the first frame of a run that goes on from a base, with each thread's fenced segments; with none of both it begins anew
 abbrev pub resumed_frame : List Node → List (List Segment) → Frame
-resumed_frame base logs = record { trace = base; flags = all_set base; threads = resumed_threads (length base) logs; notes = [] }
+resumed_frame base logs = record { trace = base; flags = replicate (length base) true; threads = map (resumed_thread (length base)) logs; notes = [] }

@@ -1,0 +1,3 @@
+pub mod CoreFrames
+pub mod Windows
+pub mod Ties

@@ -3,3 +3,5 @@ pub mod Step
 pub mod CoreFrame
 pub mod Tie
 pub mod Consistent
+pub mod StepEvent
+pub mod First

@@ -1,3 +1,4 @@
 pub mod CoreFrames
 pub mod Windows
 pub mod Ties
+pub mod StepEvents

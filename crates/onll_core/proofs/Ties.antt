@@ -1,5 +1,5 @@
 use Rattle.std.proofs.Common.{ℕ, zero, suc, ◌≡◌, ◌≢◌, ◌+◌, ◌-◌, ◌*◌, ◌<◌, ◌≤◌, ◌⊎◌, inl, inr, ⊎_elim, Bool, true, false, List, [], ◌∷◌, ◌++◌, length, take, drop, set, Option, Some, None, sym, refl, ap, ◌∙◌, subst, arith, append_assoc, append-nil, length-append, true≢false, get_or-set_same, get_or-set_other}
-use Rattle.std.proofs.lemmas.List.{length-set, length-replicate, length-take-le}
+use Rattle.std.proofs.lemmas.List.{length-set, length-replicate, length-take-le, take_all}
 use Rattle.std.specs.List.{AllByRecursion}
 use mathlib.Core.Logic.{dite}
 use native.Mathlib.Decide.{ℕ_discrete}
@@ -11,7 +11,7 @@ use Rattle.onll_log.specs.Encoding.{entry_lines, log_lines, FitsEntry, FitEntrie
 use Rattle.onll_log.specs.Grammar.{entries_from, lines_in}
 use Rattle.onll_log.specs.Append.{written_front}
 use Rattle.onll_log.proofs.Encoded.{entries_from-entries_lines, entries_from-zero_lines, log_lines-more, length-entry_lines, length-log_lines}
-use Rattle.onll_log.proofs.Append.{take-whole, set-written_front}
+use Rattle.onll_log.proofs.Append.{set-written_front}
 use Rattle.onll_core.specs.declared.phase.Phase.{Phase}
 use Rattle.onll_core.specs.declared.phase.Phase.TheVariants as phases
 use Rattle.onll_core.specs.declared.returned.Returned.{Returned}
@@ -163,7 +163,7 @@ module _ {State Op Query Reply : Type 0} (count t : ℕ) (th : CoreThread State 
       let lines : List (List ℕ) = entry_lines th.head (length tie.log) g in
       let front : List (List ℕ) = log_lines th.head tie.log in
       let long = length-entry_lines th.head (length tie.log) g in
-      let whole : take (suc (p - d)) lines ≡ lines = take-whole lines (suc (p - d)) (omega arith) in
+      let whole : take (suc (p - d)) lines ≡ lines = take_all (suc (p - d)) lines (omega arith) in
       let longer : log_lines th.head (tie.log ++ g ∷ []) ≡ front ++ lines = log_lines-more th.head tie.log g in
       let read : th.device.read ≡ log_lines th.head (tie.log ++ g ∷ []) ++ zero_lines tie.free = tie.read ∙ (ap (λ (l : List (List ℕ)). front ++ (l ++ zero_lines tie.free)) whole ∙
           (sym (append_assoc front lines (zero_lines tie.free)) ∙ ap (λ (l : List (List ℕ)). l ++ zero_lines tie.free) (sym longer))) in

@@ -12,9 +12,9 @@ use Rattle.onll_model.specs.Object.{Behaviour}
 use Rattle.onll_model.specs.Trace.{is_of_thread, reply_after, answer_after}
 use Rattle.onll_model.specs.Segment.{Segment}
 use Rattle.onll_model.specs.Frames.{Frame, is_available}
-use Rattle.onll_model.specs.Events.{Event, window, next_node, after, Possible}
+use Rattle.onll_model.specs.Events.{Event, Won, Lost, ReadTail, window, next_node, after, Possible}
 use Rattle.onll_model.specs.FrameLaws.{SoundOver}
-use Rattle.onll_model.proofs.Lists.{at_set, all_append}
+use Rattle.onll_model.proofs.Lists.{at_set, set_here, all_append}
 use Rattle.onll_model.proofs.Traces.{count_own, count_other}
 use Rattle.onll_model.proofs.EventLaw.{event_sound}
 use Rattle.onll_pmem.specs.Device.{Write, WriteBack, Fence, after_step, line_at}
@@ -29,7 +29,7 @@ use Rattle.onll_core.specs.Tie.{written_in, lines_needed, IsBehind, InEntry, upd
 use Rattle.onll_core.specs.Consistent.{IsConsistent}
 use Rattle.onll_core.specs.StepEvent.{event_at, event_of, after_maybe, MayCome, IsEvent}
 use Rattle.onll_core.proofs.CoreFrames.{pending_longer}
-use Rattle.onll_core.proofs.Windows.{IsWindowOf, window_of}
+use Rattle.onll_core.proofs.Windows.{short_of, window_of}
 use Rattle.onll_core.proofs.Ties.{tie_moved, tie_written, tie_backed}
 use Rattle.onll_core.proofs.StepEvents.{update_left, ask_left, tie_at, above, fence_tie, act_event}
 
@@ -161,6 +161,163 @@ module _ {State Op Query Reply : Type 0} (b : Behaviour State Op Query Reply) (c
       tied = tie_moved count t th (pending_in c.trace ph) (pending_in trace ph') ph ph' th.returned began (tie ph e) none none' all entry (same_to_log th (begun th began ph') refl refl ph' ∙ (left' ∙ sym left)) needs;
     }
 
-    -- the lines of the entry that is begun
-    window_lines : (c' : CoreState State Op Query Reply) → IsConsistent count c' → (w : CoreThread State Op Query Reply) → slice_get c'.threads t ≡ Some w → (p d : ℕ) → pending_in c'.trace w.phase ≡ Some (window c'.trace d p) → suc (p - d) ≤ suc count
-    window_lines c' k' w at' p d e = let x = (window_of count c' k' t w at' p d e).few in omega arith
+    -- the own node is linked
+    won_own : (l : ℕ) → th.phase ≡ phases.Exchange l → (ph : Phase) → let x : Node = next_node c.trace t (b.row_of op) in (e : Option Event) → IsEvent c (linked c t x (turned th ph)) e
+        → written_in ph ≡ 0 → InEntry ph → updates_to_log th ph ≡ to_come → updates_to_link (turned th ph) ph ≡ after_this
+        → (SoundOver count c.base (frame_of (linked c t x (turned th ph))) → lines_needed ph ≤ suc count) → IsConsistent count (linked c t x (turned th ph))
+    won_own l is ph e event none entry left link needs =
+        let x : Node = next_node c.trace t (b.row_of op) in
+        let long : List Node = c.trace ++ x ∷ [] in
+        let n = numbers_at (phases.Exchange l) is in
+        let own = count_own t c.trace x refl in
+        let m = more in
+        let room = room_for (phases.Exchange l) is refl refl in
+        let lines = needs (next_sound count c k (linked c t x (turned th ph)) e event) in
+        keeps_linked count c k t (b.row_of op) (turned th ph) e (b.seven_words op) event
+            (turned_own long (phases.Exchange l) ph th.began is refl none (λ j. tt) entry refl left (omega arith) (omega arith))
+
+    -- a phase of an update is followed by another, and no step is made on the device
+    moved : (ph ph' : Phase) (began : ℕ) → th.phase ≡ ph → (e : Option Event) → IsEvent c (put c t (begun th began ph')) e → written_in ph ≡ 0 → written_in ph' ≡ 0 → ((line : ℕ) → IsBehind th.used ph line) → InEntry ph'
+        → updates_to_log th ph ≡ to_come → updates_to_log th ph' ≡ to_come → updates_to_link (begun th began ph') ph' ≡ updates_to_link th ph
+        → (SoundOver count c.base (frame_of (put c t (begun th began ph'))) → lines_needed ph' ≤ suc count) → IsConsistent count (put c t (begun th began ph'))
+    moved ph ph' began is e event none none' all entry left left' link needs =
+        let n = numbers_at ph is in
+        let room = room_for ph is none left in
+        let lines = needs (next_sound count c k (put c t (begun th began ph')) e event) in
+        keeps_put count c k t (begun th began ph') e event (turned_own c.trace ph ph' began is none none' all entry left left' (omega arith) (omega arith))
+
+    -- the lines of an entry that is begun
+    begun_lines : (c' : CoreState State Op Query Reply) → SoundOver count c.base (frame_of c') → (w : CoreThread State Op Query Reply) → slice_get c'.threads t ≡ Some w → (p d : ℕ) → pending_in c'.trace w.phase ≡ Some (window c'.trace d p) → suc (p - d) ≤ suc count
+    begun_lines c' s w at' p d e = let x = (short_of count c' s.sound t w at' p d e).few in omega arith
+
+    set_at : (w : CoreThread State Op Query Reply) → slice_get (set c.threads t w) t ≡ Some w
+    set_at w = set_here c.threads t w th at
+
+    -- the exchange
+    won_keeps : (l : ℕ) → th.phase ≡ phases.Exchange l → (q : Bool) → let x : Node = next_node c.trace t (b.row_of op) in (e : Option Event) → IsEvent c (linked c t x (turned th (if q then phases.Line (l + 1) l 0 else phases.Flag (l + 1) l))) e
+        → IsConsistent count (linked c t x (turned th (if q then phases.Line (l + 1) l 0 else phases.Flag (l + 1) l)))
+    won_keeps l is true e event = let x : Node = next_node c.trace t (b.row_of op) in let w : CoreThread State Op Query Reply = turned th (phases.Line (l + 1) l 0) in
+        won_own l is (phases.Line (l + 1) l 0) e event refl (omega arith) refl refl (λ s. begun_lines (linked c t x w) s w (set_at w) (l + 1) l refl)
+    won_keeps l is false e event = won_own l is (phases.Flag (l + 1) l) e event refl tt refl refl (λ s. omega arith)
+
+    -- the walk
+    line_keeps : (p d g : ℕ) → th.phase ≡ phases.Flag p d → (e : Option Event) → IsEvent c (put c t (turned th (phases.Line p g 0))) e → IsConsistent count (put c t (turned th (phases.Line p g 0)))
+    line_keeps p d g is e event = let w : CoreThread State Op Query Reply = turned th (phases.Line p g 0) in
+        moved (phases.Flag p d) (phases.Line p g 0) th.began is e event refl refl (λ j. tt) (omega arith) refl refl refl (λ s. begun_lines (put c t w) s w (set_at w) p g refl)
+
+    walk_keeps : (p d : ℕ) → th.phase ≡ phases.Flag p d → (q : Bool) → (e : Option Event) → IsEvent c (put c t (turned th (after_flag c.base p d q))) e → IsConsistent count (put c t (turned th (after_flag c.base p d q)))
+    walk_keeps p d is true e event = line_keeps p d d is e event
+    walk_keeps p d is false e event = by_low (nat_le d (c.base + 1)) event
+      where
+        by_low : (q : Bool) → IsEvent c (put c t (turned th (if q then phases.Line p c.base 0 else phases.Flag p (d - 1)))) e → IsConsistent count (put c t (turned th (if q then phases.Line p c.base 0 else phases.Flag p (d - 1))))
+        by_low true event' = line_keeps p d c.base is e event'
+        by_low false event' = moved (phases.Flag p d) (phases.Flag p (d - 1)) th.began is e event' refl refl (λ j. tt) tt refl refl refl (λ s. omega arith)
+
+    -- the log
+    write_keeps : (p d j : ℕ) → th.phase ≡ phases.Line p d j → let w : CoreThread State Op Query Reply = on_device th (after_step th.device (Write (th.used + j) (line_of_entry th c.trace p d j))) (phases.Back p d j) in
+        (e : Option Event) → IsEvent c (put c t w) e → IsConsistent count (put c t w)
+    write_keeps p d j is e event =
+        let g : Segment = window c.trace d p in
+        let x = window_of count c k t th at p d (ap (pending_in c.trace) is) in
+        let q = tie (phases.Line p d j) is in
+        let line : List ℕ = line_of_entry th c.trace p d j in
+        keeps_put count c k t (on_device th (after_step th.device (Write (th.used + j) line)) (phases.Back p d j)) e event (record {
+          numbers = numbers_at (phases.Line p d j) is;
+          tied = tie_written count t th g p d j line q x.size (ap (λ (n : ℕ). line_at (entry_lines th.head n g) j) q.entries);
+        })
+
+    back_keeps : (p d j : ℕ) → th.phase ≡ phases.Back p d j → (last : Bool) → nat_le (suc j) (p - d) ≡ last
+        → let w : CoreThread State Op Query Reply = on_device th (after_step th.device (WriteBack (th.used + j))) (if last then phases.Line p d (suc j) else phases.Fence p d) in
+        (e : Option Event) → IsEvent c (put c t w) e → IsConsistent count (put c t w)
+    back_keeps p d j is true more_lines e event =
+        let x = window_of count c k t th at p d (ap (pending_in c.trace) is) in
+        keeps_put count c k t (on_device th (after_step th.device (WriteBack (th.used + j))) (phases.Line p d (suc j))) e event (record {
+          numbers = numbers_at (phases.Back p d j) is;
+          tied = tie_backed count t th (window c.trace d p) p d j (phases.Line p d (suc j)) (tie (phases.Back p d j) is) x.size refl (leb-true (suc j) (p - d) more_lines) refl refl (λ i. tt) refl;
+        })
+    back_keeps p d j is false none_left e event =
+        let x = window_of count c k t th at p d (ap (pending_in c.trace) is) in
+        let q = tie (phases.Back p d j) is in
+        let inside = q.in_entry in
+        let over = leb-false (suc j) (p - d) none_left in
+        keeps_put count c k t (on_device th (after_step th.device (WriteBack (th.used + j))) (phases.Fence p d)) e event (record {
+          numbers = numbers_at (phases.Back p d j) is;
+          tied = tie_backed count t th (window c.trace d p) p d j (phases.Fence p d) q x.size (omega arith) tt refl refl (λ i. tt) refl;
+        })
+
+    update_keeps : (ph : Phase) → th.phase ≡ ph → IsEvent c (act b c t th (Some (Update op)) ph) (event_at b c t (Some (Update op)) ph) → IsConsistent count (act b c t th (Some (Update op)) ph)
+    update_keeps phases.Idle is event = moved phases.Idle (phases.Exchange (length c.trace)) c.clock is _ event refl refl (λ j. tt) tt refl refl refl (λ s. omega arith)
+    update_keeps (phases.Tail l) is event = moved (phases.Tail l) (phases.Exchange (length c.trace)) th.began is _ event refl refl (λ j. tt) tt refl refl refl (λ s. omega arith)
+    update_keeps (phases.Exchange l) is event = by_tail (length c.trace == l) event
+      where
+        by_tail : (q : Bool) → IsEvent c (if q then linked c t (next_node c.trace t (b.row_of op)) (turned th (after_exchange c.base l)) else put c t (turned th (phases.Tail l))) (if q then Some (Won t (b.row_of op)) else Some (Lost t))
+            → IsConsistent count (if q then linked c t (next_node c.trace t (b.row_of op)) (turned th (after_exchange c.base l)) else put c t (turned th (phases.Tail l)))
+        by_tail true event' = won_keeps l is (nat_le l c.base) _ event'
+        by_tail false event' = moved (phases.Exchange l) (phases.Tail l) th.began is _ event' refl refl (λ j. tt) tt refl refl refl (λ s. omega arith)
+    update_keeps (phases.Flag p d) is event = walk_keeps p d is (is_available c.flags d) _ event
+    update_keeps (phases.Line p d j) is event = write_keeps p d j is _ event
+    update_keeps (phases.Back p d j) is event = back_keeps p d j is (nat_le (suc j) (p - d)) refl _ event
+    update_keeps (phases.Fence p d) is event = keeps_put count c k t (logged th (p - d) (phases.Set p d)) _ event (record {
+      numbers = numbers_at (phases.Fence p d) is;
+      tied = (fence_tie b count c k t th at op call p d is).0;
+    })
+    update_keeps (phases.Set p d) is event = let reply : Reply = reply_after b c.initial (take (p - 1) c.trace) op in
+        keeps_flagged count c k t p (returning th p reply th.began c.clock) _ event (returned_own (phases.Set p d) is refl (λ j. tt) refl refl p reply th.began)
+    update_keeps (phases.Ask g d) is event = k
+
+  -- ---- reads
+  module _ (query : Query) (call : next_call th ≡ Some (Ask query)) where
+    same_left : to_come ≡ after_this
+    same_left = ask_left th.script (length th.returned) query call
+
+    answered_keeps : (ph : Phase) → th.phase ≡ ph → written_in ph ≡ 0 → ((line : ℕ) → IsBehind th.used ph line) → updates_to_log th ph ≡ to_come → updates_to_link th ph ≡ to_come
+        → (began place : ℕ) (e : Option Event) → IsEvent c (answered b c t th began place query) e → IsConsistent count (answered b c t th began place query)
+    answered_keeps ph is nothing all log link began place e event = let reply : Reply = answer_after b c.initial (take place c.trace) query in
+        keeps_put count c k t (returning th place reply began c.clock) e event (returned_own ph is nothing all (log ∙ same_left) (link ∙ same_left) place reply began)
+
+    looks : (ph : Phase) (began g d : ℕ) → th.phase ≡ ph → written_in ph ≡ 0 → ((line : ℕ) → IsBehind th.used ph line) → updates_to_log th ph ≡ to_come → updates_to_link th ph ≡ to_come
+        → (e : Option Event) → IsEvent c (put c t (begun th began (phases.Ask g d))) e → IsConsistent count (put c t (begun th began (phases.Ask g d)))
+    looks ph began g d is nothing all log link e event = let n = numbers_at ph is in keeps_put count c k t (begun th began (phases.Ask g d)) e event (record {
+      numbers = omega arith;
+      tied = tie_moved count t th (pending_in c.trace ph) None ph (phases.Ask g d) th.returned began (tie ph is) nothing refl all tt (sym log) (omega arith);
+    })
+
+    ask_keeps : (ph : Phase) → th.phase ≡ ph → IsEvent c (act b c t th (Some (Ask query)) ph) (event_at b c t (Some (Ask query)) ph) → IsConsistent count (act b c t th (Some (Ask query)) ph)
+    ask_keeps phases.Idle is event = by_base (nat_le (length c.trace) c.base) event
+      where
+        by_base : (q : Bool) → IsEvent c (if q then answered b c t th c.clock c.base query else put c t (begun th c.clock (phases.Ask (length c.trace) (length c.trace)))) (Some (ReadTail t))
+            → IsConsistent count (if q then answered b c t th c.clock c.base query else put c t (begun th c.clock (phases.Ask (length c.trace) (length c.trace))))
+        by_base true event' = answered_keeps phases.Idle is refl (λ j. tt) refl refl c.clock c.base _ event'
+        by_base false event' = looks phases.Idle c.clock (length c.trace) (length c.trace) is refl (λ j. tt) refl refl _ event'
+    ask_keeps (phases.Ask g d) is event = by_flag (is_available c.flags d) (nat_le d (c.base + 1)) _ event
+      where
+        by_flag : (q r : Bool) (e : Option Event) → IsEvent c (if q then answered b c t th th.began d query else (if r then answered b c t th th.began c.base query else put c t (turned th (phases.Ask g (d - 1))))) e
+            → IsConsistent count (if q then answered b c t th th.began d query else (if r then answered b c t th th.began c.base query else put c t (turned th (phases.Ask g (d - 1)))))
+        by_flag true r e event' = answered_keeps (phases.Ask g d) is refl (λ j. tt) refl refl th.began d e event'
+        by_flag false true e event' = answered_keeps (phases.Ask g d) is refl (λ j. tt) refl refl th.began c.base e event'
+        by_flag false false e event' = looks (phases.Ask g d) th.began g (d - 1) is refl (λ j. tt) refl refl e event'
+    ask_keeps (phases.Tail l) is event = k
+    ask_keeps (phases.Exchange l) is event = k
+    ask_keeps (phases.Flag p d) is event = k
+    ask_keeps (phases.Line p d j) is event = k
+    ask_keeps (phases.Back p d j) is event = k
+    ask_keeps (phases.Fence p d) is event = k
+    ask_keeps (phases.Set p d) is event = k
+
+  act_keeps : (call : Option (Call State Op Query Reply)) → next_call th ≡ call → IsConsistent count (act b c t th call th.phase)
+  act_keeps None e = k
+  act_keeps (Some (Update op)) e = update_keeps op e th.phase refl (act_event b count c k t th at (Some (Update op)) e)
+  act_keeps (Some (Ask query)) e = ask_keeps query e th.phase refl (act_event b count c k t th at (Some (Ask query)) e)
+
+-- whatever thread takes a step
+pub step_consistent : {State Op Query Reply : Type 0} (b : Behaviour State Op Query Reply) (count : ℕ) (c : CoreState State Op Query Reply) (t : ℕ) → IsConsistent count c → IsConsistent count (step_of b c t)
+step_consistent {State} {Op} {Query} {Reply} b count c t k = by_thread (slice_get c.threads t) refl
+  where
+    by_thread : (o : Option (CoreThread State Op Query Reply)) → slice_get c.threads t ≡ o → IsConsistent count (step_by b c t o)
+    by_thread None e = k
+    by_thread (Some th) e = act_keeps b count c k t th e (next_call th) refl
+
+-- and whatever threads take steps
+pub steps_consistent : {State Op Query Reply : Type 0} (b : Behaviour State Op Query Reply) (count : ℕ) (c : CoreState State Op Query Reply) (ts : List ℕ) → IsConsistent count c → IsConsistent count (steps_of b c ts)
+steps_consistent b count c [] k = k
+steps_consistent b count c (t ∷ ts) k = steps_consistent b count (step_of b c t) ts (step_consistent b count c t k)

@@ -2,3 +2,4 @@ pub mod CoreFrames
 pub mod Windows
 pub mod Ties
 pub mod StepEvents
+pub mod Kept

@@ -77,12 +77,33 @@ bounds xs (suc d) zero h = absurd (omega arith)
 bounds [] (suc d) (suc p) h = absurd (omega arith)
 bounds (x ∷ xs) (suc d) (suc p) h = let k = bounds xs d p h in omega arith
 
--- the window of the nodes above d, up to p
+-- how long the window of the nodes above d, up to p, is
+pub record IsShort (count : ℕ) (trace : List Node) (p d : ℕ) : Type 0 where
+  pub size : length (window trace d p).nodes ≡ p - d
+  pub below : d < p
+  pub few : p - d ≤ count
+
+-- a window that is pending in a sound frame
+pub short_of : {State Op Query Reply : Type 0} (count : ℕ) (c : CoreState State Op Query Reply) → Sound count (frame_of c) → (t : ℕ) (th : CoreThread State Op Query Reply) → slice_get c.threads t ≡ Some th
+    → (p d : ℕ) → pending_in c.trace th.phase ≡ Some (window c.trace d p) → IsShort count c.trace p d
+short_of count c s t th at p d e =
+    let g : Segment = window c.trace d p in
+    let seg = pending_sound c count s t th at g e in
+    let a = seg.agrees in
+    let some_nodes = a.some_nodes in
+    let low = bounds c.trace d p some_nodes in
+    let high = a.in_trace in
+    let size : length g.nodes ≡ p - d = length_window c.trace d p (omega arith) high in
+    let few = seg.few in
+    record { size = size; below = low; few = omega arith }
+
+-- and that it fits an entry
 pub record IsWindowOf (count : ℕ) (trace : List Node) (p d : ℕ) : Type 0 where
   pub fits : FitsEntry count (window trace d p)
   pub size : length (window trace d p).nodes ≡ p - d
   pub below : d < p
   pub few : p - d ≤ count
+  pub high : p ≤ length trace
 
 module _ {State Op Query Reply : Type 0} (count : ℕ) (c : CoreState State Op Query Reply) (k : IsConsistent count c) where
   pub threads_count : length c.threads ≡ count
@@ -116,21 +137,19 @@ module _ {State Op Query Reply : Type 0} (count : ℕ) (c : CoreState State Op Q
       let g : Segment = window c.trace d p in
       let seg = pending_sound c count k.sound t th at g e in
       let a = seg.agrees in
-      let some_nodes = a.some_nodes in
-      let low = bounds c.trace d p some_nodes in
+      let short = short_of count c k.sound t th at p d e in
       let high = a.in_trace in
-      let size : length g.nodes ≡ p - d = length_window c.trace d p (omega arith) high in
-      let few = seg.few in
-      let short = trace_short in
+      let all = trace_short in
       record {
         fits = record {
-          some_nodes = some_nodes;
-          few_nodes = few;
+          some_nodes = a.some_nodes;
+          few_nodes = seg.few;
           from_one = a.from_one;
           place = omega arith;
           nodes = all_from (FitsNode count) g.nodes (λ i x e. node_fits (d + i) x (at_window c.trace d p i x e).0);
         };
-        size = size;
-        below = low;
-        few = omega arith;
+        size = short.size;
+        below = short.below;
+        few = short.few;
+        high = high;
       }

@@ -28,16 +28,13 @@ use Rattle.onll_core.specs.Step.{turned, begun, on_device, logged, returning, pu
 use Rattle.onll_core.specs.Tie.{written_in, lines_needed, IsBehind, InEntry, updates_in, updates_to_log, updates_to_link, IsTied}
 use Rattle.onll_core.specs.Consistent.{IsConsistent}
 use Rattle.onll_core.specs.StepEvent.{event_at, event_of, after_maybe, MayCome, IsEvent}
+use Rattle.onll_core.proofs.Calls.{length_snoc, update_left, ask_left}
 use Rattle.onll_core.proofs.CoreFrames.{pending_longer}
 use Rattle.onll_core.proofs.Windows.{short_of, window_of}
 use Rattle.onll_core.proofs.Ties.{tie_moved, tie_written, tie_backed}
-use Rattle.onll_core.proofs.StepEvents.{update_left, ask_left, tie_at, above, fence_tie, act_event}
+use Rattle.onll_core.proofs.StepEvents.{tie_at, fence_tie, act_event}
 
 -- Each step keeps what is known of a core.
-
-length_snoc : {A : Type 0} (xs : List A) (x : A) → length (xs ++ x ∷ []) ≡ suc (length xs)
-length_snoc [] x = refl
-length_snoc (y ∷ xs) x = ap suc (length_snoc xs x)
 
 -- what is known of the thread's own part
 pub record Own {State Op Query Reply : Type 0} (count : ℕ) (trace : List Node) (t : ℕ) (w : CoreThread State Op Query Reply) (ph : Phase) : Type 0 where

@@ -26,23 +26,12 @@ use Rattle.onll_core.specs.Step.{turned, begun, on_device, logged, returning, pu
 use Rattle.onll_core.specs.Tie.{updates_in, IsTied}
 use Rattle.onll_core.specs.Consistent.{IsConsistent}
 use Rattle.onll_core.specs.StepEvent.{event_at, event_by, event_of, after_maybe, MayCome, IsEvent}
+use Rattle.onll_core.proofs.Calls.{update_left}
 use Rattle.onll_core.proofs.CoreFrames.{seen_snoc, part_at, frame_put, frame_still, frame_flagged, frame_linked}
 use Rattle.onll_core.proofs.Windows.{window_of}
 use Rattle.onll_core.proofs.Ties.{fenced_is_log, tie_fenced}
 
 -- Each step is its event.
-
--- what an update leaves of the updates of a script
-pub update_left : {State Op Query Reply : Type 0} (xs : List (Call State Op Query Reply)) (n : ℕ) (op : Op) → slice_get xs n ≡ Some (Update op) → updates_in (drop n xs) ≡ suc (updates_in (drop (suc n) xs))
-update_left [] n op e = absurd (cc)
-update_left {State} {Op} {Query} {Reply} (x ∷ xs) zero op e = let same : x ≡ Update op = (cc) in ap (λ (c : Call State Op Query Reply). updates_in (c ∷ xs)) same
-update_left (x ∷ xs) (suc n) op e = update_left xs n op e
-
--- and what a read leaves
-pub ask_left : {State Op Query Reply : Type 0} (xs : List (Call State Op Query Reply)) (n : ℕ) (query : Query) → slice_get xs n ≡ Some (Ask query) → updates_in (drop n xs) ≡ updates_in (drop (suc n) xs)
-ask_left [] n query e = absurd (cc)
-ask_left {State} {Op} {Query} {Reply} (x ∷ xs) zero query e = let same : x ≡ Ask query = (cc) in ap (λ (c : Call State Op Query Reply). updates_in (c ∷ xs)) same
-ask_left (x ∷ xs) (suc n) query e = ask_left xs n query e
 
 module _ {State Op Query Reply : Type 0} (b : Behaviour State Op Query Reply) (count : ℕ) (c : CoreState State Op Query Reply) (k : IsConsistent count c) (t : ℕ) (th : CoreThread State Op Query Reply) (at : slice_get c.threads t ≡ Some th) where
   abbrev f : Frame
@@ -65,7 +54,7 @@ module _ {State Op Query Reply : Type 0} (b : Behaviour State Op Query Reply) (c
   seen = k.sound.seen t (part th.phase) (part_at c t th at th.phase refl)
 
   -- an unset flag is above the base
-  pub above : (d : ℕ) → is_available c.flags d ≡ false → c.base < d
+  above : (d : ℕ) → is_available c.flags d ≡ false → c.base < d
   above d unset = dite (native.Mathlib.Decide.dec_le d c.base) (λ le. absurd (true≢false (sym (k.based.available d le) ∙ unset))) (λ gt. omega arith)
 
   abbrev Is : CoreState State Op Query Reply → Option Event → Type 0

@@ -5,3 +5,6 @@ pub mod Tie
 pub mod Consistent
 pub mod StepEvent
 pub mod First
+pub mod Fences
+pub mod Entries
+pub mod Laws

@@ -5,3 +5,4 @@ pub mod Ties
 pub mod StepEvents
 pub mod Kept
 pub mod Fences
+pub mod FirstCore

@@ -1,8 +1,9 @@
-use Rattle.std.specs.Prelude.{ℕ, ◌≡◌, ◌+◌, ◌*◌, ◌≤◌, List, [], ◌∷◌, length, Option, Some, slice_get}
+use Rattle.std.specs.Prelude.{ℕ, ◌≡◌, ◌+◌, ◌*◌, ◌≤◌, List, [], ◌∷◌, ◌++◌, length, Option, Some, slice_get}
 use Rattle.onll_model.specs.declared.call.Call.{Call}
-use Rattle.onll_pmem.specs.Device.{DeviceState, Write, WriteBack, Fence, after_steps, new_device}
+use Rattle.onll_pmem.specs.Device.{DeviceState, Write, WriteBack, Fence, after_steps, new_device, zero_lines}
 use Rattle.onll_log.specs.declared.head.LogHead.{LogHead}
 use Rattle.onll_log.specs.Head.{head_line, FitsHead}
+use Rattle.onll_log.specs.Encoding.{log_lines}
 use Rattle.onll_core.specs.declared.phase.Phase.TheVariants as phases
 use Rattle.onll_core.specs.Core.{CoreThread, CoreState}
 use Rattle.onll_core.specs.Tie.{updates_in}
@@ -51,3 +52,10 @@ pub record AreFirst {State Op Query Reply : Type 0} (count : ℕ) (heads : List 
   pub all_scripts : length scripts ≡ count
   pub each_head : (t : ℕ) (head : LogHead) → slice_get heads t ≡ Some head → IsHeadOf count t head
   pub each_script : (t : ℕ) (script : List (Call State Op Query Reply)) → slice_get scripts t ≡ Some script → updates_in script ≤ 4096
+
+-- a device that holds the head of a log, and this many lines of zeros after it
+pub record IsFirstDevice (head : LogHead) (free : ℕ) (device : DeviceState) : Type 0 where
+  pub fenced : device.fenced ≡ log_lines head [] ++ zero_lines free
+  pub read : device.read ≡ log_lines head [] ++ zero_lines free
+  pub marks : length device.backed ≡ length device.read
+  pub fences : device.fences ≡ 1

@@ -81,7 +81,7 @@ module _ {State Op Query Reply : Type 0} (c : CoreState State Op Query Reply) wh
   frame_linked count s t x w =
       let long : List Node = c.trace ++ x ∷ [] in
       let others : map (frame_thread c.base long) c.threads ≡ map (frame_thread c.base c.trace) c.threads = map_same (frame_thread c.base long) (frame_thread c.base c.trace) c.threads
-          (λ u z e. let same = pending_longer count s u z e (x ∷ []) in
-          λ i. record { seen = seen_in c.base z.returned; fenced = fenced_entries z.head z.device; pending = same i; stuck = None; activity = activity_in z.phase }) in
+      (λ u z e. let same = pending_longer count s u z e (x ∷ []) in
+      λ i. record { seen = seen_in c.base z.returned; fenced = fenced_entries z.head z.device; pending = same i; stuck = None; activity = activity_in z.phase }) in
       let e = map-set (frame_thread c.base long) c.threads t w ∙ ap (λ (l : List Thread). set l t (frame_thread c.base long w)) others in
       λ i. record { trace = long; flags = c.flags ++ false ∷ []; threads = e i; notes = [] }

@@ -57,6 +57,7 @@ module _ {State Op Query Reply : Type 0} (b : Behaviour State Op Query Reply) (b
       by_base : (q : Bool) → CountsFences before (linked c t (next_node c.trace t (b.row_of op)) (turned th (if q then phases.Line (l + 1) l 0 else phases.Flag (l + 1) l)))
       by_base true = each (turned th (phases.Line (l + 1) l 0)) (counts_at (phases.Exchange l) is)
       by_base false = each (turned th (phases.Flag (l + 1) l)) (counts_at (phases.Exchange l) is)
+
       by_tail : (q : Bool) → CountsFences before (if q then linked c t (next_node c.trace t (b.row_of op)) (turned th (after_exchange c.base l)) else put c t (turned th (phases.Tail l)))
       by_tail true = by_base (nat_le l c.base)
       by_tail false = each (turned th (phases.Tail l)) (counts_at (phases.Exchange l) is)
@@ -65,6 +66,7 @@ module _ {State Op Query Reply : Type 0} (b : Behaviour State Op Query Reply) (b
       by_base : (q : Bool) → CountsFences before (put c t (turned th (if q then phases.Line p c.base 0 else phases.Flag p (d - 1))))
       by_base true = each (turned th (phases.Line p c.base 0)) (counts_at (phases.Flag p d) is)
       by_base false = each (turned th (phases.Flag p (d - 1))) (counts_at (phases.Flag p d) is)
+
       by_flag : (q : Bool) → CountsFences before (put c t (turned th (after_flag c.base p d q)))
       by_flag true = each (turned th (phases.Line p d 0)) (counts_at (phases.Flag p d) is)
       by_flag false = by_base (nat_le d (c.base + 1))
@@ -88,6 +90,7 @@ module _ {State Op Query Reply : Type 0} (b : Behaviour State Op Query Reply) (b
     where
       answers : (place : ℕ) → CountsFences before (answered b c t th th.began place query)
       answers place = let reply : Reply = answer_after b c.initial (take place c.trace) query in each (returning th place reply th.began c.clock) (returns_ask query call (phases.Ask g d) is refl place reply th.began)
+
       by_flag : (q r : Bool) → CountsFences before (if q then answered b c t th th.began d query else (if r then answered b c t th th.began c.base query else put c t (turned th (phases.Ask g (d - 1)))))
       by_flag true r = answers d
       by_flag false true = answers c.base

@@ -90,7 +90,7 @@ module _ {State Op Query Reply : Type 0} where
   first_consistent count initial heads scripts a =
       let c : CoreState State Op Query Reply = first_core initial heads scripts in
       let parts = same_parts count heads scripts 0 (a.all_heads ∙ sym a.all_scripts) (λ t x at. let z : t ≡ 0 + t = omega arith in subst (λ (n : ℕ). IsHeadOf count n x) z (a.each_head t x at)) ∙
-          ap (λ (n : ℕ). map (resumed_thread 0) (replicate n [])) a.all_heads in
+      ap (λ (n : ℕ). map (resumed_thread 0) (replicate n [])) a.all_heads in
       let s : SoundOver count 0 (frame_of c) = subst (SoundOver count 0) (λ i. record { trace = []; flags = []; threads = sym parts i; notes = [] }) (created_sound count) in
       record {
         sound = s.sound;

@@ -99,8 +99,10 @@ same_to_log {State} {Op} {Query} {Reply} th w s r ph = all ph
   where
     now : updates_in (drop (length w.returned) w.script) ≡ updates_in (drop (length th.returned) th.script)
     now i = updates_in (drop (length (r i)) (s i))
+
     next : updates_in (drop (suc (length w.returned)) w.script) ≡ updates_in (drop (suc (length th.returned)) th.script)
     next i = updates_in (drop (suc (length (r i))) (s i))
+
     all : (ph : Phase) → updates_to_log w ph ≡ updates_to_log th ph
     all phases.Idle = now
     all (phases.Tail l) = now
@@ -171,7 +173,7 @@ module _ {State Op Query Reply : Type 0} (b : Behaviour State Op Query Reply) (c
         let room = room_for (phases.Exchange l) is refl refl in
         let lines = needs (next_sound count c k (linked c t x (turned th ph)) e event) in
         keeps_linked count c k t (b.row_of op) (turned th ph) e (b.seven_words op) event
-            (turned_own long (phases.Exchange l) ph th.began is refl none (λ j. tt) entry refl left (omega arith) (omega arith))
+        (turned_own long (phases.Exchange l) ph th.began is refl none (λ j. tt) entry refl left (omega arith) (omega arith))
 
     -- a phase of an update is followed by another, and no step is made on the device
     moved : (ph ph' : Phase) (began : ℕ) → th.phase ≡ ph → (e : Option Event) → IsEvent c (put c t (begun th began ph')) e → written_in ph ≡ 0 → written_in ph' ≡ 0 → ((line : ℕ) → IsBehind th.used ph line) → InEntry ph'

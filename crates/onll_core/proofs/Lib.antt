@@ -6,3 +6,4 @@ pub mod StepEvents
 pub mod Kept
 pub mod Fences
 pub mod FirstCore
+pub mod Ready

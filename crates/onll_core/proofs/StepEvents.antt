@@ -127,7 +127,7 @@ module _ {State Op Query Reply : Type 0} (b : Behaviour State Op Query Reply) (c
       let w : CoreThread State Op Query Reply = logged th (p - d) (phases.Set p d) in
       let tie' = fence_tie op call p d is in
       let log : fenced_entries w.head w.device ≡ fenced_entries th.head th.device ++ g ∷ [] = fenced_is_log count t w None (phases.Set p d) tie'.0 ∙
-          (tie'.1 ∙ ap (λ (l : List Segment). l ++ g ∷ []) (sym (fenced_is_log count t th (Some g) (phases.Fence p d) (tie_at (phases.Fence p d) is)))) in
+      (tie'.1 ∙ ap (λ (l : List Segment). l ++ g ∷ []) (sym (fenced_is_log count t th (Some g) (phases.Fence p d) (tie_at (phases.Fence p d) is)))) in
       record {
         frame = frame_put c t w ∙ (ap (with_thread f t) (λ i. record { seen = seen_in c.base th.returned; fenced = log i; pending = None; stuck = None; activity = Fenced p (p - d) }) ∙ sym (after_event (phases.Fence p d) is (FenceEvent t) refl));
         may = record { thread = part (phases.Fence p d); here = part_at c t th at (phases.Fence p d) is; allowed = (p, p - d, refl) };

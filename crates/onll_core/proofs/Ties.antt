@@ -166,7 +166,7 @@ module _ {State Op Query Reply : Type 0} (count t : ℕ) (th : CoreThread State 
       let whole : take (suc (p - d)) lines ≡ lines = take_all (suc (p - d)) lines (omega arith) in
       let longer : log_lines th.head (tie.log ++ g ∷ []) ≡ front ++ lines = log_lines-more th.head tie.log g in
       let read : th.device.read ≡ log_lines th.head (tie.log ++ g ∷ []) ++ zero_lines tie.free = tie.read ∙ (ap (λ (l : List (List ℕ)). front ++ (l ++ zero_lines tie.free)) whole ∙
-          (sym (append_assoc front lines (zero_lines tie.free)) ∙ ap (λ (l : List (List ℕ)). l ++ zero_lines tie.free) (sym longer))) in
+      (sym (append_assoc front lines (zero_lines tie.free)) ∙ ap (λ (l : List (List ℕ)). l ++ zero_lines tie.free) (sym longer))) in
       let all = length_read g (phases.Fence p d) tie (omega arith) in
       let u = tie.lines in
       let b = length-log_lines th.head tie.log in
@@ -180,24 +180,26 @@ module _ {State Op Query Reply : Type 0} (count t : ℕ) (th : CoreThread State 
       let e = tie.entries in
       let n = tie.fences in
       let l = length-log_lines th.head (tie.log ++ g ∷ []) in
-      let l' = ap length longer in
-      (record {
-        log = tie.log ++ g ∷ [];
-        free = tie.free;
-        head = tie.head;
-        own = tie.own;
-        fits = all_append (FitsEntry th.head.threads) tie.log (g ∷ []) tie.fits (fits, tt);
-        entries = omega (arith, length-append tie.log (g ∷ []));
-        lines = omega (arith, length-append front lines);
-        in_entry = tt;
-        fenced = now ∙ (read ∙ (let z : tie.free ≡ 0 + tie.free = omega arith in ap (λ (m : ℕ). log_lines th.head (tie.log ++ g ∷ []) ++ zero_lines m) z));
-        read = read;
-        marks = tie.marks;
-        backed = λ line _. inr (sym (ap (λ (l : List (List ℕ)). line_at l line) now));
-        fences = omega arith;
-        room = smaller (updates_in (drop (length th.returned) th.script)) (updates_in (drop (suc (length th.returned)) th.script)) th.head.threads (p - d) tie.free more few tie.room;
-        space = omega arith;
-      }, refl)
+      let l' = ap length longer in (
+        record {
+          log = tie.log ++ g ∷ [];
+          free = tie.free;
+          head = tie.head;
+          own = tie.own;
+          fits = all_append (FitsEntry th.head.threads) tie.log (g ∷ []) tie.fits (fits, tt);
+          entries = omega (arith, length-append tie.log (g ∷ []));
+          lines = omega (arith, length-append front lines);
+          in_entry = tt;
+          fenced = now ∙ (read ∙ (let z : tie.free ≡ 0 + tie.free = omega arith in ap (λ (m : ℕ). log_lines th.head (tie.log ++ g ∷ []) ++ zero_lines m) z));
+          read = read;
+          marks = tie.marks;
+          backed = λ line _. inr (sym (ap (λ (l : List (List ℕ)). line_at l line) now));
+          fences = omega arith;
+          room = smaller (updates_in (drop (length th.returned) th.script)) (updates_in (drop (suc (length th.returned)) th.script)) th.head.threads (p - d) tie.free more few tie.room;
+          space = omega arith;
+        },
+        refl,
+      )
     where
       smaller : (a b c n r : ℕ) → a ≡ suc b → n ≤ c → a * suc c ≤ suc n + r → b * suc c ≤ 0 + r
       smaller a b c n r e f h = let k : suc b * suc c ≡ b * suc c + suc c = grind arith in let m : a * suc c ≡ suc b * suc c = ap (λ (x : ℕ). x * suc c) e in omega arith

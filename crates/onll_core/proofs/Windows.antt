@@ -43,6 +43,7 @@ below_next n (x ∷ xs) = let h = below_next n xs in let e = here x.thread n in 
       where
         yes : (b : Bool) → b ≡ true → cond {A = ℕ} b 1 0 ≡ 1
         yes b e = ap (λ (c : Bool). cond {A = ℕ} c 1 0) e
+
         not : (b : Bool) → b ≡ false → cond {A = ℕ} b 1 0 ≡ 0
         not b e = ap (λ (c : Bool). cond {A = ℕ} c 1 0) e
 
@@ -61,7 +62,7 @@ below_most k zero xs h = let e = below_none xs in omega arith
 below_most k (suc n) xs h = let a = below_most k n xs (λ t l. h t (omega arith)) in let b = h n (omega arith) in let c = below_next n xs in let e : k * suc n ≡ k * n + k = grind arith in omega arith
 
 -- no more nodes than each thread's together
-few_in_all : (k n : ℕ) (xs : List Node) → ((t : ℕ) → t < n → count_by (is_of_thread t) xs ≤ k) → AllByRecursion (λ (x : Node). x.thread < n) xs → length xs ≤ k * n
+pub few_in_all : (k n : ℕ) (xs : List Node) → ((t : ℕ) → t < n → count_by (is_of_thread t) xs ≤ k) → AllByRecursion (λ (x : Node). x.thread < n) xs → length xs ≤ k * n
 few_in_all k n xs h low = let a = below_most k n xs h in let b = below_all n xs low in omega arith
 
 -- a thread's node is one more than those below it

@@ -8,3 +8,4 @@ pub mod First
 pub mod Fences
 pub mod Entries
 pub mod Laws
+pub mod Ready

@@ -64,3 +64,8 @@ words_of_its_op _ op h = cc
 
 pub row_of_its_op : (row : OpRow) (op : BankOp) → bank_op_at row ≡ Some op → bank_row op ≡ row
 row_of_its_op row op e = ap (λ (w : List ℕ). record { w = w }) (words_of_its_op row.w op e)
+
+pub seven_words : (op : BankOp) → length (bank_row op).w ≡ 7
+seven_words (Deposit a x) = refl
+seven_words (Withdraw a x) = refl
+seven_words (Transfer a b x) = refl

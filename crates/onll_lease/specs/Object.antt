@@ -5,7 +5,7 @@ use Rattle.onll_lease.specs.declared.operation.LeaseOp.{LeaseOp}
 use Rattle.onll_lease.specs.declared.operation.LeaseQuery.{LeaseQuery}
 use Rattle.onll_lease.specs.declared.operation.LeaseReply.{LeaseReply}
 use Rattle.onll_lease.specs.Lease.{lease_next, lease_reply, lease_answer}
-use Rattle.onll_lease.specs.Rows.{lease_row, lease_op_at, op_of_its_row, row_of_its_op}
+use Rattle.onll_lease.specs.Rows.{lease_row, lease_op_at, op_of_its_row, row_of_its_op, seven_words}
 
 pub length-lease_next : (s : List LeaseEntry) (op : LeaseOp) → length (lease_next s op) ≡ length s
 length-lease_next s op = length-set s _ _
@@ -22,4 +22,5 @@ lease = record {
   capacity_stays = length-lease_next;
   op_of_its_row = op_of_its_row;
   row_of_its_op = row_of_its_op;
+  seven_words = seven_words;
 }

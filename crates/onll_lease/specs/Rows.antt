@@ -1,4 +1,4 @@
-use Rattle.std.proofs.Common.{ℕ, Bool, true, false, List, [], ◌∷◌, ◌≡◌, ◌==◌, ◌&&◌, if◌then◌else◌, Option, Some, None, cond, refl, ap, arith}
+use Rattle.std.proofs.Common.{ℕ, Bool, true, false, List, [], ◌∷◌, ◌≡◌, ◌==◌, ◌&&◌, if◌then◌else◌, Option, Some, None, cond, length, refl, ap, arith}
 use Rattle.std.proofs.lemmas.Bool.Decides.{nat_tests}
 use Rattle.onll_words.specs.declared.line.OpRow.{OpRow}
 use Rattle.onll_lease.specs.declared.operation.LeaseOp.{LeaseOp}
@@ -63,3 +63,8 @@ words_of_its_op _ op h = cc
 
 pub row_of_its_op : (row : OpRow) (op : LeaseOp) → lease_op_at row ≡ Some op → lease_row op ≡ row
 row_of_its_op row op e = ap (λ (w : List ℕ). record { w = w }) (words_of_its_op row.w op e)
+
+pub seven_words : (op : LeaseOp) → length (lease_row op).w ≡ 7
+seven_words (Grant r h now ttl) = refl
+seven_words (Renew r t now ttl) = refl
+seven_words (Release r t) = refl

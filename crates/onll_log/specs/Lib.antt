@@ -5,4 +5,9 @@ pub mod Grammar
 pub mod Decoded
 pub mod ImageFile
 pub mod Digest
+pub mod Torn
+pub mod Written
+pub mod MaskBits
+pub mod Append
+pub mod Remains
 pub mod Laws

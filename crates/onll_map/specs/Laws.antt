@@ -1,4 +1,4 @@
-use Rattle.std.proofs.Common.{ℕ, Bool, true, false, List, [], ◌∷◌, ◌++◌, ◌≡◌, ◌==◌, ◌&&◌, Option, Some, None, cond, length, refl, ap, ◌∙◌, arith}
+use Rattle.std.proofs.Common.{ℕ, Bool, true, false, List, [], ◌∷◌, ◌++◌, ◌≡◌, ◌==◌, ◌&&◌, Option, Some, None, cond, length, length-append, refl, ap, ◌∙◌, arith}
 use Rattle.std.proofs.lemmas.Bool.Decides.{nat_tests}
 use Rattle.onll_words.specs.declared.line.OpRow.{OpRow}
 use Rattle.onll_words.specs.Short.{ShortText, packed, unpacked}
@@ -82,3 +82,7 @@ words_of_its_op _ op h = cc
 
 pub row_of_its_op : (row : OpRow) (op : MapOp) → map_op_at row ≡ Some op → map_row op ≡ row
 row_of_its_op row op e = ap (λ (w : List ℕ). record { w = w }) (words_of_its_op row.w op e)
+
+pub seven_words : (op : MapOp) → length (map_row op).w ≡ 7
+seven_words (Put k v) = omega (arith, length-append (packed k.bytes) (packed v.bytes), length-packed k.bytes, length-packed v.bytes)
+seven_words (Del k) = omega (arith, length-append (packed k.bytes) (0 ∷ 0 ∷ 0 ∷ []), length-packed k.bytes)

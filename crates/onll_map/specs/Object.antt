@@ -5,7 +5,7 @@ use Rattle.onll_map.specs.declared.operation.MapQuery.{MapQuery}
 use Rattle.onll_map.specs.declared.operation.MapReply.{MapReply}
 use Rattle.onll_map.specs.Map.{Entries, map_next, map_reply, map_answer}
 use Rattle.onll_map.specs.Rows.{map_row, map_op_at}
-use Rattle.onll_map.specs.Laws.{op_of_its_row, row_of_its_op}
+use Rattle.onll_map.specs.Laws.{op_of_its_row, row_of_its_op, seven_words}
 
 -- what a map does
 abbrev pub map_object : Behaviour Entries MapOp MapQuery MapReply
@@ -19,4 +19,5 @@ map_object = record {
   capacity_stays = λ s op. refl;
   op_of_its_row = op_of_its_row;
   row_of_its_op = row_of_its_op;
+  seven_words = seven_words;
 }

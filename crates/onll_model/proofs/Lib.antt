@@ -1,3 +1,13 @@
 pub mod States
 pub mod FoldLegal
 pub mod Names
+pub mod Lists
+pub mod Segments
+pub mod Traces
+pub mod Flags
+pub mod FrameParts
+pub mod FrameSteps
+pub mod FrameLogs
+pub mod FrameLinks
+pub mod EventLaw
+pub mod FirstFrames

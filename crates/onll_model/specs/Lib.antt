@@ -5,3 +5,6 @@ pub mod Fold
 pub mod Recovered
 pub mod Names
 pub mod Segment
+pub mod Frames
+pub mod Events
+pub mod FrameLaws

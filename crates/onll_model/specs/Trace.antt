@@ -1,8 +1,13 @@
-use Rattle.std.specs.Prelude.{ℕ, Bool, List, [], ◌∷◌, ◌++◌, ◌≡◌, ◌+◌, ◌==◌, Option, Some, None, filter, count_by}
+use Rattle.std.specs.Prelude.{ℕ, Bool, List, [], ◌∷◌, ◌++◌, ◌≡◌, ◌+◌, ◌==◌, Option, Some, None, filter, count_by, slice_get, suc, zero}
 use Rattle.onll_model.specs.declared.node.Node.{Node}
 use Rattle.onll_model.specs.Object.{Behaviour}
 
 -- A trace is the list of the updates in their order. The place of a node is its number in the trace, from 1.
+
+-- the node at a place, none at place 0
+abbrev pub node_at : List Node → ℕ → Option Node
+node_at trace zero = None
+node_at trace (suc q) = slice_get trace q
 
 -- the state after a row; one that is the row of no operation leaves the state as it is
 abbrev pub after_row : {State Op Query Reply : Type 0} → Behaviour State Op Query Reply → State → Option Op → State

@@ -2,6 +2,7 @@
 #![tactic(auto)]
 
 mod call;
+mod frames;
 mod laws;
 mod node;
 mod object;
@@ -9,6 +10,7 @@ mod recovered;
 mod turn;
 
 pub use call::{Call, CallEnd};
+pub use frames::{event_law, first_frame_law};
 pub use laws::{capacity_kept, name_law, op_of_its_row, row_of_its_op, undone};
 pub use node::{Node, node_line};
 pub use object::Object;

@@ -1,4 +1,4 @@
-use Rattle.std.proofs.Common.{ℕ, Bool, true, false, List, [], ◌∷◌, ◌≡◌, ◌==◌, ◌&&◌, Some, None, cond, refl, ap, arith}
+use Rattle.std.proofs.Common.{ℕ, Bool, true, false, List, [], ◌∷◌, ◌≡◌, ◌==◌, ◌&&◌, Some, None, cond, length, refl, ap, arith}
 use Rattle.std.proofs.lemmas.Bool.Decides.{nat_tests}
 use Rattle.onll_words.specs.declared.line.OpRow.{OpRow}
 use Rattle.onll_queue.specs.Items.{Items}
@@ -53,3 +53,7 @@ words_of_its_op _ op h = cc
 
 pub row_of_its_op : (row : OpRow) (op : QueueOp) → queue_op_at row ≡ Some op → queue_row op ≡ row
 row_of_its_op row op e = ap (λ (w : List ℕ). record { w = w }) (words_of_its_op row.w op e)
+
+pub seven_words : (op : QueueOp) → length (queue_row op).w ≡ 7
+seven_words (Push x) = refl
+seven_words Pop = refl

@@ -1,0 +1,11 @@
+pub mod Core
+pub mod Step
+pub mod CoreFrame
+pub mod Tie
+pub mod Consistent
+pub mod StepEvent
+pub mod First
+pub mod Fences
+pub mod Entries
+pub mod Laws
+pub mod Ready

@@ -1,0 +1,2 @@
+-- Laws of the merge.
+use Rattle.std.specs.Prelude.{◌≡◌}

@@ -1,5 +1,5 @@
 -- Which node stands at a place of a log.
-use Rattle.std.proofs.Common.{◌≡◌, ◌≢◌, ℕ, zero, suc, ◌+◌, ◌-◌, ◌<◌, ◌≤◌, Bool, List, [], ◌∷◌, length, get_or, sym, ap, ◌∙◌, arith, Option, Some, None, eq-eqb, ne_eqb, cond}
+use Rattle.std.proofs.Common.{◌≡◌, ◌≢◌, ℕ, zero, suc, ◌+◌, ◌-◌, ◌<◌, ◌≤◌, Bool, List, [], ◌∷◌, length, get_or, sym, refl, ap, ◌∙◌, arith, Option, Some, None, eq-eqb, ne_eqb, cond}
 use Rattle.std.specs.Option.{option_or}
 use Rattle.onll_model.specs.declared.node.Node.{Node}
 use Rattle.onll_model.specs.Segment.{Segment, Rises}
@@ -62,8 +62,8 @@ Rises-along last (e ∷ es) zero (suc j) d r l m = let h = Rises-above e.place e
 Rises-along last (e ∷ es) (suc i) zero d r l m = absurd (omega arith)
 Rises-along last (e ∷ es) (suc i) (suc j) d r l m = Rises-along e.place es i j d r.1 (omega arith) (omega arith)
 
--- no place above `place` and at most `below` is held, where the first entry that ends above `place` begins above `below`
-pub node_in_log-between : (es : List Entry) (place below at q : ℕ) (d : Entry) → Rises 0 (segments_in es) → at < length es → ((k : ℕ) (d : Entry) → k < at → (get_or es k d).place < place + 1)
-    → place + 1 ≤ (get_or es at d).place → place < q → q + length (get_or es at d).nodes ≤ (get_or es at d).place → node_in_log (segments_in es) q ≡ None
-node_in_log-between es place below at q d r l h f m n =
+-- the first entry that ends above `place` holds no place below its own
+pub node_in_log-between : (es : List Entry) (place at q : ℕ) (d : Entry) → Rises 0 (segments_in es) → at < length es → ((k : ℕ) (d : Entry) → k < at → (get_or es k d).place < place + 1)
+    → place < q → q + length (get_or es at d).nodes ≤ (get_or es at d).place → node_in_log (segments_in es) q ≡ None
+node_in_log-between es place at q d r l h m n =
     node_in_log-at 0 es q at d r l (λ k z i. let g = h k z i in omega arith) (omega arith) ∙ node_among-below (get_or es at d).place (get_or es at d).nodes q n

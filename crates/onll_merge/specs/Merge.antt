@@ -91,10 +91,14 @@ first_to f (suc k) = option_or (first_to f k) (f (suc k))
 abbrev pub same_node : Node → Node → Bool
 same_node x y = (x.thread == y.thread) && ((x.number == y.number) && same_words x.row.w y.row.w)
 
+-- whether a log holds no other node than x at the place p
+abbrev pub agrees_at : List Segment → ℕ → Node → Bool
+agrees_at ss p x = option_map_or (same_node x) (node_in_log ss p) true
+
 -- the first of these logs that holds another node than x, which log i holds, at the place p; they are numbered from j
 abbrev pub differs : ℕ → ℕ → ℕ → Node → List Content → Option RecoverFault
 differs p i j x [] = None
-differs p i j x (c ∷ cs) = if option_map_or (same_node x) (node_in_log c.entries p) true then differs p i (suc j) x cs else Some (Clash p i j)
+differs p i j x (c ∷ cs) = if agrees_at c.entries p x then differs p i (suc j) x cs else Some (Clash p i j)
 
 -- the first of these logs that holds the place p, and the first that differs from it; they are numbered from i
 abbrev pub clash_from : ℕ → List Content → ℕ → Option RecoverFault

@@ -2,7 +2,7 @@ ghost use Rattle.std.specs.Prelude.{◌≡◌, ℕ, ◌+◌, ◌<◌, ◌≤◌,
 ghost use Rattle.std.specs.List.{AllWithin};
 ghost use Rattle.onll_model.specs.Segment.{Rises};
 ghost use Rattle.onll_log.specs.Decoded.{segment_in, segments_in};
-ghost use Rattle.onll_merge.specs.Merge.{node_in_segment, node_in_log, top_in_log, disorder_in};
+ghost use Rattle.onll_merge.specs.Merge.{node_in_segment, node_in_log, agrees_at, top_in_log, disorder_in};
 
 use crate::fault::RecoverFault;
 use onll_log::Entry;
@@ -72,6 +72,17 @@ pub fn node_of_log(entries: &[Entry], place: u64) -> Option<Node>
         node_of_entry(&entries[at], place)
     } else {
         None
+    }
+}
+
+/// Whether a log holds no other node than this one at a place.
+pub fn agrees(entries: &[Entry], place: u64, node: Node) -> bool
+    requires { Rises 0 (segments_in entries.now) }
+    ensures { result ≡ agrees_at (segments_in entries.now) place node }
+{
+    match node_of_log(entries, place) {
+        Some(found) => node == found,
+        None => true,
     }
 }
 

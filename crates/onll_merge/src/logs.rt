@@ -1,12 +1,22 @@
 ghost use Rattle.std.specs.Prelude.{◌≡◌, ℕ, ◌+◌, ◌<◌, ◌≤◌, ◌⊎◌, length, drop, Some, None, OnOk, MatchResult};
-ghost use Rattle.onll_merge.specs.Merge.{AllRise, contents_in, foreign, disorder, top_of, node_in_logs, nodes_to, first_to, differs, clash_at, gap_at};
+ghost use Rattle.onll_merge.specs.Merge.{AllRise, contents_in, fits_run, foreign, disorder, top_of, node_in_logs, nodes_to, first_to, differs, clash_at, gap_at};
 ghost use Rattle.onll_merge.specs.declared.fault.RecoverFault.TheVariants.{NoMemory};
 
 use crate::fault::RecoverFault;
-use crate::entries::{check_order, next_of_log, node_of_log, top_place};
+use crate::entries::{agrees, check_order, next_of_log, node_of_log, top_place};
 use onll_log::{Decoded, LogHead};
 use onll_model::Node;
 use std::alloc::Global;
+
+/// Whether a log with this head can be of the run of the expected head: one without a head fits each run.
+fn fits(head: Option<LogHead>, expected: LogHead) -> bool
+    ensures { result ≡ fits_run head expected }
+{
+    match head {
+        Some(head) => head == expected,
+        None => true,
+    }
+}
 
 /// Whether each head that a log has is its expected one.
 pub fn check_heads(logs: &[Decoded], heads: &[LogHead]) -> Result<(), RecoverFault>
@@ -14,9 +24,7 @@ pub fn check_heads(logs: &[Decoded], heads: &[LogHead]) -> Result<(), RecoverFau
     ensures { MatchResult result (λ _. foreign 0 (contents_in logs.now) heads.now ≡ None) (λ e. foreign 0 (contents_in logs.now) heads.now ≡ Some e) }
 {
     for (log, decoded) in logs.iter().enumerate() {
-        if let Some(head) = decoded.head
-            && head != heads[log]
-        {
+        if !fits(decoded.head, heads[log]) {
             return Err(RecoverFault::NotThisRun { log: log as u64 });
         }
     }
@@ -81,9 +89,7 @@ fn check_others(logs: &[Decoded], place: u64, log: usize, node: Node) -> Result<
     ensures { MatchResult result (λ _. differs place log (log + 1) node (contents_in (drop (log + 1) logs.now)) ≡ None) (λ e. differs place log (log + 1) node (contents_in (drop (log + 1) logs.now)) ≡ Some e) }
 {
     for other in log + 1..logs.len() {
-        if let Some(found) = node_of_log(logs[other].entries.as_slice(), place)
-            && found != node
-        {
+        if !agrees(logs[other].entries.as_slice(), place, node) {
             return Err(RecoverFault::Clash {
                 place,
                 log: log as u64,

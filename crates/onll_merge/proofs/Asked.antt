@@ -25,7 +25,7 @@ pub Rises-of : (logs : List Decoded) (k : ℕ) (x : Decoded) (es : List Entry) �
 Rises-of logs k x es a l i e = let P : List Entry → Type 0 = λ z. Rises 0 (segments_in z) in subst P (sym (e ∙ ap (λ (z : Decoded). z.entries) i)) (AllRise-at logs k x a l)
 
 -- ---- tests that decide equality
-both : (a b : Bool) → (a && b) ≡ true → (a ≡ true) × (b ≡ true)
+pub both : (a b : Bool) → (a && b) ≡ true → (a ≡ true) × (b ≡ true)
 both true b e = (refl, e)
 both false b e = absurd (cc)
 
@@ -60,7 +60,7 @@ first_to-more f a (suc b) h l g = dite (ℕ_discrete a (suc b)) (λ (is : a ≡ 
     (λ (not : a ≢ suc b). ap (λ (o : Option RecoverFault). option_or o (f (suc b))) (first_to-more f a b h (omega arith) (λ q x y. g q x (omega arith))) ∙ g (suc b) (omega arith) (omega arith))
 
 -- a case on an option, with what it is
-by_option : {A : Type 0} (P : Option A → Type 0) (o : Option A) → (o ≡ None → P None) → ((x : A) → o ≡ Some x → P (Some x)) → P o
+pub by_option : {A : Type 0} (P : Option A → Type 0) (o : Option A) → (o ≡ None → P None) → ((x : A) → o ≡ Some x → P (Some x)) → P o
 by_option P None a b = a refl
 by_option P (Some x) a b = b x refl
 

@@ -8,6 +8,8 @@ mod fault;
 mod logs;
 mod merge;
 mod numbers;
+#[cfg(test)]
+mod tests;
 
 pub use fault::RecoverFault;
 pub use merge::recover;

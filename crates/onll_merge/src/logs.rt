@@ -2,8 +2,8 @@ ghost use Rattle.std.specs.Prelude.{◌≡◌, ℕ, ◌+◌, ◌<◌, ◌≤◌,
 ghost use Rattle.onll_merge.specs.Merge.{AllRise, contents_in, fits_run, foreign, disorder, top_of, node_in_logs, nodes_to, first_to, differs, clash_at, gap_at};
 ghost use Rattle.onll_merge.specs.declared.fault.RecoverFault.TheVariants.{NoMemory};
 
-use crate::fault::RecoverFault;
 use crate::entries::{agrees, check_order, next_of_log, node_of_log, top_place};
+use crate::fault::RecoverFault;
 use onll_log::{Decoded, LogHead};
 use onll_model::Node;
 use std::alloc::Global;

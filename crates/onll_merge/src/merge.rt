@@ -11,7 +11,11 @@ use std::alloc::Global;
 
 /// The nodes of one run, from place 1 to the greatest that an entry of its logs has, as the logs hold them; or the
 /// first reason why these logs are not those of one run with these heads.
-pub fn recover(alloc: Global, logs: &[Decoded], heads: &[LogHead]) -> Result<Vec<Node>, RecoverFault>
+pub fn recover(
+    alloc: Global,
+    logs: &[Decoded],
+    heads: &[LogHead],
+) -> Result<Vec<Node>, RecoverFault>
     requires logs { (1 ≤ length logs.now) × (length logs.now ≤ 16) }
     requires heads { length heads.now ≡ length logs.now }
     ensures { MatchResult result (λ v. merge heads.now (contents_in logs.now) ≡ Ok v.items) (λ e. (e ≡ NoMemory) ⊎ (merge heads.now (contents_in logs.now) ≡ Err e)) }

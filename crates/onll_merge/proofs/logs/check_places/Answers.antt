@@ -10,7 +10,7 @@ pub loop-place-preserved : goal.loop-place-preserved
 loop-place-preserved c = let cs = contents_in c.args.logs.now in let at = c.next_of_logs-place.result in record {
   bound = c.next_of_logs-place.ensures.bound;
   none = first_to-more (clash_at cs) c.loop-place.place at c.loop-place.invariant.none (omega arith)
-    (λ q a b. dite (ℕ_discrete q at) (λ (is : q ≡ at). ap (clash_at cs) is ∙ c.in_ok-check_place.ensures) (λ (not : q ≢ at). clash_from-none 0 cs q (c.next_of_logs-place.ensures.none q a (omega arith))));
+      (λ q a b. dite (ℕ_discrete q at) (λ (is : q ≡ at). ap (clash_at cs) is ∙ c.in_ok-check_place.ensures) (λ (not : q ≢ at). clash_from-none 0 cs q (c.next_of_logs-place.ensures.none q a (omega arith))));
 }
 
 pub returns-in_err-check_place : goal.returns-in_err-check_place

@@ -1,0 +1,4 @@
+pub mod Places
+pub mod Asked
+pub mod Fronts
+pub mod Backs

@@ -1,0 +1,104 @@
+ghost use Rattle.std.specs.Prelude.{◌≡◌, ℕ, ◌+◌, ◌<◌, ◌≤◌, length, slice_index_or, Some, None, OnOk, MatchResult};
+ghost use Rattle.std.specs.List.{AllWithin};
+ghost use Rattle.onll_model.specs.Segment.{Rises};
+ghost use Rattle.onll_log.specs.Decoded.{segment_in, segments_in};
+ghost use Rattle.onll_merge.specs.Merge.{node_in_segment, node_in_log, agrees_at, top_in_log, disorder_in};
+
+use crate::fault::RecoverFault;
+use onll_log::Entry;
+use onll_model::Node;
+
+/// Whether each entry of a log begins above the last place of the one before it.
+pub fn check_order(entries: &[Entry], log: u64) -> Result<(), RecoverFault>
+    ensures order { MatchResult result (λ _. disorder_in log 0 0 (segments_in entries.now) ≡ None) (λ e. disorder_in log 0 0 (segments_in entries.now) ≡ Some e) }
+    ensures rises { OnOk result (Rises 0 (segments_in entries.now)) }
+{
+    let mut last = 0;
+    for (before, entry) in entries.iter().enumerate() {
+        let count = entry.nodes.as_slice().len() as u64;
+        if entry.place < last || entry.place - last < count {
+            return Err(RecoverFault::Disorder {
+                log,
+                entry: before as u64 + 1,
+            });
+        }
+        last = entry.place;
+    }
+    Ok(())
+}
+
+/// The greatest last place of a log's entries, 0 where there is none.
+pub fn top_place(entries: &[Entry]) -> u64
+    ensures { result ≡ top_in_log (segments_in entries.now) }
+{
+    let mut top = 0;
+    for entry in entries {
+        top = entry.place.max(top);
+    }
+    top
+}
+
+/// The index of the first entry whose last place is at least this place.
+fn first_from(entries: &[Entry], place: u64) -> usize
+    requires { Rises 0 (segments_in entries.now) }
+    ensures bound { result ≤ length entries.now }
+    ensures below { AllWithin (λ e. e.place < place) entries.now 0 result }
+    ensures from { AllWithin (λ e. place ≤ e.place) entries.now result (length entries.now) }
+{
+    entries.partition_point(|entry| entry.place < place)
+}
+
+/// The node of a place in an entry that ends there or above.
+fn node_of_entry(entry: &Entry, place: u64) -> Option<Node>
+    requires { place ≤ entry.now.place }
+    ensures { result ≡ node_in_segment (segment_in entry.now) place }
+{
+    let nodes = entry.nodes.as_slice();
+    let above = entry.place - place;
+    if above < nodes.len() as u64 {
+        Some(nodes[nodes.len() - 1 - above as usize])
+    } else {
+        None
+    }
+}
+
+/// The node of a place in a log.
+pub fn node_of_log(entries: &[Entry], place: u64) -> Option<Node>
+    requires { Rises 0 (segments_in entries.now) }
+    ensures { result ≡ node_in_log (segments_in entries.now) place }
+{
+    let at = first_from(entries, place);
+    if at < entries.len() {
+        node_of_entry(&entries[at], place)
+    } else {
+        None
+    }
+}
+
+/// Whether a log holds no other node than this one at a place.
+pub fn agrees(entries: &[Entry], place: u64, node: Node) -> bool
+    requires { Rises 0 (segments_in entries.now) }
+    ensures { result ≡ agrees_at (segments_in entries.now) place node }
+{
+    match node_of_log(entries, place) {
+        Some(found) => node == found,
+        None => true,
+    }
+}
+
+/// The next place above this one that a log may hold, at most `end`: it holds none in between.
+pub fn next_of_log(entries: &[Entry], place: u64, end: u64) -> u64
+    requires rises { Rises 0 (segments_in entries.now) }
+    requires end { place < end }
+    ensures above { place < result }
+    ensures bound { result ≤ end }
+    ensures none { (q : ℕ) → place < q → q < result → node_in_log (segments_in entries.now) q ≡ None }
+{
+    let at = first_from(entries, place + 1);
+    if at >= entries.len() {
+        return end;
+    }
+    let entry = &entries[at];
+    let below = place.max(entry.place - entry.nodes.as_slice().len() as u64);
+    if below < end { below + 1 } else { end }
+}

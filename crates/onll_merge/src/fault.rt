@@ -1,0 +1,32 @@
+/// Why logs were not merged. The first of these that stands is answered, in this order; logs are numbered from 0.
+#[derive(Clone, Copy, Debug, PartialEq, Eq)]
+pub enum RecoverFault {
+    /// A log has a head that differs from its expected head.
+    NotThisRun {
+        log: u64,
+    },
+    /// An entry's first place is not above the last place of the entry before it. Entries are numbered from 1.
+    Disorder {
+        log: u64,
+        entry: u64,
+    },
+    /// Two logs hold different nodes for one place.
+    Clash {
+        place: u64,
+        log: u64,
+        other: u64,
+    },
+    /// A place below the greatest is in no entry.
+    Gap {
+        place: u64,
+    },
+    /// A node's number is not one more than the count of lower nodes of its thread.
+    Stray {
+        place: u64,
+        thread: u64,
+        number: u64,
+        wanted: u64,
+    },
+    /// Memory ran out.
+    NoMemory,
+}

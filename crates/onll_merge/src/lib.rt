@@ -1,0 +1,30 @@
+//! The merge of the logs of one run into the nodes of its trace.
+#![tactic(auto)]
+
+ghost use Rattle.onll_merge.specs.Laws.{FrontLaw, TopLaw, BackLaw, StandsLaw, NoOtherLaw, OnceLaw};
+
+mod entries;
+mod fault;
+mod logs;
+mod merge;
+mod numbers;
+#[cfg(test)]
+mod tests;
+
+pub use fault::RecoverFault;
+pub use merge::recover;
+
+/// Logs that hold one trace merge to a front of it that has each of their places, and logs that merge hold the trace
+/// that they merge to.
+pub fn merge_laws()
+    ensures front { FrontLaw }
+    ensures top { TopLaw }
+    ensures back { BackLaw }
+{}
+
+/// Which places the nodes of an entry have, and that a log whose entries rise has one node for a place.
+pub fn place_laws()
+    ensures stands { StandsLaw }
+    ensures no_other { NoOtherLaw }
+    ensures once { OnceLaw }
+{}

@@ -1,0 +1,148 @@
+ghost use Rattle.std.specs.Prelude.{◌≡◌, ℕ, ◌+◌, ◌<◌, ◌≤◌, ◌⊎◌, length, drop, Some, None, OnOk, MatchResult};
+ghost use Rattle.onll_merge.specs.Merge.{AllRise, contents_in, fits_run, foreign, disorder, top_of, node_in_logs, nodes_to, first_to, differs, clash_at, gap_at};
+ghost use Rattle.onll_merge.specs.declared.fault.RecoverFault.TheVariants.{NoMemory};
+
+use crate::entries::{agrees, check_order, next_of_log, node_of_log, top_place};
+use crate::fault::RecoverFault;
+use onll_log::{Decoded, LogHead};
+use onll_model::Node;
+use std::alloc::Global;
+
+/// Whether a log with this head can be of the run of the expected head: one without a head fits each run.
+fn fits(head: Option<LogHead>, expected: LogHead) -> bool
+    ensures { result ≡ fits_run head expected }
+{
+    match head {
+        Some(head) => head == expected,
+        None => true,
+    }
+}
+
+/// Whether each head that a log has is its expected one.
+pub fn check_heads(logs: &[Decoded], heads: &[LogHead]) -> Result<(), RecoverFault>
+    requires { length heads.now ≡ length logs.now }
+    ensures { MatchResult result (λ _. foreign 0 (contents_in logs.now) heads.now ≡ None) (λ e. foreign 0 (contents_in logs.now) heads.now ≡ Some e) }
+{
+    for (log, decoded) in logs.iter().enumerate() {
+        if !fits(decoded.head, heads[log]) {
+            return Err(RecoverFault::NotThisRun { log: log as u64 });
+        }
+    }
+    Ok(())
+}
+
+/// Whether the entries of each log rise.
+pub fn check_orders(logs: &[Decoded]) -> Result<(), RecoverFault>
+    ensures order { MatchResult result (λ _. disorder 0 (contents_in logs.now) ≡ None) (λ e. disorder 0 (contents_in logs.now) ≡ Some e) }
+    ensures rise { OnOk result (AllRise (contents_in logs.now)) }
+{
+    for (log, decoded) in logs.iter().enumerate() {
+        check_order(decoded.entries.as_slice(), log as u64)?;
+    }
+    Ok(())
+}
+
+/// The greatest last place of all entries, 0 where there is none.
+pub fn top_of_logs(logs: &[Decoded]) -> u64
+    ensures { result ≡ top_of (contents_in logs.now) }
+{
+    let mut top = 0;
+    for decoded in logs {
+        top = top_place(decoded.entries.as_slice()).max(top);
+    }
+    top
+}
+
+/// The node of a place in the first log that holds it.
+fn node_of_logs(logs: &[Decoded], place: u64) -> Option<Node>
+    requires { AllRise (contents_in logs.now) }
+    ensures { result ≡ node_in_logs (contents_in logs.now) place }
+{
+    for decoded in logs {
+        let node = node_of_log(decoded.entries.as_slice(), place);
+        if node.is_some() {
+            return node;
+        }
+    }
+    None
+}
+
+/// The next place above this one that a log may hold, at most `end`: they hold none in between.
+fn next_of_logs(logs: &[Decoded], place: u64, end: u64) -> u64
+    requires rise { AllRise (contents_in logs.now) }
+    requires end { place < end }
+    ensures above { place < result }
+    ensures bound { result ≤ end }
+    ensures none { (q : ℕ) → place < q → q < result → node_in_logs (contents_in logs.now) q ≡ None }
+{
+    let mut next = end;
+    for decoded in logs {
+        next = next_of_log(decoded.entries.as_slice(), place, next);
+    }
+    next
+}
+
+/// Whether the logs after this one hold no other node than its own at a place.
+fn check_others(logs: &[Decoded], place: u64, log: usize, node: Node) -> Result<(), RecoverFault>
+    requires rise { AllRise (contents_in logs.now) }
+    requires log { log < length logs.now }
+    ensures { MatchResult result (λ _. differs place log (log + 1) node (contents_in (drop (log + 1) logs.now)) ≡ None) (λ e. differs place log (log + 1) node (contents_in (drop (log + 1) logs.now)) ≡ Some e) }
+{
+    for other in log + 1..logs.len() {
+        if !agrees(logs[other].entries.as_slice(), place, node) {
+            return Err(RecoverFault::Clash {
+                place,
+                log: log as u64,
+                other: other as u64,
+            });
+        }
+    }
+    Ok(())
+}
+
+/// Whether no two logs hold different nodes at a place.
+fn check_place(logs: &[Decoded], place: u64) -> Result<(), RecoverFault>
+    requires { AllRise (contents_in logs.now) }
+    ensures { MatchResult result (λ _. clash_at (contents_in logs.now) place ≡ None) (λ e. clash_at (contents_in logs.now) place ≡ Some e) }
+{
+    for (log, decoded) in logs.iter().enumerate() {
+        if let Some(node) = node_of_log(decoded.entries.as_slice(), place) {
+            return check_others(logs, place, log, node);
+        }
+    }
+    Ok(())
+}
+
+/// Whether no two logs hold different nodes at a place up to `top`.
+pub fn check_places(logs: &[Decoded], top: u64) -> Result<(), RecoverFault>
+    requires { AllRise (contents_in logs.now) }
+    ensures { MatchResult result (λ _. first_to (clash_at (contents_in logs.now)) top ≡ None) (λ e. first_to (clash_at (contents_in logs.now)) top ≡ Some e) }
+{
+    let mut place = 0;
+    while place < top {
+        place = next_of_logs(logs, place, top);
+        check_place(logs, place)?;
+    }
+    Ok(())
+}
+
+/// The nodes of the places up to `top`.
+pub fn gather(alloc: Global, logs: &[Decoded], top: u64) -> Result<Vec<Node>, RecoverFault>
+    requires { AllRise (contents_in logs.now) }
+    ensures nodes { MatchResult result (λ v. v.items ≡ nodes_to (contents_in logs.now) top) (λ e. (e ≡ NoMemory) ⊎ (first_to (gap_at (contents_in logs.now)) top ≡ Some e)) }
+    ensures whole { OnOk result (first_to (gap_at (contents_in logs.now)) top ≡ None) }
+{
+    let mut nodes = Vec::new(alloc);
+    for below in 0..top {
+        let place = below + 1;
+        match node_of_logs(logs, place) {
+            Some(node) => {
+                if nodes.push(node).is_err() {
+                    return Err(RecoverFault::NoMemory);
+                }
+            }
+            None => return Err(RecoverFault::Gap { place }),
+        }
+    }
+    Ok(nodes)
+}

@@ -5,3 +5,4 @@ pub mod Grammar
 pub mod Decoded
 pub mod Digest
 pub mod Laws
+pub mod Log

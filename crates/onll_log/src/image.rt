@@ -20,7 +20,7 @@ pub enum DecodeFault {
 }
 
 /// Whether all words of a line are zero.
-fn is_zero(line: &Line) -> bool
+pub fn is_zero(line: &Line) -> bool
     ensures { result ≡ is_zero_line line.now.w }
 {
     line.w == [0; 8]

@@ -1,17 +1,17 @@
 //! The log of one thread: its lines, the grammar by which any image of a log is read, and the log over a device.
 #![tactic(auto)]
 
-
 mod decoded;
 mod digest;
 mod entry;
 mod head;
 mod image;
 mod laws;
+mod log;
 mod masks;
 
-pub use image::{DecodeFault, decode};
 pub use decoded::{Decoded, Entries, Entry, Nodes};
 pub use entry::entry_head;
 pub use head::{LogHead, format_of};
+pub use image::{DecodeFault, decode};
 pub use laws::encoded_laws;

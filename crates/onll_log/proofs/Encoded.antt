@@ -1,20 +1,19 @@
 -- What is encoded is read back.
-use Rattle.std.proofs.Common.{ℕ, zero, suc, ◌≡◌, ◌≢◌, ◌+◌, ◌-◌, ◌*◌, ◌<◌, ◌≤◌, Bool, true, false, List, [], ◌∷◌, ◌++◌, length, take, drop, map, sym, refl, ap, ◌∙◌, inl, inr, arith, append_assoc, append-nil, length-append, eq-eqb}
+use Rattle.std.proofs.Common.{ℕ, zero, suc, ◌≡◌, ◌≢◌, ◌+◌, ◌*◌, ◌≤◌, Bool, true, List, [], ◌∷◌, ◌++◌, length, take, drop, map, sym, refl, ap, ◌∙◌, arith, append_assoc, append-nil, length-append, eq-eqb}
 use Rattle.std.specs.Prelude.{Option, Some, None, ◌==◌, ◌||◌, nat_le, cond}
 use Rattle.std.specs.List.{AllByRecursion}
 use Rattle.std.proofs.lemmas.Bool.{le-leb, lt-ltb}
 use Rattle.std.proofs.lemmas.List.{length-map, take_at, drop_at}
 use Rattle.onll_pmem.specs.Device.{zero_line, zero_lines}
-use Rattle.onll_words.specs.declared.line.OpRow.{OpRow}
 use Rattle.onll_model.specs.declared.node.Node.{Node}
-use Rattle.onll_model.specs.Names.{name_of, words_of_node, HasNumber}
+use Rattle.onll_model.specs.Names.{name_of, words_of_node}
 use Rattle.onll_model.specs.Segment.{Segment}
 use Rattle.onll_model.proofs.Names.{node_of_its_name}
 use Rattle.onll_log.specs.declared.head.LogHead.{LogHead}
 use Rattle.onll_log.specs.Head.{word, log_magic, head_line, head_of, is_head, FitsHead}
-use Rattle.onll_log.specs.Encoding.{entry_magic, guard, entry_front, entry_line, entry_lines, entries_lines, log_lines, node_lines, FitsNode, FitsEntry, FitEntries}
-use Rattle.onll_log.specs.Grammar.{all_named, is_entry, node_of_line, segment_of, entries_from, Content, are_zero_lines, content_of, lines_in}
-use Rattle.onll_log.proofs.Accepted.{and_true, Accepted, is_entry-Accepted, entries_from-entry, entries_from-none, is_entry-no_magic}
+use Rattle.onll_log.specs.Encoding.{guard, entry_front, entry_line, entry_lines, entries_lines, log_lines, node_lines, FitsNode, FitsEntry, FitEntries}
+use Rattle.onll_log.specs.Grammar.{all_named, is_entry, node_of_line, segment_of, entries_from, Content, are_zero_lines, content_of, lines_in, used_with}
+use Rattle.onll_log.proofs.Accepted.{and_true, is_entry-Accepted, entries_from-entry, entries_from-none, is_entry-no_magic}
 
 -- ---- the head
 format_test : (format : ℕ) → 1 ≤ format → format ≤ 2 → (format == 1) || (format == 2) ≡ true
@@ -27,6 +26,14 @@ pub is_head-head_line : (head : LogHead) → FitsHead head → is_head (head_lin
 is_head-head_line head f =
     and_true _ _ (eq-eqb log_magic log_magic refl) (and_true _ _ (format_test head.format f.format.0 f.format.1) (and_true _ _ (lt-ltb _ _ f.thread)
     (and_true _ _ (le-leb _ _ f.threads) (and_true _ _ (le-leb _ _ f.object.0) (le-leb _ _ f.object.1)))))
+
+-- different heads have different lines
+pub head_line-differs : (a b : LogHead) → a ≢ b → head_line a ≢ head_line b
+head_line-differs a b n e = n (ap head_of e)
+
+-- so the heads of the two formats have
+pub head_line-formats : (a b : LogHead) → a.format ≢ b.format → head_line a ≢ head_line b
+head_line-formats a b n e = n (ap (λ (line : List ℕ). word line 1) e)
 
 pub head_of-head_line : (head : LogHead) → head_of (head_line head) ≡ head
 head_of-head_line head = refl
@@ -141,6 +148,18 @@ entries_lines-more head ss s = entries_lines-more_after head 0 ss s ∙ (let e :
 
 pub log_lines-more : (head : LogHead) (ss : List Segment) (s : Segment) → log_lines head (ss ++ s ∷ []) ≡ log_lines head ss ++ entry_lines head (length ss) s
 log_lines-more head ss s = ap (λ (l : List (List ℕ)). head_line head ∷ l) (entries_lines-more head ss s)
+
+-- ---- lists of entries
+pub FitEntries-append : (threads : ℕ) (ss more : List Segment) → FitEntries threads ss → FitEntries threads more → FitEntries threads (ss ++ more)
+FitEntries-append threads [] more f g = g
+FitEntries-append threads (s ∷ ss) more f g = (f.0, FitEntries-append threads ss more f.1 g)
+
+pub lines_in-append : (ss more : List Segment) → lines_in (ss ++ more) ≡ lines_in ss + lines_in more
+lines_in-append [] more = omega arith
+lines_in-append (s ∷ ss) more = let h = lines_in-append ss more in omega arith
+
+pub used_with-append : (head : LogHead) (ss more : List Segment) → used_with (Some head) (ss ++ more) ≡ used_with (Some head) ss + lines_in more
+used_with-append head ss more = let h = lines_in-append ss more in omega arith
 
 -- ---- how many lines
 pub length-entry_lines : (head : LogHead) (before : ℕ) (s : Segment) → length (entry_lines head before s) ≡ suc (length s.nodes)

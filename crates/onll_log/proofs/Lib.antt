@@ -1,4 +1,11 @@
+pub mod Lines
 pub mod Accepted
 pub mod Bits
 pub mod Decoding
 pub mod Encoded
+pub mod Masks
+pub mod MaskBits
+pub mod Torn
+pub mod Written
+pub mod Remains
+pub mod Append

@@ -14,4 +14,4 @@ pub use decoded::{Decoded, Entries, Entry, Nodes};
 pub use entry::entry_head;
 pub use head::{LogHead, format_of};
 pub use image::{DecodeFault, decode};
-pub use laws::encoded_laws;
+pub use laws::{encoded_laws, masks_law, remains_laws, torn_laws, written_laws};

@@ -1,0 +1,28 @@
+use Rattle.std.specs.Prelude.{ℕ, ◌≡◌, List, ◌++◌, length, take, drop, Some}
+use Rattle.onll_pmem.specs.Device.{zero_lines, FillsLines}
+use Rattle.onll_model.specs.Segment.{Segment}
+use Rattle.onll_log.specs.declared.head.LogHead.{LogHead}
+use Rattle.onll_log.specs.Encoding.{entry_lines, FitsEntry}
+use Rattle.onll_log.specs.Grammar.{used_with}
+use Rattle.onll_log.specs.Torn.{Among}
+
+-- What an append that came to no end leaves after the used lines of an image.
+
+-- the lines of an image after those that its entries use
+abbrev pub unused : LogHead → List Segment → List (List ℕ) → List (List ℕ)
+unused head ss image = drop (used_with (Some head) ss) image
+
+-- an entry of format 2 that could stand there, and zeros after it, of which some word is missing
+pub record AreRemainsOf (head : LogHead) (ss : List Segment) (s : Segment) (zeros : ℕ) (image : List (List ℕ)) : Type 0 where
+  pub format : head.format ≡ 2
+  pub fits : FitsEntry head.threads s
+  pub among : Among (entry_lines head (length ss) s ++ zero_lines zeros) (unused head ss image)
+  pub torn : unused head ss image ≡ entry_lines head (length ss) s ++ zero_lines zeros → ⊥
+
+abbrev pub HasRemains : LogHead → List Segment → List (List ℕ) → Type 0
+HasRemains head ss image = (s : Segment) × (zeros : ℕ) × AreRemainsOf head ss s zeros image
+
+-- the same image with zeros for some of the words after the used lines
+pub record IsWiped (head : LogHead) (ss : List Segment) (image wiped : List (List ℕ)) : Type 0 where
+  pub used : take (used_with (Some head) ss) wiped ≡ take (used_with (Some head) ss) image
+  pub rest : FillsLines (unused head ss wiped) (unused head ss image)

@@ -19,7 +19,7 @@ use Rattle.onll_log.specs.Log.{entries_read, free_of, but_last, placed_lines, Pu
 use Rattle.onll_log.proofs.Lines.{AreLines-entry_lines}
 use Rattle.onll_log.proofs.Encoded.{entries_from-entries_lines, entries_from-zero_lines, length-entry_lines, length-log_lines, FitEntries-append}
 use Rattle.onll_log.proofs.Torn.{log_image-more}
-use Rattle.onll_log.proofs.Placed.{placed_lines-zeros, FillsLines-zeros, line_at-placed}
+use Rattle.onll_log.proofs.Placed.{placed_lines-zeros, FillsLines-zeros, line_at-placed, length-placed_lines}
 
 -- ---- logs as read
 -- the entries of a log are those that were put in
@@ -74,12 +74,13 @@ ToldBacked-settled told read lines settled t e = subst (λ (fenced : List (List 
 pub HasHeader-written : (old mid new : DeviceView) (head : LogHead) (line : List ℕ) → IsClean old.read → line ≡ head_line head → Puts old mid 0 (line ∷ []) → new.read ≡ mid.read → new.fences ≡ mid.fences + 1 → HasHeader old new head
 HasHeader-written old mid new head line clean e p read fences = record {
   clean = clean;
-  read = read ∙ (p.read ∙ (ap (λ (ls : List (List ℕ)). placed_lines ls 0 (line ∷ [])) clean.zeros ∙ (placed_lines-zeros [] 0 (line ∷ []) (length old.read) refl ∙ ap (λ (l : List ℕ). l ∷ zero_lines (length old.read - 1)) e)));
+  read = header;
+  count = let some_line = clean.some_line in omega (arith, length-log_image head [] (length old.read - 1), ap length header);
   fences = fences ∙ ap (λ (n : ℕ). n + 1) p.fences;
 }
-
-pub length-HasHeader : (old new : DeviceView) (head : LogHead) → HasHeader old new head → length new.read ≡ length old.read
-length-HasHeader old new head h = let some_line = h.clean.some_line in let e = ap length h.read in omega (arith, length-log_image head [] (length old.read - 1))
+  where
+    header : new.read ≡ log_image head [] (length old.read - 1)
+    header = read ∙ (p.read ∙ (ap (λ (ls : List (List ℕ)). placed_lines ls 0 (line ∷ [])) clean.zeros ∙ (placed_lines-zeros [] 0 (line ∷ []) (length old.read) refl ∙ ap (λ (l : List ℕ). l ∷ zero_lines (length old.read - 1)) e)))
 
 pub entries_read-HasHeader : (old new : DeviceView) (head : LogHead) → HasHeader old new head → entries_read head new.read ≡ []
 entries_read-HasHeader old new head h = ap (entries_read head) h.read ∙ entries_read-log_image head [] (length old.read - 1) tt
@@ -94,7 +95,7 @@ ToldBacked-fenced mid new a read told = subst (λ (ls : List (List ℕ)). ToldBa
 pub KeepsLog-made : (old new : DeviceView) (head : LogHead) → FitsHead head → old.fences < 2 ^ 32 → length old.read < 2 ^ 64 → IsMade old new head → ToldBacked new.told new.read
     → KeepsLog new head (entries_read head new.read) 1 0 0 0 false
 KeepsLog-made old new head f few lines m a =
-    let len = length-HasHeader old new head m.header in let some_line = m.header.clean.some_line in let fences = m.header.fences in
+    let len = m.header.count in let some_line = m.header.clean.some_line in let fences = m.header.fences in
     let to : length old.read - 1 ≡ free_of (length new.read) [] = omega arith in
     subst (λ (ss : List Segment). KeepsLog new head ss 1 0 0 0 false) (sym (entries_read-HasHeader old new head m.header)) (record {
       holds = record {
@@ -132,10 +133,11 @@ Appends-written old mid new head ss s h f room p read fences =
     let len = length-entry_lines head (length ss) s in
     let fits : length (entry_lines head (length ss) s) ≤ free_of (length old.read) ss = omega arith in
     let placed : log_lines head ss ++ (entry_lines head (length ss) s ++ zero_lines (free_of (length old.read) ss - length (entry_lines head (length ss) s))) ≡ new.read =
-        sym (read ∙ (p.read ∙ (ap (λ (ls : List (List ℕ)). placed_lines ls (1 + lines_in ss) (entry_lines head (length ss) s)) h.read
-            ∙ placed_lines-zeros (log_lines head ss) (1 + lines_in ss) (entry_lines head (length ss) s) (free_of (length old.read) ss) (length-log_lines head ss)))) in
+    sym (read ∙ (p.read ∙ (ap (λ (ls : List (List ℕ)). placed_lines ls (1 + lines_in ss) (entry_lines head (length ss) s)) h.read
+    ∙ placed_lines-zeros (log_lines head ss) (1 + lines_in ss) (entry_lines head (length ss) s) (free_of (length old.read) ss) (length-log_lines head ss)))) in
     record {
       read = read ∙ p.read;
+      count = ap length (read ∙ p.read) ∙ length-placed_lines old.read (1 + lines_in ss) (entry_lines head (length ss) s) (omega arith);
       fills = subst (λ (ls : List (List ℕ)). FillsLines old.read ls) placed (subst (λ (ls : List (List ℕ)). FillsLines ls (log_lines head ss ++ (entry_lines head (length ss) s ++ zero_lines (free_of (length old.read) ss - length (entry_lines head (length ss) s))))) (sym h.read)
           (FillsLines-zeros (log_lines head ss) (entry_lines head (length ss) s) (free_of (length old.read) ss) (AreLines-entry_lines head (length ss) s f) fits));
       others = λ line other. ap (λ (ls : List (List ℕ)). line_at ls line) (read ∙ p.read) ∙ line_at-placed old.read (1 + lines_in ss) (entry_lines head (length ss) s) line (omega arith) other;
@@ -148,13 +150,8 @@ read-Appends old new head ss s h room a =
     let within = h.within in let len = length-entry_lines head (length ss) s in let more = lines_in-more ss s in
     let left : free_of (length old.read) ss - length (entry_lines head (length ss) s) ≡ free_of (length old.read) (ss ++ s ∷ []) = omega arith in
     a.read ∙ (ap (λ (ls : List (List ℕ)). placed_lines ls (1 + lines_in ss) (entry_lines head (length ss) s)) h.read
-        ∙ (placed_lines-zeros (log_lines head ss) (1 + lines_in ss) (entry_lines head (length ss) s) (free_of (length old.read) ss) (length-log_lines head ss)
-        ∙ (ap (λ (k : ℕ). log_lines head ss ++ (entry_lines head (length ss) s ++ zero_lines k)) left ∙ sym (log_image-more head ss s (free_of (length old.read) (ss ++ s ∷ []))))))
-
-pub length-Appends : (old new : DeviceView) (head : LogHead) (ss : List Segment) (s : Segment) → HoldsLog old head ss false → length s.nodes + 1 ≤ free_of (length old.read) ss
-    → Appends old new (1 + lines_in ss) (entry_lines head (length ss) s) → length new.read ≡ length old.read
-length-Appends old new head ss s h room a = let e = ap length (read-Appends old new head ss s h room a) in let within = h.within in
-    omega (arith, length-log_image head (ss ++ s ∷ []) (free_of (length old.read) (ss ++ s ∷ [])), lines_in-more ss s)
+    ∙ (placed_lines-zeros (log_lines head ss) (1 + lines_in ss) (entry_lines head (length ss) s) (free_of (length old.read) ss) (length-log_lines head ss)
+    ∙ (ap (λ (k : ℕ). log_lines head ss ++ (entry_lines head (length ss) s ++ zero_lines k)) left ∙ sym (log_image-more head ss s (free_of (length old.read) (ss ++ s ∷ []))))))
 
 pub entries_read-Appends : (old new : DeviceView) (head : LogHead) (ss : List Segment) (s : Segment) → HoldsLog old head ss false → FitsEntry head.threads s → length s.nodes + 1 ≤ free_of (length old.read) ss
     → Appends old new (1 + lines_in ss) (entry_lines head (length ss) s) → entries_read head new.read ≡ ss ++ s ∷ []
@@ -194,11 +191,11 @@ pub KeepsLog-more : {T E : Type 0} (r : Result T E) (old mid new : DeviceView) (
     → KeepsLog new head (entries_read head new.read) (used + (1 + length s.nodes)) (count + 1) s.place (fences + 1) broken
 KeepsLog-more r old mid new head ss s used count last fences broken k f after room a fenced b =
     let h = k.holds in let within = h.within in let more = lines_in-more ss s in let used_is = k.used_is in let count_is = k.count_is in let few = k.few in let fewer = k.fewer in
-    let len = length-Appends old new head ss s h room a in let longer = length-append ss (s ∷ []) in let lines = k.lines in let once = a.fences in
+    let len = a.count in let longer = length-append ss (s ∷ []) in let lines = k.lines in let once = a.fences in
     let read : new.read ≡ log_image head (ss ++ s ∷ []) (free_of (length new.read) (ss ++ s ∷ [])) =
-        read-Appends old new head ss s h room a ∙ ap (λ (n : ℕ). log_image head (ss ++ s ∷ []) (free_of n (ss ++ s ∷ []))) (sym len) in
+    read-Appends old new head ss s h room a ∙ ap (λ (n : ℕ). log_image head (ss ++ s ∷ []) (free_of n (ss ++ s ∷ []))) (sym len) in
     let before : old.read ≡ log_image head (but_last (ss ++ s ∷ [])) (free_of (length new.read) (but_last (ss ++ s ∷ []))) =
-        h.read ∙ (ap (λ (n : ℕ). log_image head ss (free_of n ss)) (sym len) ∙ ap (λ (ts : List Segment). log_image head ts (free_of (length new.read) ts)) (sym (but_last-more ss s))) in
+    h.read ∙ (ap (λ (n : ℕ). log_image head ss (free_of n ss)) (sym len) ∙ ap (λ (ts : List Segment). log_image head ts (free_of (length new.read) ts)) (sym (but_last-more ss s))) in
     subst (λ (ts : List Segment). KeepsLog new head ts (used + (1 + length s.nodes)) (count + 1) s.place (fences + 1) broken) (sym (entries_read-Appends old new head ss s h f room a)) (record {
       holds = record {
         fits = h.fits;

@@ -82,6 +82,7 @@ pub record IsClean (read : List (List ℕ)) : Type 0 where
 pub record HasHeader (old new : DeviceView) (head : LogHead) : Type 0 where
   pub clean : IsClean old.read
   pub read : new.read ≡ log_image head [] (length old.read - 1)
+  pub count : length new.read ≡ length old.read
   pub fences : new.fences ≡ old.fences + 1
 
 -- a device whose fence failed: the header is written, and isn't durable
@@ -105,6 +106,7 @@ pub record IsMade (old new : DeviceView) (head : LogHead) : Type 0 where
 -- what an append of these lines from this line on leaves of a device, but for the fence
 pub record Appends (old new : DeviceView) (from : ℕ) (lines : List (List ℕ)) : Type 0 where
   pub read : new.read ≡ placed_lines old.read from lines
+  pub count : length new.read ≡ length old.read
   pub fills : FillsLines old.read new.read
   pub others : (line : ℕ) → (line < from) ⊎ (from + length lines ≤ line) → line_at new.read line ≡ line_at old.read line
   pub fences : new.fences ≡ old.fences + 1

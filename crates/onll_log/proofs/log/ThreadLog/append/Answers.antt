@@ -17,9 +17,9 @@ invariant_of-self g c = let r = rw (← c.self.view_is) at c.requires in
     let fits = FitsEntry-held c.self.inside.head.threads c.args.place c.args.nodes.now r.some_nodes r.few_nodes (omega arith) r.place r.nodes c.put_entry.ensures.rows in
     let f = c.fence-fenced.ensures in
     (Appended-entry c.fence-fenced.result (g.P.Pmem.means c.self.inside.device) (g.P.Pmem.means c.put_entry.new.device) (g.P.Pmem.means c.fence-fenced.new.self) c.self.inside.head
-        (entries_read c.self.inside.head (g.P.Pmem.means c.self.inside.device).read) s c.self.inside.used c.self.inside.entries c.self.inside.last c.self.inside.fences
-        c.self.inside.broken c.is_err-self-inside.result c.entry_head-first.result.w c.self.invariant r.whole fits r.after r.room c.entry_head-first.ensures c.put_entry.ensures.lines
-        f.read f.fences f.durable f.kept c.is_err-self-inside.ensures.value).keeps
+    (entries_read c.self.inside.head (g.P.Pmem.means c.self.inside.device).read) s c.self.inside.used c.self.inside.entries c.self.inside.last c.self.inside.fences
+    c.self.inside.broken c.is_err-self-inside.result c.entry_head-first.result.w c.self.invariant r.whole fits r.after r.room c.entry_head-first.ensures c.put_entry.ensures.lines
+    f.read f.fences f.durable f.kept c.is_err-self-inside.ensures.value).keeps
 
 pub returns : goal.returns
 returns g c = let r = rw (← c.self.view_is) at c.requires in
@@ -27,9 +27,9 @@ returns g c = let r = rw (← c.self.view_is) at c.requires in
     let fits = FitsEntry-held c.self.inside.head.threads c.args.place c.args.nodes.now r.some_nodes r.few_nodes (omega arith) r.place r.nodes c.put_entry.ensures.rows in
     let f = c.fence-fenced.ensures in let p = c.put_entry.ensures.lines.faults in
     let a = Appended-entry c.fence-fenced.result (g.P.Pmem.means c.self.inside.device) (g.P.Pmem.means c.put_entry.new.device) (g.P.Pmem.means c.fence-fenced.new.self) c.self.inside.head
-        (entries_read c.self.inside.head (g.P.Pmem.means c.self.inside.device).read) s c.self.inside.used c.self.inside.entries c.self.inside.last c.self.inside.fences
-        c.self.inside.broken c.is_err-self-inside.result c.entry_head-first.result.w c.self.invariant r.whole fits r.after r.room c.entry_head-first.ensures c.put_entry.ensures.lines
-        f.read f.fences f.durable f.kept c.is_err-self-inside.ensures.value in
+    (entries_read c.self.inside.head (g.P.Pmem.means c.self.inside.device).read) s c.self.inside.used c.self.inside.entries c.self.inside.last c.self.inside.fences
+    c.self.inside.broken c.is_err-self-inside.result c.entry_head-first.result.w c.self.invariant r.whole fits r.after r.room c.entry_head-first.ensures c.put_entry.ensures.lines
+    f.read f.fences f.durable f.kept c.is_err-self-inside.ensures.value in
     rw (← c.self.view_is) (record {
       head = refl;
       entries = a.entries;

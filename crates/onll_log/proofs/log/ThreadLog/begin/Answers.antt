@@ -7,8 +7,8 @@ invariant_of-result g c =
     let f = c.in-Ok.ensures in let old = g.P.Pmem.means c.args.device in let mid = g.P.Pmem.means c.put.new.device in let new = g.P.Pmem.means c.fence.new.self in
     let header = HasHeader-written old mid new c.args.head c.line.result.w c.requires.clean c.line.ensures c.put.ensures f.read f.fences in
     KeepsLog-made old new c.args.head c.requires.head c.requires.few c.requires.lines
-        (record { header = header; faults = f.ok ∙ c.put.ensures.faults; settled = ToldSettled-fenced mid new (c.put.ensures.backed c.requires.backed) f.read f.durable })
-        (ToldBacked-fenced mid new (c.put.ensures.backed c.requires.backed) f.read f.durable)
+    (record { header = header; faults = f.ok ∙ c.put.ensures.faults; settled = ToldSettled-fenced mid new (c.put.ensures.backed c.requires.backed) f.read f.durable })
+    (ToldBacked-fenced mid new (c.put.ensures.backed c.requires.backed) f.read f.durable)
 
 pub returns-in-Ok-clause-entries : goal.returns-in-Ok-clause-entries
 returns-in-Ok-clause-entries g c =

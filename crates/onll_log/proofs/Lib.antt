@@ -9,3 +9,6 @@ pub mod Torn
 pub mod Written
 pub mod Remains
 pub mod Append
+pub mod Placed
+pub mod Writing
+pub mod Kept

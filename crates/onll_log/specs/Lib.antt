@@ -11,3 +11,4 @@ pub mod MaskBits
 pub mod Append
 pub mod Remains
 pub mod Laws
+pub mod Log

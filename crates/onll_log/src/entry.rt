@@ -7,7 +7,7 @@ ghost use Rattle.onll_log.specs.Grammar.{is_entry, all_named, same_words};
 
 use crate::digest::Message;
 use crate::head::LogHead;
-use crate::masks::masks;
+use crate::mask::masks;
 use onll_model::{Node, node_line};
 use onll_words::Line;
 
@@ -74,7 +74,16 @@ pub fn entry_head(head: LogHead, sequence: u64, place: u64, nodes: &[Node]) -> L
     let lines = node_lines(nodes);
     let [a, b, c] = guard(&head, &front, &lines[..count]);
     Line {
-        w: [ENTRY_MAGIC, head.thread, sequence, place, count as u64, a, b, c],
+        w: [
+            ENTRY_MAGIC,
+            head.thread,
+            sequence,
+            place,
+            count as u64,
+            a,
+            b,
+            c,
+        ],
     }
 }
 

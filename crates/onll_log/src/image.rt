@@ -20,7 +20,7 @@ pub enum DecodeFault {
 }
 
 /// Whether all words of a line are zero.
-fn is_zero(line: &Line) -> bool
+pub fn is_zero(line: &Line) -> bool
     ensures { result ≡ is_zero_line line.now.w }
 {
     line.w == [0; 8]
@@ -97,7 +97,6 @@ fn entries_of(alloc: Global, head: &LogHead, lines: &[Line]) -> Result<Vec<Entry
     }
     Ok(entries)
 }
-
 
 /// What a log of this head holds, whose lines these are.
 fn log_of(alloc: Global, head: LogHead, lines: &[Line]) -> Result<Decoded, DecodeFault>

@@ -1,4 +1,4 @@
-use Rattle.std.specs.Prelude.{ℕ, Bool, ◌≡◌, ◌+◌, ◌-◌, ◌^◌, if◌then◌else◌, nat_lt, ◌==◌, ◌&&◌}
+use Rattle.std.specs.Prelude.{ℕ, Bool, ◌≡◌, ◌+◌, ◌-◌, ◌^◌, ◌<◌, if◌then◌else◌, nat_lt, ◌==◌, ◌&&◌}
 use Rattle.onll_lease.specs.declared.entry.LeaseEntry.{LeaseEntry}
 use Rattle.onll_lease.specs.declared.operation.LeaseReply.{LeaseReply}
 use Rattle.onll_lease.specs.declared.operation.LeaseReply.TheVariants.{HeldUntil, Late, Spent, Granted, Renewed, Stale, Released, HeldBy, Free}
@@ -12,6 +12,12 @@ greatest = 2 ^ 64 - 1
 -- a resource that was never granted has no holder and no end
 abbrev pub IsEntry : LeaseEntry → Type 0
 IsEntry e = e.token ≡ 0 → (e.holder ≡ 0) × (e.until ≡ 0)
+
+-- the token, the holder and the end are numbers of 64 bits
+pub record OfNumbers (e : LeaseEntry) : Type 0 where
+  pub token : e.token < 2 ^ 64
+  pub holder : e.holder < 2 ^ 64
+  pub until : e.until < 2 ^ 64
 
 -- the entry of a resource that was never granted
 abbrev pub no_lease : LeaseEntry

@@ -1,5 +1,5 @@
 ghost use Rattle.std.specs.Prelude.{◌≡◌, ◌+◌};
-ghost use Rattle.onll_lease.specs.Entry.{is_held, grant_reply, renew_reply, release_reply, holder_answer, left_by_grant, left_by_renew, left_by_release};
+ghost use Rattle.onll_lease.specs.Entry.{OfNumbers, is_held, grant_reply, renew_reply, release_reply, holder_answer, left_by_grant, left_by_renew, left_by_release};
 ghost use Rattle.onll_lease.specs.Lease.{entry_reply, entry_next};
 
 use crate::operation::{LeaseOp, LeaseReply};
@@ -22,6 +22,7 @@ impl LeaseEntry {
     fn grant(&mut self, h: u64, now: u64, ttl: u64) -> LeaseReply
         ensures next { self.new ≡ left_by_grant (grant_reply self.old now ttl) h (now + ttl) self.old }
         ensures reply { result ≡ grant_reply self.old now ttl }
+        ensures numbers { OfNumbers self.old → OfNumbers self.new }
     {
         if self.is_held(now) {
             return LeaseReply::HeldUntil(self.until);
@@ -43,6 +44,7 @@ impl LeaseEntry {
     fn renew(&mut self, token: u64, now: u64, ttl: u64) -> LeaseReply
         ensures next { self.new ≡ left_by_renew (renew_reply self.old token now ttl) self.old }
         ensures reply { result ≡ renew_reply self.old token now ttl }
+        ensures numbers { OfNumbers self.old → OfNumbers self.new }
     {
         if token != self.token || !self.is_held(now) {
             return LeaseReply::Stale;
@@ -57,6 +59,7 @@ impl LeaseEntry {
     fn release(&mut self, token: u64) -> LeaseReply
         ensures next { self.new ≡ left_by_release (release_reply self.old token) self.old }
         ensures reply { result ≡ release_reply self.old token }
+        ensures numbers { OfNumbers self.old → OfNumbers self.new }
     {
         if token != self.token || self.until == 0 {
             return LeaseReply::Stale;
@@ -69,6 +72,7 @@ impl LeaseEntry {
     pub(crate) fn apply(&mut self, op: LeaseOp) -> LeaseReply
         ensures next { self.new ≡ entry_next self.old op }
         ensures reply { result ≡ entry_reply self.old op }
+        ensures numbers { OfNumbers self.old → OfNumbers self.new }
     {
         match op {
             LeaseOp::Grant { h, now, ttl, .. } => self.grant(h, now, ttl),

@@ -1,7 +1,7 @@
-ghost use Rattle.std.specs.Prelude.{◌≡◌, ◌<◌, ◌≤◌, length, replicate, slice_set, IfOk, All};
+ghost use Rattle.std.specs.Prelude.{◌≡◌, ◌<◌, ◌≤◌, length, replicate, slice_set, IfOk};
 ghost use Rattle.std.proofs.Common.{rules};
 ghost use Rattle.onll_lease.specs.Entry.{IsEntry, no_lease};
-ghost use Rattle.onll_lease.specs.Lease.{entry_at};
+ghost use Rattle.onll_lease.specs.Lease.{IsLease, entry_at};
 ghost use Rattle.onll_lease.specs.Object.{lease};
 
 use crate::entry::LeaseEntry;
@@ -19,15 +19,15 @@ pub struct Lease {
 }
 
 impl Model for Lease {
-    ghost use Rattle.std.specs.Prelude.{List, All};
+    ghost use Rattle.std.specs.Prelude.{List};
     ghost use Rattle.onll_lease.specs.declared.entry.LeaseEntry.{LeaseEntry};
-    ghost use Rattle.onll_lease.specs.Entry.{IsEntry};
+    ghost use Rattle.onll_lease.specs.Lease.{IsLease};
 
     ghost Value = { List LeaseEntry };
 
     ghost view = { λ s. s.entries.items };
 
-    ghost invariant = { λ s. All IsEntry s.entries.items };
+    ghost invariant = { λ s. IsLease s.entries.items };
 }
 
 impl Lease {
@@ -56,9 +56,10 @@ impl Lease {
         self.entries[r as usize]
     }
 
-    /// A law: where a resource's token is 0, its holder and its end are 0. It does nothing when called.
+    /// A law: there are 1 to 4,096 resources, and where a resource's token is 0, its holder and its end are 0. It does
+    /// nothing when called.
     pub fn entries_law(&self)
-        ensures { All IsEntry self.now }
+        ensures { IsLease self.now }
     {
         let _ = &self.entries;
     }

@@ -1,5 +1,6 @@
 ghost use Rattle.std.specs.Prelude.{◌≡◌, ℕ, ◌<◌, ◌≤◌, [], length, IfOk, slice_index};
 ghost use Rattle.std.proofs.Common.{rules};
+ghost use Rattle.onll_queue.specs.Items.{IsQueue};
 ghost use Rattle.onll_queue.specs.Queue.{items_in, queue_reply, queue_next};
 ghost use Rattle.onll_queue.specs.Object.{queue};
 
@@ -30,14 +31,13 @@ pub struct Queue {
 }
 
 impl Model for Queue {
-    ghost use Rattle.std.specs.Prelude.{◌≤◌, length};
-    ghost use Rattle.onll_queue.specs.Items.{Items};
+    ghost use Rattle.onll_queue.specs.Items.{Items, IsQueue};
 
     ghost Value = { Items };
 
     ghost view = { λ s. record { items = s.ring.items; room = s.ring.capacity } };
 
-    ghost invariant = { λ s. length s.ring.items ≤ s.ring.capacity };
+    ghost invariant = { λ s. IsQueue (record { items = s.ring.items; room = s.ring.capacity }) };
 }
 
 impl Queue {
@@ -52,10 +52,10 @@ impl Queue {
         }
     }
 
-    /// How many items there are, never more than there is room for.
+    /// How many items there are.
     pub fn length(&self) -> u64
         ensures length { result ≡ length self.now.items }
-        ensures within { result ≤ self.now.room }
+        ensures queue { IsQueue self.now }
     {
         self.ring.len() as u64
     }

@@ -6,8 +6,8 @@ use Rattle.std.proofs.lemmas.Bool.{cases_lt}
 use Rattle.std.proofs.lemmas.Bool.Decides.{nat_tests}
 use Rattle.onll_words.specs.Texts.{Numbered, numbered, joined, line_text}
 use Rattle.onll_lease.specs.declared.entry.LeaseEntry.{LeaseEntry}
-use Rattle.onll_lease.specs.Entry.{IsEntry, no_lease}
-use Rattle.onll_lease.specs.Lease.{entry_at}
+use Rattle.onll_lease.specs.Entry.{IsEntry, OfNumbers, no_lease}
+use Rattle.onll_lease.specs.Lease.{IsLease, entry_at}
 use Rattle.onll_text.specs.declared.reason.Reason.{Reason}
 use Rattle.onll_text.specs.declared.reason.Reason.TheVariants.{OutOfRange, Repeated}
 use Rattle.onll_text.specs.declared.any_object.AnyObject.TheVariants as objects
@@ -16,7 +16,7 @@ use Rattle.onll_text.specs.Refusal.{Refusal, ◌>>=◌, only_if, at_line}
 use Rattle.onll_text.specs.LeaseText.{held_line, entry_lines, held_lines, lease_state_lines, entry_of, with_held, with_held_line}
 use Rattle.onll_text.specs.LeaseWording.{lease_wording, state_in_lines}
 use Rattle.onll_text.specs.Init.{head_of, after_lines}
-use Rattle.onll_text.specs.ReadBack.{ReadsBack, OfNumbers, IsLease}
+use Rattle.onll_text.specs.ReadBack.{ReadsBack}
 use Rattle.onll_text.proofs.LineWords.{held_line_in_words}
 use Rattle.onll_text.proofs.ReadBack.{capacity_of-decimal, four_numbers-decimal, length-decimal, after_lines-joined, init_of-flat_map}
 
@@ -61,8 +61,8 @@ length-state s h =
       arith,
       length-append (line_text (codes "lease" ∷ decimal (length s) ∷ [])) (flat_map line_text (held_lines 0 s)),
       length-append (decimal (length s)) (10 ∷ []),
-      length-decimal (length s) (within_word (length s) h.few),
-      length-held_lines 0 s (from_zero (length s) h.few) h.numbers,
+      length-decimal (length s) (within_word (length s) h.greatest),
+      length-held_lines 0 s (from_zero (length s) h.greatest) h.numbers,
     )
 
 -- the first line
@@ -149,5 +149,5 @@ after_lines-held k done (e ∷ es) few valid h =
 -- what is printed of a lease table reads as that table
 pub lease_reads_back : ReadsBack lease_wording IsLease objects.Lease
 lease_reads_back s h =
-    init_of-flat_map (codes "lease" ∷ decimal (length s) ∷ []) (held_lines 0 s) (record { kind = kinds.Lease; capacity = length s }) (state_in_lines s) (length-state s h) (head_of-lease (length s) h.some h.few)
-    ∙ ap (λ (v : Result (List LeaseEntry) Refusal). v >>= λ entries. Ok (objects.Lease entries)) (after_lines-held 2 [] s (from_zero (length s) h.few) h.valid h.numbers)
+    init_of-flat_map (codes "lease" ∷ decimal (length s) ∷ []) (held_lines 0 s) (record { kind = kinds.Lease; capacity = length s }) (state_in_lines s) (length-state s h) (head_of-lease (length s) h.least h.greatest)
+    ∙ ap (λ (v : Result (List LeaseEntry) Refusal). v >>= λ entries. Ok (objects.Lease entries)) (after_lines-held 2 [] s (from_zero (length s) h.greatest) h.valid h.numbers)

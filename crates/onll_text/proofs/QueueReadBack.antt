@@ -4,7 +4,7 @@ use Rattle.std.proofs.lemmas.List.{append-nil}
 use Rattle.std.proofs.lemmas.List.Elements.{All-head, All-tail}
 use Rattle.std.proofs.lemmas.Bool.Decides.{nat_tests}
 use Rattle.onll_words.specs.Texts.{Numbered, numbered, joined, line_text}
-use Rattle.onll_queue.specs.Items.{Items}
+use Rattle.onll_queue.specs.Items.{Items, IsQueue}
 use Rattle.onll_queue.specs.Queue.{items_in}
 use Rattle.onll_text.specs.declared.reason.Reason.{Reason}
 use Rattle.onll_text.specs.declared.reason.Reason.TheVariants.{TooMany}
@@ -14,7 +14,7 @@ use Rattle.onll_text.specs.Refusal.{Refusal, ◌>>=◌, only_if, at_line}
 use Rattle.onll_text.specs.QueueText.{item_line, item_lines, queue_state_lines, with_item, with_item_line}
 use Rattle.onll_text.specs.QueueWording.{queue_wording, state_in_lines}
 use Rattle.onll_text.specs.Init.{head_of, after_lines}
-use Rattle.onll_text.specs.ReadBack.{ReadsBack, IsQueue}
+use Rattle.onll_text.specs.ReadBack.{ReadsBack}
 use Rattle.onll_text.proofs.LineWords.{item_line_in_words}
 use Rattle.onll_text.proofs.ReadBack.{capacity_of-decimal, one_number-decimal, length-decimal, after_lines-joined, init_of-flat_map}
 

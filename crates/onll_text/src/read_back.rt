@@ -1,10 +1,12 @@
+ghost use Rattle.onll_lease.specs.Lease.{IsLease};
 ghost use Rattle.onll_map.specs.Map.{IsMap};
+ghost use Rattle.onll_queue.specs.Items.{IsQueue};
 ghost use Rattle.onll_text.specs.declared.any_object.AnyObject.TheVariants as objects;
 ghost use Rattle.onll_text.specs.BankWording.{bank_wording};
 ghost use Rattle.onll_text.specs.MapWording.{map_wording};
 ghost use Rattle.onll_text.specs.QueueWording.{queue_wording};
 ghost use Rattle.onll_text.specs.LeaseWording.{lease_wording};
-ghost use Rattle.onll_text.specs.ReadBack.{ReadsBack, IsBank, IsQueue, IsLease};
+ghost use Rattle.onll_text.specs.ReadBack.{ReadsBack, IsBank};
 
 /// A law: what is printed of a bank's state reads as that bank. It does nothing when called.
 pub fn bank_reads_back()

@@ -1,6 +1,7 @@
 pub mod Appending
 pub mod LineWords
 pub mod Whole
+pub mod Playable
 pub mod ReadBack
 pub mod BankReadBack
 pub mod MapReadBack

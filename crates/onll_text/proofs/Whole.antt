@@ -7,6 +7,7 @@ use Rattle.onll_text.specs.declared.reason.Reason.TheVariants.{TooLong}
 use Rattle.onll_text.specs.Refusal.{refused}
 use Rattle.onll_text.specs.Wording.{Wording}
 use Rattle.onll_text.specs.Script.{longest_text, calls_in, no_calls, script_of}
+use Rattle.onll_text.specs.Schedule.{schedule_in, schedule_of}
 use Rattle.onll_text.specs.Init.{init_of_lines, init_of}
 
 lt_test : (m n : ℕ) → m < n → nat_lt m n ≡ true
@@ -27,3 +28,6 @@ init_of-take bytes = cut_same (λ text. init_of_lines (meaningful_lines text)) l
 
 pub script_of-take : {State Op Query Reply : Type 0} (w : Wording State Op Query Reply) (bytes : List ℕ) → script_of w (take (longest_text + 1) bytes) ≡ script_of w bytes
 script_of-take w bytes = cut_same (λ text. calls_in w no_calls (meaningful_lines text)) longest_text bytes (Err (refused 0 TooLong))
+
+pub schedule_of-take : (threads : ℕ) (bytes : List ℕ) → schedule_of threads (take (longest_text + 1) bytes) ≡ schedule_of threads bytes
+schedule_of-take threads bytes = cut_same (λ text. schedule_in threads 0 (meaningful_lines text)) longest_text bytes (Err (refused 0 TooLong))

@@ -5,6 +5,7 @@ pub mod Pieces
 pub mod Wording
 pub mod Lines
 pub mod Script
+pub mod Schedule
 pub mod BankText
 pub mod BankWording
 pub mod MapText

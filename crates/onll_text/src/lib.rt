@@ -12,6 +12,7 @@ mod queue;
 mod read_back;
 mod reason;
 mod report;
+mod schedule;
 mod script;
 #[cfg(test)]
 mod tests;
@@ -23,5 +24,6 @@ pub use init::read_init;
 pub use read_back::{bank_reads_back, lease_reads_back, map_reads_back, queue_reads_back};
 pub use reason::{Reason, TextFault};
 pub use report::{Piece, Report};
+pub use schedule::{MOST_STEPS, Schedule, Turns, read_schedule};
 pub use script::{LONGEST_TEXT, read_script};
 pub use texted::Texted;

@@ -1,6 +1,6 @@
-use crate::{AnyObject, Piece, Reason, Report, TextFault, read_init, read_script};
+use crate::{AnyObject, Piece, Reason, Report, TextFault, read_init, read_schedule, read_script};
 use onll_bank::{Bank, BankOp, BankQuery, BankReply};
-use onll_model::{Call, CallEnd, Node, Object};
+use onll_model::{Call, CallEnd, Node, Object, Turn};
 use onll_words::NoMemory;
 use std::alloc::Global;
 use std::test::Fail;
@@ -121,8 +121,15 @@ fn lines_of_logs_and_traces(rt: HostRuntime) -> Result<(), Fail> {
     assert_eq!(rt; unfenced.bytes(), b"log 0 entries 0 lines 1\n".as_slice());
     let mut trace = Report::new(alloc);
     trace.trace_line(30)?;
-    trace.line(&[Piece::Text(b"crash"), Piece::Number(7)])?;
-    assert_eq!(rt; trace.bytes(), b"trace 30\ncrash 7\n".as_slice());
+    assert_eq!(rt; trace.bytes(), b"trace 30\n".as_slice());
+    Ok(())
+}
+
+#[test]
+fn a_line_of_any_words(rt: HostRuntime) -> Result<(), Fail> {
+    let mut report = Report::new(rt.alloc());
+    report.line(&[Piece::Text(b"crash"), Piece::Number(7)])?;
+    assert_eq!(rt; report.bytes(), b"crash 7\n".as_slice());
     Ok(())
 }
 
@@ -182,6 +189,85 @@ fn refused_texts(rt: HostRuntime) {
     for (text, line, reason) in texts {
         let read = read_init(alloc, text.as_bytes()).map(|_| ());
         assert_eq!(rt; read, Err(TextFault::Refused { line, reason }), "{text}");
+    }
+}
+
+/// Two threads, three turns, and a crash that keeps the pending word 1.
+const SCHEDULE: &[u8] = b"# two threads\n1 3\r\n\n\t0 \n1 007999996\n crash 2\n# end\n";
+
+#[test]
+fn a_schedule_that_is_read(rt: HostRuntime) -> Result<(), Fail> {
+    let schedule = read_schedule(rt.alloc(), SCHEDULE, 2)?;
+    assert_eq!(rt;
+        schedule.turns.as_slice(),
+        [
+            Turn {
+                thread: 1,
+                count: 3
+            },
+            Turn {
+                thread: 0,
+                count: 1
+            },
+            Turn {
+                thread: 1,
+                count: 7_999_996
+            },
+        ]
+        .as_slice()
+    );
+    assert_eq!(rt; schedule.keep, 2);
+    assert_eq!(rt; schedule.turns.into_vec().len(), 3);
+    let most = read_schedule(rt.alloc(), b"0 8000000\ncrash 18446744073709551615", 1)?;
+    assert_eq!(rt;
+        most.turns.as_slice(),
+        [Turn {
+            thread: 0,
+            count: 8_000_000
+        }]
+        .as_slice()
+    );
+    assert_eq!(rt; most.keep, u64::MAX);
+    let none = read_schedule(rt.alloc(), b"crash 0", 0)?;
+    assert_eq!(rt; none.turns.as_slice().len(), 0);
+    Ok(())
+}
+
+/// A text that is no schedule for two threads, with its refused line and the reason.
+type RefusedText = (&'static str, u64, Reason);
+
+const REFUSED_SCHEDULES: &[RefusedText] = &[
+    ("", 0, Reason::Missing),
+    ("0 1", 0, Reason::Missing),
+    ("2\ncrash 0", 1, Reason::OutOfRange),
+    ("0 0\ncrash 0", 1, Reason::OutOfRange),
+    ("0 8000001\ncrash 0", 1, Reason::OutOfRange),
+    ("0 8000000\n0 1\ncrash 0", 2, Reason::TooMany),
+    ("crash 0\n0", 2, Reason::AfterCrash),
+    ("crash 0\n\ncrash x y", 3, Reason::AfterCrash),
+    ("crash", 1, Reason::WrongCount),
+    ("crash 0 x", 1, Reason::WrongCount),
+    ("crash x", 1, Reason::BadNumber),
+    ("0 1 2\ncrash 0", 1, Reason::WrongCount),
+    ("x 1 2\ncrash 0", 1, Reason::WrongCount),
+    ("x\ncrash 0", 1, Reason::BadNumber),
+    ("crashed 0", 1, Reason::BadNumber),
+    ("2 x\ncrash 0", 1, Reason::BadNumber),
+    ("0 8000000\n2 1\ncrash 0", 2, Reason::OutOfRange),
+];
+
+#[test]
+fn refused_schedules(rt: HostRuntime) {
+    for (text, line, reason) in REFUSED_SCHEDULES {
+        let read = read_schedule(rt.alloc(), text.as_bytes(), 2).map(|_| ());
+        assert_eq!(rt;
+            read,
+            Err(TextFault::Refused {
+                line: *line,
+                reason: *reason
+            }),
+            "{text}"
+        );
     }
 }
 

@@ -13,7 +13,7 @@ pub(crate) fn is_text(word: &[u8], text: &[u8]) -> bool
     word == text
 }
 
-fn number(word: &[u8]) -> Result<u64, Reason>
+pub(crate) fn number(word: &[u8]) -> Result<u64, Reason>
     ensures { result ≡ word_as_number word.now }
 {
     whole_number(word).ok_or(Reason::BadNumber)

@@ -10,7 +10,7 @@ mod recovered;
 mod turn;
 
 pub use call::{Call, CallEnd};
-pub use frames::{event_law, first_frame_law};
+pub use frames::{event_laws, first_frame_laws, look_law, stand_law};
 pub use laws::{capacity_kept, name_law, op_of_its_row, row_of_its_op, undone};
 pub use node::{Node, node_line};
 pub use object::Object;

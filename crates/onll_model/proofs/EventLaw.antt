@@ -147,7 +147,8 @@ module _ (count b : ℕ) (f : Frame) (s : Sound count f) (k : Based b f) (t : �
         based = based_put b (with_notes f rest) t (resting_at th (max th.seen p)) kept.based (omega arith);
       }
 
-event_by : (count b : ℕ) (f : Frame) (e : Event) → Sound count f → Based b f → (th : Thread) → slice_get f.threads (thread_of e) ≡ Some th → Allows f th e → SoundOver count b (after_by b f e (Some th))
+event_by : (count b : ℕ) (f : Frame) (e : Event) → Sound count f → Based b f → (th : Thread) → slice_get f.threads (thread_of e) ≡ Some th → Allows f th e
+    → SoundOver count b (after_by b f e (Some th))
 event_by count b f (UpdateTail t) s k th at a = look_over count b f s k t th at th.activity refl a.0 a.1
 event_by count b f (Won t row) s k th at a = won_over count b f s k t th at row a
 event_by count b f (Lost t) s k th at a = record { sound = s; based = k }

@@ -17,7 +17,8 @@ all_available n zero le = refl
 all_available n (suc p) le = get_or-replicate n p true false (omega arith)
 
 -- each thread of the first frame is at rest
-resumed_at : (b : ℕ) (logs : List (List Segment)) (P : Thread → Type 0) → AllByRecursion (λ (ss : List Segment). P (resumed_thread b ss)) logs → (t : ℕ) (th : Thread) → slice_get (map (resumed_thread b) logs) t ≡ Some th → P th
+resumed_at : (b : ℕ) (logs : List (List Segment)) (P : Thread → Type 0) → AllByRecursion (λ (ss : List Segment). P (resumed_thread b ss)) logs → (t : ℕ) (th : Thread)
+    → slice_get (map (resumed_thread b) logs) t ≡ Some th → P th
 resumed_at b [] P all t th e = some_not_none th (sym e)
 resumed_at b (ss ∷ logs) P all zero th e = subst P (same_some (resumed_thread b ss) th e) all.0
 resumed_at b (ss ∷ logs) P all (suc t) th e = resumed_at b logs P all.1 t th e

@@ -133,7 +133,8 @@ pub loaded_closed : (count : ℕ) (f : Frame) (t : ℕ) (th : Thread) (l : ℕ) 
 loaded_closed count f t th l s at is = open_free th (Loaded l) (free_of count f th (Loaded l) (own_of count f s t th at) is (λ q. q)) is
 
 -- the exchange has linked a node, and the walk begins
-pub won_walks_sound : (count : ℕ) (f : Frame) (t : ℕ) (th : Thread) (l : ℕ) (x : Node) → Sound count f → slice_get f.threads t ≡ Some th → th.activity ≡ Loaded l → x.thread ≡ t → x.number ≡ count_by (is_of_thread t) f.trace + 1 → 1 ≤ length f.trace
+pub won_walks_sound : (count : ℕ) (f : Frame) (t : ℕ) (th : Thread) (l : ℕ) (x : Node) → Sound count f → slice_get f.threads t ≡ Some th → th.activity ≡ Loaded l → x.thread ≡ t
+    → x.number ≡ count_by (is_of_thread t) f.trace + 1 → 1 ≤ length f.trace
     → Sound count (with_thread (with_node f x) t (doing th (Walk (suc (length f.trace)) (length f.trace))))
 won_walks_sound count f t th l x s at is own_x number some_nodes =
     let own = own_of count f s t th at in
@@ -153,7 +154,8 @@ won_walks_sound count f t th l x s at is own_x number some_nodes =
     }
 
 -- the exchange has linked the first node above the base, and there is no walk
-pub won_base_sound : (count : ℕ) (f : Frame) (t : ℕ) (th : Thread) (l : ℕ) (x : Node) → Sound count f → slice_get f.threads t ≡ Some th → th.activity ≡ Loaded l → x.thread ≡ t → x.number ≡ count_by (is_of_thread t) f.trace + 1 → (b : ℕ) → length f.trace ≡ b → IsAvailable f b
+pub won_base_sound : (count : ℕ) (f : Frame) (t : ℕ) (th : Thread) (l : ℕ) (x : Node) → Sound count f → slice_get f.threads t ≡ Some th → th.activity ≡ Loaded l → x.thread ≡ t
+    → x.number ≡ count_by (is_of_thread t) f.trace + 1 → (b : ℕ) → length f.trace ≡ b → IsAvailable f b
     → Sound count (with_thread (with_node f x) t (logging th (f.trace ++ x ∷ []) b (suc b)))
 won_base_sound count f t th l x s at is own_x number b size available =
     let own = own_of count f s t th at in

@@ -15,7 +15,8 @@ use Rattle.onll_model.proofs.FrameParts.{own_of, free_of, open_free}
 -- What an event does at most.
 
 -- the trace and the flags stay
-same_step : (t : ℕ) (f : Frame) (threads : List Thread) (notes : List ℕ) → ((u : ℕ) → u ≢ t → slice_get threads u ≡ slice_get f.threads u) → IsStepOf t f record { trace = f.trace; flags = f.flags; threads = threads; notes = notes }
+same_step : (t : ℕ) (f : Frame) (threads : List Thread) (notes : List ℕ) → ((u : ℕ) → u ≢ t → slice_get threads u ≡ slice_get f.threads u)
+    → IsStepOf t f record { trace = f.trace; flags = f.flags; threads = threads; notes = notes }
 same_step t f threads notes others = record {
   trace = take_all f.trace;
   flags = λ p e. e;

@@ -14,7 +14,7 @@ pub fn first_frame_laws()
     ensures created { CreatedLaw }
 {}
 
-/// A look's place is between the base and its front.
+/// What a look says of the places that it loaded.
 pub fn look_law()
     ensures { LookLaw }
 {}

@@ -1,9 +1,8 @@
-use Rattle.std.proofs.Common.{◌≡◌, ◌≢◌, ℕ, zero, suc, ◌+◌, ◌-◌, ◌<◌, ◌≤◌, Bool, true, false, List, [], ◌∷◌, ◌++◌, length, map, replicate, Option, Some, None, option_to_list, refl, sym, ap, ◌∙◌, subst, ⊎_elim, ◌⊎◌, arith, append-nil, true≢false, get_or}
+use Rattle.std.proofs.Common.{◌≡◌, ◌≢◌, ℕ, zero, suc, ◌≤◌, true, false, List, [], ◌∷◌, ◌++◌, length, map, replicate, Some, None, refl, sym, ◌∙◌, subst, arith, append-nil, true≢false}
 use Rattle.std.proofs.lemmas.List.{length-map, length-replicate, get_or-replicate}
 use Rattle.std.specs.List.{AllByRecursion, slice_get}
 use Rattle.onll_model.specs.declared.node.Node.{Node}
-use Rattle.onll_model.specs.Trace.{node_at}
-use Rattle.onll_model.specs.Segment.{Segment, Covers, LiesIn, Rises, last_place}
+use Rattle.onll_model.specs.Segment.{Segment, Covers, Rises, last_place}
 use Rattle.onll_model.specs.Frames.{Frame, Thread, IsAvailable, is_available, IsSoundSegment, fenced_segments, segments_of, open_place, IsQuiet, IsSettled, IsPending, Follows, resumed_thread, resumed_frame}
 use Rattle.onll_model.specs.FrameLaws.{SoundOver, IsResumable}
 use Rattle.onll_model.proofs.Lists.{same_some, some_not_none, all_map}
@@ -51,8 +50,10 @@ resumed_sound count base logs r =
         numbered = r.numbered;
         below = r.below;
         earlier = λ p q x y e _ _ _. available p ((node_place base p x e).1);
-        latest = λ t th e p last. ((λ unset. absurd (true≢false (sym (available p ((node_place base p last.node last.here).1)) ∙ unset))),
-            λ opens. absurd (closed t th e p opens));
+        latest = λ t th e p last. (
+          (λ unset. absurd (true≢false (sym (available p ((node_place base p last.node last.here).1)) ∙ unset))),
+          λ opens. absurd (closed t th e p opens),
+        );
         opened = λ t th e p opens. absurd (closed t th e p opens);
         quiet = resumed_at b logs (λ th. th.stuck ≢ None → IsQuiet th.activity) (every_log _ logs (λ ss _. tt));
         segments = resumed_at b logs (λ th. AllByRecursion (IsSoundSegment count base (fenced_segments f.threads)) (segments_of th))

@@ -1,15 +1,15 @@
-use Rattle.std.proofs.Common.{◌≡◌, ◌≢◌, ℕ, zero, suc, ◌+◌, ◌-◌, ◌<◌, ◌≤◌, Bool, true, false, List, [], ◌∷◌, ◌++◌, length, set, Option, Some, None, refl, sym, ap, ◌∙◌, subst, ⊎_elim, ◌⊎◌, inl, inr, arith, length-append, length-set, true≢false, count_by}
+use Rattle.std.proofs.Common.{◌≡◌, ◌≢◌, ℕ, suc, ◌+◌, ◌-◌, ◌<◌, ◌≤◌, Bool, true, false, List, [], ◌∷◌, ◌++◌, length, set, Option, Some, None, refl, sym, ap, ◌∙◌, subst, ⊎_elim, arith, length-append, length-set, true≢false, count_by}
 use Rattle.std.specs.List.{AllByRecursion, slice_get}
 use Rattle.std.proofs.lemmas.Bool.{cases_Bool}
 use mathlib.Core.Logic.{◌↔◌, dite}
 use native.Mathlib.Decide.{ℕ_discrete}
 use Rattle.onll_model.specs.declared.node.Node.{Node}
 use Rattle.onll_model.specs.Trace.{node_at, is_of_thread}
-use Rattle.onll_model.specs.Segment.{Segment, Agrees, Covers, Rises}
-use Rattle.onll_model.specs.Frames.{Frame, Thread, Activity, Rest, Loaded, Walk, Logging, Fenced, Asking, Sound, IsLast, IsAvailable, is_available, AreApart, IsSoundSegment, fenced_segments, segments_of, open_in, open_at, open_place, IsQuiet, IsSettled, IsPending, Follows}
+use Rattle.onll_model.specs.Segment.{Segment, Rises}
+use Rattle.onll_model.specs.Frames.{Frame, Thread, Activity, Rest, Loaded, Walk, Logging, Fenced, Asking, Sound, IsLast, IsAvailable, is_available, AreApart, IsSoundSegment, fenced_segments, segments_of, open_in, open_at, open_place, IsSettled, IsPending, Follows}
 use Rattle.onll_model.specs.Events.{with_thread, with_node, doing, logging}
 use Rattle.onll_model.proofs.Lists.{inside, all_append, all_map}
-use Rattle.onll_model.proofs.Segments.{Grows, same_grows, covers_still, agrees_longer}
+use Rattle.onll_model.proofs.Segments.{same_grows, covers_still, agrees_longer}
 use Rattle.onll_model.proofs.Traces.{node_place, node_snoc, node_before, node_end, numbered_longer}
 use Rattle.onll_model.proofs.Flags.{available_low, flag_before, flag_past}
 use Rattle.onll_model.proofs.FrameParts.{each_put, segments_still, Own, own_of, in_trace, unflagged_last, free_of, open_free, still_open, pends_none, none_pends}
@@ -169,9 +169,9 @@ won_base_sound count f t th l x s at is own_x number b size available =
     let n = s.threads in
     linked_sound count f s t th at closed x own_x number (logging th (f.trace ++ x ∷ []) b (suc b)) refl (ap (λ (o : Option ℕ). open_at o (Logging (suc b) (suc b - b))) free ∙ ap (λ (m : ℕ). Some (suc m)) (sym size))
     (own_logging count (with_node f x) th b (suc b) free
-      (subst (AllByRecursion (IsSoundSegment count (f.trace ++ x ∷ []) (fenced_segments f.threads))) alone (old_segments count f s t th at closed x own_x number))
-      (subst (Rises 0) alone own.rising)
-      (subst (IsSettled th.seen th.fenced) is own.settled)
-      (still_available count f s t th at closed x own_x number th.seen own.seen)
-      (omega arith) (omega arith) (omega arith) (omega arith)
-      (s.covered b available))
+    (subst (AllByRecursion (IsSoundSegment count (f.trace ++ x ∷ []) (fenced_segments f.threads))) alone (old_segments count f s t th at closed x own_x number))
+    (subst (Rises 0) alone own.rising)
+    (subst (IsSettled th.seen th.fenced) is own.settled)
+    (still_available count f s t th at closed x own_x number th.seen own.seen)
+    (omega arith) (omega arith) (omega arith) (omega arith)
+    (s.covered b available))

@@ -1,16 +1,16 @@
-use Rattle.std.proofs.Common.{◌≡◌, ◌≢◌, ℕ, zero, suc, ◌+◌, ◌-◌, ◌<◌, ◌≤◌, Bool, true, false, List, [], ◌∷◌, ◌++◌, length, take, drop, set, Option, Some, None, option_to_list, refl, sym, ap, ◌∙◌, subst, ⊎_elim, ◌⊎◌, inl, inr, arith, append-nil, length-set, true≢false}
+use Rattle.std.proofs.Common.{◌≡◌, ◌≢◌, ℕ, suc, ◌+◌, ◌-◌, ◌<◌, ◌≤◌, Bool, true, false, List, [], ◌∷◌, ◌++◌, length, take, drop, set, Option, Some, None, option_to_list, refl, sym, ap, ◌∙◌, subst, ⊎_elim, ◌⊎◌, inl, arith, append-nil, length-set, true≢false}
 use Rattle.std.specs.List.{AllByRecursion, slice_get}
 use mathlib.Core.Logic.{◌↔◌, dite}
 use Rattle.onll_model.specs.declared.node.Node.{Node}
 use Rattle.onll_model.specs.Trace.{node_at}
-use Rattle.onll_model.specs.Segment.{Segment, Agrees, LiesIn, Covers, Rises, last_place, nodes_between}
-use Rattle.onll_model.specs.Frames.{Frame, Thread, Activity, Rest, Loaded, Walk, Logging, Fenced, Asking, Sound, IsLast, IsAvailable, is_available, AreApart, IsSoundSegment, IsWindow, fenced_segments, segments_of, open_in, open_at, open_place, IsQuiet, IsSettled, IsPending, Follows}
+use Rattle.onll_model.specs.Segment.{Segment, LiesIn, Covers, Rises, last_place, nodes_between}
+use Rattle.onll_model.specs.Frames.{Frame, Thread, Activity, Rest, Walk, Logging, Fenced, Sound, IsLast, IsAvailable, is_available, AreApart, IsSoundSegment, IsWindow, fenced_segments, segments_of, open_at, open_place, IsSettled, IsPending, Follows}
 use Rattle.onll_model.specs.Events.{with_thread, with_flag, resting_at, window, logging, fencing, stuck_at}
 use Rattle.onll_model.proofs.Lists.{same_some, inside, at_window, length_window, all_append, all_left, all_right, all_map}
-use Rattle.onll_model.proofs.Segments.{Grows, covers_still, rises_snoc, last_snoc, lies_left, lies_right, lies_of_thread}
+use Rattle.onll_model.proofs.Segments.{covers_still, rises_snoc, last_snoc, lies_left, lies_right, lies_of_thread}
 use Rattle.onll_model.proofs.Traces.{node_place, few_nodes}
-use Rattle.onll_model.proofs.Flags.{flag_set, available_low}
-use Rattle.onll_model.proofs.FrameParts.{each_put, segments_still, Own, own_of, put_sound, in_trace, unflagged_last, free_of, open_free, pends_none}
+use Rattle.onll_model.proofs.Flags.{flag_set}
+use Rattle.onll_model.proofs.FrameParts.{each_put, segments_still, Own, own_of, put_sound, free_of, open_free, pends_none}
 use Rattle.onll_model.proofs.FrameSteps.{apart_more, seen_below}
 
 -- The steps that log a window, fence it, and set the own flag; and a fence that fails.
@@ -35,11 +35,14 @@ own_logging count f th d p free old rises settled available above below high few
     let first : d ≡ p - length g.nodes = omega arith in
     record {
       quiet = λ h. absurd (h free);
-      segments = all_append (IsSoundSegment count f.trace (fenced_segments f.threads)) th.fenced (g ∷ []) old (record {
-        agrees = record { some_nodes = omega arith; from_one = omega arith; in_trace = high; nodes = ap (λ (n : ℕ). nodes_between f.trace n p) first };
-        few = omega arith;
-        below = subst (Covers (fenced_segments f.threads)) first cover;
-      }, tt);
+      segments = all_append (IsSoundSegment count f.trace (fenced_segments f.threads)) th.fenced (g ∷ []) old (
+        record {
+          agrees = record { some_nodes = omega arith; from_one = omega arith; in_trace = high; nodes = ap (λ (n : ℕ). nodes_between f.trace n p) first };
+          few = omega arith;
+          below = subst (Covers (fenced_segments f.threads)) first cover;
+        },
+        tt,
+      );
       rising = rises_snoc 0 th.fenced g rises (omega arith);
       settled = settled;
       pending = subst (λ (o : Option ℕ). IsPending (Some g) o (Logging p (p - d))) (sym free) (g, refl, (refl, len));
@@ -60,12 +63,12 @@ walk_to_sound count f t th p d e s at is above below apart available =
     let high = (node_place f.trace p last.node last.here).1 in
     put_sound count f t th (logging th f.trace e p) s at (λ q l. l) (ap (λ (o : Option ℕ). open_at o (Logging p (p - e))) free ∙ sym opens)
     (own_logging count f th e p free
-      (subst (AllByRecursion (IsSoundSegment count f.trace (fenced_segments f.threads))) alone own.segments)
-      (subst (Rises 0) alone own.rising)
-      (subst (IsSettled th.seen th.fenced) is own.settled)
-      own.seen above below high
-      (window_few count f e p s (omega arith) high apart)
-      (s.covered e available))
+    (subst (AllByRecursion (IsSoundSegment count f.trace (fenced_segments f.threads))) alone own.segments)
+    (subst (Rises 0) alone own.rising)
+    (subst (IsSettled th.seen th.fenced) is own.settled)
+    own.seen above below high
+    (window_few count f e p s (omega arith) high apart)
+    (s.covered e available))
 
 -- the walk meets a flagged node
 pub walk_ends_sound : (count : ℕ) (f : Frame) (t : ℕ) (th : Thread) (p d : ℕ) → Sound count f → slice_get f.threads t ≡ Some th → th.activity ≡ Walk p d → IsAvailable f d

@@ -1,4 +1,4 @@
-use Rattle.std.proofs.Common.{◌≡◌, ◌≢◌, ℕ, zero, suc, ◌+◌, ◌-◌, ◌<◌, ◌≤◌, Bool, true, false, List, [], ◌∷◌, ◌++◌, length, set, Option, Some, None, refl, sym, ap, ◌∙◌, subst, ⊎_elim, ◌⊎◌, inl, inr, arith, length-set, true≢false}
+use Rattle.std.proofs.Common.{◌≡◌, ◌≢◌, ℕ, ◌-◌, ◌≤◌, false, List, length, set, Option, Some, None, refl, sym, ap, ◌∙◌, subst, ⊎_elim, arith, length-set, true≢false}
 use Rattle.std.specs.List.{AllByRecursion, slice_get}
 use mathlib.Core.Logic.{◌↔◌, dite}
 use Rattle.onll_model.specs.declared.node.Node.{Node}
@@ -6,7 +6,7 @@ use Rattle.onll_model.specs.Trace.{node_at}
 use Rattle.onll_model.specs.Segment.{Segment, Agrees, Covers, Rises, last_place}
 use Rattle.onll_model.specs.Frames.{Frame, Thread, Activity, Rest, Loaded, Walk, Logging, Fenced, Asking, Sound, IsLast, IsAvailable, is_available, IsSoundSegment, fenced_segments, segments_of, open_in, open_at, open_place, IsQuiet, IsSettled, IsPending, Follows}
 use Rattle.onll_model.specs.Events.{with_thread}
-use Rattle.onll_model.proofs.Lists.{at_set, all_map, same_some, some_not_none}
+use Rattle.onll_model.proofs.Lists.{at_set, all_map}
 use Rattle.onll_model.proofs.Segments.{Grows, covers_still}
 use Rattle.onll_model.proofs.Flags.{available_low}
 

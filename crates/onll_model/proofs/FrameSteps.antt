@@ -1,13 +1,11 @@
-use Rattle.std.proofs.Common.{◌≡◌, ◌≢◌, ℕ, zero, suc, ◌+◌, ◌-◌, ◌<◌, ◌≤◌, max, Bool, true, false, List, [], ◌∷◌, ◌++◌, length, set, Option, Some, None, refl, sym, ap, ◌∙◌, subst, ⊎_elim, ◌⊎◌, arith, true≢false}
+use Rattle.std.proofs.Common.{◌≡◌, ◌≢◌, ℕ, suc, ◌<◌, ◌≤◌, max, false, List, length, Some, None, refl, sym, ap, ◌∙◌, subst, ⊎_elim, arith, true≢false}
 use Rattle.std.specs.List.{AllByRecursion, slice_get}
 use Rattle.std.proofs.lemmas.Bool.{cases_lt}
 use mathlib.Core.Logic.{dite}
 use native.Mathlib.Decide.{ℕ_discrete}
-use Rattle.onll_model.specs.declared.node.Node.{Node}
-use Rattle.onll_model.specs.Trace.{node_at}
-use Rattle.onll_model.specs.Frames.{Frame, Thread, Activity, Rest, Loaded, Walk, Logging, Fenced, Asking, Sound, IsAvailable, is_available, AreApart, open_in, open_at, open_place, IsQuiet, IsSettled, IsPending, Follows}
+use Rattle.onll_model.specs.Frames.{Frame, Thread, Activity, Rest, Loaded, Walk, Asking, Sound, IsAvailable, is_available, AreApart, open_in, open_at, IsQuiet, IsSettled, IsPending, Follows}
 use Rattle.onll_model.specs.Events.{with_thread, with_notes, doing, resting_at}
-use Rattle.onll_model.proofs.FrameParts.{Own, own_of, put_sound, in_trace, unflagged_last, free_of, same_open, IsUnwritten, pends_same, settled_low, low_settled, quiet_unwritten, quiet_open}
+use Rattle.onll_model.proofs.FrameParts.{own_of, put_sound, in_trace, unflagged_last, free_of, same_open, IsUnwritten, pends_same, settled_low, low_settled, quiet_unwritten, quiet_open}
 
 -- Steps that change only what a thread is about, or only what it has seen.
 

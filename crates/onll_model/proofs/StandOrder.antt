@@ -1,4 +1,4 @@
-use Rattle.std.proofs.Common.{◌≡◌, ℕ, ◌<◌, ◌≤◌, ◌⊎◌, inl, inr, ◌∙◌, ⊎_elim, arith}
+use Rattle.std.proofs.Common.{◌≡◌, ◌<◌, inl, inr, ⊎_elim, arith}
 use Rattle.onll_model.specs.RealTime.{Stand, NodeAt, ReadAt, StandsBefore, StandOrder}
 
 -- The order of calls is strict.

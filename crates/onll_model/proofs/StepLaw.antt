@@ -1,11 +1,11 @@
-use Rattle.std.proofs.Common.{◌≡◌, ◌≢◌, ℕ, zero, suc, ◌+◌, ◌-◌, ◌<◌, ◌≤◌, max, Bool, true, false, List, [], ◌∷◌, ◌++◌, length, take, drop, set, Option, Some, None, refl, sym, ap, ◌∙◌, subst, ⊎_elim, ◌⊎◌, arith, length-append, true≢false}
+use Rattle.std.proofs.Common.{◌≡◌, ◌≢◌, ℕ, ◌+◌, ◌-◌, ◌≤◌, max, Bool, true, false, List, [], ◌∷◌, ◌++◌, length, take, drop, set, Option, Some, None, refl, sym, ap, ◌∙◌, ⊎_elim, arith, length-append, true≢false}
 use Rattle.std.specs.List.{slice_get}
 use mathlib.Core.Logic.{dite}
 use native.Mathlib.Decide.{ℕ_discrete}
 use Rattle.onll_model.specs.declared.node.Node.{Node}
 use Rattle.onll_model.specs.Trace.{node_at}
-use Rattle.onll_model.specs.Frames.{Frame, Thread, Activity, Rest, Loaded, Walk, Logging, Fenced, Asking, Sound, IsAvailable, is_available}
-use Rattle.onll_model.specs.Events.{Event, UpdateTail, Won, Lost, FlagSet, FlagUnset, Fence, Set, ReadTail, Withdraw, Fail, MakeNote, Learn, thread_of, with_thread, with_flag, with_node, with_notes, resting_at, next_node, linking, doing, at_set_flag, at_unset_flag, asking, after_fence, after_fail, after_set, after_learn, after_by, after}
+use Rattle.onll_model.specs.Frames.{Frame, Thread, Activity, Rest, Loaded, Walk, Logging, Fenced, Asking, Sound, is_available}
+use Rattle.onll_model.specs.Events.{Event, UpdateTail, Won, Lost, FlagSet, FlagUnset, Fence, Set, ReadTail, Withdraw, Fail, MakeNote, Learn, thread_of, with_thread, with_flag, with_node, resting_at, next_node, linking, doing, at_set_flag, at_unset_flag, asking, after_fence, after_fail, after_set, after_learn, after_by, after}
 use Rattle.onll_model.specs.FrameLaws.{IsStepOf}
 use Rattle.onll_model.proofs.Lists.{same_some, set_else, take_before, take_all}
 use Rattle.onll_model.proofs.Traces.{node_place}

@@ -1,4 +1,4 @@
-use Rattle.std.specs.Prelude.{ℕ, List, ◌≡◌, ◌<◌, ◌≤◌, ◌⊎◌, Option, Some, None, IfSome, slice_get}
+use Rattle.std.specs.Prelude.{ℕ, List, ◌≡◌, ◌<◌, ◌≤◌, ◌⊎◌, Option, Some, IfSome, slice_get}
 
 -- The order of calls in time. Nodes and the reads that have returned stand in one order: the node of a place, and after it
 -- the reads at that place by the clock of their last step.

@@ -1,4 +1,4 @@
-//! Sequential objects, the calls on them, and the traces of their updates.
+//! Sequential objects, the calls on them, the traces of their updates, and the frames of a running object.
 #![tactic(auto)]
 
 mod call;

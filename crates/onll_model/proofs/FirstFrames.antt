@@ -22,10 +22,7 @@ resumed_at b [] P all t th e = some_not_none th (sym e)
 resumed_at b (ss ∷ logs) P all zero th e = subst P (same_some (resumed_thread b ss) th e) all.0
 resumed_at b (ss ∷ logs) P all (suc t) th e = resumed_at b logs P all.1 t th e
 
--- what holds of each log, from a fact of each
-each_log : (P Q : List Segment → Type 0) (logs : List (List Segment)) → ((ss : List Segment) → P ss → Q ss) → AllByRecursion P logs → AllByRecursion Q logs
-each_log P Q logs f all = all_map P Q logs f all
-
+-- what holds of any segments
 every_log : (Q : List Segment → Type 0) (logs : List (List Segment)) → ((ss : List Segment) → Q ss) → AllByRecursion Q logs
 every_log Q [] f = tt
 every_log Q (ss ∷ logs) f = (f ss, every_log Q logs f)
@@ -57,11 +54,11 @@ resumed_sound count base logs r =
         opened = λ t th e p opens. absurd (closed t th e p opens);
         quiet = resumed_at b logs (λ th. th.stuck ≢ None → IsQuiet th.activity) (every_log _ logs (λ ss _. tt));
         segments = resumed_at b logs (λ th. AllByRecursion (IsSoundSegment count base (fenced_segments f.threads)) (segments_of th))
-            (each_log _ _ logs (λ ss all. subst (AllByRecursion (IsSoundSegment count base (fenced_segments f.threads))) (sym (alone ss)) all) r.segments);
+            (all_map _ _ logs (λ ss all. subst (AllByRecursion (IsSoundSegment count base (fenced_segments f.threads))) (sym (alone ss)) all) r.segments);
         covered = λ p e. covers p (let h = available_low f.flags p e in omega arith);
-        rising = resumed_at b logs (λ th. Rises 0 (segments_of th)) (each_log _ _ logs (λ ss all. subst (Rises 0) (sym (alone ss)) all) r.rising);
+        rising = resumed_at b logs (λ th. Rises 0 (segments_of th)) (all_map _ _ logs (λ ss all. subst (Rises 0) (sym (alone ss)) all) r.rising);
         settled = resumed_at b logs (λ th. IsSettled th.seen th.fenced th.activity)
-            (each_log _ _ logs (λ ss all. last_low count 0 base (fenced_segments f.threads) ss all (omega arith)) r.segments);
+            (all_map _ _ logs (λ ss all. last_low count 0 base (fenced_segments f.threads) ss all (omega arith)) r.segments);
         pending = resumed_at b logs (λ th. IsPending th.pending th.stuck th.activity) (every_log _ logs (λ ss. refl));
         follows = resumed_at b logs (λ th. Follows base th.seen th.activity) (every_log _ logs (λ ss. tt));
         seen = resumed_at b logs (λ th. IsAvailable f th.seen) (every_log _ logs (λ ss. available b (omega arith)));

@@ -14,3 +14,4 @@ pub mod FirstFrames
 pub mod StepLaw
 pub mod Looks
 pub mod StandOrder
+pub mod FrameExample

@@ -120,7 +120,7 @@ Follows trace seen (Logging p n) = seen + n ≤ p
 Follows trace seen (Fenced p n) = seen + n ≤ p
 Follows trace seen (Asking f d) = (seen ≤ d) × (d ≤ f) × (f ≤ length trace) × (1 ≤ d)
 
--- The frame is one that threads can reach, where `count` is the number of threads.
+-- What holds of every frame of a running object with `count` threads.
 pub record Sound (count : ℕ) (f : Frame) : Type 0 where
   -- a flag for each node, a part for each thread
   pub flags : length f.flags ≡ length f.trace

@@ -11,3 +11,7 @@ pub mod FrameLogs
 pub mod FrameLinks
 pub mod EventLaw
 pub mod FirstFrames
+pub mod StepLaw
+pub mod Looks
+pub mod StandOrder
+pub mod FrameExample

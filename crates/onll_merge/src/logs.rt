@@ -75,7 +75,13 @@ fn next_of_logs(logs: &[Decoded], passed: &[usize], place: u64, end: u64) -> u64
 }
 
 /// Whether the logs after this one hold no other node than its own at a place.
-fn check_others(logs: &[Decoded], passed: &mut [usize], place: u64, log: usize, node: Node) -> Result<(), RecoverFault>
+fn check_others(
+    logs: &[Decoded],
+    passed: &mut [usize],
+    place: u64,
+    log: usize,
+    node: Node,
+) -> Result<(), RecoverFault>
     requires rise { AllRise (contents_in logs.now) }
     requires count { length logs.now ≤ length passed.old }
     requires passed { ArePassedInAll logs.now passed.old place }
@@ -84,7 +90,8 @@ fn check_others(logs: &[Decoded], passed: &mut [usize], place: u64, log: usize, 
     ensures passed { ArePassedInAll logs.now passed.new place }
 {
     for other in log + 1..logs.len() {
-        if !agrees(logs[other].entries.as_slice(), &mut passed[other], place, node) {
+        let entries = logs[other].entries.as_slice();
+        if !agrees(entries, &mut passed[other], place, node) {
             return Err(RecoverFault::Clash {
                 place,
                 log: log as u64,
@@ -96,7 +103,11 @@ fn check_others(logs: &[Decoded], passed: &mut [usize], place: u64, log: usize, 
 }
 
 /// The node of a place in the logs that hold it, none where no log does; it refuses logs that hold different nodes.
-fn node_of_place(logs: &[Decoded], passed: &mut [usize], place: u64) -> Result<Option<Node>, RecoverFault>
+fn node_of_place(
+    logs: &[Decoded],
+    passed: &mut [usize],
+    place: u64,
+) -> Result<Option<Node>, RecoverFault>
     requires rise { AllRise (contents_in logs.now) }
     requires count { length logs.now ≤ length passed.old }
     requires passed { ArePassedInAll logs.now passed.old place }
@@ -114,7 +125,12 @@ fn node_of_place(logs: &[Decoded], passed: &mut [usize], place: u64) -> Result<O
 }
 
 /// Whether no two logs hold different nodes at a place up to `top`, where none do up to `place`.
-fn check_above(logs: &[Decoded], passed: &mut [usize], place: u64, top: u64) -> Result<(), RecoverFault>
+fn check_above(
+    logs: &[Decoded],
+    passed: &mut [usize],
+    place: u64,
+    top: u64,
+) -> Result<(), RecoverFault>
     requires rise { AllRise (contents_in logs.now) }
     requires count { length logs.now ≤ length passed.old }
     requires passed { ArePassedInAll logs.now passed.old place }
@@ -125,7 +141,7 @@ fn check_above(logs: &[Decoded], passed: &mut [usize], place: u64, top: u64) -> 
     let mut at = place;
     while at < top {
         at = next_of_logs(logs, passed, at, top);
-        let _ = node_of_place(logs, passed, at)?;
+        node_of_place(logs, passed, at)?;
     }
     Ok(())
 }

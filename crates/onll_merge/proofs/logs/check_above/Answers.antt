@@ -10,7 +10,7 @@ pub loop-at-preserved : goal.loop-at-preserved
 loop-at-preserved c = let cs = contents_in c.args.logs.now in let at = c.next_of_logs-at.result in record {
   bound = c.next_of_logs-at.ensures.bound;
   none = first_to-more (clash_at cs) c.loop-at.at at c.loop-at.invariant.none (let h = c.next_of_logs-at.ensures.above in omega arith)
-    (λ q a b. dite (ℕ_discrete q at) (λ (is : q ≡ at). ap (clash_at cs) is ∙ c.in_ok-node_of_place.ensures.clash) (λ (not : q ≢ at). clash_from-none 0 cs q (c.next_of_logs-at.ensures.none q a (omega arith))));
+      (λ q a b. dite (ℕ_discrete q at) (λ (is : q ≡ at). ap (clash_at cs) is ∙ c.in_ok-node_of_place.ensures.clash) (λ (not : q ≢ at). clash_from-none 0 cs q (c.next_of_logs-at.ensures.none q a (omega arith))));
   passed = c.in_ok-node_of_place.ensures.passed;
 }
 

@@ -1,4 +1,4 @@
-use Rattle.std.proofs.Common.{◌≡◌, ◌+◌, ◌<◌, ◌≤◌, length, get_or, ap, arith}
+use Rattle.std.proofs.Common.{length, ap, arith}
 use Rattle.onll_log.specs.declared.decoded.Entry.{Entry}
 use Rattle.onll_merge.proofs.Places.{node_in_log-high, node_in_log-between, Rises-above}
 use Rattle.onll_merge.proofs.entries.next_of_log.Goals as goal

@@ -1,4 +1,4 @@
-use Rattle.std.proofs.Common.{◌≡◌, ◌<◌, ◌≤◌, length, get_or, sym, ap, ◌∙◌, arith}
+use Rattle.std.proofs.Common.{sym, ap, ◌∙◌, arith}
 use Rattle.onll_log.specs.declared.decoded.Entry.{Entry}
 use Rattle.onll_log.specs.Decoded.{segment_in}
 use Rattle.onll_merge.specs.Merge.{node_in_segment}

@@ -1,4 +1,4 @@
-use Rattle.std.proofs.Common.{◌≡◌, ◌+◌, arith, ap, sym, ◌∙◌, None, Some, inr}
+use Rattle.std.proofs.Common.{◌+◌, arith, ap, sym, ◌∙◌, None, Some, inr}
 use Rattle.std.specs.Option.{option_map_or, option_or}
 use Rattle.std.proofs.lemmas.Result.{err_from_is_err_and}
 use Rattle.onll_merge.specs.declared.fault.RecoverFault.TheVariants.{Gap}

@@ -1,14 +1,13 @@
-use Rattle.std.proofs.Common.{ℕ, zero, suc, ◌≡◌, ◌+◌, ◌*◌, ◌<◌, ◌≤◌, inr, Bool, true, false, List, [], ◌∷◌, ◌++◌, length, map, replicate, Option, Some, None, sym, refl, ap, ◌∙◌, subst, arith, count_by}
+use Rattle.std.proofs.Common.{ℕ, zero, suc, ◌≡◌, ◌+◌, ◌*◌, ◌≤◌, inr, Bool, true, false, List, [], ◌∷◌, ◌++◌, length, map, replicate, Some, None, sym, refl, ap, ◌∙◌, subst, arith, count_by}
 use Rattle.std.proofs.lemmas.List.{length-replicate}
 use Rattle.std.specs.List.{slice_get}
 use Rattle.onll_model.specs.declared.call.Call.{Call}
 use Rattle.onll_model.specs.Trace.{is_of_thread}
-use Rattle.onll_model.specs.Segment.{Segment}
-use Rattle.onll_model.specs.Frames.{Thread, resumed_thread, resumed_frame}
+use Rattle.onll_model.specs.Frames.{resumed_thread}
 use Rattle.onll_model.specs.FrameLaws.{SoundOver}
 use Rattle.onll_model.proofs.Lists.{same_some, some_not_none}
 use Rattle.onll_model.proofs.FirstFrames.{created_sound}
-use Rattle.onll_pmem.specs.Device.{DeviceState, zero_line, zero_lines, settled, line_at}
+use Rattle.onll_pmem.specs.Device.{zero_line, zero_lines, settled, line_at}
 use Rattle.onll_log.specs.declared.head.LogHead.{LogHead}
 use Rattle.onll_log.specs.Encoding.{log_lines}
 use Rattle.onll_core.specs.declared.phase.Phase.TheVariants as phases

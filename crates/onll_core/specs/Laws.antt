@@ -1,5 +1,4 @@
 use Rattle.std.specs.Prelude.{ℕ, List}
-use Rattle.std.specs.List.{AllByRecursion}
 use Rattle.onll_model.specs.declared.call.Call.{Call}
 use Rattle.onll_model.specs.Object.{Behaviour}
 use Rattle.onll_log.specs.declared.head.LogHead.{LogHead}

@@ -5,5 +5,6 @@ pub mod Ties
 pub mod StepEvents
 pub mod Kept
 pub mod Fences
+pub mod Begin
 pub mod FirstCore
 pub mod Ready

@@ -8,3 +8,4 @@ pub mod Fences
 pub mod Begin
 pub mod FirstCore
 pub mod Ready
+pub mod Stays

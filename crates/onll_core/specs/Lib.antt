@@ -11,3 +11,4 @@ pub mod Fences
 pub mod Entries
 pub mod Laws
 pub mod Ready
+pub mod Stays

@@ -9,3 +9,4 @@ pub mod Begin
 pub mod FirstCore
 pub mod Ready
 pub mod Stays
+pub mod Crash

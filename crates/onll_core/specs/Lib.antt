@@ -12,3 +12,4 @@ pub mod Entries
 pub mod Laws
 pub mod Ready
 pub mod Stays
+pub mod Crash

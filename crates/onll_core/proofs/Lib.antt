@@ -10,3 +10,4 @@ pub mod FirstCore
 pub mod Ready
 pub mod Stays
 pub mod Crash
+pub mod Choices

@@ -13,3 +13,4 @@ pub mod Laws
 pub mod Ready
 pub mod Stays
 pub mod Crash
+pub mod Choices

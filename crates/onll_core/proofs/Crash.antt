@@ -1,9 +1,11 @@
-use Rattle.std.proofs.Common.{ℕ, zero, suc, ◌≡◌, ◌≢◌, ◌+◌, ◌-◌, ◌≤◌, ◌⊎◌, inl, inr, ⊎_elim, List, [], ◌∷◌, ◌++◌, length, take, Option, Some, None, option_to_list, sym, refl, ap, ◌∙◌, subst, arith, append-nil, length-append}
+use Rattle.std.proofs.Common.{ℕ, zero, suc, map, ◌≡◌, ◌≢◌, ◌+◌, ◌-◌, ◌≤◌, ◌⊎◌, inl, inr, ⊎_elim, List, [], ◌∷◌, ◌++◌, length, take, Option, Some, None, option_to_list, sym, refl, ap, ◌∙◌, subst, arith, append-nil, length-append}
 use Rattle.std.proofs.lemmas.List.{length-replicate}
 use Rattle.std.specs.List.{slice_get}
 use mathlib.Core.Logic.{dite}
 use native.Mathlib.Decide.{ℕ_discrete}
+use Rattle.onll_model.specs.declared.node.Node.{Node}
 use Rattle.onll_model.specs.Segment.{Segment}
+use Rattle.onll_model.specs.Frames.{Thread}
 use Rattle.onll_model.specs.Events.{window}
 use Rattle.onll_pmem.specs.Device.{IsImage, Mixed, NonePending, zero_line, zero_lines}
 use Rattle.onll_pmem.proofs.Mixes.{IsImage-settled}
@@ -15,10 +17,13 @@ use Rattle.onll_log.proofs.Torn.{Among-front, Holds-log_image, TornOrWhole-Among
 use Rattle.onll_core.specs.declared.phase.Phase.{Phase}
 use Rattle.onll_core.specs.declared.phase.Phase.TheVariants as phases
 use Rattle.onll_core.specs.Core.{CoreThread, CoreState}
-use Rattle.onll_core.specs.CoreFrame.{pending_in, fenced_entries}
+use Rattle.onll_core.specs.CoreFrame.{pending_in, fenced_entries, thread_at, frame_thread, frame_of}
 use Rattle.onll_core.specs.Tie.{written_in, lines_needed, coming_lines, IsTied}
 use Rattle.onll_core.specs.Consistent.{IsConsistent}
-use Rattle.onll_core.specs.Crash.{whole_image, HoldsFenced, HoldsChoice}
+use Rattle.onll_core.specs.Crash.{whole_image, HoldsFenced, HoldsChoice, AreImages, HoldLogs, Survives}
+use Rattle.onll_core.specs.Choices.{AreChoices}
+use Rattle.onll_core.proofs.CoreFrames.{part_at}
+use Rattle.onll_core.proofs.Choices.{choices_hold}
 use Rattle.onll_core.proofs.Windows.{window_of}
 use Rattle.onll_core.proofs.Ties.{fenced_is_log}
 
@@ -105,3 +110,30 @@ module _ {State Op Query Reply : Type 0} (count : ℕ) (c : CoreState State Op Q
 
   pub image_choice : HoldsChoice th (pending_in c.trace th.phase) image
   image_choice = choice_of (pending_in c.trace th.phase) image_holds
+
+-- ---- all threads
+-- the logs of the images
+logs_of : {State Op Query Reply : Type 0} (base : ℕ) (trace : List Node) (ths : List (CoreThread State Op Query Reply)) (images : List (List (List ℕ))) → AreImages ths images
+    → ((t : ℕ) (th : CoreThread State Op Query Reply) → slice_get ths t ≡ Some th → (image : List (List ℕ)) → IsImage th.device image → HoldsChoice th (pending_in trace th.phase) image)
+    → (logs : List (List Segment)) × HoldLogs ths images logs × AreChoices (map (frame_thread base trace) ths) logs
+logs_of base trace [] [] m h = ([], tt, tt)
+logs_of base trace [] (image ∷ images) m h = absurd m
+logs_of base trace (th ∷ ths) [] m h = absurd m
+logs_of base trace (th ∷ ths) (image ∷ images) m h =
+    let here = h 0 th refl image m.0 in
+    let rest = logs_of base trace ths images m.1 (λ t w e. h (suc t) w e) in
+    (here.entries ∷ rest.0, (here.holds, rest.1), (here.choice, rest.2))
+
+-- what a crash leaves of a consistent core
+pub survives : {State Op Query Reply : Type 0} (count : ℕ) (c : CoreState State Op Query Reply) (images : List (List (List ℕ))) → IsConsistent count c → AreImages c.threads images → Survives c images
+survives count c images k m =
+    let x = logs_of c.base c.trace c.threads images m (λ t th at image mixed. image_choice count c k t th at image mixed) in
+    let front = choices_hold count (frame_of c) x.0 k.sound x.2 in
+    record {
+      logs = x.0;
+      hold = x.1;
+      choices = x.2;
+      front = front;
+      base = front.available c.base (k.based.available c.base (omega arith));
+      returned = λ t th at. let v : Thread = thread_at c.base c.trace th th.phase in front.available v.seen (k.sound.seen t v (part_at c t th at th.phase refl));
+    }

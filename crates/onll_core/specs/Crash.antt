@@ -1,8 +1,11 @@
 use Rattle.std.specs.Prelude.{ℕ, suc, ◌≡◌, ◌+◌, ◌-◌, ◌⊎◌, List, [], ◌∷◌, ◌++◌, length, Option, Some, None, option_to_list}
-use Rattle.onll_model.specs.Segment.{Segment}
+use Rattle.onll_model.specs.Segment.{Segment, Covers}
+use Rattle.onll_pmem.specs.Device.{IsImage}
 use Rattle.onll_log.specs.Torn.{log_image, Holds, TornOrWhole}
-use Rattle.onll_core.specs.Core.{CoreThread}
-use Rattle.onll_core.specs.CoreFrame.{fenced_entries}
+use Rattle.onll_core.specs.Core.{CoreThread, CoreState}
+use Rattle.onll_core.specs.CoreFrame.{seen_in, fenced_entries, frame_of}
+use Rattle.onll_core.specs.Consistent.{EachCoreThread}
+use Rattle.onll_core.specs.Choices.{AreChoices, all_in, HoldFront}
 
 -- What a crash leaves of a thread's log.
 
@@ -20,3 +23,25 @@ pub record HoldsChoice {State Op Query Reply : Type 0} (th : CoreThread State Op
   pub entries : List Segment
   pub holds : Holds image th.head entries
   pub choice : (entries ≡ fenced_entries th.head th.device) ⊎ (entries ≡ fenced_entries th.head th.device ++ option_to_list writing)
+
+-- one image of each thread's device
+abbrev pub AreImages : {State Op Query Reply : Type 0} → List (CoreThread State Op Query Reply) → List (List (List ℕ)) → Type 0
+AreImages [] [] = Unit {0}
+AreImages (th ∷ ths) (image ∷ images) = IsImage th.device image × AreImages ths images
+AreImages ths images = ⊥
+
+-- each image holds its thread's head and these entries
+abbrev pub HoldLogs : {State Op Query Reply : Type 0} → List (CoreThread State Op Query Reply) → List (List (List ℕ)) → List (List Segment) → Type 0
+HoldLogs [] [] [] = Unit {0}
+HoldLogs (th ∷ ths) (image ∷ images) (log ∷ logs) = Holds image th.head log × HoldLogs ths images logs
+HoldLogs ths images logs = ⊥
+
+-- What a crash leaves: logs of each thread's fenced entries, some with the one that was being written, which hold a front
+-- of the trace, the base and every place at which a call returned.
+pub record Survives {State Op Query Reply : Type 0} (c : CoreState State Op Query Reply) (images : List (List (List ℕ))) : Type 0 where
+  pub logs : List (List Segment)
+  pub hold : HoldLogs c.threads images logs
+  pub choices : AreChoices (frame_of c).threads logs
+  pub front : HoldFront (frame_of c) logs
+  pub base : Covers (all_in logs) c.base
+  pub returned : EachCoreThread c (λ t th. Covers (all_in logs) (seen_in c.base th.returned))

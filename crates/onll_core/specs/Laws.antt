@@ -1,10 +1,12 @@
-use Rattle.std.specs.Prelude.{ℕ, List}
+use Rattle.std.specs.Prelude.{ℕ, ◌≡◌, List, Some, slice_get}
 use Rattle.onll_model.specs.declared.call.Call.{Call}
 use Rattle.onll_model.specs.declared.node.Node.{Node}
 use Rattle.onll_model.specs.Object.{Behaviour}
 use Rattle.onll_model.specs.Segment.{Segment}
+use Rattle.onll_pmem.specs.Device.{IsImage}
 use Rattle.onll_log.specs.declared.head.LogHead.{LogHead}
-use Rattle.onll_core.specs.Core.{CoreState}
+use Rattle.onll_core.specs.Core.{CoreThread, CoreState}
+use Rattle.onll_core.specs.CoreFrame.{pending_in}
 use Rattle.onll_core.specs.Step.{step_of, steps_of}
 use Rattle.onll_core.specs.StepEvent.{event_of, IsEvent}
 use Rattle.onll_core.specs.First.{first_core, AreFirst}
@@ -12,6 +14,8 @@ use Rattle.onll_core.specs.Resumed.{resumed_core, AreResumed}
 use Rattle.onll_core.specs.Fences.{CountsFences}
 use Rattle.onll_core.specs.Entries.{EntriesAreFew}
 use Rattle.onll_core.specs.Consistent.{IsConsistent}
+use Rattle.onll_core.specs.Stays.{Stays}
+use Rattle.onll_core.specs.Crash.{HoldsFenced, AreImages, Survives}
 
 -- Laws of the step core, whatever the object and whatever threads take steps.
 
@@ -36,6 +40,15 @@ module _ (State Op Query Reply : Type 0) where
   abbrev pub EntriesLaw : Type 0
   EntriesLaw = (count : ℕ) (c : CoreState State Op Query Reply) → IsConsistent count c → EntriesAreFew count c
 
+  -- an image of a thread's device holds the fenced entries, and the one that is being written exactly where it is whole
+  abbrev pub TornLaw : Type 0
+  TornLaw = (count : ℕ) (c : CoreState State Op Query Reply) (t : ℕ) (th : CoreThread State Op Query Reply) (image : List (List ℕ)) → IsConsistent count c → slice_get c.threads t ≡ Some th → IsImage th.device image
+      → HoldsFenced th (pending_in c.trace th.phase) image
+
+  -- whatever images a crash leaves, their logs hold a front of the trace with every place at which a call returned
+  abbrev pub CrashLaw : Type 0
+  CrashLaw = (count : ℕ) (c : CoreState State Op Query Reply) (images : List (List (List ℕ))) → IsConsistent count c → AreImages c.threads images → Survives c images
+
 module _ {State Op Query Reply : Type 0} (b : Behaviour State Op Query Reply) where
   -- a step of a thread is its event
   abbrev pub StepEventLaw : Type 0
@@ -51,3 +64,7 @@ module _ {State Op Query Reply : Type 0} (b : Behaviour State Op Query Reply) wh
   -- steps keep the count of fences
   abbrev pub FencesLaw : Type 0
   FencesLaw = (before : ℕ) (c : CoreState State Op Query Reply) (ts : List ℕ) → CountsFences before c → CountsFences before (steps_of b c ts)
+
+  -- steps leave the initial state, the base, heads and scripts; they add nodes, flags and returned calls, and take none back
+  abbrev pub StaysLaw : Type 0
+  StaysLaw = (c : CoreState State Op Query Reply) (ts : List ℕ) → Stays c (steps_of b c ts)

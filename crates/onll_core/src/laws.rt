@@ -1,6 +1,6 @@
 //! What steps of a core keep, for every object and whatever threads take them.
 
-ghost use Rattle.onll_core.specs.Laws.{FirstLaw, FirstFencesLaw, ResumedLaw, ResumedFencesLaw, StepEventLaw, StepLaw, StepsLaw, FencesLaw, EntriesLaw};
+ghost use Rattle.onll_core.specs.Laws.{FirstLaw, FirstFencesLaw, ResumedLaw, ResumedFencesLaw, StepEventLaw, StepLaw, StepsLaw, StaysLaw, FencesLaw, EntriesLaw, TornLaw, CrashLaw};
 
 use onll_model::Object;
 
@@ -23,4 +23,16 @@ pub fn fence_law<O: Object>()
     ensures resumed { ResumedFencesLaw O O.Op O.Query O.Reply }
     ensures fences { FencesLaw O.means }
     ensures entries { EntriesLaw O O.Op O.Query O.Reply }
+{}
+
+/// Steps take nothing back: nodes stay where they are, a flag that is set stays set, and so do returned calls.
+pub fn stays_law<O: Object>()
+    ensures { StaysLaw O.means }
+{}
+
+/// Whatever images a crash leaves of a consistent core, their logs hold a front of its trace, with the base and every
+/// place at which a call returned; a torn entry is not there.
+pub fn crash_law<O: Object>()
+    ensures torn { TornLaw O O.Op O.Query O.Reply }
+    ensures crash { CrashLaw O O.Op O.Query O.Reply }
 {}

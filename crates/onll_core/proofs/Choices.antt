@@ -1,8 +1,8 @@
-use Rattle.std.proofs.Common.{ℕ, zero, suc, ◌≡◌, ◌+◌, ◌-◌, ◌≤◌, ◌⊎◌, inl, inr, ⊎_elim, List, [], ◌∷◌, ◌++◌, length, Option, Some, None, option_to_list, sym, refl, ap, subst, arith}
+use Rattle.std.proofs.Common.{ℕ, suc, ◌≡◌, ◌-◌, ◌≤◌, inl, inr, ⊎_elim, List, [], ◌∷◌, ◌++◌, length, Some, option_to_list, sym, refl, subst, arith}
 use Rattle.std.specs.List.{AllByRecursion, slice_get}
 use mathlib.Core.Logic.{dite}
-use Rattle.onll_model.specs.Segment.{Segment, Agrees, Within, LiesIn, Covers, Rises}
-use Rattle.onll_model.specs.Frames.{Frame, Thread, Sound, IsSoundSegment, IsAvailable, fenced_segments, segments_of}
+use Rattle.onll_model.specs.Segment.{Segment, Agrees, Within, LiesIn, Rises}
+use Rattle.onll_model.specs.Frames.{Frame, Thread, Sound, IsSoundSegment, fenced_segments, segments_of}
 use Rattle.onll_model.proofs.Lists.{all_left, all_map}
 use Rattle.onll_model.proofs.Segments.{lies_left, lies_right, lies_either}
 use Rattle.onll_core.specs.Choices.{AreChoices, all_in, HoldFront}
@@ -49,7 +49,7 @@ choices_hold count f logs s a =
     let F : List Segment = fenced_segments f.threads in
     let P : Segment → Type 0 = IsSoundSegment count f.trace F in
     let sound : AllByRecursion (λ (log : List Segment). AllByRecursion P log) logs = each_choice (λ (log : List Segment). AllByRecursion P log) f.threads logs a
-        (λ t th at. (all_left P th.fenced (option_to_list th.pending) (s.segments t th at), s.segments t th at)) in
+    (λ t th at. (all_left P th.fenced (option_to_list th.pending) (s.segments t th at), s.segments t th at)) in
     record {
       agree = all_map (λ (log : List Segment). AllByRecursion P log) (λ (log : List Segment). AllByRecursion (Agrees f.trace) log) logs (λ log all. all_map P (Agrees f.trace) log (λ g h. h.agrees) all) sound;
       rise = each_choice (λ (log : List Segment). Rises 0 log) f.threads logs a (λ t th at. (rises_left 0 th.fenced (option_to_list th.pending) (s.rising t th at), s.rising t th at));

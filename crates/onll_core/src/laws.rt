@@ -30,8 +30,8 @@ pub fn stays_law<O: Object>()
     ensures { StaysLaw O.means }
 {}
 
-/// Whatever images a crash leaves of a consistent core, their logs hold a front of its trace, with the base and every
-/// place at which a call returned; a torn entry is not there.
+/// Whatever images a crash leaves of a consistent core, their logs hold a front of its trace, and in it the base and every
+/// place at which a call returned. A torn entry is not there, and what is left of it can be wiped.
 pub fn crash_law<O: Object>()
     ensures torn { TornLaw O O.Op O.Query O.Reply }
     ensures crash { CrashLaw O O.Op O.Query O.Reply }

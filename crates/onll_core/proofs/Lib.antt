@@ -7,6 +7,7 @@ pub mod Kept
 pub mod Fences
 pub mod Begin
 pub mod FirstCore
+pub mod Created
 pub mod Ready
 pub mod Stays
 pub mod Crash

@@ -6,6 +6,7 @@ pub mod Consistent
 pub mod StepEvent
 pub mod Begin
 pub mod First
+pub mod Created
 pub mod Resumed
 pub mod Fences
 pub mod Entries

@@ -5,5 +5,10 @@ pub mod Ties
 pub mod StepEvents
 pub mod Kept
 pub mod Fences
+pub mod Begin
 pub mod FirstCore
+pub mod Created
 pub mod Ready
+pub mod Stays
+pub mod Crash
+pub mod Choices

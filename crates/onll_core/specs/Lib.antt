@@ -4,8 +4,14 @@ pub mod CoreFrame
 pub mod Tie
 pub mod Consistent
 pub mod StepEvent
+pub mod Begin
 pub mod First
+pub mod Created
+pub mod Resumed
 pub mod Fences
 pub mod Entries
 pub mod Laws
 pub mod Ready
+pub mod Stays
+pub mod Crash
+pub mod Choices

@@ -5,6 +5,6 @@ mod laws;
 mod phase;
 mod returned;
 
-pub use laws::{consistency_law, fence_law, step_event_law};
+pub use laws::{consistency_law, crash_law, fence_law, stays_law, step_event_law};
 pub use phase::Phase;
 pub use returned::{Current, Returned, Stepped};

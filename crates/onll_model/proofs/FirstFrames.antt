@@ -74,8 +74,8 @@ resumed_sound count base logs r =
     closed : (t : ℕ) (th : Thread) → slice_get (map (resumed_thread (length base)) logs) t ≡ Some th → (p : ℕ) → open_place th ≢ Some p
     closed t th e p opens = let none = resumed_at (length base) logs (λ z. open_place z ≡ None) (every_log _ logs (λ ss. refl)) t th e in absurd (let both = sym none ∙ opens in (cc))
 
-pub created_sound : (count : ℕ) → SoundOver count 0 (resumed_frame [] (replicate count []))
-created_sound count = resumed_sound count [] (replicate count []) record {
+pub created_resumable : (count : ℕ) → IsResumable count [] (replicate count [])
+created_resumable count = record {
   threads = length-replicate count [];
   numbered = tt;
   below = tt;
@@ -91,3 +91,6 @@ created_sound count = resumed_sound count [] (replicate count []) record {
     empty' : (n : ℕ) → AllByRecursion (λ (ss : List Segment). Rises 0 ss) (replicate n [])
     empty' zero = tt
     empty' (suc n) = (tt, empty' n)
+
+pub created_sound : (count : ℕ) → SoundOver count 0 (resumed_frame [] (replicate count []))
+created_sound count = resumed_sound count [] (replicate count []) (created_resumable count)

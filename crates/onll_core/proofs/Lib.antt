@@ -1,0 +1,4 @@
+pub mod Phases
+pub mod Lawful
+pub mod LawfulSteps
+pub mod LegalReport

@@ -3,3 +3,4 @@ pub mod Step
 pub mod CoreFrame
 pub mod Tie
 pub mod Consistent
+pub mod Outcomes

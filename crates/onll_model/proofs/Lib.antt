@@ -12,3 +12,4 @@ pub mod FrameLinks
 pub mod EventLaw
 pub mod FirstFrames
 pub mod Ends
+pub mod Standings

@@ -2,3 +2,4 @@ pub mod Phases
 pub mod Lawful
 pub mod LawfulSteps
 pub mod LegalReport
+pub mod Timed

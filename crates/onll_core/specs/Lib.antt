@@ -4,3 +4,4 @@ pub mod CoreFrame
 pub mod Tie
 pub mod Consistent
 pub mod Outcomes
+pub mod CallTimes

@@ -1,4 +1,4 @@
-use Rattle.std.specs.Prelude.{ℕ, ◌≡◌, List, [], ◌∷◌, ◌++◌, length, map, take}
+use Rattle.std.specs.Prelude.{ℕ, ◌≡◌, ◌≤◌, List, [], ◌∷◌, ◌++◌, length, map, take}
 use Rattle.onll_model.specs.declared.call.Call.{Call}
 use Rattle.onll_model.specs.declared.call.CallEnd.{CallEnd}
 use Rattle.onll_model.specs.declared.call.CallEnd.TheVariants as ends
@@ -55,3 +55,4 @@ pub record IsFresh {State Op Query Reply : Type 0} (c : CoreState State Op Query
   pub trace : length c.trace ≡ c.base
   pub returned : EachCoreThread c (λ t th. th.returned ≡ [])
   pub idle : EachCoreThread c (λ t th. th.phase ≡ phases.Idle)
+  pub began : EachCoreThread c (λ t th. th.began ≤ c.clock)

@@ -3,3 +3,4 @@ pub mod Lawful
 pub mod LawfulSteps
 pub mod LegalReport
 pub mod Timed
+pub mod TimedSteps

@@ -4,3 +4,4 @@ pub mod LawfulSteps
 pub mod LegalReport
 pub mod Timed
 pub mod TimedSteps
+pub mod InTime

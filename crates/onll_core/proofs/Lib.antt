@@ -5,3 +5,12 @@ pub mod LegalReport
 pub mod Timed
 pub mod TimedSteps
 pub mod InTime
+pub mod Calls
+pub mod CoreFrames
+pub mod Windows
+pub mod Ties
+pub mod StepEvents
+pub mod Kept
+pub mod Fences
+pub mod FirstCore
+pub mod Ready

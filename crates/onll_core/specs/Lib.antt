@@ -5,3 +5,9 @@ pub mod Tie
 pub mod Consistent
 pub mod Outcomes
 pub mod CallTimes
+pub mod StepEvent
+pub mod First
+pub mod Fences
+pub mod Entries
+pub mod Laws
+pub mod Ready

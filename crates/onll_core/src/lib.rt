@@ -1,8 +1,10 @@
 //! The step core: a model of single atomic steps on which every interleaving of threads is one list of turns.
 #![tactic(auto)]
 
+mod laws;
 mod phase;
 mod returned;
 
+pub use laws::{consistency_law, fence_law, step_event_law};
 pub use phase::Phase;
 pub use returned::{Current, Returned, Stepped};

@@ -14,3 +14,5 @@ pub mod Kept
 pub mod Fences
 pub mod FirstCore
 pub mod Ready
+pub mod Bounds
+pub mod ReachedCores

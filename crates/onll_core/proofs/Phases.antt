@@ -64,7 +64,7 @@ module _ {State Op Query Reply : Type 0} (count : ℕ) (c : CoreState State Op Q
   pub own_place : (p : ℕ) → current_in th.phase ≡ currents.Ordered p → (1 ≤ p) × (p ≤ length c.trace)
   own_place p e = let last = own_last p e in node_place c.trace p last.node last.here
 
-  follows_at : (ph : Phase) → th.phase ≡ ph → Follows c.trace (seen_in c.base th.returned) (activity_in ph)
+  pub follows_at : (ph : Phase) → th.phase ≡ ph → Follows c.trace (seen_in c.base th.returned) (activity_in ph)
   follows_at ph e = k.sound.follows t (thread_at c.base c.trace th ph) (frame_at ph e)
 
   -- the window that is being logged has 1 to `count` nodes

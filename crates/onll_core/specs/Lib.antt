@@ -11,3 +11,6 @@ pub mod Fences
 pub mod Entries
 pub mod Laws
 pub mod Ready
+pub mod Reached
+pub mod Returns
+pub mod OutcomeLaws

@@ -134,14 +134,18 @@ module _ {State Op Query Reply : Type 0} (b : Behaviour State Op Query Reply) (c
   own_act (Some (Ask query)) (phases.Fence p d) = inl refl
   own_act (Some (Ask query)) (phases.Set p d) = inl refl
 
-module _ {State Op Query Reply : Type 0} (b : Behaviour State Op Query Reply) where
-  -- what a thread is after a step of thread u
-  pub record IsStill (next : CoreState State Op Query Reply) (u t : ℕ) (th : CoreThread State Op Query Reply) : Type 0 where
-    pub thread : CoreThread State Op Query Reply
-    pub there : slice_get next.threads t ≡ Some thread
-    pub kept : (i : ℕ) (r : Returned State Op Query Reply) → slice_get th.returned i ≡ Some r → slice_get thread.returned i ≡ Some r
-    pub same : u ≢ t → thread ≡ th
+-- what a thread is after a step of thread u
+record IsStill {State Op Query Reply : Type 0} (next : CoreState State Op Query Reply) (u t : ℕ) (th : CoreThread State Op Query Reply) : Type 0 where
+  pub thread : CoreThread State Op Query Reply
+  pub there : slice_get next.threads t ≡ Some thread
+  pub kept : (i : ℕ) (r : Returned State Op Query Reply) → slice_get th.returned i ≡ Some r → slice_get thread.returned i ≡ Some r
+  pub same : u ≢ t → thread ≡ th
 
+-- one step more
+own_first : (t u : ℕ) (ts : List ℕ) → own_steps t (u ∷ ts) ≡ cond {A = ℕ} (u == t) 1 0 + own_steps t ts
+own_first t u ts = let h = sum_by-append (λ (v : ℕ). cond (v == t) 1 0) (u ∷ []) ts in omega arith
+
+module _ {State Op Query Reply : Type 0} (b : Behaviour State Op Query Reply) where
   still : (c next : CoreState State Op Query Reply) (u t : ℕ) (tu th : CoreThread State Op Query Reply) → IsOwnStep c next u tu → slice_get c.threads u ≡ Some tu → slice_get c.threads t ≡ Some th → IsStill next u t th
   still c next u t tu th (inl e) there at = record { thread = th; there = ap (λ (l : List (CoreThread State Op Query Reply)). slice_get l t) e ∙ at; kept = λ i r e. e; same = λ _. refl }
   still c next u t tu th (inr x) there at = dite (ℕ_discrete t u)
@@ -169,9 +173,6 @@ module _ {State Op Query Reply : Type 0} (b : Behaviour State Op Query Reply) wh
       (λ same. let one : cond {A = ℕ} (u == t) 1 0 ≡ 1 = ap (λ (z : Bool). cond {A = ℕ} z 1 0) (eq-eqb u t same) in
       subst (λ (z : ℕ × ℕ). Waits count (step_of b c z.0) t z.1 place left) (λ i. (sym same i, len i)) (own_step b count c k t th at op is place left now (omega arith)))
       (λ not. let none : cond {A = ℕ} (u == t) 1 0 ≡ 0 = ap (λ (z : Bool). cond {A = ℕ} z 1 0) (ne_eqb u t not) in let s = step_still c u t th at in waiting th (s.there ∙ ap Some (s.same not)) len op is now (omega arith))
-
-  own_first : (t u : ℕ) (ts : List ℕ) → own_steps t (u ∷ ts) ≡ cond {A = ℕ} (u == t) 1 0 + own_steps t ts
-  own_first t u ts = let h = sum_by-append (λ (v : ℕ). cond (v == t) 1 0) (u ∷ []) ts in omega arith
 
   steps_wait : (count : ℕ) (c : CoreState State Op Query Reply) → IsConsistent count c → (t number place : ℕ) (ts : List ℕ) → Waits count c t number place (own_steps t ts) → Waits count (steps_of b c ts) t number place 0
   steps_wait count c k t number place [] w = w

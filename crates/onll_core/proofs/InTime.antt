@@ -16,10 +16,10 @@ use Rattle.onll_core.specs.declared.returned.Current.TheVariants as currents
 use Rattle.onll_core.specs.Core.{CoreThread, CoreState}
 use Rattle.onll_core.specs.CoreFrame.{seen_in}
 use Rattle.onll_core.specs.Consistent.{IsConsistent}
-use Rattle.onll_core.specs.Outcomes.{current_in, current_of}
+use Rattle.onll_core.specs.Outcomes.{current_in, current_of, ends_of}
 use Rattle.onll_core.specs.CallTimes.{standing_of, returned_call, returned_calls, current_calls, timed_calls, calls_of, AreInTime}
 use Rattle.onll_core.proofs.Phases.{own_last, seen_below}
-use Rattle.onll_core.proofs.Timed.{IsPast, IsAhead, HasNode, IsAbove, IsTimed}
+use Rattle.onll_core.proofs.Timed.{IsPast, IsAhead, HasNode, IsAbove, IsBusy, IsTimed}
 use Rattle.onll_core.proofs.TimedSteps.{place_seen}
 
 -- What is known of a core's calls puts them in one order.
@@ -27,7 +27,8 @@ use Rattle.onll_core.proofs.TimedSteps.{place_seen}
 -- what a call of a core is: one that has returned, one that runs, or one that is ordered
 data IsCall {State Op Query Reply : Type 0} (c : CoreState State Op Query Reply) (t i : ℕ) (a : TimedCall) : Type 0 where
   past : (x : Call State Op Query Reply) (r : Returned State Op Query Reply) → IsPast c t i x r → a ≡ returned_call x r → IsCall c t i a
-  running : a.standing ≡ None → a.ended ≡ None → IsCall c t i a
+  running : (th : CoreThread State Op Query Reply) → slice_get c.threads t ≡ Some th → i ≡ length (returned_calls th.script th.returned) → current_of th ≡ currents.Running
+      → a ≡ record { standing = None; began = th.began; ended = None } → IsCall c t i a
   ordered : (th : CoreThread State Op Query Reply) (p : ℕ) → slice_get c.threads t ≡ Some th → i ≡ length (returned_calls th.script th.returned) → current_of th ≡ currents.Ordered p
       → a ≡ record { standing = Some (AtNode p); began = th.began; ended = None } → IsCall c t i a
 
@@ -49,6 +50,28 @@ ahead_of (phases.Fence r d) p q e h = let same : r ≡ p = (cc) in omega arith
 ahead_of (phases.Set r d) p q e h = let same : r ≡ p = (cc) in omega arith
 ahead_of (phases.Ask f d) p q e h = absurd (cc)
 
+running_busy : (ph : Phase) → current_in ph ≡ currents.Running → IsBusy ph
+running_busy phases.Idle e = absurd (cc)
+running_busy (phases.Tail l) e = tt
+running_busy (phases.Exchange l) e = tt
+running_busy (phases.Flag p d) e = tt
+running_busy (phases.Line p d k) e = tt
+running_busy (phases.Back p d k) e = tt
+running_busy (phases.Fence p d) e = tt
+running_busy (phases.Set p d) e = tt
+running_busy (phases.Ask f d) e = tt
+
+ordered_busy : (ph : Phase) (p : ℕ) → current_in ph ≡ currents.Ordered p → IsBusy ph
+ordered_busy phases.Idle p e = absurd (cc)
+ordered_busy (phases.Tail l) p e = tt
+ordered_busy (phases.Exchange l) p e = tt
+ordered_busy (phases.Flag q d) p e = tt
+ordered_busy (phases.Line q d k) p e = tt
+ordered_busy (phases.Back q d k) p e = tt
+ordered_busy (phases.Fence q d) p e = tt
+ordered_busy (phases.Set q d) p e = tt
+ordered_busy (phases.Ask f d) p e = tt
+
 module _ {State Op Query Reply : Type 0} where
   thread_of_call : (ths : List (CoreThread State Op Query Reply)) (t i : ℕ) (a : TimedCall) → call_at (map timed_calls ths) t i ≡ Some a → (th : CoreThread State Op Query Reply) × (slice_get ths t ≡ Some th) × (slice_get (timed_calls th) i ≡ Some a)
   thread_of_call [] zero i a e = some_not_none a (sym e)
@@ -66,7 +89,7 @@ module _ {State Op Query Reply : Type 0} where
   current_at : (c : CoreState State Op Query Reply) (t i j : ℕ) (th : CoreThread State Op Query Reply) (a : TimedCall) → slice_get c.threads t ≡ Some th → i ≡ length (returned_calls th.script th.returned) + j
       → (now : Current) → current_of th ≡ now → slice_get (current_calls th.began now) j ≡ Some a → IsCall c t i a
   current_at c t i j th a at n currents.Idle is e = some_not_none a (sym e)
-  current_at c t i zero th a at n currents.Running is e = let same = sym (same_some record { standing = None; began = th.began; ended = None } a e) in running (ap (λ (z : TimedCall). z.standing) same) (ap (λ (z : TimedCall). z.ended) same)
+  current_at c t i zero th a at n currents.Running is e = running th at (omega arith) is (sym (same_some record { standing = None; began = th.began; ended = None } a e))
   current_at c t i (suc j) th a at n currents.Running is e = some_not_none a (sym e)
   current_at c t i zero th a at n (currents.Ordered p) is e = ordered th p at (omega arith) is (sym (same_some record { standing = Some (AtNode p); began = th.began; ended = None } a e))
   current_at c t i (suc j) th a at n (currents.Ordered p) is e = some_not_none a (sym e)
@@ -77,15 +100,21 @@ module _ {State Op Query Reply : Type 0} where
       (λ (o : (j : ℕ) × (i ≡ length (returned_calls th.script th.returned) + j) × (slice_get (current_calls th.began (current_of th)) j ≡ Some a)). current_at c t i o.0 th a h.1 o.1 (current_of th) refl o.2)
       (at_append (returned_calls th.script th.returned) (current_calls th.began (current_of th)) i a h.2)
 
+  low_returned : (calls : List (Call State Op Query Reply)) (rs : List (Returned State Op Query Reply)) (i : ℕ) (x : Call State Op Query Reply) (r : Returned State Op Query Reply) → slice_get calls i ≡ Some x → slice_get rs i ≡ Some r → i < length (returned_calls calls rs)
+  low_returned [] rs i x r e h = some_not_none x (sym e)
+  low_returned (y ∷ calls) [] i x r e h = some_not_none r (sym h)
+  low_returned (y ∷ calls) (s ∷ rs) zero x r e h = omega arith
+  low_returned (y ∷ calls) (s ∷ rs) (suc i) x r e h = let l = low_returned calls rs i x r e h in omega arith
+
   stands_below : (x : Call State Op Query Reply) (r : Returned State Op Query Reply) (p : ℕ) → r.place < p → StandsBefore (standing_of x r) (AtNode p)
   stands_below (Update op) r p l = l
   stands_below (Ask query) r p l = l
 
   module _ (count : ℕ) (c : CoreState State Op Query Reply) (k : IsConsistent count c) (time : IsTimed c) where
     in_time : (t i u j : ℕ) (a b : TimedCall) → IsCall c t i a → IsCall c u j b → IsInTime a b
-    in_time t i u j a b (running place over) h ended later e less e' = some_not_none ended (sym e ∙ over)
+    in_time t i u j a b (running th at n now same) h ended later e less e' = some_not_none ended (sym e ∙ ap (λ (z : TimedCall). z.ended) same)
     in_time t i u j a b (ordered th p at n now same) h ended later e less e' = some_not_none ended (sym e ∙ ap (λ (z : TimedCall). z.ended) same)
-    in_time t i u j a b (past x r h same) (running place over) ended later e less e' = some_not_none later (sym e' ∙ place)
+    in_time t i u j a b (past x r h same) (running th at n now same') ended later e less e' = some_not_none later (sym e' ∙ ap (λ (z : TimedCall). z.standing) same')
     in_time t i u j a b (past x r h same) (past y s g same') ended later e less e' =
         let m : r.ended ≡ ended = same_some r.ended ended (sym (ap (λ (z : TimedCall). z.ended) same) ∙ e) in
         let n : b.began ≡ s.began = ap (λ (z : TimedCall). z.began) same' in
@@ -130,9 +159,9 @@ module _ {State Op Query Reply : Type 0} where
         absurd (omega arith)
 
     apart : (t i u j : ℕ) (a b : TimedCall) (point : Standing) → IsCall c t i a → IsCall c u j b → a.standing ≡ Some point → b.standing ≡ Some point → (t ≡ u) × (i ≡ j)
-    apart t i u j a b point (running place over) h e e' = some_not_none point (sym e ∙ place)
-    apart t i u j a b point (past x r h same) (running place over) e e' = some_not_none point (sym e' ∙ place)
-    apart t i u j a b point (ordered th p at n now same) (running place over) e e' = some_not_none point (sym e' ∙ place)
+    apart t i u j a b point (running th at n now same) h e e' = some_not_none point (sym e ∙ ap (λ (z : TimedCall). z.standing) same)
+    apart t i u j a b point (past x r h same) (running w at' n' now' same') e e' = some_not_none point (sym e' ∙ ap (λ (z : TimedCall). z.standing) same')
+    apart t i u j a b point (ordered th p at n now same) (running w at' n' now' same') e e' = some_not_none point (sym e' ∙ ap (λ (z : TimedCall). z.standing) same')
     apart t i u j a b point (past x r h same) (past y s g same') e e' = past_apart t i u j x y r s h g
         (same_some (standing_of x r) (standing_of y s) (sym (ap (λ (z : TimedCall). z.standing) same) ∙ (e ∙ (sym e' ∙ ap (λ (z : TimedCall). z.standing) same'))))
     apart t i u j a b point (past x r h same) (ordered th p at n now same') e e' = absurd (ordered_alone t i u p x r th h at now
@@ -148,8 +177,28 @@ module _ {State Op Query Reply : Type 0} where
         let threads : th ≡ w = same_some th w (sym at ∙ (ap (slice_get c.threads) own ∙ at')) in
         (own, n ∙ (ap (λ (z : CoreThread State Op Query Reply). length (returned_calls z.script z.returned)) threads ∙ sym n'))
 
-    pub timed_order : AreInTime c
-    timed_order = record {
+    -- what a thread's calls so far come to
+    past_low : (t i : ℕ) (x : Call State Op Query Reply) (r : Returned State Op Query Reply) (th : CoreThread State Op Query Reply) → IsPast c t i x r → slice_get c.threads t ≡ Some th → i < length (returned_calls th.script th.returned)
+    past_low t i x r th h at = subst (λ (z : CoreThread State Op Query Reply). i < length (returned_calls z.script z.returned)) (same_some h.thread th (sym h.there ∙ at)) (low_returned h.thread.script h.thread.returned i x r h.asked h.here)
+
+    same_count : (t : ℕ) (th w : CoreThread State Op Query Reply) → slice_get c.threads t ≡ Some th → slice_get c.threads t ≡ Some w → length (returned_calls th.script th.returned) ≡ length (returned_calls w.script w.returned)
+    same_count t th w at at' = ap (λ (z : CoreThread State Op Query Reply). length (returned_calls z.script z.returned)) (same_some th w (sym at ∙ at'))
+
+    in_turn : (t i j : ℕ) (a b : TimedCall) → IsCall c t i a → IsCall c t j b → i < j → (ended : ℕ) × (a.ended ≡ Some ended) × (ended < b.began)
+    in_turn t i j a b (past x r h same) (past y s g same') less = let l = time.turns t i j x y r s h g less in let n : b.began ≡ s.began = ap (λ (z : TimedCall). z.began) same' in (r.ended, ap (λ (z : TimedCall). z.ended) same, omega arith)
+    in_turn t i j a b (past x r h same) (running th at n now same') less = let l = time.last_turn t i x r th h at (running_busy th.phase now) in let m : b.began ≡ th.began = ap (λ (z : TimedCall). z.began) same' in (r.ended, ap (λ (z : TimedCall). z.ended) same, omega arith)
+    in_turn t i j a b (past x r h same) (ordered th p at n now same') less = let l = time.last_turn t i x r th h at (ordered_busy th.phase p now) in let m : b.began ≡ th.began = ap (λ (z : TimedCall). z.began) same' in (r.ended, ap (λ (z : TimedCall). z.ended) same, omega arith)
+    in_turn t i j a b (running th at n now same) (past y s g same') less = let l = past_low t j y s th g at in absurd (omega arith)
+    in_turn t i j a b (running th at n now same) (running w at' n' now' same') less = let l = same_count t th w at at' in absurd (omega arith)
+    in_turn t i j a b (running th at n now same) (ordered w p at' n' now' same') less = let l = same_count t th w at at' in absurd (omega arith)
+    in_turn t i j a b (ordered th p at n now same) (past y s g same') less = let l = past_low t j y s th g at in absurd (omega arith)
+    in_turn t i j a b (ordered th p at n now same) (running w at' n' now' same') less = let l = same_count t th w at at' in absurd (omega arith)
+    in_turn t i j a b (ordered th p at n now same) (ordered w q at' n' now' same') less = let l = same_count t th w at at' in absurd (omega arith)
+
+    pub timed_order : ((t : ℕ) (th : CoreThread State Op Query Reply) → slice_get c.threads t ≡ Some th → length (timed_calls th) ≡ length (ends_of th)) → AreInTime c
+    timed_order all = record {
+      all = all;
+      turns = λ t i j a b e e' less. in_turn t i j a b (call_is c t i a e) (call_is c t j b e') less;
       in_time = λ t i u j a b e e'. in_time t i u j a b (call_is c t i a e) (call_is c u j b e');
       apart = λ t i u j a b point e e' p p'. apart t i u j a b point (call_is c t i a e) (call_is c u j b e') p p';
     }

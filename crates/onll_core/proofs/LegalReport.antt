@@ -1,16 +1,20 @@
-use Rattle.std.proofs.Common.{◌≡◌, ℕ, zero, suc, ◌+◌, ◌<◌, ◌≤◌, List, [], ◌∷◌, length, take, drop, map, Option, Some, None, refl, sym, ap, ◌∙◌, subst, arith, min}
+use Rattle.std.proofs.Common.{◌≡◌, ℕ, zero, suc, ◌+◌, ◌<◌, ◌≤◌, List, [], ◌∷◌, length, take, drop, map, Option, Some, None, refl, sym, ap, ◌∙◌, subst, arith, length-append}
 use Rattle.std.specs.List.{AllByRecursion, slice_get}
 use Rattle.std.proofs.lemmas.List.{length-map, drop_all}
 use Rattle.onll_model.specs.declared.node.Node.{Node}
+use Rattle.onll_model.specs.declared.call.Call.{Call}
+use Rattle.onll_model.specs.declared.call.CallEnd.{CallEnd}
 use Rattle.onll_model.specs.Object.{Behaviour}
-use Rattle.onll_model.specs.Legal.{placed_updates, placed_rows, IsLegalThread, AreLegalThreads}
+use Rattle.onll_model.specs.Legal.{placed_updates, placed_rows, EachEnd, HasReply, IsLegalThread, AreLegalThreads}
 use Rattle.onll_model.proofs.Ends.{none_placed}
 use Rattle.onll_core.specs.declared.returned.Returned.{Returned}
+use Rattle.onll_core.specs.declared.returned.Current.{Current}
 use Rattle.onll_core.specs.declared.returned.Current.TheVariants as currents
 use Rattle.onll_core.specs.Core.{CoreThread, CoreState}
 use Rattle.onll_core.specs.CoreFrame.{frame_thread}
 use Rattle.onll_core.specs.Consistent.{EachCoreThread, IsConsistent}
-use Rattle.onll_core.specs.Outcomes.{current_in, current_of, ends_of, script_of, IsLegalCore, IsFresh}
+use Rattle.onll_core.specs.Outcomes.{current_in, current_of, current_ends, returned_end, ends_of, script_of, IsLegalCore, IsFresh}
+use Rattle.onll_core.specs.CallTimes.{returned_calls, current_calls, timed_calls}
 use Rattle.onll_core.proofs.Phases.{seen_below}
 use Rattle.onll_core.proofs.Lawful.{IsLawful, lawful_legal}
 use Rattle.onll_core.proofs.LawfulSteps.{AreLawful}
@@ -55,3 +59,22 @@ fresh_lawful {State} {Op} {Query} {Reply} b c fresh = record {
         suits = tt;
       };
 }
+
+-- every call that has begun is counted
+
+counted : {State Op Query Reply : Type 0} (P : Call State Op Query Reply → CallEnd State Op Query Reply → Type 0) (calls : List (Call State Op Query Reply)) (rs : List (Returned State Op Query Reply)) → EachEnd P calls (map returned_end rs) → length (returned_calls calls rs) ≡ length (map returned_end rs)
+counted P [] [] h = refl
+counted P (x ∷ calls) [] h = refl
+counted P [] (r ∷ rs) h = absurd h
+counted P (x ∷ calls) (r ∷ rs) h = ap suc (counted P calls rs h.1)
+
+current_counted : (State Op Query Reply : Type 0) (began : ℕ) (now : Current) → length (current_calls began now) ≡ length (current_ends {State = State} {Op = Op} {Query = Query} {Reply = Reply} now)
+current_counted State Op Query Reply began currents.Idle = refl
+current_counted State Op Query Reply began currents.Running = refl
+current_counted State Op Query Reply began (currents.Ordered p) = refl
+
+pub all_counted : {State Op Query Reply : Type 0} (b : Behaviour State Op Query Reply) (c : CoreState State Op Query Reply) → AreLawful b c → (t : ℕ) (th : CoreThread State Op Query Reply) → slice_get c.threads t ≡ Some th → length (timed_calls th) ≡ length (ends_of th)
+all_counted {State} {Op} {Query} {Reply} b c all t th at = let law = all.each t th at in
+    let n = counted (HasReply b c.initial c.trace) th.script th.returned law.replies in
+    let m = current_counted State Op Query Reply th.began (current_of th) in
+    omega (arith, length-append (returned_calls th.script th.returned) (current_calls th.began (current_of th)), length-append (map returned_end th.returned) (current_ends {State = State} {Op = Op} {Query = Query} {Reply = Reply} (current_of th)))

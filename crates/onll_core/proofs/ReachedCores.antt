@@ -21,7 +21,7 @@ use Rattle.onll_core.proofs.FirstCore.{first_consistent}
 use Rattle.onll_core.proofs.Kept.{step_consistent, steps_consistent}
 use Rattle.onll_core.proofs.Lawful.{Suits}
 use Rattle.onll_core.proofs.LawfulSteps.{AreLawful, step_lawful}
-use Rattle.onll_core.proofs.LegalReport.{lawful_report, fresh_lawful}
+use Rattle.onll_core.proofs.LegalReport.{lawful_report, fresh_lawful, all_counted}
 use Rattle.onll_core.proofs.Timed.{IsTimed}
 use Rattle.onll_core.proofs.TimedSteps.{step_timed, fresh_timed}
 use Rattle.onll_core.proofs.InTime.{timed_order}
@@ -88,7 +88,7 @@ module _ {State Op Query Reply : Type 0} (b : Behaviour State Op Query Reply) wh
   reached_report count c h = lawful_report b count c (reached_consistent count c h) (reached_lawful count c h)
 
   pub reached_order : OrderLaw b
-  reached_order count c h = timed_order count c (reached_consistent count c h) (reached_timed count c h)
+  reached_order count c h = timed_order count c (reached_consistent count c h) (reached_timed count c h) (all_counted b c (reached_lawful count c h))
 
   pub reached_returns : ReturnLaw b
   reached_returns count c t place th ts h at now enough =

@@ -52,6 +52,18 @@ pub record IsOver {State Op Query Reply : Type 0} (c : CoreState State Op Query 
   pub first : r.began ≤ r.ended
   pub last : r.ended < c.clock
 
+-- a call has begun and not returned
+abbrev pub IsBusy : Phase → Type 0
+IsBusy phases.Idle = ⊥
+IsBusy (phases.Tail l) = Unit {0}
+IsBusy (phases.Exchange l) = Unit {0}
+IsBusy (phases.Flag p d) = Unit {0}
+IsBusy (phases.Line p d k) = Unit {0}
+IsBusy (phases.Back p d k) = Unit {0}
+IsBusy (phases.Fence p d) = Unit {0}
+IsBusy (phases.Set p d) = Unit {0}
+IsBusy (phases.Ask f d) = Unit {0}
+
 pub record IsTimed {State Op Query Reply : Type 0} (c : CoreState State Op Query Reply) : Type 0 where
   pub past : (t i : ℕ) (x : Call State Op Query Reply) (a : Returned State Op Query Reply) → IsPast c t i x a → IsOver c a
   pub begun : (t : ℕ) (th : CoreThread State Op Query Reply) → slice_get c.threads t ≡ Some th → th.began ≤ c.clock
@@ -59,6 +71,8 @@ pub record IsTimed {State Op Query Reply : Type 0} (c : CoreState State Op Query
   pub ahead : (t i u : ℕ) (x : Call State Op Query Reply) (a : Returned State Op Query Reply) (w : CoreThread State Op Query Reply) → IsPast c t i x a → slice_get c.threads u ≡ Some w → a.ended < w.began → IsAhead a.place w.phase
   pub nodes : (t i : ℕ) (x : Call State Op Query Reply) (a : Returned State Op Query Reply) → IsPast c t i x a → HasNode c.trace t a.place x
   pub rising : (t i j : ℕ) (x y : Call State Op Query Reply) (a b : Returned State Op Query Reply) → IsPast c t i x a → IsPast c t j y b → i < j → IsAbove a.place b.place y
+  pub turns : (t i j : ℕ) (x y : Call State Op Query Reply) (a b : Returned State Op Query Reply) → IsPast c t i x a → IsPast c t j y b → i < j → a.ended < b.began
+  pub last_turn : (t i : ℕ) (x : Call State Op Query Reply) (a : Returned State Op Query Reply) (th : CoreThread State Op Query Reply) → IsPast c t i x a → slice_get c.threads t ≡ Some th → IsBusy th.phase → a.ended < th.began
   pub moments : (t i u j : ℕ) (x y : Call State Op Query Reply) (a b : Returned State Op Query Reply) → IsPast c t i x a → IsPast c u j y b → a.ended ≡ b.ended → (t ≡ u) × (i ≡ j)
 
 module _ {State Op Query Reply : Type 0} (c next : CoreState State Op Query Reply) (time : IsTimed c) (t : ℕ) (th w : CoreThread State Op Query Reply) (at : slice_get c.threads t ≡ Some th)
@@ -86,7 +100,8 @@ module _ {State Op Query Reply : Type 0} (c next : CoreState State Op Query Repl
   here_now u i v a rs e same here = ap (λ (l : List (Returned State Op Query Reply)). slice_get l i) (sym same ∙ ap (λ (z : CoreThread State Op Query Reply). z.returned) e) ∙ here
 
   -- no call returns
-  module _ (returned : w.returned ≡ th.returned) (ahead : (u i : ℕ) (x : Call State Op Query Reply) (a : Returned State Op Query Reply) → IsPast c u i x a → a.ended < w.began → IsAhead a.place w.phase) where
+  module _ (returned : w.returned ≡ th.returned) (ahead : (u i : ℕ) (x : Call State Op Query Reply) (a : Returned State Op Query Reply) → IsPast c u i x a → a.ended < w.began → IsAhead a.place w.phase)
+      (turn : (i : ℕ) (x : Call State Op Query Reply) (a : Returned State Op Query Reply) → IsPast c t i x a → IsBusy w.phase → a.ended < w.began) where
     was : (u i : ℕ) (x : Call State Op Query Reply) (a : Returned State Op Query Reply) → IsPast next u i x a → IsPast c u i x a
     was u i x a h = ⊎_elim
         (λ (e : (u ≡ t) × (w ≡ h.thread)). record { thread = th; there = ap (slice_get c.threads) e.0 ∙ at; asked = same_asked u i h.thread x e.1 h.asked; here = here_now u i h.thread a th.returned e.1 returned h.here })
@@ -103,6 +118,10 @@ module _ {State Op Query Reply : Type 0} (c next : CoreState State Op Query Repl
           (λ (o : (v ≢ t) × (slice_get c.threads v ≡ Some z)). time.ahead u i v x a z (was u i x a h) o.1 less) (thread_was v z e);
       nodes = λ u i x a h. still_node u a.place x (time.nodes u i x a (was u i x a h));
       rising = λ u i j x y a b h k less. time.rising u i j x y a b (was u i x a h) (was u j y b k) less;
+      turns = λ u i j x y a b h k less. time.turns u i j x y a b (was u i x a h) (was u j y b k) less;
+      last_turn = λ u i x a z h e busy. ⊎_elim
+          (λ (o : (u ≡ t) × (w ≡ z)). subst (λ (y : CoreThread State Op Query Reply). IsBusy y.phase → a.ended < y.began) o.1 (turn i x a (subst (λ (v : ℕ). IsPast c v i x a) o.0 (was u i x a h))) busy)
+          (λ (o : (u ≢ t) × (slice_get c.threads u ≡ Some z)). time.last_turn u i x a z (was u i x a h) o.1 busy) (thread_was u z e);
       moments = λ u i v j x y a b h k same. time.moments u i v j x y a b (was u i x a h) (was v j y b k) same;
     }
 
@@ -110,6 +129,7 @@ module _ {State Op Query Reply : Type 0} (c next : CoreState State Op Query Repl
   module _ (call : Call State Op Query Reply) (r : Returned State Op Query Reply) (returned : w.returned ≡ th.returned ++ r ∷ []) (is : slice_get th.script (length th.returned) ≡ Some call) (rests : w.phase ≡ phases.Idle)
       (flag : is_available next.flags r.place ≡ true) (first : r.began ≤ r.ended) (last : r.ended ≡ c.clock) (node : HasNode next.trace t r.place call)
       (above : (i : ℕ) (x : Call State Op Query Reply) (a : Returned State Op Query Reply) → IsPast c t i x a → IsAbove a.place r.place call)
+      (turn : (i : ℕ) (x : Call State Op Query Reply) (a : Returned State Op Query Reply) → IsPast c t i x a → a.ended < r.began)
       (after : (u i : ℕ) (x : Call State Op Query Reply) (a : Returned State Op Query Reply) → IsPast c u i x a → a.ended < r.began → StandsBefore (standing_of x a) (standing_of call r)) where
     -- the call that returns now
     record IsNow (u i : ℕ) (x : Call State Op Query Reply) (a : Returned State Op Query Reply) : Type 0 where
@@ -151,6 +171,12 @@ module _ {State Op Query Reply : Type 0} (c next : CoreState State Op Query Repl
     rises u i j x y a b (inr n) (inl k) less = let l = old_number j y b (subst (λ (z : ℕ). IsPast c z j y b) n.own k) in let m = n.number in absurd (omega arith)
     rises u i j x y a b (inr n) (inr m) less = let p = n.number in let q = m.number in absurd (omega arith)
 
+    in_turn : (u i j : ℕ) (x y : Call State Op Query Reply) (a b : Returned State Op Query Reply) → IsPast c u i x a ⊎ IsNow u i x a → IsPast c u j y b ⊎ IsNow u j y b → i < j → a.ended < b.began
+    in_turn u i j x y a b (inl h) (inl k) less = time.turns u i j x y a b h k less
+    in_turn u i j x y a b (inl h) (inr n) less = subst (λ (z : Returned State Op Query Reply). a.ended < z.began) n.same (turn i x a (subst (λ (z : ℕ). IsPast c z i x a) n.own h))
+    in_turn u i j x y a b (inr n) (inl k) less = let l = old_number j y b (subst (λ (z : ℕ). IsPast c z j y b) n.own k) in let m = n.number in absurd (omega arith)
+    in_turn u i j x y a b (inr n) (inr m) less = let p = n.number in let q = m.number in absurd (omega arith)
+
     at_once : (u i v j : ℕ) (x y : Call State Op Query Reply) (a b : Returned State Op Query Reply) → IsPast c u i x a ⊎ IsNow u i x a → IsPast c v j y b ⊎ IsNow v j y b → a.ended ≡ b.ended → (u ≡ v) × (i ≡ j)
     at_once u i v j x y a b (inl h) (inl k) same = time.moments u i v j x y a b h k same
     at_once u i v j x y a b (inl h) (inr n) same = let l = (time.past u i x a h).last in let q = ap (λ (z : Returned State Op Query Reply). z.ended) n.same in absurd (omega arith)
@@ -176,6 +202,14 @@ module _ {State Op Query Reply : Type 0} (c next : CoreState State Op Query Repl
           (λ (n : IsNow u i x a). subst (λ (z : ℕ × Call State Op Query Reply × Returned State Op Query Reply). HasNode next.trace z.0 z.2.place z.1) (λ m. (sym n.own m, n.called m, n.same m)) node)
           (was_or_now u i x a h);
       rising = λ u i j x y a b h k less. rises u i j x y a b (was_or_now u i x a h) (was_or_now u j y b k) less;
+      turns = λ u i j x y a b h k less. in_turn u i j x y a b (was_or_now u i x a h) (was_or_now u j y b k) less;
+      last_turn = λ u i x a z h e busy. ⊎_elim
+          (λ (o : (u ≡ t) × (w ≡ z)). absurd (subst IsBusy (sym (ap (λ (y : CoreThread State Op Query Reply). y.phase) o.1) ∙ rests) busy))
+          (λ (o : (u ≢ t) × (slice_get c.threads u ≡ Some z)). ⊎_elim
+          (λ (p : IsPast c u i x a). time.last_turn u i x a z p o.1 busy)
+          (λ (n : IsNow u i x a). absurd (o.0 n.own))
+          (was_or_now u i x a h))
+          (thread_was u z e);
       moments = λ u i v j x y a b h k same. at_once u i v j x y a b (was_or_now u i x a h) (was_or_now v j y b k) same;
     }
 

@@ -25,7 +25,7 @@ use Rattle.onll_core.specs.Step.{turned, begun, on_device, logged, returning, pu
 use Rattle.onll_core.specs.Consistent.{IsConsistent}
 use Rattle.onll_core.specs.Outcomes.{current_in, IsFresh}
 use Rattle.onll_core.proofs.Phases.{if_case, own_last, own_place, seen_below, ask_place}
-use Rattle.onll_core.proofs.Timed.{IsPast, IsAhead, HasNode, IsAbove, IsOver, IsTimed, timed_put, timed_return, before_update, before_read}
+use Rattle.onll_core.proofs.Timed.{IsPast, IsAhead, HasNode, IsAbove, IsOver, IsBusy, IsTimed, timed_put, timed_return, before_update, before_read}
 
 -- Each step keeps the order of a core's calls.
 
@@ -39,6 +39,10 @@ module _ {State Op Query Reply : Type 0} (b : Behaviour State Op Query Reply) (c
   was_ahead : (ph : Phase) → th.phase ≡ ph → (u i : ℕ) (x : Call State Op Query Reply) (a : Returned State Op Query Reply) → IsPast c u i x a → a.ended < th.began → IsAhead a.place ph
   was_ahead ph e u i x a h less = subst (IsAhead a.place) e (time.ahead u i t x a th h at less)
 
+  -- what has returned before the running call
+  was_turn : (ph : Phase) → th.phase ≡ ph → IsBusy ph → (i : ℕ) (x : Call State Op Query Reply) (a : Returned State Op Query Reply) → IsPast c t i x a → a.ended < th.began
+  was_turn ph e busy i x a h = time.last_turn t i x a th h at (subst IsBusy (sym e) busy)
+
   old_began : th.began ≤ suc c.clock
   old_began = let n = time.begun t th at in omega arith
 
@@ -50,13 +54,15 @@ module _ {State Op Query Reply : Type 0} (b : Behaviour State Op Query Reply) (c
   own_seen i x a h = subst (λ (z : CoreThread State Op Query Reply). a.place ≤ seen_in c.base z.returned) (same_some h.thread th (sym h.there ∙ at)) (place_seen c.base h.thread.returned i a h.here)
 
   moved : (w : CoreThread State Op Query Reply) → w.returned ≡ th.returned → w.script ≡ th.script → w.began ≤ suc c.clock
-      → ((u i : ℕ) (x : Call State Op Query Reply) (a : Returned State Op Query Reply) → IsPast c u i x a → a.ended < w.began → IsAhead a.place w.phase) → IsTimed (put c t w)
-  moved w returned script began ahead = timed_put c (put c t w) time t th w at refl refl (λ p e. e) (λ p x e. e) script began returned ahead
+      → ((u i : ℕ) (x : Call State Op Query Reply) (a : Returned State Op Query Reply) → IsPast c u i x a → a.ended < w.began → IsAhead a.place w.phase)
+      → ((i : ℕ) (x : Call State Op Query Reply) (a : Returned State Op Query Reply) → IsPast c t i x a → a.ended < w.began) → IsTimed (put c t w)
+  moved w returned script began ahead turn = timed_put c (put c t w) time t th w at refl refl (λ p e. e) (λ p x e. e) script began returned ahead (λ i x a h _. turn i x a h)
 
   longer : (n : Node) (w : CoreThread State Op Query Reply) → w.returned ≡ th.returned → w.script ≡ th.script → w.began ≤ suc c.clock
-      → ((u i : ℕ) (x : Call State Op Query Reply) (a : Returned State Op Query Reply) → IsPast c u i x a → a.ended < w.began → IsAhead a.place w.phase) → IsTimed (linked c t n w)
-  longer n w returned script began ahead = timed_put c (linked c t n w) time t th w at refl refl
-      (λ p e. flag_before c.flags (false ∷ []) p (available_low c.flags p e) ∙ e) (λ p x e. node_before c.trace (n ∷ []) p x e) script began returned ahead
+      → ((u i : ℕ) (x : Call State Op Query Reply) (a : Returned State Op Query Reply) → IsPast c u i x a → a.ended < w.began → IsAhead a.place w.phase)
+      → ((i : ℕ) (x : Call State Op Query Reply) (a : Returned State Op Query Reply) → IsPast c t i x a → a.ended < w.began) → IsTimed (linked c t n w)
+  longer n w returned script began ahead turn = timed_put c (linked c t n w) time t th w at refl refl
+      (λ p e. flag_before c.flags (false ∷ []) p (available_low c.flags p e) ∙ e) (λ p x e. node_before c.trace (n ∷ []) p x e) script began returned ahead (λ i x a h _. turn i x a h)
 
   -- the place of the own node stays ahead
   walk_ahead : (p d q : ℕ) (flag : Bool) → q < p → IsAhead q (after_flag c.base p d flag)
@@ -82,30 +88,32 @@ module _ {State Op Query Reply : Type 0} (b : Behaviour State Op Query Reply) (c
         (time.begun t th at) refl
         (last.node, last.here, last.own)
         (λ i x a h. let s = own_seen i x a h in omega arith)
+        (was_turn (phases.Set p d) e tt)
         (λ u i x a h less. before_update x op a r (was_ahead (phases.Set p d) e u i x a h less))
 
     update_timed : (ph : Phase) → th.phase ≡ ph → IsTimed (act b c t th (Some (Update op)) ph)
-    update_timed phases.Idle e = moved (begun th c.clock (phases.Exchange (length c.trace))) refl refl (omega arith) (λ u i x a h less. tt)
-    update_timed (phases.Tail l) e = moved (turned th (phases.Exchange (length c.trace))) refl refl old_began (λ u i x a h less. tt)
+    update_timed phases.Idle e = moved (begun th c.clock (phases.Exchange (length c.trace))) refl refl (omega arith) (λ u i x a h less. tt) (λ i x a h. (time.past t i x a h).last)
+    update_timed (phases.Tail l) e = moved (turned th (phases.Exchange (length c.trace))) refl refl old_began (λ u i x a h less. tt) (was_turn (phases.Tail l) e tt)
     update_timed (phases.Exchange l) e = if_case IsTimed (length c.trace == l) _ _
         (λ same. let size : length c.trace ≡ l = eqb-true (length c.trace) l same in longer (next_node c.trace t (b.row_of op)) (turned th (after_exchange c.base l)) refl refl old_began
-        (λ u i x a h less. let p = in_order u i x a h in let low : a.place < l + 1 = omega arith in if_case (IsAhead a.place) (nat_le l c.base) (phases.Line (l + 1) l 0) (phases.Flag (l + 1) l) (λ _. low) (λ _. low)))
-        (λ _. moved (turned th (phases.Tail l)) refl refl old_began (λ u i x a h less. tt))
-    update_timed (phases.Flag p d) e = moved (turned th (after_flag c.base p d (is_available c.flags d))) refl refl old_began (λ u i x a h less. walk_ahead p d a.place (is_available c.flags d) (was_ahead (phases.Flag p d) e u i x a h less))
-    update_timed (phases.Line p d j) e = moved (on_device th (after_step th.device (Write (th.used + j) (line_of_entry th c.trace p d j))) (phases.Back p d j)) refl refl old_began (was_ahead (phases.Line p d j) e)
+        (λ u i x a h less. let p = in_order u i x a h in let low : a.place < l + 1 = omega arith in if_case (IsAhead a.place) (nat_le l c.base) (phases.Line (l + 1) l 0) (phases.Flag (l + 1) l) (λ _. low) (λ _. low)) (was_turn (phases.Exchange l) e tt))
+        (λ _. moved (turned th (phases.Tail l)) refl refl old_began (λ u i x a h less. tt) (was_turn (phases.Exchange l) e tt))
+    update_timed (phases.Flag p d) e = moved (turned th (after_flag c.base p d (is_available c.flags d))) refl refl old_began (λ u i x a h less. walk_ahead p d a.place (is_available c.flags d) (was_ahead (phases.Flag p d) e u i x a h less)) (was_turn (phases.Flag p d) e tt)
+    update_timed (phases.Line p d j) e = moved (on_device th (after_step th.device (Write (th.used + j) (line_of_entry th c.trace p d j))) (phases.Back p d j)) refl refl old_began (was_ahead (phases.Line p d j) e) (was_turn (phases.Line p d j) e tt)
     update_timed (phases.Back p d j) e = moved (on_device th (after_step th.device (WriteBack (th.used + j))) (after_back p d j)) refl refl old_began
-        (λ u i x a h less. let l : a.place < p = was_ahead (phases.Back p d j) e u i x a h less in if_case (IsAhead a.place) (nat_le (suc j) (p - d)) (phases.Line p d (suc j)) (phases.Fence p d) (λ _. l) (λ _. l))
-    update_timed (phases.Fence p d) e = moved (logged th (p - d) (phases.Set p d)) refl refl old_began (was_ahead (phases.Fence p d) e)
+        (λ u i x a h less. let l : a.place < p = was_ahead (phases.Back p d j) e u i x a h less in if_case (IsAhead a.place) (nat_le (suc j) (p - d)) (phases.Line p d (suc j)) (phases.Fence p d) (λ _. l) (λ _. l)) (was_turn (phases.Back p d j) e tt)
+    update_timed (phases.Fence p d) e = moved (logged th (p - d) (phases.Set p d)) refl refl old_began (was_ahead (phases.Fence p d) e) (was_turn (phases.Fence p d) e tt)
     update_timed (phases.Set p d) e = sets p d e
     update_timed (phases.Ask f d) e = time
 
   module _ (query : Query) (is : next_call th ≡ Some (Ask query)) where
-    answers : (d began : ℕ) → began ≤ c.clock → is_available c.flags d ≡ true → ((u i : ℕ) (x : Call State Op Query Reply) (a : Returned State Op Query Reply) → IsPast c u i x a → a.ended < began → a.place ≤ d) → IsTimed (answered b c t th began d query)
-    answers d began first flag after =
+    answers : (d began : ℕ) → began ≤ c.clock → is_available c.flags d ≡ true → ((u i : ℕ) (x : Call State Op Query Reply) (a : Returned State Op Query Reply) → IsPast c u i x a → a.ended < began → a.place ≤ d)
+        → ((i : ℕ) (x : Call State Op Query Reply) (a : Returned State Op Query Reply) → IsPast c t i x a → a.ended < began) → IsTimed (answered b c t th began d query)
+    answers d began first flag after turn =
         let reply : Reply = answer_after b c.initial (take d c.trace) query in
         let r : Returned State Op Query Reply = record { place = d; reply = reply; began = began; ended = c.clock } in
         let w : CoreThread State Op Query Reply = returning th d reply began c.clock in
-        timed_return c (put c t w) time t th w at refl refl (λ q f. f) (λ q x f. f) refl old_began (Ask query) r refl is refl flag first refl tt (λ i x a h. tt)
+        timed_return c (put c t w) time t th w at refl refl (λ q f. f) (λ q x f. f) refl old_began (Ask query) r refl is refl flag first refl tt (λ i x a h. tt) turn
         (λ u i x a h less. before_read x query a r (after u i x a h less) (time.past u i x a h).last)
 
     below_unset : (p d : ℕ) → p ≤ d → is_available c.flags p ≡ true → is_available c.flags d ≡ false → p < d
@@ -113,16 +121,16 @@ module _ {State Op Query Reply : Type 0} (b : Behaviour State Op Query Reply) (c
 
     ask_timed : (ph : Phase) → th.phase ≡ ph → IsTimed (act b c t th (Some (Ask query)) ph)
     ask_timed phases.Idle e = if_case IsTimed (nat_le (length c.trace) c.base) _ _
-        (λ le. let l = leb-true (length c.trace) c.base le in answers c.base c.clock (omega arith) (k.based.available c.base (omega arith)) (λ u i x a h less. let p = in_order u i x a h in omega arith))
-        (λ _. moved (begun th c.clock (phases.Ask (length c.trace) (length c.trace))) refl refl (omega arith) (λ u i x a h less. in_order u i x a h))
+        (λ le. let l = leb-true (length c.trace) c.base le in answers c.base c.clock (omega arith) (k.based.available c.base (omega arith)) (λ u i x a h less. let p = in_order u i x a h in omega arith) (λ i x a h. (time.past t i x a h).last))
+        (λ _. moved (begun th c.clock (phases.Ask (length c.trace) (length c.trace))) refl refl (omega arith) (λ u i x a h less. in_order u i x a h) (λ i x a h. (time.past t i x a h).last))
     ask_timed (phases.Ask f d) e = let began = time.begun t th at in
         if_case IsTimed (is_available c.flags d) _ _
-        (λ flag. answers d th.began began flag (was_ahead (phases.Ask f d) e))
+        (λ flag. answers d th.began began flag (was_ahead (phases.Ask f d) e) (was_turn (phases.Ask f d) e tt))
         (λ unset. let below : (u i : ℕ) (x : Call State Op Query Reply) (a : Returned State Op Query Reply) → IsPast c u i x a → a.ended < th.began → a.place < d =
             (λ u i x a h less. below_unset a.place d (was_ahead (phases.Ask f d) e u i x a h less) (time.past u i x a h).available unset) in
         if_case IsTimed (nat_le d (c.base + 1)) _ _
-        (λ le. let l = leb-true d (c.base + 1) le in answers c.base th.began began (k.based.available c.base (omega arith)) (λ u i x a h less. let s = below u i x a h less in omega arith))
-        (λ _. moved (turned th (phases.Ask f (d - 1))) refl refl old_began (λ u i x a h less. let s = below u i x a h less in omega arith)))
+        (λ le. let l = leb-true d (c.base + 1) le in answers c.base th.began began (k.based.available c.base (omega arith)) (λ u i x a h less. let s = below u i x a h less in omega arith) (was_turn (phases.Ask f d) e tt))
+        (λ _. moved (turned th (phases.Ask f (d - 1))) refl refl old_began (λ u i x a h less. let s = below u i x a h less in omega arith) (was_turn (phases.Ask f d) e tt)))
     ask_timed (phases.Tail l) e = time
     ask_timed (phases.Exchange l) e = time
     ask_timed (phases.Flag p d) e = time
@@ -152,6 +160,8 @@ fresh_timed {State} {Op} {Query} {Reply} c fresh = record {
   ahead = λ t i u x a w h e l. absurd (none t i x a h);
   nodes = λ t i x a h. absurd (none t i x a h);
   rising = λ t i j x y a b h k l. absurd (none t i x a h);
+  turns = λ t i j x y a b h k l. absurd (none t i x a h);
+  last_turn = λ t i x a th h e busy. absurd (none t i x a h);
   moments = λ t i u j x y a b h k e. absurd (none t i x a h);
 }
   where

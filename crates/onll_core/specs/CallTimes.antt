@@ -1,12 +1,13 @@
-use Rattle.std.specs.Prelude.{ℕ, List, [], ◌∷◌, ◌++◌, map, Some, None}
+use Rattle.std.specs.Prelude.{ℕ, ◌≡◌, List, [], ◌∷◌, ◌++◌, length, map, Some, None}
 use Rattle.onll_model.specs.declared.call.Call.{Call}
 use Rattle.onll_model.specs.declared.call.Call.TheVariants.{Update, Ask}
-use Rattle.onll_model.specs.RealTime.{Standing, AtNode, AfterNode, TimedCall, InRealTime, StandApart}
+use Rattle.onll_model.specs.RealTime.{Standing, AtNode, AfterNode, TimedCall, InRealTime, StandApart, OneAfterAnother}
 use Rattle.onll_core.specs.declared.returned.Returned.{Returned}
 use Rattle.onll_core.specs.declared.returned.Current.{Current}
 use Rattle.onll_core.specs.declared.returned.Current.TheVariants as currents
 use Rattle.onll_core.specs.Core.{CoreThread, CoreState}
-use Rattle.onll_core.specs.Outcomes.{current_of}
+use Rattle.onll_core.specs.Consistent.{EachCoreThread}
+use Rattle.onll_core.specs.Outcomes.{current_of, ends_of}
 
 -- Where the calls of a core stand, and when they were made.
 
@@ -38,7 +39,9 @@ timed_calls th = returned_calls th.script th.returned ++ current_calls th.began 
 abbrev pub calls_of : {State Op Query Reply : Type 0} → CoreState State Op Query Reply → List (List TimedCall)
 calls_of c = map timed_calls c.threads
 
--- the calls of a core stand in one order as they were made
+-- The calls of a core stand in one order, as they were made; none that has begun is left out.
 pub record AreInTime {State Op Query Reply : Type 0} (c : CoreState State Op Query Reply) : Type 0 where
+  pub all : EachCoreThread c (λ t th. length (timed_calls th) ≡ length (ends_of th))
+  pub turns : OneAfterAnother (calls_of c)
   pub in_time : InRealTime (calls_of c)
   pub apart : StandApart (calls_of c)

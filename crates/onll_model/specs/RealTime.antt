@@ -47,3 +47,7 @@ InRealTime calls = (t i u j : ℕ) (a b : TimedCall) → call_at calls t i ≡ S
 abbrev pub StandApart : List (List TimedCall) → Type 0
 StandApart calls = (t i u j : ℕ) (a b : TimedCall) (point : Standing) → call_at calls t i ≡ Some a → call_at calls u j ≡ Some b
     → a.standing ≡ Some point → b.standing ≡ Some point → (t ≡ u) × (i ≡ j)
+
+-- a thread's calls are made one after the other: all but its last have returned, each before the later ones began
+abbrev pub OneAfterAnother : List (List TimedCall) → Type 0
+OneAfterAnother calls = (t i j : ℕ) (a b : TimedCall) → call_at calls t i ≡ Some a → call_at calls t j ≡ Some b → i < j → (ended : ℕ) × (a.ended ≡ Some ended) × (ended < b.began)

@@ -1,4 +1,4 @@
-use Rattle.std.proofs.Common.{◌≡◌, ◌≢◌, ℕ, zero, suc, ◌+◌, ◌-◌, ◌*◌, ◌<◌, ◌≤◌, ◌==◌, ◌⊎◌, inl, inr, ⊎_elim, Bool, true, false, true≢false, cond, List, [], ◌∷◌, ◌++◌, length, take, set, Option, Some, None, refl, sym, ap, ◌∙◌, subst, arith, eq-eqb, ne_eqb, length-append, count_by}
+use Rattle.std.proofs.Common.{◌≡◌, ◌≢◌, ℕ, suc, ◌+◌, ◌-◌, ◌*◌, ◌<◌, ◌≤◌, ◌==◌, ◌⊎◌, inl, inr, Bool, true, false, true≢false, cond, List, [], ◌∷◌, ◌++◌, length, take, set, Option, Some, None, refl, sym, ap, ◌∙◌, subst, arith, eq-eqb, ne_eqb}
 use Rattle.std.proofs.lemmas.Bool.{leb-true, leb-false}
 use Rattle.std.proofs.lemmas.List.Sums.{sum_by-append}
 use Rattle.std.specs.Prelude.{nat_le}
@@ -10,7 +10,7 @@ use Rattle.onll_model.specs.declared.call.Call.TheVariants.{Update, Ask}
 use Rattle.onll_model.specs.Object.{Behaviour}
 use Rattle.onll_model.specs.Trace.{reply_after}
 use Rattle.onll_model.specs.Frames.{is_available, AreApart}
-use Rattle.onll_model.proofs.Lists.{some_not_none, same_some, inside, at_before, at_end, set_here, set_else}
+use Rattle.onll_model.proofs.Lists.{same_some, inside, at_before, at_end, set_here, set_else}
 use Rattle.onll_model.proofs.FrameSteps.{apart_more}
 use Rattle.onll_model.proofs.FrameLogs.{window_few}
 use Rattle.onll_pmem.specs.Device.{Write, WriteBack, after_step}
@@ -20,7 +20,7 @@ use Rattle.onll_core.specs.declared.returned.Returned.{Returned}
 use Rattle.onll_core.specs.declared.returned.Current.TheVariants as currents
 use Rattle.onll_core.specs.Core.{CoreThread, CoreState}
 use Rattle.onll_core.specs.CoreFrame.{frame_of}
-use Rattle.onll_core.specs.Step.{turned, begun, on_device, logged, returning, put, linked, flagged, line_of_entry, after_exchange, after_flag, after_back, answered, act, next_call, step_by, step_of, steps_of}
+use Rattle.onll_core.specs.Step.{turned, on_device, logged, returning, put, line_of_entry, after_flag, act, next_call, step_by, step_of, steps_of}
 use Rattle.onll_core.specs.Consistent.{IsConsistent}
 use Rattle.onll_core.specs.Outcomes.{current_in, current_of}
 use Rattle.onll_core.specs.Returns.{own_steps, HasReturned}

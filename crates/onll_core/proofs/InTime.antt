@@ -1,4 +1,4 @@
-use Rattle.std.proofs.Common.{◌≡◌, ◌≢◌, ℕ, zero, suc, ◌+◌, ◌<◌, ◌≤◌, ◌⊎◌, inl, inr, ⊎_elim, List, [], ◌∷◌, ◌++◌, length, map, Option, Some, None, refl, sym, ap, ◌∙◌, subst, arith, get_or}
+use Rattle.std.proofs.Common.{◌≡◌, ℕ, zero, suc, ◌+◌, ◌<◌, ◌≤◌, ◌⊎◌, inl, inr, ⊎_elim, List, [], ◌∷◌, ◌++◌, length, map, Some, None, refl, sym, ap, ◌∙◌, subst, arith}
 use Rattle.std.specs.List.{slice_get}
 use mathlib.Core.Logic.{dite}
 use native.Mathlib.Decide.{ℕ_discrete}
@@ -6,7 +6,7 @@ use Rattle.onll_model.specs.declared.node.Node.{Node}
 use Rattle.onll_model.specs.declared.call.Call.{Call}
 use Rattle.onll_model.specs.declared.call.Call.TheVariants.{Update, Ask}
 use Rattle.onll_model.specs.Trace.{node_at}
-use Rattle.onll_model.specs.RealTime.{Standing, AtNode, AfterNode, StandsBefore, TimedCall, call_at, IsInTime}
+use Rattle.onll_model.specs.RealTime.{Standing, AtNode, StandsBefore, TimedCall, call_at, IsInTime}
 use Rattle.onll_model.proofs.Lists.{some_not_none, same_some}
 use Rattle.onll_core.specs.declared.phase.Phase.{Phase}
 use Rattle.onll_core.specs.declared.phase.Phase.TheVariants as phases
@@ -19,7 +19,7 @@ use Rattle.onll_core.specs.Consistent.{IsConsistent}
 use Rattle.onll_core.specs.Outcomes.{current_in, current_of, ends_of}
 use Rattle.onll_core.specs.CallTimes.{standing_of, returned_call, returned_calls, current_calls, timed_calls, calls_of, AreInTime}
 use Rattle.onll_core.proofs.Phases.{own_last, seen_below}
-use Rattle.onll_core.proofs.Timed.{IsPast, IsAhead, HasNode, IsAbove, IsBusy, IsTimed}
+use Rattle.onll_core.proofs.Timed.{IsPast, IsAhead, IsBusy, IsTimed}
 use Rattle.onll_core.proofs.TimedSteps.{place_seen}
 
 -- What is known of a core's calls puts them in one order.
@@ -137,10 +137,12 @@ module _ {State Op Query Reply : Type 0} where
         let m = time.nodes t i (Update o) r h in
         let n = time.nodes u j (Update q) s g in
         let own : t ≡ u = one_thread t u r.place s.place m.0 n.0 m.1 m.2 n.1 n.2 place in
-        let g' : IsPast c t j (Update q) s = subst (λ (z : ℕ). IsPast c z j (Update q) s) (sym own) g in
-        (own, dite (ℕ_discrete i j) (λ is. is) (λ not. dite (native.Mathlib.Decide.dec_le i j)
-        (λ le. let l : r.place < s.place = time.rising t i j (Update o) (Update q) r s h g' (omega arith) in absurd (omega arith))
-        (λ gt. let l : s.place < r.place = time.rising t j i (Update q) (Update o) s r g' h (omega arith) in absurd (omega arith))))
+        let g' : IsPast c t j (Update q) s = subst (λ (z : ℕ). IsPast c z j (Update q) s) (sym own) g in (
+          own,
+          dite (ℕ_discrete i j) (λ is. is) (λ not. dite (native.Mathlib.Decide.dec_le i j)
+              (λ le. let l : r.place < s.place = time.rising t i j (Update o) (Update q) r s h g' (omega arith) in absurd (omega arith))
+              (λ gt. let l : s.place < r.place = time.rising t j i (Update q) (Update o) s r g' h (omega arith) in absurd (omega arith))),
+        )
     past_apart t i u j (Update o) (Ask q) r s h g e = absurd (cc)
     past_apart t i u j (Ask o) (Update q) r s h g e = absurd (cc)
     past_apart t i u j (Ask o) (Ask q) r s h g e = let same : r.ended ≡ s.ended = (cc) in time.moments t i u j (Ask o) (Ask q) r s h g same

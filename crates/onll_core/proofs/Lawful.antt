@@ -1,4 +1,4 @@
-use Rattle.std.proofs.Common.{◌≡◌, ◌≢◌, ℕ, zero, suc, ◌+◌, ◌-◌, ◌<◌, ◌≤◌, max, List, [], ◌∷◌, ◌++◌, length, take, drop, map, Option, Some, None, refl, sym, ap, ◌∙◌, subst, arith, append-nil, length-append}
+use Rattle.std.proofs.Common.{◌≡◌, ◌≢◌, ℕ, suc, ◌+◌, ◌-◌, ◌<◌, ◌≤◌, max, List, [], ◌∷◌, ◌++◌, length, take, drop, map, Option, Some, None, refl, sym, ap, ◌∙◌, subst, arith, append-nil, length-append}
 use Rattle.std.specs.Prelude.{IfSome}
 use Rattle.std.specs.List.{slice_get}
 use Rattle.std.proofs.lemmas.List.{length-map, length-drop, drop-append-le}
@@ -12,7 +12,7 @@ use Rattle.onll_model.specs.Object.{Behaviour}
 use Rattle.onll_model.specs.Trace.{reply_after, answer_after}
 use Rattle.onll_model.specs.Legal.{place_in, placed_updates, placed_rows, EachEnd, EachLaterEnd, HasReply, HasAnswer, InOrder, BrokenAfterFailure, OverButLast, IsLegalThread}
 use Rattle.onll_model.specs.Events.{next_node}
-use Rattle.onll_model.proofs.Lists.{some_not_none, same_some, take_before}
+use Rattle.onll_model.proofs.Lists.{take_before}
 use Rattle.onll_model.proofs.Ends.{each_end_more, each_later_more, placed_update, placed_ask, placed_running, rows_own, rows_other}
 use Rattle.onll_core.specs.declared.returned.Returned.{Returned}
 use Rattle.onll_core.specs.declared.returned.Current.{Current}
@@ -57,8 +57,10 @@ module _ {State Op Query Reply : Type 0} where
   above_reads P base op e calls [] h above = tt
   above_reads P base op e [] (r ∷ rs) h above = h
   above_reads P base op e (Update o ∷ calls) (r ∷ rs) h above = (tt, above_reads P base op e calls rs h.1 (if_some_map (λ p. max r.place (seen_in base rs) < p) (λ p. seen_in base rs < p) (place_in e) (λ p l. omega arith) above))
-  above_reads P base op e (Ask q ∷ calls) (r ∷ rs) h above = (if_some_map (λ p. max r.place (seen_in base rs) < p) (λ p. r.place < p) (place_in e) (λ p l. omega arith) above,
-      above_reads P base op e calls rs h.1 (if_some_map (λ p. max r.place (seen_in base rs) < p) (λ p. seen_in base rs < p) (place_in e) (λ p l. omega arith) above))
+  above_reads P base op e (Ask q ∷ calls) (r ∷ rs) h above = (
+    if_some_map (λ p. max r.place (seen_in base rs) < p) (λ p. r.place < p) (place_in e) (λ p l. omega arith) above,
+    above_reads P base op e calls rs h.1 (if_some_map (λ p. max r.place (seen_in base rs) < p) (λ p. seen_in base rs < p) (place_in e) (λ p l. omega arith) above),
+  )
 
   -- an answered read stands at or above what came before it
   above_all : (P : Call State Op Query Reply → CallEnd State Op Query Reply → Type 0) (base : ℕ) (query : Query) (reply : Reply) (place : ℕ) (calls : List (Call State Op Query Reply)) (rs : List (Returned State Op Query Reply))

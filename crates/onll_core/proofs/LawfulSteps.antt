@@ -1,9 +1,7 @@
-use Rattle.std.proofs.Common.{◌≡◌, ◌≢◌, ℕ, zero, suc, ◌+◌, ◌-◌, ◌<◌, ◌≤◌, ◌==◌, ◌⊎◌, inl, inr, ⊎_elim, Bool, true, false, true≢false, cond, List, [], ◌∷◌, ◌++◌, length, take, map, set, Option, Some, None, refl, sym, ap, ◌∙◌, subst, arith, eqb-true, length-append}
-use Rattle.std.proofs.lemmas.Bool.{leb-true, leb-false}
+use Rattle.std.proofs.Common.{◌≡◌, ◌≢◌, ℕ, suc, ◌+◌, ◌-◌, ◌≤◌, ◌==◌, Bool, true, false, true≢false, List, [], ◌∷◌, ◌++◌, length, take, Option, Some, None, refl, sym, ap, ◌∙◌, subst, arith, eqb-true}
+use Rattle.std.proofs.lemmas.Bool.{leb-true}
 use Rattle.std.specs.Prelude.{nat_le}
 use Rattle.std.specs.List.{slice_get}
-use mathlib.Core.Logic.{dite}
-use native.Mathlib.Decide.{ℕ_discrete}
 use Rattle.onll_model.specs.declared.node.Node.{Node}
 use Rattle.onll_model.specs.declared.call.Call.{Call}
 use Rattle.onll_model.specs.declared.call.Call.TheVariants.{Update, Ask}
@@ -11,7 +9,6 @@ use Rattle.onll_model.specs.Object.{Behaviour}
 use Rattle.onll_model.specs.Trace.{reply_after, answer_after}
 use Rattle.onll_model.specs.Frames.{is_available}
 use Rattle.onll_model.specs.Events.{next_node}
-use Rattle.onll_model.proofs.Lists.{at_set}
 use Rattle.onll_pmem.specs.Device.{Write, WriteBack, after_step}
 use Rattle.onll_core.specs.declared.phase.Phase.{Phase}
 use Rattle.onll_core.specs.declared.phase.Phase.TheVariants as phases
@@ -59,11 +56,13 @@ module _ {State Op Query Reply : Type 0} (b : Behaviour State Op Query Reply) (c
     links l e size =
         let x : Node = next_node c.trace t (b.row_of op) in
         let mine : IsLawful b c.initial c.base (c.trace ++ x ∷ []) t th.script th.returned (currents.Ordered (suc (length c.trace))) =
-            lawful_linked b c.initial c.base c.trace t th.script th.returned op is k.based.long (seen_low count c k t th at) (law currents.Running (ap current_in e)) in
+        lawful_linked b c.initial c.base c.trace t th.script th.returned op is k.based.long (seen_low count c k t th at) (law currents.Running (ap current_in e)) in
         let place : currents.Ordered (suc (length c.trace)) ≡ currents.Ordered (l + 1) = (let n : suc (length c.trace) ≡ l + 1 = omega arith in ap currents.Ordered n) in
-        record { each = each_set (λ u z. IsLawful b c.initial c.base (c.trace ++ x ∷ []) u z.script z.returned (current_of z)) c.threads t (turned th (after_exchange c.base l))
-            (subst (IsLawful b c.initial c.base (c.trace ++ x ∷ []) t th.script th.returned) (place ∙ sym (if_case (λ (ph : Phase). current_in ph ≡ currents.Ordered (l + 1)) (nat_le l c.base) (phases.Line (l + 1) l 0) (phases.Flag (l + 1) l) (λ _. refl) (λ _. refl))) mine)
-            (λ u z other e. lawful_other b c.initial c.base c.trace u z.script z.returned (current_of z) x (λ h. other (sym h)) k.based.long (seen_low count c k u z e) (all.each u z e)) }
+        record {
+          each = each_set (λ u z. IsLawful b c.initial c.base (c.trace ++ x ∷ []) u z.script z.returned (current_of z)) c.threads t (turned th (after_exchange c.base l))
+              (subst (IsLawful b c.initial c.base (c.trace ++ x ∷ []) t th.script th.returned) (place ∙ sym (if_case (λ (ph : Phase). current_in ph ≡ currents.Ordered (l + 1)) (nat_le l c.base) (phases.Line (l + 1) l 0) (phases.Flag (l + 1) l) (λ _. refl) (λ _. refl))) mine)
+              (λ u z other e. lawful_other b c.initial c.base c.trace u z.script z.returned (current_of z) x (λ h. other (sym h)) k.based.long (seen_low count c k u z e) (all.each u z e));
+        }
 
     walk_current : (p d : ℕ) (flag : Bool) → current_in (after_flag c.base p d flag) ≡ currents.Ordered p
     walk_current p d true = refl

@@ -1,18 +1,18 @@
-use Rattle.std.proofs.Common.{◌≡◌, ℕ, zero, suc, ◌+◌, ◌<◌, ◌≤◌, List, [], ◌∷◌, length, take, drop, map, Option, Some, None, refl, sym, ap, ◌∙◌, subst, arith, length-append}
+use Rattle.std.proofs.Common.{◌≡◌, ℕ, zero, suc, ◌+◌, ◌<◌, ◌≤◌, List, [], ◌∷◌, length, take, map, Some, refl, sym, ap, ◌∙◌, subst, arith, length-append}
 use Rattle.std.specs.List.{AllByRecursion, slice_get}
 use Rattle.std.proofs.lemmas.List.{length-map, drop_all}
 use Rattle.onll_model.specs.declared.node.Node.{Node}
 use Rattle.onll_model.specs.declared.call.Call.{Call}
 use Rattle.onll_model.specs.declared.call.CallEnd.{CallEnd}
 use Rattle.onll_model.specs.Object.{Behaviour}
-use Rattle.onll_model.specs.Legal.{placed_updates, placed_rows, EachEnd, HasReply, IsLegalThread, AreLegalThreads}
+use Rattle.onll_model.specs.Legal.{placed_rows, EachEnd, HasReply, IsLegalThread, AreLegalThreads}
 use Rattle.onll_model.proofs.Ends.{none_placed}
 use Rattle.onll_core.specs.declared.returned.Returned.{Returned}
 use Rattle.onll_core.specs.declared.returned.Current.{Current}
 use Rattle.onll_core.specs.declared.returned.Current.TheVariants as currents
 use Rattle.onll_core.specs.Core.{CoreThread, CoreState}
 use Rattle.onll_core.specs.CoreFrame.{frame_thread}
-use Rattle.onll_core.specs.Consistent.{EachCoreThread, IsConsistent}
+use Rattle.onll_core.specs.Consistent.{IsConsistent}
 use Rattle.onll_core.specs.Outcomes.{current_in, current_of, current_ends, returned_end, ends_of, script_of, IsLegalCore, IsFresh}
 use Rattle.onll_core.specs.CallTimes.{returned_calls, current_calls, timed_calls}
 use Rattle.onll_core.proofs.Phases.{seen_below}
@@ -25,9 +25,9 @@ threads_legal : {State Op Query Reply : Type 0} (b : Behaviour State Op Query Re
     → ((t : ℕ) (th : CoreThread State Op Query Reply) → slice_get ths t ≡ Some th → IsLegalThread b s base trace (n + t) th.script (ends_of th)) → AreLegalThreads b s base trace n (map script_of ths) (map ends_of ths)
 threads_legal b s base trace n [] h = tt
 threads_legal b s base trace n (th ∷ ths) h = let first : n + 0 ≡ n = omega arith in (
-    subst (λ (m : ℕ). IsLegalThread b s base trace m th.script (ends_of th)) first (h 0 th refl),
-    threads_legal b s base trace (n + 1) ths (λ t w e. let k : n + suc t ≡ n + 1 + t = omega arith in subst (λ (m : ℕ). IsLegalThread b s base trace m w.script (ends_of w)) k (h (suc t) w e)),
-  )
+  subst (λ (m : ℕ). IsLegalThread b s base trace m th.script (ends_of th)) first (h 0 th refl),
+  threads_legal b s base trace (n + 1) ths (λ t w e. let k : n + suc t ≡ n + 1 + t = omega arith in subst (λ (m : ℕ). IsLegalThread b s base trace m w.script (ends_of w)) k (h (suc t) w e)),
+)
 
 length_front : {A : Type 0} (n : ℕ) (xs : List A) → n ≤ length xs → length (take n xs) ≡ n
 length_front zero xs l = refl

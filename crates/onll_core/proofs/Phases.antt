@@ -1,8 +1,7 @@
-use Rattle.std.proofs.Common.{◌≡◌, ◌≢◌, ℕ, zero, suc, ◌+◌, ◌-◌, ◌<◌, ◌≤◌, ◌⊎◌, ⊎_elim, Bool, true, false, cond, set, List, [], ◌∷◌, ◌++◌, length, take, drop, map, Option, Some, None, option_to_list, refl, sym, ap, ◌∙◌, subst, arith}
+use Rattle.std.proofs.Common.{◌≡◌, ◌≢◌, ℕ, zero, suc, ◌-◌, ◌<◌, ◌≤◌, ⊎_elim, Bool, true, false, cond, set, List, [], ◌∷◌, ◌++◌, length, map, Option, Some, None, option_to_list, refl, sym, ap, ◌∙◌, subst, arith}
 use Rattle.std.specs.List.{AllByRecursion, slice_get}
-use Rattle.onll_model.specs.declared.node.Node.{Node}
 use Rattle.onll_model.specs.Segment.{Segment}
-use Rattle.onll_model.specs.Frames.{Frame, Thread, Activity, Rest, Loaded, Walk, Logging, Fenced, Asking, Sound, IsLast, IsAvailable, IsSoundSegment, IsPending, IsSettled, Follows, open_in, fenced_segments, segments_of}
+use Rattle.onll_model.specs.Frames.{Thread, Activity, Logging, Fenced, IsLast, IsAvailable, IsSoundSegment, IsPending, IsSettled, Follows, open_in, fenced_segments}
 use Rattle.onll_model.specs.Events.{window}
 use Rattle.onll_model.proofs.Lists.{some_not_none, same_some, at_set, all_left, all_right}
 use Rattle.onll_model.proofs.Traces.{node_place}
@@ -10,7 +9,6 @@ use Rattle.onll_model.proofs.FrameParts.{in_trace}
 use Rattle.onll_model.proofs.FrameLogs.{window_few}
 use Rattle.onll_core.specs.declared.phase.Phase.{Phase}
 use Rattle.onll_core.specs.declared.phase.Phase.TheVariants as phases
-use Rattle.onll_core.specs.declared.returned.Current.{Current}
 use Rattle.onll_core.specs.declared.returned.Current.TheVariants as currents
 use Rattle.onll_core.specs.Core.{CoreThread, CoreState}
 use Rattle.onll_core.specs.CoreFrame.{seen_in, pending_in, activity_in, thread_at, frame_thread, frame_of}
@@ -73,7 +71,7 @@ module _ {State Op Query Reply : Type 0} (count : ℕ) (c : CoreState State Op Q
       let v : Thread = thread_at c.base c.trace th ph in
       let g : Segment = window c.trace d p in
       let all : AllByRecursion (IsSoundSegment count c.trace (fenced_segments (frame_of c).threads)) (v.fenced ++ option_to_list (Some g)) =
-          subst (λ (o : Option Segment). AllByRecursion (IsSoundSegment count c.trace (fenced_segments (frame_of c).threads)) (v.fenced ++ option_to_list o)) pends (k.sound.segments t v (frame_at ph e)) in
+      subst (λ (o : Option Segment). AllByRecursion (IsSoundSegment count c.trace (fenced_segments (frame_of c).threads)) (v.fenced ++ option_to_list o)) pends (k.sound.segments t v (frame_at ph e)) in
       let mine = (all_right (IsSoundSegment count c.trace (fenced_segments (frame_of c).threads)) v.fenced (g ∷ []) all).0 in
       let is : IsPending (Some g) None (Logging p (p - d)) = subst (λ (x : Option Segment × Activity). IsPending x.0 None x.1) (λ i. (pends i, logs i)) (k.sound.pending t v (frame_at ph e)) in
       let same : g ≡ is.0 = same_some g is.0 is.1 in

@@ -1,4 +1,4 @@
-use Rattle.std.proofs.Common.{◌≡◌, ℕ, zero, suc, ◌+◌, ◌*◌, ◌≤◌, List, [], ◌∷◌, ◌++◌, length, Option, Some, None, refl, sym, ap, ◌∙◌, subst, arith}
+use Rattle.std.proofs.Common.{◌≡◌, ℕ, zero, suc, ◌≤◌, List, [], ◌∷◌, ◌++◌, Option, Some, None, refl, sym, ap, ◌∙◌, subst, arith}
 use Rattle.std.specs.List.{slice_get}
 use Rattle.onll_model.specs.declared.call.Call.{Call}
 use Rattle.onll_model.specs.declared.call.Call.TheVariants.{Update, Ask}
@@ -12,9 +12,7 @@ use Rattle.onll_core.specs.Core.{CoreThread, CoreState}
 use Rattle.onll_core.specs.Step.{step_of, steps_of, next_call}
 use Rattle.onll_core.specs.First.{first_threads, first_core, AreFirst}
 use Rattle.onll_core.specs.Consistent.{IsConsistent}
-use Rattle.onll_core.specs.Outcomes.{current_of, IsLegalCore, IsFresh}
-use Rattle.onll_core.specs.CallTimes.{AreInTime}
-use Rattle.onll_core.specs.Returns.{own_steps, HasReturned}
+use Rattle.onll_core.specs.Outcomes.{current_of, IsFresh}
 use Rattle.onll_core.specs.Reached.{IsReached}
 use Rattle.onll_core.specs.OutcomeLaws.{FirstReachedLaw, FreshReachedLaw, StepsReachedLaw, ReachedConsistentLaw, ReportLaw, OrderLaw, ReturnLaw}
 use Rattle.onll_core.proofs.FirstCore.{first_consistent}

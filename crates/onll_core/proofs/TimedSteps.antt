@@ -1,5 +1,5 @@
-use Rattle.std.proofs.Common.{◌≡◌, ◌≢◌, ℕ, zero, suc, ◌+◌, ◌-◌, ◌<◌, ◌≤◌, max, ◌==◌, ◌⊎◌, inl, inr, ⊎_elim, Bool, true, false, true≢false, cond, List, [], ◌∷◌, ◌++◌, length, take, set, Option, Some, None, refl, sym, ap, ◌∙◌, subst, arith, eqb-true}
-use Rattle.std.proofs.lemmas.Bool.{leb-true, leb-false}
+use Rattle.std.proofs.Common.{◌≡◌, ◌≢◌, ℕ, zero, suc, ◌+◌, ◌-◌, ◌<◌, ◌≤◌, ◌==◌, ⊎_elim, Bool, true, false, true≢false, List, [], ◌∷◌, length, take, set, Option, Some, None, refl, sym, ap, ◌∙◌, subst, arith, eqb-true}
+use Rattle.std.proofs.lemmas.Bool.{leb-true}
 use Rattle.std.specs.Prelude.{nat_le}
 use Rattle.std.specs.List.{slice_get}
 use mathlib.Core.Logic.{dite}
@@ -24,8 +24,8 @@ use Rattle.onll_core.specs.CoreFrame.{seen_in, frame_of}
 use Rattle.onll_core.specs.Step.{turned, begun, on_device, logged, returning, put, linked, flagged, line_of_entry, after_exchange, after_flag, after_back, answered, act, next_call, step_by, step_of}
 use Rattle.onll_core.specs.Consistent.{IsConsistent}
 use Rattle.onll_core.specs.Outcomes.{current_in, IsFresh}
-use Rattle.onll_core.proofs.Phases.{if_case, own_last, own_place, seen_below, ask_place}
-use Rattle.onll_core.proofs.Timed.{IsPast, IsAhead, HasNode, IsAbove, IsOver, IsBusy, IsTimed, timed_put, timed_return, before_update, before_read}
+use Rattle.onll_core.proofs.Phases.{if_case, own_last, own_place, seen_below}
+use Rattle.onll_core.proofs.Timed.{IsPast, IsAhead, IsBusy, IsTimed, timed_put, timed_return, before_update, before_read}
 
 -- Each step keeps the order of a core's calls.
 
@@ -127,7 +127,7 @@ module _ {State Op Query Reply : Type 0} (b : Behaviour State Op Query Reply) (c
         if_case IsTimed (is_available c.flags d) _ _
         (λ flag. answers d th.began began flag (was_ahead (phases.Ask f d) e) (was_turn (phases.Ask f d) e tt))
         (λ unset. let below : (u i : ℕ) (x : Call State Op Query Reply) (a : Returned State Op Query Reply) → IsPast c u i x a → a.ended < th.began → a.place < d =
-            (λ u i x a h less. below_unset a.place d (was_ahead (phases.Ask f d) e u i x a h less) (time.past u i x a h).available unset) in
+        (λ u i x a h less. below_unset a.place d (was_ahead (phases.Ask f d) e u i x a h less) (time.past u i x a h).available unset) in
         if_case IsTimed (nat_le d (c.base + 1)) _ _
         (λ le. let l = leb-true d (c.base + 1) le in answers c.base th.began began (k.based.available c.base (omega arith)) (λ u i x a h less. let s = below u i x a h less in omega arith) (was_turn (phases.Ask f d) e tt))
         (λ _. moved (turned th (phases.Ask f (d - 1))) refl refl old_began (λ u i x a h less. let s = below u i x a h less in omega arith) (was_turn (phases.Ask f d) e tt)))

@@ -12,7 +12,10 @@ pub mod Ties
 pub mod StepEvents
 pub mod Kept
 pub mod Fences
+pub mod Begin
 pub mod FirstCore
 pub mod Ready
 pub mod Bounds
 pub mod ReachedCores
+pub mod Stays
+pub mod Crash

@@ -6,7 +6,9 @@ pub mod Consistent
 pub mod Outcomes
 pub mod CallTimes
 pub mod StepEvent
+pub mod Begin
 pub mod First
+pub mod Resumed
 pub mod Fences
 pub mod Entries
 pub mod Laws
@@ -14,3 +16,5 @@ pub mod Ready
 pub mod Reached
 pub mod Returns
 pub mod OutcomeLaws
+pub mod Stays
+pub mod Crash

@@ -1,21 +1,24 @@
 use Rattle.std.proofs.Common.{◌≡◌, ℕ, zero, suc, ◌≤◌, List, [], ◌∷◌, ◌++◌, Option, Some, None, refl, sym, ap, ◌∙◌, subst, arith}
 use Rattle.std.specs.List.{slice_get}
+use Rattle.onll_model.specs.declared.node.Node.{Node}
 use Rattle.onll_model.specs.declared.call.Call.{Call}
 use Rattle.onll_model.specs.declared.call.Call.TheVariants.{Update, Ask}
+use Rattle.onll_model.specs.Segment.{Segment}
 use Rattle.onll_model.specs.Object.{Behaviour}
-use Rattle.onll_model.proofs.Lists.{some_not_none}
+use Rattle.onll_model.proofs.Lists.{some_not_none, same_some}
 use Rattle.onll_log.specs.declared.head.LogHead.{LogHead}
 use Rattle.onll_core.specs.declared.phase.Phase.TheVariants as phases
 use Rattle.onll_core.specs.declared.returned.Current.{Current}
 use Rattle.onll_core.specs.declared.returned.Current.TheVariants as currents
 use Rattle.onll_core.specs.Core.{CoreThread, CoreState}
 use Rattle.onll_core.specs.Step.{step_of, steps_of, next_call}
-use Rattle.onll_core.specs.First.{first_threads, first_core, AreFirst}
+use Rattle.onll_core.specs.First.{first_thread, first_threads, first_core}
+use Rattle.onll_core.specs.Resumed.{resumed_core_thread, resumed_core_threads, resumed_core}
 use Rattle.onll_core.specs.Consistent.{IsConsistent}
 use Rattle.onll_core.specs.Outcomes.{current_of, IsFresh}
 use Rattle.onll_core.specs.Reached.{IsReached}
-use Rattle.onll_core.specs.OutcomeLaws.{FirstReachedLaw, FreshReachedLaw, StepsReachedLaw, ReachedConsistentLaw, ReportLaw, OrderLaw, ReturnLaw}
-use Rattle.onll_core.proofs.FirstCore.{first_consistent}
+use Rattle.onll_core.specs.OutcomeLaws.{FirstReachedLaw, ResumedReachedLaw, FreshReachedLaw, StepsReachedLaw, ReachedConsistentLaw, ReportLaw, OrderLaw, ReturnLaw}
+use Rattle.onll_core.proofs.FirstCore.{first_consistent, resumed_consistent}
 use Rattle.onll_core.proofs.Kept.{step_consistent, steps_consistent}
 use Rattle.onll_core.proofs.Lawful.{Suits}
 use Rattle.onll_core.proofs.LawfulSteps.{AreLawful, step_lawful}
@@ -32,7 +35,7 @@ module _ {State Op Query Reply : Type 0} where
   first_threads_fresh : (heads : List LogHead) (scripts : List (List (Call State Op Query Reply))) (t : ℕ) (th : CoreThread State Op Query Reply) → slice_get (first_threads heads scripts) t ≡ Some th → (th.returned ≡ []) × (th.phase ≡ phases.Idle) × (th.began ≤ 0)
   first_threads_fresh [] scripts t th e = some_not_none th (sym e)
   first_threads_fresh (head ∷ heads) [] t th e = some_not_none th (sym e)
-  first_threads_fresh (head ∷ heads) (script ∷ scripts) zero th e = let same = sym (Rattle.onll_model.proofs.Lists.same_some (Rattle.onll_core.specs.First.first_thread head script) th e) in
+  first_threads_fresh (head ∷ heads) (script ∷ scripts) zero th e = let same = sym (same_some (first_thread head script) th e) in
       (ap (λ z. z.returned) same, ap (λ z. z.phase) same, let n = ap (λ z. z.began) same in omega arith)
   first_threads_fresh (head ∷ heads) (script ∷ scripts) (suc t) th e = first_threads_fresh heads scripts t th e
 
@@ -42,6 +45,22 @@ module _ {State Op Query Reply : Type 0} where
     returned = λ t th e. (first_threads_fresh heads scripts t th e).0;
     idle = λ t th e. (first_threads_fresh heads scripts t th e).1;
     began = λ t th e. (first_threads_fresh heads scripts t th e).2;
+  }
+
+  resumed_threads_fresh : (heads : List LogHead) (logs : List (List Segment)) (scripts : List (List (Call State Op Query Reply))) (t : ℕ) (th : CoreThread State Op Query Reply) → slice_get (resumed_core_threads heads logs scripts) t ≡ Some th → (th.returned ≡ []) × (th.phase ≡ phases.Idle) × (th.began ≤ 0)
+  resumed_threads_fresh [] logs scripts t th e = some_not_none th (sym e)
+  resumed_threads_fresh (head ∷ heads) [] scripts t th e = some_not_none th (sym e)
+  resumed_threads_fresh (head ∷ heads) (log ∷ logs) [] t th e = some_not_none th (sym e)
+  resumed_threads_fresh (head ∷ heads) (log ∷ logs) (script ∷ scripts) zero th e = let same = sym (same_some (resumed_core_thread head log script) th e) in
+      (ap (λ z. z.returned) same, ap (λ z. z.phase) same, let n = ap (λ z. z.began) same in omega arith)
+  resumed_threads_fresh (head ∷ heads) (log ∷ logs) (script ∷ scripts) (suc t) th e = resumed_threads_fresh heads logs scripts t th e
+
+  resumed_fresh : (initial : State) (base : List Node) (heads : List LogHead) (logs : List (List Segment)) (scripts : List (List (Call State Op Query Reply))) → IsFresh (resumed_core initial base heads logs scripts)
+  resumed_fresh initial base heads logs scripts = record {
+    trace = refl;
+    returned = λ t th e. (resumed_threads_fresh heads logs scripts t th e).0;
+    idle = λ t th e. (resumed_threads_fresh heads logs scripts t th e).1;
+    began = λ t th e. (resumed_threads_fresh heads logs scripts t th e).2;
   }
 
   ordered_update : (place : ℕ) (now : Current) (call : Option (Call State Op Query Reply)) → now ≡ currents.Ordered place → Suits now call → (op : Op) × (call ≡ Some (Update op))
@@ -69,6 +88,9 @@ module _ {State Op Query Reply : Type 0} (b : Behaviour State Op Query Reply) wh
 
   pub first_reached : FirstReachedLaw b
   first_reached count initial heads scripts first = fresh_reached count (first_core initial heads scripts) (first_consistent count initial heads scripts first) (first_fresh initial heads scripts)
+
+  pub resumed_reached : ResumedReachedLaw b
+  resumed_reached count initial base heads logs scripts a = fresh_reached count (resumed_core initial base heads logs scripts) (resumed_consistent count initial base heads logs scripts a) (resumed_fresh initial base heads logs scripts)
 
   pub steps_reached : StepsReachedLaw b
   steps_reached count c ts h = record { start = h.start; steps = h.steps ++ ts; consistent = h.consistent; fresh = h.fresh; reached = steps_append h.start h.steps ts ∙ ap (λ (z : CoreState State Op Query Reply). steps_of b z ts) h.reached }

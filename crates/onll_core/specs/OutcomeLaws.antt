@@ -1,11 +1,14 @@
 use Rattle.std.specs.Prelude.{ℕ, ◌≡◌, ◌+◌, ◌*◌, ◌≤◌, List, length, Some, slice_get}
+use Rattle.onll_model.specs.declared.node.Node.{Node}
 use Rattle.onll_model.specs.declared.call.Call.{Call}
 use Rattle.onll_model.specs.Object.{Behaviour}
+use Rattle.onll_model.specs.Segment.{Segment}
 use Rattle.onll_log.specs.declared.head.LogHead.{LogHead}
 use Rattle.onll_core.specs.declared.returned.Current.TheVariants as currents
 use Rattle.onll_core.specs.Core.{CoreThread, CoreState}
 use Rattle.onll_core.specs.Step.{steps_of}
 use Rattle.onll_core.specs.First.{first_core, AreFirst}
+use Rattle.onll_core.specs.Resumed.{resumed_core, AreResumed}
 use Rattle.onll_core.specs.Consistent.{IsConsistent}
 use Rattle.onll_core.specs.Outcomes.{current_of, IsLegalCore, IsFresh}
 use Rattle.onll_core.specs.CallTimes.{AreInTime}
@@ -15,15 +18,20 @@ use Rattle.onll_core.specs.Reached.{IsReached}
 -- Laws of the calls of a step core, whatever the object and whatever threads take steps.
 
 module _ {State Op Query Reply : Type 0} (b : Behaviour State Op Query Reply) where
-  -- the first state of a core is reached
+  -- the first state of a core that begins anew is reached
   abbrev pub FirstReachedLaw : Type 0
   FirstReachedLaw = (count : ℕ) (initial : State) (heads : List LogHead) (scripts : List (List (Call State Op Query Reply))) → AreFirst count heads scripts → IsReached b count (first_core initial heads scripts)
 
-  -- so is every consistent state in which no call has begun
+  -- so is that of a core that goes on from recovered logs
+  abbrev pub ResumedReachedLaw : Type 0
+  ResumedReachedLaw = (count : ℕ) (initial : State) (base : List Node) (heads : List LogHead) (logs : List (List Segment)) (scripts : List (List (Call State Op Query Reply))) → AreResumed count base heads logs scripts
+      → IsReached b count (resumed_core initial base heads logs scripts)
+
+  -- and every consistent state in which no call has begun
   abbrev pub FreshReachedLaw : Type 0
   FreshReachedLaw = (count : ℕ) (c : CoreState State Op Query Reply) → IsConsistent count c → IsFresh c → IsReached b count c
 
-  -- and every state that steps lead to from one that is reached
+  -- and what steps lead to from a state that is reached
   abbrev pub StepsReachedLaw : Type 0
   StepsReachedLaw = (count : ℕ) (c : CoreState State Op Query Reply) (ts : List ℕ) → IsReached b count c → IsReached b count (steps_of b c ts)
 

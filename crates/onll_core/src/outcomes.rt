@@ -1,12 +1,14 @@
 //! What holds of the calls of a core, for every object and whatever threads take steps.
 
-ghost use Rattle.onll_core.specs.OutcomeLaws.{FirstReachedLaw, FreshReachedLaw, StepsReachedLaw, ReachedConsistentLaw, ReportLaw, OrderLaw, ReturnLaw};
+ghost use Rattle.onll_core.specs.OutcomeLaws.{FirstReachedLaw, ResumedReachedLaw, FreshReachedLaw, StepsReachedLaw, ReachedConsistentLaw, ReportLaw, OrderLaw, ReturnLaw};
 
 use onll_model::Object;
 
-/// The first state of a core is reached, and what steps lead to from a state that is reached; all of them are consistent.
+/// The first state of a core is reached, of one that begins anew and of one that goes on, and so is what steps lead to from a
+/// state that is reached; all of them are consistent.
 pub fn reached_law<O: Object>()
     ensures first { FirstReachedLaw O.means }
+    ensures resumed { ResumedReachedLaw O.means }
     ensures fresh { FreshReachedLaw O.means }
     ensures steps { StepsReachedLaw O.means }
     ensures consistent { ReachedConsistentLaw O.means }

@@ -1,8 +1,11 @@
-use Rattle.onll_core.proofs.ReachedCores.{first_reached, fresh_reached, steps_reached, reached_consistent}
+use Rattle.onll_core.proofs.ReachedCores.{first_reached, resumed_reached, fresh_reached, steps_reached, reached_consistent}
 use Rattle.onll_core.proofs.outcomes.reached_law.Goals as goal
 
 pub returns-clause-first : goal.returns-clause-first
 returns-clause-first g c = first_reached g.O.Object.means
+
+pub returns-clause-resumed : goal.returns-clause-resumed
+returns-clause-resumed g c = resumed_reached g.O.Object.means
 
 pub returns-clause-fresh : goal.returns-clause-fresh
 returns-clause-fresh g c = fresh_reached g.O.Object.means

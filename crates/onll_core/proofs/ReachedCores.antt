@@ -17,7 +17,7 @@ use Rattle.onll_core.specs.Resumed.{resumed_core_thread, resumed_core_threads, r
 use Rattle.onll_core.specs.Consistent.{IsConsistent}
 use Rattle.onll_core.specs.Outcomes.{current_of, IsFresh}
 use Rattle.onll_core.specs.Reached.{IsReached}
-use Rattle.onll_core.specs.OutcomeLaws.{FirstReachedLaw, ResumedReachedLaw, FreshReachedLaw, StepsReachedLaw, ReachedConsistentLaw, ReportLaw, OrderLaw, ReturnLaw}
+use Rattle.onll_core.specs.OutcomeLaws.{FirstReachedLaw, ResumedReachedLaw, FreshReachedLaw, StepReachedLaw, StepsReachedLaw, ReachedConsistentLaw, ReportLaw, OrderLaw, ReturnLaw}
 use Rattle.onll_core.proofs.FirstCore.{first_consistent, resumed_consistent}
 use Rattle.onll_core.proofs.Kept.{step_consistent, steps_consistent}
 use Rattle.onll_core.proofs.Lawful.{Suits}
@@ -94,6 +94,9 @@ module _ {State Op Query Reply : Type 0} (b : Behaviour State Op Query Reply) wh
 
   pub steps_reached : StepsReachedLaw b
   steps_reached count c ts h = record { start = h.start; steps = h.steps ++ ts; consistent = h.consistent; fresh = h.fresh; reached = steps_append h.start h.steps ts ∙ ap (λ (z : CoreState State Op Query Reply). steps_of b z ts) h.reached }
+
+  pub step_reached : StepReachedLaw b
+  step_reached count c t h = steps_reached count c (t ∷ []) h
 
   pub reached_consistent : ReachedConsistentLaw b
   reached_consistent count c h = subst (IsConsistent count) h.reached (steps_consistent b count h.start h.steps h.consistent)

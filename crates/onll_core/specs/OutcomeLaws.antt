@@ -6,7 +6,7 @@ use Rattle.onll_model.specs.Segment.{Segment}
 use Rattle.onll_log.specs.declared.head.LogHead.{LogHead}
 use Rattle.onll_core.specs.declared.returned.Current.TheVariants as currents
 use Rattle.onll_core.specs.Core.{CoreThread, CoreState}
-use Rattle.onll_core.specs.Step.{steps_of}
+use Rattle.onll_core.specs.Step.{step_of, steps_of}
 use Rattle.onll_core.specs.First.{first_core, AreFirst}
 use Rattle.onll_core.specs.Resumed.{resumed_core, AreResumed}
 use Rattle.onll_core.specs.Consistent.{IsConsistent}
@@ -31,7 +31,10 @@ module _ {State Op Query Reply : Type 0} (b : Behaviour State Op Query Reply) wh
   abbrev pub FreshReachedLaw : Type 0
   FreshReachedLaw = (count : ℕ) (c : CoreState State Op Query Reply) → IsConsistent count c → IsFresh c → IsReached b count c
 
-  -- and what steps lead to from a state that is reached
+  -- and what a step leads to from a state that is reached, and what steps do
+  abbrev pub StepReachedLaw : Type 0
+  StepReachedLaw = (count : ℕ) (c : CoreState State Op Query Reply) (t : ℕ) → IsReached b count c → IsReached b count (step_of b c t)
+
   abbrev pub StepsReachedLaw : Type 0
   StepsReachedLaw = (count : ℕ) (c : CoreState State Op Query Reply) (ts : List ℕ) → IsReached b count c → IsReached b count (steps_of b c ts)
 

@@ -1,6 +1,6 @@
 //! What holds of the calls of a core, for every object and whatever threads take steps.
 
-ghost use Rattle.onll_core.specs.OutcomeLaws.{FirstReachedLaw, ResumedReachedLaw, FreshReachedLaw, StepsReachedLaw, ReachedConsistentLaw, ReportLaw, OrderLaw, ReturnLaw};
+ghost use Rattle.onll_core.specs.OutcomeLaws.{FirstReachedLaw, ResumedReachedLaw, FreshReachedLaw, StepReachedLaw, StepsReachedLaw, ReachedConsistentLaw, ReportLaw, OrderLaw, ReturnLaw};
 
 use onll_model::Object;
 
@@ -10,6 +10,7 @@ pub fn reached_law<O: Object>()
     ensures first { FirstReachedLaw O.means }
     ensures resumed { ResumedReachedLaw O.means }
     ensures fresh { FreshReachedLaw O.means }
+    ensures step { StepReachedLaw O.means }
     ensures steps { StepsReachedLaw O.means }
     ensures consistent { ReachedConsistentLaw O.means }
 {}

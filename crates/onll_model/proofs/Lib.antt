@@ -12,4 +12,7 @@ pub mod FrameLinks
 pub mod EventLaw
 pub mod FirstFrames
 pub mod Ends
-pub mod Standings
+pub mod StepLaw
+pub mod Looks
+pub mod StandOrder
+pub mod FrameExample

@@ -14,8 +14,10 @@ pub mod Kept
 pub mod Fences
 pub mod Begin
 pub mod FirstCore
+pub mod Created
 pub mod Ready
 pub mod Bounds
 pub mod ReachedCores
 pub mod Stays
 pub mod Crash
+pub mod Choices

@@ -8,6 +8,7 @@ pub mod CallTimes
 pub mod StepEvent
 pub mod Begin
 pub mod First
+pub mod Created
 pub mod Resumed
 pub mod Fences
 pub mod Entries
@@ -18,3 +19,4 @@ pub mod Returns
 pub mod OutcomeLaws
 pub mod Stays
 pub mod Crash
+pub mod Choices

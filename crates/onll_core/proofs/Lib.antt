@@ -1,3 +1,10 @@
+pub mod Phases
+pub mod Lawful
+pub mod LawfulSteps
+pub mod LegalReport
+pub mod Timed
+pub mod TimedSteps
+pub mod InTime
 pub mod Calls
 pub mod CoreFrames
 pub mod Windows
@@ -9,6 +16,8 @@ pub mod Begin
 pub mod FirstCore
 pub mod Created
 pub mod Ready
+pub mod Bounds
+pub mod ReachedCores
 pub mod Stays
 pub mod Crash
 pub mod Choices

@@ -2,9 +2,11 @@
 #![tactic(auto)]
 
 mod laws;
+mod outcomes;
 mod phase;
 mod returned;
 
 pub use laws::{consistency_law, crash_law, fence_law, stays_law, step_event_law};
+pub use outcomes::{order_law, reached_law, report_law, return_law};
 pub use phase::Phase;
 pub use returned::{Current, Returned, Stepped};

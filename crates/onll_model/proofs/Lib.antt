@@ -11,6 +11,7 @@ pub mod FrameLogs
 pub mod FrameLinks
 pub mod EventLaw
 pub mod FirstFrames
+pub mod Ends
 pub mod StepLaw
 pub mod Looks
 pub mod StandOrder

@@ -27,7 +27,16 @@ InTime a c = IfSome a.ended (λ ended. ended < c.began → IfSome c.stand (λ la
 abbrev pub IsInRealTime : List TimedCall → Type 0
 IsInRealTime calls = (i j : ℕ) (a c : TimedCall) → slice_get calls i ≡ Some a → slice_get calls j ≡ Some c → InTime a c
 
--- the order is strict
+-- no two calls stand at one point
+abbrev pub StandApart : List TimedCall → Type 0
+StandApart calls = (i j : ℕ) (a c : TimedCall) (point : Stand) → slice_get calls i ≡ Some a → slice_get calls j ≡ Some c → a.stand ≡ Some point → c.stand ≡ Some point → i ≡ j
+
+-- the calls of one thread are made in turn: all but the last have returned, each before the later ones began
+abbrev pub AreInTurn : List TimedCall → Type 0
+AreInTurn calls = (i j : ℕ) (a c : TimedCall) → slice_get calls i ≡ Some a → slice_get calls j ≡ Some c → i < j → (ended : ℕ) × (a.ended ≡ Some ended) × (ended < c.began)
+
+-- the order is strict, and any two points of it are comparable
 pub record StandOrder : Type 0 where
   pub irreflexive : (a : Stand) → StandsBefore a a → ⊥
   pub transitive : (a c e : Stand) → StandsBefore a c → StandsBefore c e → StandsBefore a e
+  pub total : (a c : Stand) → StandsBefore a c ⊎ ((a ≡ c) ⊎ StandsBefore c a)

@@ -19,7 +19,7 @@ pub fn look_law()
     ensures { LookLaw }
 {}
 
-/// The order in which nodes and reads stand is a strict one.
+/// The order in which nodes and reads stand is a strict one, and any two points of it are comparable.
 pub fn stand_law()
     ensures { StandOrder }
 {}

@@ -1,2 +1,3 @@
 pub mod Merge
 pub mod Laws
+pub mod FrameLogs

@@ -7,3 +7,6 @@ pub mod Kept
 pub mod Fences
 pub mod FirstCore
 pub mod Ready
+pub mod Images
+pub mod Heads
+pub mod Crashed

@@ -9,3 +9,5 @@ pub mod Fences
 pub mod Entries
 pub mod Laws
 pub mod Ready
+pub mod Crash
+pub mod CrashLaws

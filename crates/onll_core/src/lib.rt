@@ -1,10 +1,12 @@
 //! The step core: a model of single atomic steps on which every interleaving of threads is one list of turns.
 #![tactic(auto)]
 
+mod crash_laws;
 mod laws;
 mod phase;
 mod returned;
 
+pub use crash_laws::{crash_law, image_law, recovery_law};
 pub use laws::{consistency_law, fence_law, step_event_law};
 pub use phase::Phase;
 pub use returned::{Current, Returned, Stepped};

@@ -1,9 +1,9 @@
-use Rattle.std.proofs.Common.{ℕ, zero, suc, ◌≡◌, ◌+◌, ◌-◌, ◌<◌, ◌≤◌, max, Bool, true, false, List, [], ◌∷◌, ◌++◌, length, take, drop, map, set, Option, Some, None, option_to_list, sym, refl, ap, ◌∙◌, subst, arith}
+use Rattle.std.proofs.Common.{ℕ, zero, suc, ◌≡◌, ◌-◌, ◌≤◌, true, false, List, [], ◌∷◌, ◌++◌, length, drop, map, set, Option, Some, None, option_to_list, sym, refl, ap, ◌∙◌, subst, arith}
 use Rattle.std.proofs.lemmas.List.{map-set}
 use Rattle.std.specs.List.{AllByRecursion, slice_get}
 use Rattle.onll_model.specs.declared.node.Node.{Node}
 use Rattle.onll_model.specs.Segment.{Segment}
-use Rattle.onll_model.specs.Frames.{Frame, Thread, Sound, IsSoundSegment, fenced_segments}
+use Rattle.onll_model.specs.Frames.{Thread, Sound, IsSoundSegment, fenced_segments}
 use Rattle.onll_model.specs.Events.{window, with_thread, with_node, with_flag}
 use Rattle.onll_model.proofs.Lists.{same_some, some_not_none, take_before, all_right}
 use Rattle.onll_core.specs.declared.phase.Phase.{Phase}

@@ -6,6 +6,7 @@ use Rattle.onll_model.specs.declared.call.Call.{Call}
 use Rattle.onll_model.specs.Object.{Behaviour}
 use Rattle.onll_model.specs.Segment.{Segment}
 use Rattle.onll_model.specs.Frames.{Thread}
+use Rattle.onll_model.proofs.Lists.{same_some}
 use Rattle.onll_pmem.specs.Device.{IsImage, image_of}
 use Rattle.onll_log.specs.declared.head.LogHead.{LogHead}
 use Rattle.onll_log.specs.Grammar.{Content, content_of}
@@ -20,11 +21,11 @@ use Rattle.onll_core.specs.Consistent.{IsConsistent}
 use Rattle.onll_core.specs.Crash.{AreImages, images_of, heads_of, HasUpTo, Recovers}
 use Rattle.onll_core.proofs.CoreFrames.{part_at}
 use Rattle.onll_core.specs.Step.{steps_of}
-use Rattle.onll_core.specs.First.{first_core, AreFirst}
+use Rattle.onll_core.specs.First.{first_threads, first_core, AreFirst}
 use Rattle.onll_core.proofs.FirstCore.{first_consistent}
 use Rattle.onll_core.proofs.Kept.{steps_consistent}
 use Rattle.onll_core.proofs.Images.{image_either, picked_image}
-use Rattle.onll_core.proofs.Heads.{steps_heads, first_heads}
+use Rattle.onll_core.proofs.Stays.{steps_stay}
 
 -- What is recovered from the images of a core's devices.
 
@@ -101,14 +102,35 @@ recovers count c images k a =
     }
 
 -- ---- after any steps
+-- threads whose heads are the same
+same_heads : {State Op Query Reply : Type 0} (old new : List (CoreThread State Op Query Reply)) → length new ≡ length old
+    → ((t : ℕ) (th : CoreThread State Op Query Reply) → slice_get old t ≡ Some th → (w : CoreThread State Op Query Reply) × (slice_get new t ≡ Some w) × (w.head ≡ th.head)) → heads_of new ≡ heads_of old
+same_heads [] [] e h = refl
+same_heads [] (w ∷ ws) e h = absurd (omega arith)
+same_heads (th ∷ ths) [] e h = absurd (omega arith)
+same_heads (th ∷ ths) (w ∷ ws) e h =
+    let x = h 0 th refl in
+    let here : w.head ≡ th.head = ap (λ z. z.head) (same_some w x.0 x.1) ∙ x.2 in
+    let rest = same_heads ths ws (omega arith) (λ t v at. h (suc t) v at) in
+    λ i. here i ∷ rest i
+
+-- the heads of a core that begins anew are those that it was given
+first_heads : {State Op Query Reply : Type 0} (heads : List LogHead) (scripts : List (List (Call State Op Query Reply))) → length heads ≡ length scripts → heads_of (first_threads heads scripts) ≡ heads
+first_heads [] scripts e = refl
+first_heads (head ∷ heads) [] e = absurd (omega arith)
+first_heads (head ∷ heads) (script ∷ scripts) e = let rest = first_heads heads scripts (omega arith) in λ i. head ∷ rest i
+
 module _ {State Op Query Reply : Type 0} (b : Behaviour State Op Query Reply) where
+  pub steps_heads : (c : CoreState State Op Query Reply) (ts : List ℕ) → heads_of (steps_of b c ts).threads ≡ heads_of c.threads
+  steps_heads c ts = let s = steps_stay b c ts in same_heads c.threads (steps_of b c ts).threads s.all_threads (λ t th at. let x = s.threads t th at in (x.0, x.1, x.2.head))
+
   pub later_recovers : (count : ℕ) (c : CoreState State Op Query Reply) (ts : List ℕ) (images : List (List (List ℕ))) → IsConsistent count c → AreImages (steps_of b c ts).threads images
       → Recovers (heads_of c.threads) (steps_of b c ts) images
   later_recovers count c ts images k a =
-      subst (λ (heads : List LogHead). Recovers heads (steps_of b c ts) images) (steps_heads b c ts) (recovers count (steps_of b c ts) images (steps_consistent b count c ts k) a)
+      subst (λ (heads : List LogHead). Recovers heads (steps_of b c ts) images) (steps_heads c ts) (recovers count (steps_of b c ts) images (steps_consistent b count c ts k) a)
 
   pub crash_recovers : (count : ℕ) (initial : State) (heads : List LogHead) (scripts : List (List (Call State Op Query Reply))) (ts : List ℕ) (images : List (List (List ℕ))) → AreFirst count heads scripts
       → AreImages (steps_of b (first_core initial heads scripts) ts).threads images → Recovers heads (steps_of b (first_core initial heads scripts) ts) images
   crash_recovers count initial heads scripts ts images a i =
       let c : CoreState State Op Query Reply = first_core initial heads scripts in
-      subst (λ (hs : List LogHead). Recovers hs (steps_of b c ts) images) (first_heads initial heads scripts (a.all_heads ∙ sym a.all_scripts)) (later_recovers count c ts images (first_consistent count initial heads scripts a) i)
+      subst (λ (hs : List LogHead). Recovers hs (steps_of b c ts) images) (first_heads heads scripts (a.all_heads ∙ sym a.all_scripts)) (later_recovers count c ts images (first_consistent count initial heads scripts a) i)

@@ -18,7 +18,7 @@ use Rattle.onll_core.specs.Core.{CoreThread, CoreState}
 use Rattle.onll_core.specs.CoreFrame.{pending_in, fenced_entries}
 use Rattle.onll_core.specs.Tie.{written_in, lines_needed, coming_lines, IsTied}
 use Rattle.onll_core.specs.Consistent.{IsConsistent}
-use Rattle.onll_core.specs.Crash.{with_entry, HoldsLog}
+use Rattle.onll_core.specs.Crash.{with_entry, HoldsFenced}
 use Rattle.onll_core.proofs.Windows.{window_of}
 use Rattle.onll_core.proofs.Ties.{fenced_is_log, length_read}
 
@@ -39,7 +39,7 @@ same_shape (x ∷ xs) (y ∷ ys) a b e = (a.0 ∙ sym b.0, same_shape xs ys a.1 
 
 -- what an image holds, and that it is one of two lists of entries
 record IsHeld {State Op Query Reply : Type 0} (th : CoreThread State Op Query Reply) (writing : Option Segment) (image : List (List ℕ)) : Type 0 where
-  pub log : HoldsLog th writing image
+  pub log : HoldsFenced th writing image
   pub either : Holds image th.head (fenced_entries th.head th.device) ⊎ Holds image th.head (fenced_entries th.head th.device ++ option_to_list writing)
 
 module _ {State Op Query Reply : Type 0} (count t : ℕ) (th : CoreThread State Op Query Reply) where
@@ -194,7 +194,7 @@ module _ {State Op Query Reply : Type 0} (count : ℕ) (c : CoreState State Op Q
       let x = coming p d (phases.Fence p d) tie (ap (pending_in c.trace) e) refl (omega arith) in
       shape_coming count t th (window c.trace d p) (phases.Fence p d) tie x.fits x.needs x.low
 
-  pub image_holds : (image : List (List ℕ)) → IsImage th.device image → HoldsLog th (pending_in c.trace th.phase) image
+  pub image_holds : (image : List (List ℕ)) → IsImage th.device image → HoldsFenced th (pending_in c.trace th.phase) image
   image_holds image i = (held_in image i th.phase refl).log
 
   pub image_either : (image : List (List ℕ)) → IsImage th.device image

@@ -5,8 +5,9 @@ pub mod Ties
 pub mod StepEvents
 pub mod Kept
 pub mod Fences
+pub mod Begin
 pub mod FirstCore
 pub mod Ready
+pub mod Stays
 pub mod Images
-pub mod Heads
 pub mod Crashed

@@ -21,9 +21,9 @@ with_entry th s = take th.used th.device.fenced ++ (entry_lines th.head th.logge
 
 -- What an image of a thread's device holds: its head and the fenced entries; and where a segment is being logged, its entry
 -- after them exactly where the image is those lines with the whole of it.
-abbrev pub HoldsLog : {State Op Query Reply : Type 0} → CoreThread State Op Query Reply → Option Segment → List (List ℕ) → Type 0
-HoldsLog th None image = Holds image th.head (fenced_entries th.head th.device)
-HoldsLog th (Some s) image = TornOrWhole th.head (fenced_entries th.head th.device) s (with_entry th s) image
+abbrev pub HoldsFenced : {State Op Query Reply : Type 0} → CoreThread State Op Query Reply → Option Segment → List (List ℕ) → Type 0
+HoldsFenced th None image = Holds image th.head (fenced_entries th.head th.device)
+HoldsFenced th (Some s) image = TornOrWhole th.head (fenced_entries th.head th.device) s (with_entry th s) image
 
 -- what a crash may leave: one image for each thread's device, whatever the others are
 abbrev pub AreImages : {State Op Query Reply : Type 0} → List (CoreThread State Op Query Reply) → List (List (List ℕ)) → Type 0

@@ -8,14 +8,14 @@ use Rattle.onll_core.specs.CoreFrame.{pending_in}
 use Rattle.onll_core.specs.Step.{steps_of}
 use Rattle.onll_core.specs.First.{first_core, AreFirst}
 use Rattle.onll_core.specs.Consistent.{EachCoreThread, IsConsistent}
-use Rattle.onll_core.specs.Crash.{HoldsLog, AreImages, images_of, heads_of, Recovers}
+use Rattle.onll_core.specs.Crash.{HoldsFenced, AreImages, images_of, heads_of, Recovers}
 
 -- Laws of a crash of the step core, whatever the object, whatever threads take steps, and whatever the crash leaves.
 
 -- each image of each device holds the thread's log, and the entry that is being written exactly where it has that whole
 abbrev pub ImageLaw : (State Op Query Reply : Type 0) → Type 0
 ImageLaw State Op Query Reply = (count : ℕ) (c : CoreState State Op Query Reply) → IsConsistent count c
-    → EachCoreThread c (λ t th. (image : List (List ℕ)) → IsImage th.device image → HoldsLog th (pending_in c.trace th.phase) image)
+    → EachCoreThread c (λ t th. (image : List (List ℕ)) → IsImage th.device image → HoldsFenced th (pending_in c.trace th.phase) image)
 
 -- every number picks images
 abbrev pub PickedLaw : (State Op Query Reply : Type 0) → Type 0

@@ -4,10 +4,13 @@ pub mod CoreFrame
 pub mod Tie
 pub mod Consistent
 pub mod StepEvent
+pub mod Begin
 pub mod First
+pub mod Resumed
 pub mod Fences
 pub mod Entries
 pub mod Laws
 pub mod Ready
+pub mod Stays
 pub mod Crash
 pub mod CrashLaws

@@ -7,6 +7,6 @@ mod phase;
 mod returned;
 
 pub use crash_laws::{crash_law, image_law, recovery_law};
-pub use laws::{consistency_law, fence_law, step_event_law};
+pub use laws::{consistency_law, fence_law, stays_law, step_event_law};
 pub use phase::Phase;
 pub use returned::{Current, Returned, Stepped};

@@ -1,5 +1,4 @@
-use Rattle.onll_core.proofs.Heads.{steps_heads}
-use Rattle.onll_core.proofs.Crashed.{recovers, later_recovers}
+use Rattle.onll_core.proofs.Crashed.{recovers, steps_heads, later_recovers}
 use Rattle.onll_core.proofs.crash_laws.recovery_law.Goals as goal
 
 pub returns-clause-recovery : goal.returns-clause-recovery

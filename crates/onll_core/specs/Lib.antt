@@ -3,6 +3,8 @@ pub mod Step
 pub mod CoreFrame
 pub mod Tie
 pub mod Consistent
+pub mod Outcomes
+pub mod CallTimes
 pub mod StepEvent
 pub mod Begin
 pub mod First
@@ -11,6 +13,9 @@ pub mod Fences
 pub mod Entries
 pub mod Laws
 pub mod Ready
+pub mod Reached
+pub mod Returns
+pub mod OutcomeLaws
 pub mod Stays
 pub mod Crash
 pub mod CrashLaws

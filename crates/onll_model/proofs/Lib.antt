@@ -11,3 +11,5 @@ pub mod FrameLogs
 pub mod FrameLinks
 pub mod EventLaw
 pub mod FirstFrames
+pub mod Ends
+pub mod Standings

@@ -8,3 +8,4 @@ pub mod Segment
 pub mod Frames
 pub mod Events
 pub mod FrameLaws
+pub mod RealTime

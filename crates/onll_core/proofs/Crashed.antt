@@ -114,12 +114,6 @@ same_heads (th ∷ ths) (w ∷ ws) e h =
     let rest = same_heads ths ws (omega arith) (λ t v at. h (suc t) v at) in
     λ i. here i ∷ rest i
 
--- the heads of a core that begins anew are those that it was given
-first_heads : {State Op Query Reply : Type 0} (heads : List LogHead) (scripts : List (List (Call State Op Query Reply))) → length heads ≡ length scripts → heads_of (first_threads heads scripts) ≡ heads
-first_heads [] scripts e = refl
-first_heads (head ∷ heads) [] e = absurd (omega arith)
-first_heads (head ∷ heads) (script ∷ scripts) e = let rest = first_heads heads scripts (omega arith) in λ i. head ∷ rest i
-
 module _ {State Op Query Reply : Type 0} (b : Behaviour State Op Query Reply) where
   pub steps_heads : (c : CoreState State Op Query Reply) (ts : List ℕ) → heads_of (steps_of b c ts).threads ≡ heads_of c.threads
   steps_heads c ts = let s = steps_stay b c ts in same_heads c.threads (steps_of b c ts).threads s.all_threads (λ t th at. let x = s.threads t th at in (x.0, x.1, x.2.head))
@@ -128,9 +122,3 @@ module _ {State Op Query Reply : Type 0} (b : Behaviour State Op Query Reply) wh
       → Recovers (heads_of c.threads) (steps_of b c ts) images
   later_recovers count c ts images k a =
       subst (λ (heads : List LogHead). Recovers heads (steps_of b c ts) images) (steps_heads c ts) (recovers count (steps_of b c ts) images (steps_consistent b count c ts k) a)
-
-  pub crash_recovers : (count : ℕ) (initial : State) (heads : List LogHead) (scripts : List (List (Call State Op Query Reply))) (ts : List ℕ) (images : List (List (List ℕ))) → AreFirst count heads scripts
-      → AreImages (steps_of b (first_core initial heads scripts) ts).threads images → Recovers heads (steps_of b (first_core initial heads scripts) ts) images
-  crash_recovers count initial heads scripts ts images a i =
-      let c : CoreState State Op Query Reply = first_core initial heads scripts in
-      subst (λ (hs : List LogHead). Recovers hs (steps_of b c ts) images) (first_heads heads scripts (a.all_heads ∙ sym a.all_scripts)) (later_recovers count c ts images (first_consistent count initial heads scripts a) i)

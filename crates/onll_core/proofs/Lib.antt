@@ -20,3 +20,4 @@ pub mod ReachedCores
 pub mod Stays
 pub mod Images
 pub mod Crashed
+pub mod Recovered

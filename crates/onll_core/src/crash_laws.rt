@@ -1,6 +1,6 @@
 //! What a crash of a core leaves and what is recovered from it, for every object, whatever threads take steps.
 
-ghost use Rattle.onll_core.specs.CrashLaws.{ImageLaw, PickedLaw, RecoveryLaw, HeadsLaw, LaterCrashLaw, CrashLaw};
+ghost use Rattle.onll_core.specs.CrashLaws.{ImageLaw, PickedLaw, RecoveryLaw, HeadsLaw, LaterCrashLaw, CrashLaw, ResumedCrashLaw, ReachedCrashLaw};
 
 use onll_model::Object;
 
@@ -20,7 +20,9 @@ pub fn recovery_law<O: Object>()
 {}
 
 /// A crash at any step leaves logs whose recovery is a prefix of the trace and holds every returned update and all that
-/// returned reads saw.
+/// returned reads saw; where the core goes on from recovered nodes, the prefix begins with these.
 pub fn crash_law<O: Object>()
-    ensures { CrashLaw O.means }
+    ensures begun { CrashLaw O.means }
+    ensures resumed { ResumedCrashLaw O.means }
+    ensures reached { ReachedCrashLaw O.means }
 {}

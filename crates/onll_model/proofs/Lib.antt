@@ -13,3 +13,4 @@ pub mod EventLaw
 pub mod FirstFrames
 pub mod Ends
 pub mod Standings
+pub mod Placed

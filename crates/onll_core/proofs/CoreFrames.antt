@@ -16,7 +16,7 @@ use Rattle.onll_core.specs.Step.{put, linked, flagged}
 -- How the frame of a core changes with one of its threads.
 
 -- ---- lists
-get_map : {A B : Type 0} (f : A → B) (xs : List A) (i : ℕ) (x : A) → slice_get xs i ≡ Some x → slice_get (map f xs) i ≡ Some (f x)
+pub get_map : {A B : Type 0} (f : A → B) (xs : List A) (i : ℕ) (x : A) → slice_get xs i ≡ Some x → slice_get (map f xs) i ≡ Some (f x)
 get_map f [] i x e = some_not_none x (sym e)
 get_map f (y ∷ xs) zero x e = ap (λ z. Some (f z)) (same_some y x e)
 get_map f (y ∷ xs) (suc i) x e = get_map f xs i x e

@@ -19,5 +19,6 @@ pub mod Ready
 pub mod Bounds
 pub mod ReachedCores
 pub mod Stays
-pub mod Crash
-pub mod Choices
+pub mod Images
+pub mod Crashed
+pub mod Recovered

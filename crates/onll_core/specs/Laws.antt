@@ -3,10 +3,8 @@ use Rattle.onll_model.specs.declared.call.Call.{Call}
 use Rattle.onll_model.specs.declared.node.Node.{Node}
 use Rattle.onll_model.specs.Object.{Behaviour}
 use Rattle.onll_model.specs.Segment.{Segment}
-use Rattle.onll_pmem.specs.Device.{IsImage}
 use Rattle.onll_log.specs.declared.head.LogHead.{LogHead}
-use Rattle.onll_core.specs.Core.{CoreThread, CoreState}
-use Rattle.onll_core.specs.CoreFrame.{pending_in}
+use Rattle.onll_core.specs.Core.{CoreState}
 use Rattle.onll_core.specs.Step.{step_of, steps_of}
 use Rattle.onll_core.specs.StepEvent.{event_of, IsEvent}
 use Rattle.onll_core.specs.First.{first_core, AreFirst}
@@ -16,7 +14,6 @@ use Rattle.onll_core.specs.Fences.{CountsFences}
 use Rattle.onll_core.specs.Entries.{EntriesAreFew}
 use Rattle.onll_core.specs.Consistent.{IsConsistent}
 use Rattle.onll_core.specs.Stays.{Stays}
-use Rattle.onll_core.specs.Crash.{HoldsFenced, AreImages, Survives}
 
 -- Laws of the step core, whatever the object and whatever threads take steps.
 
@@ -47,15 +44,6 @@ module _ (State Op Query Reply : Type 0) where
   -- no fenced entry of a consistent core holds more nodes than there are threads
   abbrev pub EntriesLaw : Type 0
   EntriesLaw = (count : ℕ) (c : CoreState State Op Query Reply) → IsConsistent count c → EntriesAreFew count c
-
-  -- an image of a thread's device holds the fenced entries, and the one that is being written exactly where it is whole
-  abbrev pub TornLaw : Type 0
-  TornLaw = (count : ℕ) (c : CoreState State Op Query Reply) (t : ℕ) (th : CoreThread State Op Query Reply) (image : List (List ℕ)) → IsConsistent count c → slice_get c.threads t ≡ Some th → IsImage th.device image
-      → HoldsFenced th (pending_in c.trace th.phase) image
-
-  -- whatever images a crash leaves, their logs hold a front of the trace with every place at which a call returned
-  abbrev pub CrashLaw : Type 0
-  CrashLaw = (count : ℕ) (c : CoreState State Op Query Reply) (images : List (List (List ℕ))) → IsConsistent count c → AreImages c.threads images → Survives c images
 
 module _ {State Op Query Reply : Type 0} (b : Behaviour State Op Query Reply) where
   -- a step of a thread is its event

@@ -19,4 +19,4 @@ pub mod Returns
 pub mod OutcomeLaws
 pub mod Stays
 pub mod Crash
-pub mod Choices
+pub mod CrashLaws

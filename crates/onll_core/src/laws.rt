@@ -1,6 +1,6 @@
 //! What steps of a core keep, for every object and whatever threads take them.
 
-ghost use Rattle.onll_core.specs.Laws.{FirstLaw, FirstFencesLaw, CreatedLaw, CreatedFencesLaw, ResumedLaw, ResumedFencesLaw, StepEventLaw, StepLaw, StepsLaw, StaysLaw, FencesLaw, EntriesLaw, TornLaw, CrashLaw};
+ghost use Rattle.onll_core.specs.Laws.{FirstLaw, FirstFencesLaw, CreatedLaw, CreatedFencesLaw, ResumedLaw, ResumedFencesLaw, StepEventLaw, StepLaw, StepsLaw, StaysLaw, FencesLaw, EntriesLaw};
 
 use onll_model::Object;
 
@@ -30,11 +30,4 @@ pub fn fence_law<O: Object>()
 /// Steps take nothing back: nodes stay where they are, a flag that is set stays set, and so do returned calls.
 pub fn stays_law<O: Object>()
     ensures { StaysLaw O.means }
-{}
-
-/// Whatever images a crash leaves of a consistent core, their logs hold a front of its trace, and in it the base and every
-/// place at which a call returned. A torn entry is not there, and what is left of it can be wiped.
-pub fn crash_law<O: Object>()
-    ensures torn { TornLaw O O.Op O.Query O.Reply }
-    ensures crash { CrashLaw O O.Op O.Query O.Reply }
 {}

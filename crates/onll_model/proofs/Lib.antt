@@ -16,5 +16,4 @@ pub mod StepLaw
 pub mod Looks
 pub mod StandOrder
 pub mod FrameExample
-pub mod Standings
 pub mod Placed

@@ -1,4 +1,4 @@
-use Rattle.std.proofs.Common.{◌≡◌, ℕ, zero, suc, ◌+◌, ◌<◌, ◌≤◌, ◌⊎◌, inl, inr, ⊎_elim, List, [], ◌∷◌, ◌++◌, length, map, Option, Some, None, refl, sym, ap, ◌∙◌, subst, arith, take, length-append}
+use Rattle.std.proofs.Common.{◌≡◌, ℕ, zero, suc, ◌+◌, ◌<◌, ◌≤◌, ◌⊎◌, inl, inr, ⊎_elim, List, [], ◌∷◌, ◌++◌, length, Option, Some, None, refl, sym, ap, ◌∙◌, subst, arith, take, length-append}
 use Rattle.std.specs.Prelude.{IfSome}
 use Rattle.std.specs.List.{slice_get, flat_map}
 use mathlib.Core.Logic.{dite}
@@ -7,7 +7,7 @@ use Rattle.onll_model.specs.declared.node.Node.{Node}
 use Rattle.onll_model.specs.declared.call.Call.{Call}
 use Rattle.onll_model.specs.declared.call.Call.TheVariants.{Update, Ask}
 use Rattle.onll_model.specs.Trace.{node_at}
-use Rattle.onll_model.specs.RealTime.{Stand, NodeAt, ReadAt, StandsBefore, TimedCall, InTime}
+use Rattle.onll_model.specs.RealTime.{Stand, NodeAt, StandsBefore, TimedCall}
 use Rattle.onll_model.proofs.Lists.{some_not_none, same_some}
 use Rattle.onll_core.specs.declared.phase.Phase.{Phase}
 use Rattle.onll_core.specs.declared.phase.Phase.TheVariants as phases
@@ -18,7 +18,7 @@ use Rattle.onll_core.specs.Core.{CoreThread, CoreState}
 use Rattle.onll_core.specs.CoreFrame.{seen_in}
 use Rattle.onll_core.specs.Consistent.{IsConsistent}
 use Rattle.onll_core.specs.Outcomes.{current_in, current_of, ends_of}
-use Rattle.onll_core.specs.CallTimes.{stand_of, returned_call, returned_calls, current_calls, timed_calls, calls_of, AreInTime}
+use Rattle.onll_core.specs.CallTimes.{stand_of, returned_call, returned_calls, current_calls, timed_calls, AreInTime}
 use Rattle.onll_core.proofs.Phases.{own_last, seen_below}
 use Rattle.onll_core.proofs.Timed.{IsPast, IsAhead, IsBusy, IsTimed}
 use Rattle.onll_core.proofs.TimedSteps.{place_seen}

@@ -70,7 +70,7 @@ module _ {State Op Query Reply : Type 0} where
       (h 0 th refl image a.0)
 
 -- ---- what a front of the trace has
-take_take : (m p : ℕ) (xs : List Node) → p ≤ m → take p (take m xs) ≡ take p xs
+pub take_take : (m p : ℕ) (xs : List Node) → p ≤ m → take p (take m xs) ≡ take p xs
 take_take m zero xs l = refl
 take_take zero (suc p) xs l = absurd (omega arith)
 take_take (suc m) (suc p) [] l = refl
@@ -122,3 +122,14 @@ module _ {State Op Query Reply : Type 0} (b : Behaviour State Op Query Reply) wh
       → Recovers (heads_of c.threads) (steps_of b c ts) images
   later_recovers count c ts images k a =
       subst (λ (heads : List LogHead). Recovers heads (steps_of b c ts) images) (steps_heads c ts) (recovers count (steps_of b c ts) images (steps_consistent b count c ts k) a)
+
+-- ---- what code finds
+-- whoever reads these images as logs reads those that are recovered
+some_same : (xs ys : List Content) → map Some xs ≡ map Some ys → xs ≡ ys
+some_same [] [] e = refl
+some_same [] (y ∷ ys) e = absurd (cc)
+some_same (x ∷ xs) [] e = absurd (cc)
+some_same (x ∷ xs) (y ∷ ys) e = let a : Some x ≡ Some y = (cc) in let b : map Some xs ≡ map Some ys = (cc) in let here = same_some x y a in let rest = some_same xs ys b in λ i. here i ∷ rest i
+
+pub recovered_by : {State Op Query Reply : Type 0} (heads : List LogHead) (c : CoreState State Op Query Reply) (images : List (List (List ℕ))) (r : Recovers heads c images) (logs : List Content) → map content_of images ≡ map Some logs → merge heads logs ≡ Ok r.nodes
+recovered_by heads c images r logs e = ap (merge heads) (some_same logs r.logs (sym e ∙ r.contents)) ∙ r.recovered

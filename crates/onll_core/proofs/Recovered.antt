@@ -10,7 +10,7 @@ use Rattle.onll_model.specs.Trace.{node_at, reply_after, answer_after}
 use Rattle.onll_model.specs.Segment.{Segment}
 use Rattle.onll_model.specs.Legal.{placed_updates, HasReply, HasAnswer}
 use Rattle.onll_model.proofs.Lists.{all_at, same_some, some_not_none, at_before, inside}
-use Rattle.onll_model.proofs.Placed.{each_end_at, own_node, IsOwnNode}
+use Rattle.onll_model.proofs.Placed.{each_end_at, each_end_call, own_node}
 use Rattle.onll_log.specs.declared.head.LogHead.{LogHead}
 use Rattle.onll_core.specs.declared.returned.Returned.{Returned}
 use Rattle.onll_core.specs.Core.{CoreThread, CoreState}
@@ -25,7 +25,7 @@ use Rattle.onll_core.proofs.Lawful.{IsLawful}
 use Rattle.onll_core.proofs.ReachedCores.{first_reached, resumed_reached, steps_reached, reached_consistent, reached_lawful}
 use Rattle.onll_core.proofs.Stays.{steps_stay}
 use Rattle.onll_core.proofs.CoreFrames.{get_map}
-use Rattle.onll_core.proofs.Crashed.{recovers, steps_heads}
+use Rattle.onll_core.proofs.Crashed.{take_take, recovers, steps_heads}
 
 -- What is recovered holds every returned call.
 
@@ -36,15 +36,9 @@ get_take (suc n) [] i l = refl
 get_take (suc n) (x ∷ xs) zero l = refl
 get_take (suc n) (x ∷ xs) (suc i) l = get_take n xs i (omega arith)
 
-front_take : (m p : ℕ) (xs : List Node) → p ≤ m → take p (take m xs) ≡ take p xs
-front_take m zero xs l = refl
-front_take zero (suc p) xs l = absurd (omega arith)
-front_take (suc m) (suc p) [] l = refl
-front_take (suc m) (suc p) (x ∷ xs) l = ap (λ (z : List Node). x ∷ z) (front_take m p xs (omega arith))
-
 -- lower places, too
 front_same : (trace nodes : List Node) (p q : ℕ) → take p nodes ≡ take p trace → q ≤ p → take q nodes ≡ take q trace
-front_same trace nodes p q e l = sym (front_take p q nodes l) ∙ (ap (take q) e ∙ front_take p q trace l)
+front_same trace nodes p q e l = sym (take_take p q nodes l) ∙ (ap (take q) e ∙ take_take p q trace l)
 
 node_same : (trace nodes : List Node) (p : ℕ) → take p nodes ≡ take p trace → node_at nodes p ≡ node_at trace p
 node_same trace nodes zero e = refl
@@ -79,8 +73,10 @@ module _ {State Op Query Reply : Type 0} (b : Behaviour State Op Query Reply) wh
       let law = reached_lawful b count c h in
       record {
         recovers = r;
-        calls = λ t th at i call x script returned. held_call c.initial c.base c.trace r.nodes t th (law.each t th at) i call x script returned
-            (all_at (λ (y : Returned State Op Query Reply). HasUpTo c.trace r.nodes y.place) th.returned (r.each_returned t th at) i x returned);
+        calls = λ t th at i x returned. let lawful = law.each t th at in
+            let call = each_end_call (HasReply b c.initial c.trace) th.script (map returned_end th.returned) i (returned_end x) lawful.replies (get_map returned_end th.returned i x returned) in
+            let up = all_at (λ (y : Returned State Op Query Reply). HasUpTo c.trace r.nodes y.place) th.returned (r.each_returned t th at) i x returned in
+            (call.0, call.1, held_call c.initial c.base c.trace r.nodes t th lawful i call.0 x call.1 returned up);
       }
 
   -- ---- with the heads that the core was given

@@ -78,10 +78,10 @@ abbrev pub HoldsCall : {State Op Query Reply : Type 0} → Behaviour State Op Qu
 HoldsCall b initial t nodes (Update op) r = HoldsUpdate b initial t nodes op r
 HoldsCall b initial t nodes (Ask query) r = HoldsRead b initial nodes query r
 
--- each returned call of each thread, with its number in the script, is held by these nodes
+-- each returned call of each thread is one of its script, the one of its number, and is held by these nodes
 abbrev pub HoldAllReturned : {State Op Query Reply : Type 0} → Behaviour State Op Query Reply → CoreState State Op Query Reply → List Node → Type 0
-HoldAllReturned {State} {Op} {Query} {Reply} b c nodes = EachCoreThread c (λ t th. (i : ℕ) (call : Call State Op Query Reply) (r : Returned State Op Query Reply) → slice_get th.script i ≡ Some call → slice_get th.returned i ≡ Some r
-    → HoldsCall b c.initial t nodes call r)
+HoldAllReturned {State} {Op} {Query} {Reply} b c nodes = EachCoreThread c (λ t th. (i : ℕ) (r : Returned State Op Query Reply) → slice_get th.returned i ≡ Some r
+    → (call : Call State Op Query Reply) × (slice_get th.script i ≡ Some call) × HoldsCall b c.initial t nodes call r)
 
 -- The images recover to a prefix of the trace that holds every returned update and all that returned reads saw.
 pub record RecoversAll {State Op Query Reply : Type 0} (b : Behaviour State Op Query Reply) (heads : List LogHead) (c : CoreState State Op Query Reply) (images : List (List (List ℕ))) : Type 0 where

@@ -32,6 +32,14 @@ module _ {State Op Query Reply : Type 0} where
   each_end_at P (d ∷ calls) (x ∷ ends) zero c e h at is = subst (λ (z : Call State Op Query Reply × CallEnd State Op Query Reply). P z.0 z.1) (let a = same_some d c at in let b = same_some x e is in λ i. (a i, b i)) h.0
   each_end_at P (d ∷ calls) (x ∷ ends) (suc i) c e h at is = each_end_at P calls ends i c e h.1 at is
 
+  -- each outcome has its call
+  pub each_end_call : (P : Call State Op Query Reply → CallEnd State Op Query Reply → Type 0) (calls : List (Call State Op Query Reply)) (ends : List (CallEnd State Op Query Reply)) (i : ℕ) (e : CallEnd State Op Query Reply)
+      → EachEnd P calls ends → slice_get ends i ≡ Some e → (c : Call State Op Query Reply) × (slice_get calls i ≡ Some c)
+  each_end_call P calls [] i e h is = some_not_none e (sym is)
+  each_end_call P [] (x ∷ ends) i e h is = absurd h
+  each_end_call P (c ∷ calls) (x ∷ ends) zero e h is = (c, refl)
+  each_end_call P (c ∷ calls) (x ∷ ends) (suc i) e h is = each_end_call P calls ends i e h.1 is
+
   placed_in : (b : Behaviour State Op Query Reply) (calls : List (Call State Op Query Reply)) (ends : List (CallEnd State Op Query Reply)) (i : ℕ) (op : Op) (e : CallEnd State Op Query Reply) (p : ℕ)
       → slice_get calls i ≡ Some (Update op) → slice_get ends i ≡ Some e → place_in e ≡ Some p → IsIn (b.row_of op, p) (placed_updates b calls ends)
   placed_in b [] ends i op e p at is place = some_not_none (Update op) (sym at)

@@ -1,3 +1,4 @@
 pub mod Merge
 pub mod Laws
 pub mod FrameLogs
+pub mod Resumed

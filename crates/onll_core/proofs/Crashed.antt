@@ -39,7 +39,7 @@ module _ {State Op Query Reply : Type 0} where
   HoldsEither trace th image = Holds image th.head (fenced_entries th.head th.device) ⊎ Holds image th.head (fenced_entries th.head th.device ++ option_to_list (pending_in trace th.phase))
 
   -- what the images hold are logs of the frame's threads
-  record AreHeld (base : ℕ) (trace : List Node) (ths : List (CoreThread State Op Query Reply)) (images : List (List (List ℕ))) : Type 0 where
+  pub record AreHeld (base : ℕ) (trace : List Node) (ths : List (CoreThread State Op Query Reply)) (images : List (List (List ℕ))) : Type 0 where
     pub logs : List Content
     pub contents : map content_of images ≡ map Some logs
     pub left : AreLogsOf (map (frame_thread base trace) ths) (heads_of ths) logs
@@ -53,7 +53,7 @@ module _ {State Op Query Reply : Type 0} where
     left = (record { head_kept = refl; segments = which }, rest.left);
   }
 
-  are_held : (base : ℕ) (trace : List Node) (ths : List (CoreThread State Op Query Reply)) (images : List (List (List ℕ))) → AreImages ths images
+  pub are_held : (base : ℕ) (trace : List Node) (ths : List (CoreThread State Op Query Reply)) (images : List (List (List ℕ))) → AreImages ths images
       → ((t : ℕ) (th : CoreThread State Op Query Reply) → slice_get ths t ≡ Some th → (image : List (List ℕ)) → IsImage th.device image → HoldsEither trace th image) → AreHeld base trace ths images
   are_held base trace [] [] a h = record { logs = []; contents = refl; left = tt }
   are_held base trace [] (image ∷ images) a h = absurd a
@@ -121,7 +121,7 @@ module _ {State Op Query Reply : Type 0} (b : Behaviour State Op Query Reply) wh
 
 -- ---- what code finds
 -- whoever reads these images as logs reads those that are recovered
-some_same : (xs ys : List Content) → map Some xs ≡ map Some ys → xs ≡ ys
+pub some_same : (xs ys : List Content) → map Some xs ≡ map Some ys → xs ≡ ys
 some_same [] [] e = refl
 some_same [] (y ∷ ys) e = absurd (cc)
 some_same (x ∷ xs) [] e = absurd (cc)

@@ -40,7 +40,7 @@ get_take (suc n) (x ∷ xs) (suc i) l = get_take n xs i (omega arith)
 front_same : (trace nodes : List Node) (p q : ℕ) → take p nodes ≡ take p trace → q ≤ p → take q nodes ≡ take q trace
 front_same trace nodes p q e l = sym (take_take p q nodes l) ∙ (ap (take q) e ∙ take_take p q trace l)
 
-node_same : (trace nodes : List Node) (p : ℕ) → take p nodes ≡ take p trace → node_at nodes p ≡ node_at trace p
+pub node_same : (trace nodes : List Node) (p : ℕ) → take p nodes ≡ take p trace → node_at nodes p ≡ node_at trace p
 node_same trace nodes zero e = refl
 node_same trace nodes (suc p) e = sym (get_take (suc p) nodes p (omega arith)) ∙ (ap (λ (l : List Node). slice_get l p) e ∙ get_take (suc p) trace p (omega arith))
 

@@ -1,6 +1,6 @@
 //! What a crash of a core leaves and what is recovered from it, for every object, whatever threads take steps.
 
-ghost use Rattle.onll_core.specs.CrashLaws.{ImageLaw, PickedLaw, RecoveryLaw, HeadsLaw, LaterCrashLaw, CrashLaw, ResumedCrashLaw, ReachedCrashLaw};
+ghost use Rattle.onll_core.specs.CrashLaws.{ImageLaw, PickedLaw, RecoveryLaw, HeadsLaw, LaterCrashLaw, CrashLaw, ResumedCrashLaw, ReachedCrashLaw, GoOnLaw, NextCrashLaw};
 
 use onll_model::Object;
 
@@ -25,4 +25,11 @@ pub fn crash_law<O: Object>()
     ensures begun { CrashLaw O.means }
     ensures resumed { ResumedCrashLaw O.means }
     ensures reached { ReachedCrashLaw O.means }
+{}
+
+/// A core can go on from what is recovered after a crash, with any scripts that have room, and what returned before that
+/// crash is recovered after the next one, too.
+pub fn next_crash_law<O: Object>()
+    ensures on { GoOnLaw O O.Op O.Query O.Reply }
+    ensures next { NextCrashLaw O.means }
 {}

@@ -84,7 +84,7 @@ within_logs trace (c ∷ cs) a = let here = within_log trace c.entries a.0 in le
 
 -- ---- together
 module _ (count : ℕ) (f : Frame) (heads : List LogHead) (logs : List Content) (s : Sound count f) (left : AreLogsOf f.threads heads logs) where
-  sound_segments : EachSegment (IsSoundSegment count f.trace (fenced_segments f.threads)) logs
+  pub sound_segments : EachSegment (IsSoundSegment count f.trace (fenced_segments f.threads)) logs
   sound_segments = let P : Segment → Type 0 = IsSoundSegment count f.trace (fenced_segments f.threads) in each_left (AllByRecursion P) (λ xs ys h. all_left P xs ys h) f.threads heads logs left s.segments
 
   each_segment : (P : Segment → Type 0) → ((g : Segment) → IsSoundSegment count f.trace (fenced_segments f.threads) g → P g) → EachSegment P logs

@@ -25,7 +25,7 @@ each_both : (P Q : Segment → Type 0) (logs : List Content) → EachSegment P l
 each_both P Q [] h k = tt
 each_both P Q (c ∷ cs) h k = (all_both P Q c.entries h.0 k.0, each_both P Q cs h.1 k.1)
 
-each_entries : (Q : List Segment → Type 0) (logs : List Content) → AllByRecursion (λ (c : Content). Q c.entries) logs → AllByRecursion Q (entries_of logs)
+pub each_entries : (Q : List Segment → Type 0) (logs : List Content) → AllByRecursion (λ (c : Content). Q c.entries) logs → AllByRecursion Q (entries_of logs)
 each_entries Q [] h = tt
 each_entries Q (c ∷ cs) h = (h.0, each_entries Q cs h.1)
 

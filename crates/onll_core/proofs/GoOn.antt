@@ -24,7 +24,7 @@ use Rattle.onll_core.specs.Begin.{IsHeadOf}
 use Rattle.onll_core.specs.Resumed.{resumed_core, AreResumed}
 use Rattle.onll_core.specs.Consistent.{IsConsistent}
 use Rattle.onll_core.specs.Crash.{AreImages, heads_of, Recovers, HoldsCall, HoldAllReturned}
-use Rattle.onll_core.specs.CrashLaws.{AreScripts, GoOnLaw, NextCrashLaw}
+use Rattle.onll_core.specs.CrashLaws.{AreScripts, GoOnLaw, MoreNodesLaw, NextCrashLaw}
 use Rattle.onll_core.proofs.CoreFrames.{get_map}
 use Rattle.onll_core.proofs.Windows.{threads_count, trace_short, node_fits}
 use Rattle.onll_core.proofs.Images.{image_either}
@@ -122,9 +122,12 @@ module _ {State Op Query Reply : Type 0} (b : Behaviour State Op Query Reply) wh
       let long = front_long nodes more e in
       record { all_there = omega arith; answer_is = h.answer_is ∙ ap (λ (l : List Node). answer_after b s l query) (sym (front_of nodes more r.place e low)) }
 
+  pub more_nodes : MoreNodesLaw b
+  more_nodes c nodes more e h t th at i r returned = let x = h t th at i r returned in (x.0, x.1, still_held c.initial t nodes more e x.0 r x.2)
+
   pub next_recovers : NextCrashLaw b
   next_recovers count c images next_images scripts ts h a all s next =
       let heads : List LogHead = heads_of c.threads in
       let r = all.recovers in
       let x = resumed_recovers b count c.initial r.nodes heads (entries_of r.logs) scripts ts next_images (can_resume count c images scripts (reached_consistent b count c h) a r s) next in
-      (x.0, x.1, λ t th at i y returned. let z = all.calls t th at i y returned in (z.0, z.1, still_held c.initial t r.nodes x.0.recovers.nodes x.1 z.0 y z.2))
+      (x.0, x.1, more_nodes c r.nodes x.0.recovers.nodes x.1 all.calls)

@@ -69,6 +69,10 @@ module _ {State Op Query Reply : Type 0} (b : Behaviour State Op Query Reply) wh
       → AreResumed count base heads logs scripts → AreImages (steps_of b (resumed_core initial base heads logs scripts) ts).threads images
       → (all : RecoversAll b heads (steps_of b (resumed_core initial base heads logs scripts) ts) images) × (take (length base) all.recovers.nodes ≡ base)
 
+  -- what nodes hold, more nodes after them hold
+  abbrev pub MoreNodesLaw : Type 0
+  MoreNodesLaw = (c : CoreState State Op Query Reply) (nodes more : List Node) → take (length nodes) more ≡ nodes → HoldAllReturned b c nodes → HoldAllReturned b c more
+
   -- What is recovered after the next crash begins with what was recovered after the one before, and so holds what returned
   -- before that, too.
   abbrev pub NextCrashLaw : Type 0

@@ -1,6 +1,6 @@
 //! What a crash of a core leaves and what is recovered from it, for every object, whatever threads take steps.
 
-ghost use Rattle.onll_core.specs.CrashLaws.{ImageLaw, PickedLaw, RecoveryLaw, HeadsLaw, LaterCrashLaw, CrashLaw, ResumedCrashLaw, ReachedCrashLaw, GoOnLaw, NextCrashLaw};
+ghost use Rattle.onll_core.specs.CrashLaws.{ImageLaw, PickedLaw, RecoveryLaw, HeadsLaw, LaterCrashLaw, CrashLaw, ResumedCrashLaw, ReachedCrashLaw, GoOnLaw, MoreNodesLaw, NextCrashLaw};
 
 use onll_model::Object;
 
@@ -28,8 +28,9 @@ pub fn crash_law<O: Object>()
 {}
 
 /// A core can go on from what is recovered after a crash, with any scripts that have room, and what returned before that
-/// crash is recovered after the next one, too.
+/// crash is recovered after the next one, and so after every later one.
 pub fn next_crash_law<O: Object>()
     ensures on { GoOnLaw O O.Op O.Query O.Reply }
+    ensures more { MoreNodesLaw O.means }
     ensures next { NextCrashLaw O.means }
 {}

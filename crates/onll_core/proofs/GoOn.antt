@@ -1,4 +1,4 @@
-use Rattle.std.proofs.Common.{ℕ, zero, suc, ◌≡◌, ◌+◌, ◌-◌, ◌*◌, ◌<◌, ◌≤◌, List, [], ◌∷◌, ◌++◌, length, map, take, drop, Some, Ok, sym, refl, ap, ◌∙◌, subst, arith}
+use Rattle.std.proofs.Common.{ℕ, zero, suc, ◌≡◌, ◌+◌, ◌-◌, ◌≤◌, List, [], ◌∷◌, length, take, drop, Some, sym, refl, ap, ◌∙◌, subst, arith}
 use Rattle.std.proofs.lemmas.List.{length-map}
 use Rattle.std.specs.List.{AllByRecursion, slice_get}
 use Rattle.onll_model.specs.declared.node.Node.{Node}
@@ -8,7 +8,7 @@ use Rattle.onll_model.specs.Object.{Behaviour}
 use Rattle.onll_model.specs.Trace.{node_at, reply_after, answer_after}
 use Rattle.onll_model.specs.Segment.{Segment}
 use Rattle.onll_model.specs.Frames.{Thread, IsSoundSegment, fenced_segments}
-use Rattle.onll_model.proofs.Lists.{same_some, some_not_none, all_at, all_from, all_map, present, inside, at_window}
+use Rattle.onll_model.proofs.Lists.{same_some, all_at, all_from, all_map, present, inside, at_window}
 use Rattle.onll_log.specs.declared.head.LogHead.{LogHead}
 use Rattle.onll_log.specs.Encoding.{FitsNode, FitsEntry}
 use Rattle.onll_log.specs.Grammar.{Content}
@@ -21,9 +21,9 @@ use Rattle.onll_core.specs.declared.returned.Returned.{Returned}
 use Rattle.onll_core.specs.Core.{CoreThread, CoreState}
 use Rattle.onll_core.specs.CoreFrame.{frame_of}
 use Rattle.onll_core.specs.Begin.{IsHeadOf}
-use Rattle.onll_core.specs.Resumed.{resumed_core, AreResumed}
+use Rattle.onll_core.specs.Resumed.{AreResumed}
 use Rattle.onll_core.specs.Consistent.{IsConsistent}
-use Rattle.onll_core.specs.Crash.{AreImages, heads_of, Recovers, HoldsCall, HoldAllReturned}
+use Rattle.onll_core.specs.Crash.{AreImages, heads_of, Recovers, HoldsCall}
 use Rattle.onll_core.specs.CrashLaws.{AreScripts, GoOnLaw, MoreNodesLaw, NextCrashLaw}
 use Rattle.onll_core.proofs.CoreFrames.{get_map}
 use Rattle.onll_core.proofs.Windows.{threads_count, trace_short, node_fits}
@@ -75,7 +75,7 @@ module _ {State Op Query Reply : Type 0} (count : ℕ) (c : CoreState State Op Q
       let P : Segment → Type 0 = IsSoundSegment count c.trace (fenced_segments (frame_of c).threads) in
       let sound = sound_segments count (frame_of c) (heads_of c.threads) held.logs k.sound held.left in
       let fits : EachSegment (FitsEntry count) r.logs = subst (EachSegment (FitsEntry count)) same
-          (all_map (λ (l : Content). AllByRecursion P l.entries) (λ (l : Content). AllByRecursion (FitsEntry count) l.entries) held.logs (λ l h. all_map P (FitsEntry count) l.entries sound_fits h) sound) in
+      (all_map (λ (l : Content). AllByRecursion P l.entries) (λ (l : Content). AllByRecursion (FitsEntry count) l.entries) held.logs (λ l h. all_map P (FitsEntry count) l.entries sound_fits h) sound) in
       let all : length r.logs ≡ count = ap length (sym same) ∙ (length_logs (frame_of c).threads (heads_of c.threads) held.logs held.left ∙ k.sound.threads) in
       let on = can_go_on count r.nodes (heads_of c.threads) r.logs r.recovered all fits in
       record {

@@ -1,17 +1,16 @@
 -- Logs that merge can be gone on from.
-use Rattle.std.proofs.Common.{◌≡◌, ℕ, zero, suc, ◌+◌, ◌-◌, ◌<◌, ◌≤◌, List, [], ◌∷◌, ◌++◌, length, map, take, drop, Some, Ok, sym, refl, ap, subst, ◌∙◌, arith}
+use Rattle.std.proofs.Common.{◌≡◌, ℕ, suc, ◌+◌, ◌-◌, ◌<◌, ◌≤◌, List, [], ◌∷◌, ◌++◌, length, map, Some, Ok, sym, refl, ap, subst, ◌∙◌, arith}
 use Rattle.std.specs.List.{AllByRecursion, slice_get}
 use Rattle.std.proofs.lemmas.List.{length-map}
 use Rattle.onll_model.specs.declared.node.Node.{Node}
 use Rattle.onll_model.specs.Segment.{Segment, Agrees, LiesIn, Covers, Rises}
 use Rattle.onll_model.specs.Frames.{IsSoundSegment, fenced_segments, resumed_thread, resumed_frame}
-use Rattle.onll_model.specs.FrameLaws.{IsResumable}
 use Rattle.onll_model.proofs.Lists.{same_some, all_at, all_from, all_append, all_map, present, inside, at_window}
 use Rattle.onll_model.proofs.Segments.{lies_at}
 use Rattle.onll_log.specs.declared.head.LogHead.{LogHead}
 use Rattle.onll_log.specs.Encoding.{FitsNode, FitsEntry}
 use Rattle.onll_log.specs.Grammar.{Content}
-use Rattle.onll_merge.specs.Merge.{merge, top_of}
+use Rattle.onll_merge.specs.Merge.{merge}
 use Rattle.onll_merge.specs.Laws.{all_segments, EachSegment, HoldMerged}
 use Rattle.onll_merge.specs.Resumed.{entries_of, CanGoOn}
 use Rattle.onll_merge.proofs.Backs.{merge-back}

@@ -1,12 +1,13 @@
-use Rattle.std.proofs.Common.{◌≡◌, ℕ, zero, suc, ◌+◌, ◌<◌, ◌≤◌, ◌⊎◌, inl, inr, ⊎_elim, List, [], ◌∷◌, ◌++◌, length, map, Some, None, refl, sym, ap, ◌∙◌, subst, arith}
-use Rattle.std.specs.List.{slice_get}
+use Rattle.std.proofs.Common.{◌≡◌, ℕ, zero, suc, ◌+◌, ◌<◌, ◌≤◌, ◌⊎◌, inl, inr, ⊎_elim, List, [], ◌∷◌, ◌++◌, length, Option, Some, None, refl, sym, ap, ◌∙◌, subst, arith, take, length-append}
+use Rattle.std.specs.Prelude.{IfSome}
+use Rattle.std.specs.List.{slice_get, flat_map}
 use mathlib.Core.Logic.{dite}
 use native.Mathlib.Decide.{ℕ_discrete}
 use Rattle.onll_model.specs.declared.node.Node.{Node}
 use Rattle.onll_model.specs.declared.call.Call.{Call}
 use Rattle.onll_model.specs.declared.call.Call.TheVariants.{Update, Ask}
 use Rattle.onll_model.specs.Trace.{node_at}
-use Rattle.onll_model.specs.RealTime.{Standing, AtNode, StandsBefore, TimedCall, call_at, IsInTime}
+use Rattle.onll_model.specs.RealTime.{Stand, NodeAt, StandsBefore, TimedCall}
 use Rattle.onll_model.proofs.Lists.{some_not_none, same_some}
 use Rattle.onll_core.specs.declared.phase.Phase.{Phase}
 use Rattle.onll_core.specs.declared.phase.Phase.TheVariants as phases
@@ -17,7 +18,7 @@ use Rattle.onll_core.specs.Core.{CoreThread, CoreState}
 use Rattle.onll_core.specs.CoreFrame.{seen_in}
 use Rattle.onll_core.specs.Consistent.{IsConsistent}
 use Rattle.onll_core.specs.Outcomes.{current_in, current_of, ends_of}
-use Rattle.onll_core.specs.CallTimes.{standing_of, returned_call, returned_calls, current_calls, timed_calls, calls_of, AreInTime}
+use Rattle.onll_core.specs.CallTimes.{stand_of, returned_call, returned_calls, current_calls, timed_calls, AreInTime}
 use Rattle.onll_core.proofs.Phases.{own_last, seen_below}
 use Rattle.onll_core.proofs.Timed.{IsPast, IsAhead, IsBusy, IsTimed}
 use Rattle.onll_core.proofs.TimedSteps.{place_seen}
@@ -28,9 +29,9 @@ use Rattle.onll_core.proofs.TimedSteps.{place_seen}
 data IsCall {State Op Query Reply : Type 0} (c : CoreState State Op Query Reply) (t i : ℕ) (a : TimedCall) : Type 0 where
   past : (x : Call State Op Query Reply) (r : Returned State Op Query Reply) → IsPast c t i x r → a ≡ returned_call x r → IsCall c t i a
   running : (th : CoreThread State Op Query Reply) → slice_get c.threads t ≡ Some th → i ≡ length (returned_calls th.script th.returned) → current_of th ≡ currents.Running
-      → a ≡ record { standing = None; began = th.began; ended = None } → IsCall c t i a
+      → a ≡ record { stand = None; began = th.began; ended = None } → IsCall c t i a
   ordered : (th : CoreThread State Op Query Reply) (p : ℕ) → slice_get c.threads t ≡ Some th → i ≡ length (returned_calls th.script th.returned) → current_of th ≡ currents.Ordered p
-      → a ≡ record { standing = Some (AtNode p); began = th.began; ended = None } → IsCall c t i a
+      → a ≡ record { stand = Some (NodeAt p); began = th.began; ended = None } → IsCall c t i a
 
 at_append : {A : Type 0} (xs ys : List A) (i : ℕ) (a : A) → slice_get (xs ++ ys) i ≡ Some a → (slice_get xs i ≡ Some a) ⊎ ((j : ℕ) × (i ≡ length xs + j) × (slice_get ys j ≡ Some a))
 at_append [] ys i a e = inr (i, (let k : i ≡ 0 + i = omega arith in k), e)
@@ -49,6 +50,33 @@ ahead_of (phases.Back r d k) p q e h = let same : r ≡ p = (cc) in omega arith
 ahead_of (phases.Fence r d) p q e h = let same : r ≡ p = (cc) in omega arith
 ahead_of (phases.Set r d) p q e h = let same : r ≡ p = (cc) in omega arith
 ahead_of (phases.Ask f d) p q e h = absurd (cc)
+
+-- an element of lists in a row is one of one of them
+record IsIn {A B : Type 0} (f : A → List B) (xs : List A) (i : ℕ) (b : B) : Type 0 where
+  list : ℕ
+  place : ℕ
+  from : A
+  there : slice_get xs list ≡ Some from
+  here : slice_get (f from) place ≡ Some b
+  number : i ≡ length (flat_map f (take list xs)) + place
+
+in_flat : {A B : Type 0} (f : A → List B) (xs : List A) (i : ℕ) (b : B) → slice_get (flat_map f xs) i ≡ Some b → IsIn f xs i b
+in_flat f [] i b e = some_not_none b (sym e)
+in_flat f (x ∷ xs) i b e = ⊎_elim
+    (λ (h : slice_get (f x) i ≡ Some b). record { list = 0; place = i; from = x; there = refl; here = h; number = omega arith })
+    (λ (h : (j : ℕ) × (i ≡ length (f x) + j) × (slice_get (flat_map f xs) j ≡ Some b)). let r = in_flat f xs h.0 b h.2 in let n = h.1 in let m = r.number in record {
+      list = suc r.list;
+      place = r.place;
+      from = r.from;
+      there = r.there;
+      here = r.here;
+      number = omega (arith, length-append (f x) (flat_map f (take r.list xs)));
+    })
+    (at_append (f x) (flat_map f xs) i b e)
+
+if_some_from : {A : Type 0} (o : Option A) (P : A → Type 0) → ((x : A) → o ≡ Some x → P x) → IfSome o P
+if_some_from None P f = tt
+if_some_from (Some x) P f = f x refl
 
 running_busy : (ph : Phase) → current_in ph ≡ currents.Running → IsBusy ph
 running_busy phases.Idle e = absurd (cc)
@@ -73,12 +101,6 @@ ordered_busy (phases.Set q d) p e = tt
 ordered_busy (phases.Ask f d) p e = tt
 
 module _ {State Op Query Reply : Type 0} where
-  thread_of_call : (ths : List (CoreThread State Op Query Reply)) (t i : ℕ) (a : TimedCall) → call_at (map timed_calls ths) t i ≡ Some a → (th : CoreThread State Op Query Reply) × (slice_get ths t ≡ Some th) × (slice_get (timed_calls th) i ≡ Some a)
-  thread_of_call [] zero i a e = some_not_none a (sym e)
-  thread_of_call [] (suc t) i a e = some_not_none a (sym e)
-  thread_of_call (th ∷ ths) zero i a e = (th, refl, e)
-  thread_of_call (th ∷ ths) (suc t) i a e = thread_of_call ths t i a e
-
   returned_at : (calls : List (Call State Op Query Reply)) (rs : List (Returned State Op Query Reply)) (i : ℕ) (a : TimedCall) → slice_get (returned_calls calls rs) i ≡ Some a
       → (x : Call State Op Query Reply) × (r : Returned State Op Query Reply) × (slice_get calls i ≡ Some x) × (slice_get rs i ≡ Some r) × (a ≡ returned_call x r)
   returned_at [] rs i a e = some_not_none a (sym e)
@@ -89,16 +111,16 @@ module _ {State Op Query Reply : Type 0} where
   current_at : (c : CoreState State Op Query Reply) (t i j : ℕ) (th : CoreThread State Op Query Reply) (a : TimedCall) → slice_get c.threads t ≡ Some th → i ≡ length (returned_calls th.script th.returned) + j
       → (now : Current) → current_of th ≡ now → slice_get (current_calls th.began now) j ≡ Some a → IsCall c t i a
   current_at c t i j th a at n currents.Idle is e = some_not_none a (sym e)
-  current_at c t i zero th a at n currents.Running is e = running th at (omega arith) is (sym (same_some record { standing = None; began = th.began; ended = None } a e))
+  current_at c t i zero th a at n currents.Running is e = running th at (omega arith) is (sym (same_some record { stand = None; began = th.began; ended = None } a e))
   current_at c t i (suc j) th a at n currents.Running is e = some_not_none a (sym e)
-  current_at c t i zero th a at n (currents.Ordered p) is e = ordered th p at (omega arith) is (sym (same_some record { standing = Some (AtNode p); began = th.began; ended = None } a e))
+  current_at c t i zero th a at n (currents.Ordered p) is e = ordered th p at (omega arith) is (sym (same_some record { stand = Some (NodeAt p); began = th.began; ended = None } a e))
   current_at c t i (suc j) th a at n (currents.Ordered p) is e = some_not_none a (sym e)
 
-  call_is : (c : CoreState State Op Query Reply) (t i : ℕ) (a : TimedCall) → call_at (calls_of c) t i ≡ Some a → IsCall c t i a
-  call_is c t i a e = let h = thread_of_call c.threads t i a e in let th : CoreThread State Op Query Reply = h.0 in ⊎_elim
-      (λ (o : slice_get (returned_calls th.script th.returned) i ≡ Some a). let q = returned_at th.script th.returned i a o in past q.0 q.1 record { thread = th; there = h.1; asked = q.2; here = q.3 } q.4)
-      (λ (o : (j : ℕ) × (i ≡ length (returned_calls th.script th.returned) + j) × (slice_get (current_calls th.began (current_of th)) j ≡ Some a)). current_at c t i o.0 th a h.1 o.1 (current_of th) refl o.2)
-      (at_append (returned_calls th.script th.returned) (current_calls th.began (current_of th)) i a h.2)
+  call_is : (c : CoreState State Op Query Reply) (t i : ℕ) (th : CoreThread State Op Query Reply) (a : TimedCall) → slice_get c.threads t ≡ Some th → slice_get (timed_calls th) i ≡ Some a → IsCall c t i a
+  call_is c t i th a at e = ⊎_elim
+      (λ (o : slice_get (returned_calls th.script th.returned) i ≡ Some a). let q = returned_at th.script th.returned i a o in past q.0 q.1 record { thread = th; there = at; asked = q.2; here = q.3 } q.4)
+      (λ (o : (j : ℕ) × (i ≡ length (returned_calls th.script th.returned) + j) × (slice_get (current_calls th.began (current_of th)) j ≡ Some a)). current_at c t i o.0 th a at o.1 (current_of th) refl o.2)
+      (at_append (returned_calls th.script th.returned) (current_calls th.began (current_of th)) i a e)
 
   low_returned : (calls : List (Call State Op Query Reply)) (rs : List (Returned State Op Query Reply)) (i : ℕ) (x : Call State Op Query Reply) (r : Returned State Op Query Reply) → slice_get calls i ≡ Some x → slice_get rs i ≡ Some r → i < length (returned_calls calls rs)
   low_returned [] rs i x r e h = some_not_none x (sym e)
@@ -106,32 +128,33 @@ module _ {State Op Query Reply : Type 0} where
   low_returned (y ∷ calls) (s ∷ rs) zero x r e h = omega arith
   low_returned (y ∷ calls) (s ∷ rs) (suc i) x r e h = let l = low_returned calls rs i x r e h in omega arith
 
-  stands_below : (x : Call State Op Query Reply) (r : Returned State Op Query Reply) (p : ℕ) → r.place < p → StandsBefore (standing_of x r) (AtNode p)
+  stands_below : (x : Call State Op Query Reply) (r : Returned State Op Query Reply) (p : ℕ) → r.place < p → StandsBefore (stand_of x r) (NodeAt p)
   stands_below (Update op) r p l = l
   stands_below (Ask query) r p l = l
 
   module _ (count : ℕ) (c : CoreState State Op Query Reply) (k : IsConsistent count c) (time : IsTimed c) where
-    in_time : (t i u j : ℕ) (a b : TimedCall) → IsCall c t i a → IsCall c u j b → IsInTime a b
+    in_time : (t i u j : ℕ) (a b : TimedCall) → IsCall c t i a → IsCall c u j b → (ended : ℕ) (later : Stand) → a.ended ≡ Some ended → ended < b.began → b.stand ≡ Some later
+        → (first : Stand) × (a.stand ≡ Some first) × StandsBefore first later
     in_time t i u j a b (running th at n now same) h ended later e less e' = some_not_none ended (sym e ∙ ap (λ (z : TimedCall). z.ended) same)
     in_time t i u j a b (ordered th p at n now same) h ended later e less e' = some_not_none ended (sym e ∙ ap (λ (z : TimedCall). z.ended) same)
-    in_time t i u j a b (past x r h same) (running th at n now same') ended later e less e' = some_not_none later (sym e' ∙ ap (λ (z : TimedCall). z.standing) same')
+    in_time t i u j a b (past x r h same) (running th at n now same') ended later e less e' = some_not_none later (sym e' ∙ ap (λ (z : TimedCall). z.stand) same')
     in_time t i u j a b (past x r h same) (past y s g same') ended later e less e' =
         let m : r.ended ≡ ended = same_some r.ended ended (sym (ap (λ (z : TimedCall). z.ended) same) ∙ e) in
         let n : b.began ≡ s.began = ap (λ (z : TimedCall). z.began) same' in
-        let o : standing_of y s ≡ later = same_some (standing_of y s) later (sym (ap (λ (z : TimedCall). z.standing) same') ∙ e') in
-        (standing_of x r, ap (λ (z : TimedCall). z.standing) same, subst (StandsBefore (standing_of x r)) o (time.pairs t i u j x y r s h g (omega arith)))
+        let o : stand_of y s ≡ later = same_some (stand_of y s) later (sym (ap (λ (z : TimedCall). z.stand) same') ∙ e') in
+        (stand_of x r, ap (λ (z : TimedCall). z.stand) same, subst (StandsBefore (stand_of x r)) o (time.pairs t i u j x y r s h g (omega arith)))
     in_time t i u j a b (past x r h same) (ordered th p at number now same') ended later e less e' =
         let m : r.ended ≡ ended = same_some r.ended ended (sym (ap (λ (z : TimedCall). z.ended) same) ∙ e) in
         let n : b.began ≡ th.began = ap (λ (z : TimedCall). z.began) same' in
-        let o : AtNode p ≡ later = same_some (AtNode p) later (sym (ap (λ (z : TimedCall). z.standing) same') ∙ e') in
-        (standing_of x r, ap (λ (z : TimedCall). z.standing) same, subst (StandsBefore (standing_of x r)) o (stands_below x r p (ahead_of th.phase p r.place now (time.ahead t i u x r th h at (omega arith)))))
+        let o : NodeAt p ≡ later = same_some (NodeAt p) later (sym (ap (λ (z : TimedCall). z.stand) same') ∙ e') in
+        (stand_of x r, ap (λ (z : TimedCall). z.stand) same, subst (StandsBefore (stand_of x r)) o (stands_below x r p (ahead_of th.phase p r.place now (time.ahead t i u x r th h at (omega arith)))))
 
     -- a node has one thread
     one_thread : (t u p q : ℕ) (x y : Node) → node_at c.trace p ≡ Some x → x.thread ≡ t → node_at c.trace q ≡ Some y → y.thread ≡ u → p ≡ q → t ≡ u
     one_thread t u p q x y e own e' own' same = sym own ∙ (ap (λ (z : Node). z.thread) (same_some x y (sym e ∙ (ap (node_at c.trace) same ∙ e'))) ∙ own')
 
     -- two returned calls at one point are one
-    past_apart : (t i u j : ℕ) (x y : Call State Op Query Reply) (r s : Returned State Op Query Reply) → IsPast c t i x r → IsPast c u j y s → standing_of x r ≡ standing_of y s → (t ≡ u) × (i ≡ j)
+    past_apart : (t i u j : ℕ) (x y : Call State Op Query Reply) (r s : Returned State Op Query Reply) → IsPast c t i x r → IsPast c u j y s → stand_of x r ≡ stand_of y s → (t ≡ u) × (i ≡ j)
     past_apart t i u j (Update o) (Update q) r s h g e =
         let place : r.place ≡ s.place = (cc) in
         let m = time.nodes t i (Update o) r h in
@@ -148,7 +171,7 @@ module _ {State Op Query Reply : Type 0} where
     past_apart t i u j (Ask o) (Ask q) r s h g e = let same : r.ended ≡ s.ended = (cc) in time.moments t i u j (Ask o) (Ask q) r s h g same
 
     -- an ordered call stands alone at its node
-    ordered_alone : (t i u p : ℕ) (x : Call State Op Query Reply) (r : Returned State Op Query Reply) (th : CoreThread State Op Query Reply) → IsPast c t i x r → slice_get c.threads u ≡ Some th → current_of th ≡ currents.Ordered p → standing_of x r ≡ AtNode p → ⊥
+    ordered_alone : (t i u p : ℕ) (x : Call State Op Query Reply) (r : Returned State Op Query Reply) (th : CoreThread State Op Query Reply) → IsPast c t i x r → slice_get c.threads u ≡ Some th → current_of th ≡ currents.Ordered p → stand_of x r ≡ NodeAt p → ⊥
     ordered_alone t i u p (Ask q) r th h at now e = absurd (cc)
     ordered_alone t i u p (Update o) r th h at now e =
         let place : r.place ≡ p = (cc) in
@@ -160,18 +183,18 @@ module _ {State Op Query Reply : Type 0} where
         let below = seen_below count c k u th at p now in
         absurd (omega arith)
 
-    apart : (t i u j : ℕ) (a b : TimedCall) (point : Standing) → IsCall c t i a → IsCall c u j b → a.standing ≡ Some point → b.standing ≡ Some point → (t ≡ u) × (i ≡ j)
-    apart t i u j a b point (running th at n now same) h e e' = some_not_none point (sym e ∙ ap (λ (z : TimedCall). z.standing) same)
-    apart t i u j a b point (past x r h same) (running w at' n' now' same') e e' = some_not_none point (sym e' ∙ ap (λ (z : TimedCall). z.standing) same')
-    apart t i u j a b point (ordered th p at n now same) (running w at' n' now' same') e e' = some_not_none point (sym e' ∙ ap (λ (z : TimedCall). z.standing) same')
+    apart : (t i u j : ℕ) (a b : TimedCall) (point : Stand) → IsCall c t i a → IsCall c u j b → a.stand ≡ Some point → b.stand ≡ Some point → (t ≡ u) × (i ≡ j)
+    apart t i u j a b point (running th at n now same) h e e' = some_not_none point (sym e ∙ ap (λ (z : TimedCall). z.stand) same)
+    apart t i u j a b point (past x r h same) (running w at' n' now' same') e e' = some_not_none point (sym e' ∙ ap (λ (z : TimedCall). z.stand) same')
+    apart t i u j a b point (ordered th p at n now same) (running w at' n' now' same') e e' = some_not_none point (sym e' ∙ ap (λ (z : TimedCall). z.stand) same')
     apart t i u j a b point (past x r h same) (past y s g same') e e' = past_apart t i u j x y r s h g
-        (same_some (standing_of x r) (standing_of y s) (sym (ap (λ (z : TimedCall). z.standing) same) ∙ (e ∙ (sym e' ∙ ap (λ (z : TimedCall). z.standing) same'))))
+        (same_some (stand_of x r) (stand_of y s) (sym (ap (λ (z : TimedCall). z.stand) same) ∙ (e ∙ (sym e' ∙ ap (λ (z : TimedCall). z.stand) same'))))
     apart t i u j a b point (past x r h same) (ordered th p at n now same') e e' = absurd (ordered_alone t i u p x r th h at now
-        (same_some (standing_of x r) (AtNode p) (sym (ap (λ (z : TimedCall). z.standing) same) ∙ (e ∙ (sym e' ∙ ap (λ (z : TimedCall). z.standing) same')))))
+        (same_some (stand_of x r) (NodeAt p) (sym (ap (λ (z : TimedCall). z.stand) same) ∙ (e ∙ (sym e' ∙ ap (λ (z : TimedCall). z.stand) same')))))
     apart t i u j a b point (ordered th p at n now same) (past y s g same') e e' = absurd (ordered_alone u j t p y s th g at now
-        (same_some (standing_of y s) (AtNode p) (sym (ap (λ (z : TimedCall). z.standing) same') ∙ (e' ∙ (sym e ∙ ap (λ (z : TimedCall). z.standing) same)))))
+        (same_some (stand_of y s) (NodeAt p) (sym (ap (λ (z : TimedCall). z.stand) same') ∙ (e' ∙ (sym e ∙ ap (λ (z : TimedCall). z.stand) same)))))
     apart t i u j a b point (ordered th p at n now same) (ordered w q at' n' now' same') e e' =
-        let one : AtNode p ≡ AtNode q = same_some (AtNode p) (AtNode q) (sym (ap (λ (z : TimedCall). z.standing) same) ∙ (e ∙ (sym e' ∙ ap (λ (z : TimedCall). z.standing) same'))) in
+        let one : NodeAt p ≡ NodeAt q = same_some (NodeAt p) (NodeAt q) (sym (ap (λ (z : TimedCall). z.stand) same) ∙ (e ∙ (sym e' ∙ ap (λ (z : TimedCall). z.stand) same'))) in
         let place : p ≡ q = (cc) in
         let last = own_last count c k t th at p now in
         let last' = own_last count c k u w at' q now' in
@@ -200,7 +223,12 @@ module _ {State Op Query Reply : Type 0} where
     pub timed_order : ((t : ℕ) (th : CoreThread State Op Query Reply) → slice_get c.threads t ≡ Some th → length (timed_calls th) ≡ length (ends_of th)) → AreInTime c
     timed_order all = record {
       all = all;
-      turns = λ t i j a b e e' less. in_turn t i j a b (call_is c t i a e) (call_is c t j b e') less;
-      in_time = λ t i u j a b e e'. in_time t i u j a b (call_is c t i a e) (call_is c u j b e');
-      apart = λ t i u j a b point e e' p p'. apart t i u j a b point (call_is c t i a e) (call_is c u j b e') p p';
+      turns = λ t th at i j a b e e' less. in_turn t i j a b (call_is c t i th a at e) (call_is c t j th b at e') less;
+      in_time = λ i j a b e e'. let h = in_flat timed_calls c.threads i a e in let k = in_flat timed_calls c.threads j b e' in
+          let both = in_time h.list h.place k.list k.place a b (call_is c h.list h.place h.from a h.there h.here) (call_is c k.list k.place k.from b k.there k.here) in
+          if_some_from a.ended (λ (ended : ℕ). ended < b.began → IfSome b.stand (λ later. (first : Stand) × (a.stand ≡ Some first) × StandsBefore first later))
+          (λ ended o less. if_some_from b.stand (λ (later : Stand). (first : Stand) × (a.stand ≡ Some first) × StandsBefore first later) (λ later p. both ended later o less p));
+      apart = λ i j a b point e e' p p'. let h = in_flat timed_calls c.threads i a e in let k = in_flat timed_calls c.threads j b e' in
+          let same = apart h.list h.place k.list k.place a b point (call_is c h.list h.place h.from a h.there h.here) (call_is c k.list k.place k.from b k.there k.here) p p' in
+          h.number ∙ ((λ m. length (flat_map timed_calls (take (same.0 m) c.threads)) + same.1 m) ∙ sym k.number);
     }

@@ -14,6 +14,7 @@ pub mod Kept
 pub mod Fences
 pub mod Begin
 pub mod FirstCore
+pub mod Created
 pub mod Ready
 pub mod Bounds
 pub mod ReachedCores

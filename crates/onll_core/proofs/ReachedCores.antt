@@ -1,4 +1,4 @@
-use Rattle.std.proofs.Common.{◌≡◌, ℕ, zero, suc, ◌≤◌, List, [], ◌∷◌, ◌++◌, Option, Some, None, refl, sym, ap, ◌∙◌, subst, arith}
+use Rattle.std.proofs.Common.{◌≡◌, ℕ, zero, suc, ◌≤◌, List, [], ◌∷◌, ◌++◌, Option, Some, None, refl, sym, ap, ◌∙◌, subst, arith, length}
 use Rattle.std.specs.List.{slice_get}
 use Rattle.onll_model.specs.declared.node.Node.{Node}
 use Rattle.onll_model.specs.declared.call.Call.{Call}
@@ -13,12 +13,14 @@ use Rattle.onll_core.specs.declared.returned.Current.TheVariants as currents
 use Rattle.onll_core.specs.Core.{CoreThread, CoreState}
 use Rattle.onll_core.specs.Step.{step_of, steps_of, next_call}
 use Rattle.onll_core.specs.First.{first_thread, first_threads, first_core}
+use Rattle.onll_core.specs.Created.{heads_from, created_core}
 use Rattle.onll_core.specs.Resumed.{resumed_core_thread, resumed_core_threads, resumed_core}
 use Rattle.onll_core.specs.Consistent.{IsConsistent}
 use Rattle.onll_core.specs.Outcomes.{current_of, IsFresh}
 use Rattle.onll_core.specs.Reached.{IsReached}
-use Rattle.onll_core.specs.OutcomeLaws.{FirstReachedLaw, ResumedReachedLaw, FreshReachedLaw, StepReachedLaw, StepsReachedLaw, ReachedConsistentLaw, ReportLaw, OrderLaw, ReturnLaw}
+use Rattle.onll_core.specs.OutcomeLaws.{FirstReachedLaw, CreatedReachedLaw, ResumedReachedLaw, FreshReachedLaw, StepReachedLaw, StepsReachedLaw, ReachedConsistentLaw, ReportLaw, OrderLaw, ReturnLaw}
 use Rattle.onll_core.proofs.FirstCore.{first_consistent, resumed_consistent}
+use Rattle.onll_core.proofs.Created.{created_consistent}
 use Rattle.onll_core.proofs.Kept.{step_consistent, steps_consistent}
 use Rattle.onll_core.proofs.Lawful.{Suits}
 use Rattle.onll_core.proofs.LawfulSteps.{AreLawful, step_lawful}
@@ -88,6 +90,10 @@ module _ {State Op Query Reply : Type 0} (b : Behaviour State Op Query Reply) wh
 
   pub first_reached : FirstReachedLaw b
   first_reached count initial heads scripts first = fresh_reached count (first_core initial heads scripts) (first_consistent count initial heads scripts first) (first_fresh initial heads scripts)
+
+  pub created_reached : CreatedReachedLaw b
+  created_reached initial object init scripts within = fresh_reached (length scripts) (created_core initial object init scripts) (created_consistent initial object init scripts within)
+      (first_fresh initial (heads_from (length scripts) object init 0 (length scripts)) scripts)
 
   pub resumed_reached : ResumedReachedLaw b
   resumed_reached count initial base heads logs scripts a = fresh_reached count (resumed_core initial base heads logs scripts) (resumed_consistent count initial base heads logs scripts a) (resumed_fresh initial base heads logs scripts)

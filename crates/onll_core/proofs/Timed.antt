@@ -13,7 +13,7 @@ use Rattle.onll_core.specs.declared.phase.Phase.{Phase}
 use Rattle.onll_core.specs.declared.phase.Phase.TheVariants as phases
 use Rattle.onll_core.specs.declared.returned.Returned.{Returned}
 use Rattle.onll_core.specs.Core.{CoreThread, CoreState}
-use Rattle.onll_core.specs.CallTimes.{standing_of}
+use Rattle.onll_core.specs.CallTimes.{stand_of}
 
 -- What is known of the order of a core's calls, and that a change of one thread keeps it.
 
@@ -67,7 +67,7 @@ IsBusy (phases.Ask f d) = Unit {0}
 pub record IsTimed {State Op Query Reply : Type 0} (c : CoreState State Op Query Reply) : Type 0 where
   pub past : (t i : ℕ) (x : Call State Op Query Reply) (a : Returned State Op Query Reply) → IsPast c t i x a → IsOver c a
   pub begun : (t : ℕ) (th : CoreThread State Op Query Reply) → slice_get c.threads t ≡ Some th → th.began ≤ c.clock
-  pub pairs : (t i u j : ℕ) (x y : Call State Op Query Reply) (a b : Returned State Op Query Reply) → IsPast c t i x a → IsPast c u j y b → a.ended < b.began → StandsBefore (standing_of x a) (standing_of y b)
+  pub pairs : (t i u j : ℕ) (x y : Call State Op Query Reply) (a b : Returned State Op Query Reply) → IsPast c t i x a → IsPast c u j y b → a.ended < b.began → StandsBefore (stand_of x a) (stand_of y b)
   pub ahead : (t i u : ℕ) (x : Call State Op Query Reply) (a : Returned State Op Query Reply) (w : CoreThread State Op Query Reply) → IsPast c t i x a → slice_get c.threads u ≡ Some w → a.ended < w.began → IsAhead a.place w.phase
   pub nodes : (t i : ℕ) (x : Call State Op Query Reply) (a : Returned State Op Query Reply) → IsPast c t i x a → HasNode c.trace t a.place x
   pub rising : (t i j : ℕ) (x y : Call State Op Query Reply) (a b : Returned State Op Query Reply) → IsPast c t i x a → IsPast c t j y b → i < j → IsAbove a.place b.place y
@@ -130,7 +130,7 @@ module _ {State Op Query Reply : Type 0} (c next : CoreState State Op Query Repl
       (flag : is_available next.flags r.place ≡ true) (first : r.began ≤ r.ended) (last : r.ended ≡ c.clock) (node : HasNode next.trace t r.place call)
       (above : (i : ℕ) (x : Call State Op Query Reply) (a : Returned State Op Query Reply) → IsPast c t i x a → IsAbove a.place r.place call)
       (turn : (i : ℕ) (x : Call State Op Query Reply) (a : Returned State Op Query Reply) → IsPast c t i x a → a.ended < r.began)
-      (after : (u i : ℕ) (x : Call State Op Query Reply) (a : Returned State Op Query Reply) → IsPast c u i x a → a.ended < r.began → StandsBefore (standing_of x a) (standing_of call r)) where
+      (after : (u i : ℕ) (x : Call State Op Query Reply) (a : Returned State Op Query Reply) → IsPast c u i x a → a.ended < r.began → StandsBefore (stand_of x a) (stand_of call r)) where
     -- the call that returns now
     record IsNow (u i : ℕ) (x : Call State Op Query Reply) (a : Returned State Op Query Reply) : Type 0 where
       own : u ≡ t
@@ -161,9 +161,9 @@ module _ {State Op Query Reply : Type 0} (c next : CoreState State Op Query Repl
     old_number i x a h = subst (λ (z : CoreThread State Op Query Reply). i < length z.returned) (same_some h.thread th (sym h.there ∙ at)) (inside h.thread.returned i a h.here)
 
     -- a call of before and one of before or now
-    pair_after : (u i v j : ℕ) (x y : Call State Op Query Reply) (a b : Returned State Op Query Reply) → IsPast c u i x a → IsPast c v j y b ⊎ IsNow v j y b → a.ended < b.began → StandsBefore (standing_of x a) (standing_of y b)
+    pair_after : (u i v j : ℕ) (x y : Call State Op Query Reply) (a b : Returned State Op Query Reply) → IsPast c u i x a → IsPast c v j y b ⊎ IsNow v j y b → a.ended < b.began → StandsBefore (stand_of x a) (stand_of y b)
     pair_after u i v j x y a b h (inl k) less = time.pairs u i v j x y a b h k less
-    pair_after u i v j x y a b h (inr n) less = subst (λ (z : Call State Op Query Reply × Returned State Op Query Reply). a.ended < z.1.began → StandsBefore (standing_of x a) (standing_of z.0 z.1)) (λ m. (n.called m, n.same m)) (after u i x a h) less
+    pair_after u i v j x y a b h (inr n) less = subst (λ (z : Call State Op Query Reply × Returned State Op Query Reply). a.ended < z.1.began → StandsBefore (stand_of x a) (stand_of z.0 z.1)) (λ m. (n.called m, n.same m)) (after u i x a h) less
 
     rises : (u i j : ℕ) (x y : Call State Op Query Reply) (a b : Returned State Op Query Reply) → IsPast c u i x a ⊎ IsNow u i x a → IsPast c u j y b ⊎ IsNow u j y b → i < j → IsAbove a.place b.place y
     rises u i j x y a b (inl h) (inl k) less = time.rising u i j x y a b h k less
@@ -215,10 +215,10 @@ module _ {State Op Query Reply : Type 0} (c next : CoreState State Op Query Repl
 
 -- what stands before a call that returns
 
-pub before_update : {State Op Query Reply : Type 0} (x : Call State Op Query Reply) (op : Op) (a r : Returned State Op Query Reply) → a.place < r.place → StandsBefore (standing_of x a) (standing_of (Update op) r)
+pub before_update : {State Op Query Reply : Type 0} (x : Call State Op Query Reply) (op : Op) (a r : Returned State Op Query Reply) → a.place < r.place → StandsBefore (stand_of x a) (stand_of (Update op) r)
 before_update (Update o) op a r l = l
 before_update (Ask query) op a r l = l
 
-pub before_read : {State Op Query Reply : Type 0} (x : Call State Op Query Reply) (query : Query) (a r : Returned State Op Query Reply) → a.place ≤ r.place → a.ended < r.ended → StandsBefore (standing_of x a) (standing_of (Ask query) r)
+pub before_read : {State Op Query Reply : Type 0} (x : Call State Op Query Reply) (query : Query) (a r : Returned State Op Query Reply) → a.place ≤ r.place → a.ended < r.ended → StandsBefore (stand_of x a) (stand_of (Ask query) r)
 before_read (Update o) query a r le l = le
 before_read (Ask q) query a r le l = dite (ℕ_discrete a.place r.place) (λ is. inr (is, l)) (λ not. inl (omega arith))

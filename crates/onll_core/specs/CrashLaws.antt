@@ -6,6 +6,7 @@ use Rattle.onll_model.specs.Trace.{is_of_thread}
 use Rattle.onll_model.specs.Segment.{Segment}
 use Rattle.onll_pmem.specs.Device.{IsImage}
 use Rattle.onll_log.specs.declared.head.LogHead.{LogHead}
+use Rattle.onll_log.specs.Torn.{Holds}
 use Rattle.onll_merge.specs.Resumed.{entries_of}
 use Rattle.onll_core.specs.Core.{CoreState}
 use Rattle.onll_core.specs.CoreFrame.{pending_in}
@@ -15,7 +16,7 @@ use Rattle.onll_core.specs.First.{first_core, AreFirst}
 use Rattle.onll_core.specs.Resumed.{resumed_core, AreResumed}
 use Rattle.onll_core.specs.Reached.{IsReached}
 use Rattle.onll_core.specs.Consistent.{EachCoreThread, IsConsistent}
-use Rattle.onll_core.specs.Crash.{HoldsFenced, AreImages, images_of, heads_of, Recovers, HoldAllReturned, RecoversAll}
+use Rattle.onll_core.specs.Crash.{HoldsFenced, HasRest, AreImages, images_of, heads_of, Recovers, HoldAllReturned, RecoversAll}
 
 -- Laws of a crash of the step core, whatever the object, whatever threads take steps, and whatever the crash leaves.
 
@@ -23,6 +24,11 @@ use Rattle.onll_core.specs.Crash.{HoldsFenced, AreImages, images_of, heads_of, R
 abbrev pub ImageLaw : (State Op Query Reply : Type 0) → Type 0
 ImageLaw State Op Query Reply = (count : ℕ) (c : CoreState State Op Query Reply) → IsConsistent count c
     → EachCoreThread c (λ t th. (image : List (List ℕ)) → IsImage th.device image → HoldsFenced th (pending_in c.trace th.phase) image)
+
+-- behind it there is nothing that could be read as an entry: zeros, or what is left of the entry that is not whole
+abbrev pub RestLaw : (State Op Query Reply : Type 0) → Type 0
+RestLaw State Op Query Reply = (count : ℕ) (c : CoreState State Op Query Reply) → IsConsistent count c
+    → EachCoreThread c (λ t th. (image : List (List ℕ)) (ss : List Segment) → IsImage th.device image → Holds image th.head ss → HasRest th.head ss image)
 
 -- every number picks images
 abbrev pub PickedLaw : (State Op Query Reply : Type 0) → Type 0

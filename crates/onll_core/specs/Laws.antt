@@ -1,4 +1,4 @@
-use Rattle.std.specs.Prelude.{ℕ, List}
+use Rattle.std.specs.Prelude.{ℕ, List, length}
 use Rattle.onll_model.specs.declared.call.Call.{Call}
 use Rattle.onll_model.specs.declared.node.Node.{Node}
 use Rattle.onll_model.specs.Object.{Behaviour}
@@ -8,6 +8,7 @@ use Rattle.onll_core.specs.Core.{CoreState}
 use Rattle.onll_core.specs.Step.{step_of, steps_of}
 use Rattle.onll_core.specs.StepEvent.{event_of, IsEvent}
 use Rattle.onll_core.specs.First.{first_core, AreFirst}
+use Rattle.onll_core.specs.Created.{created_core, IsWithinLimits}
 use Rattle.onll_core.specs.Resumed.{resumed_core, AreResumed}
 use Rattle.onll_core.specs.Fences.{CountsFences}
 use Rattle.onll_core.specs.Entries.{EntriesAreFew}
@@ -23,6 +24,13 @@ module _ (State Op Query Reply : Type 0) where
 
   abbrev pub FirstFencesLaw : Type 0
   FirstFencesLaw = (count : ℕ) (initial : State) (heads : List LogHead) (scripts : List (List (Call State Op Query Reply))) → AreFirst count heads scripts → CountsFences 1 (first_core initial heads scripts)
+
+  -- such as the one that is made of scripts within the limits
+  abbrev pub CreatedLaw : Type 0
+  CreatedLaw = (initial : State) (object : ℕ) (init : List ℕ) (scripts : List (List (Call State Op Query Reply))) → IsWithinLimits object scripts → IsConsistent (length scripts) (created_core initial object init scripts)
+
+  abbrev pub CreatedFencesLaw : Type 0
+  CreatedFencesLaw = (initial : State) (object : ℕ) (init : List ℕ) (scripts : List (List (Call State Op Query Reply))) → IsWithinLimits object scripts → CountsFences 1 (created_core initial object init scripts)
 
   -- so is that of a core that goes on, which has made none
   abbrev pub ResumedLaw : Type 0

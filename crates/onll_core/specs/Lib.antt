@@ -8,6 +8,7 @@ pub mod CallTimes
 pub mod StepEvent
 pub mod Begin
 pub mod First
+pub mod Created
 pub mod Resumed
 pub mod Fences
 pub mod Entries

@@ -8,6 +8,7 @@ use Rattle.onll_core.specs.declared.returned.Current.TheVariants as currents
 use Rattle.onll_core.specs.Core.{CoreThread, CoreState}
 use Rattle.onll_core.specs.Step.{step_of, steps_of}
 use Rattle.onll_core.specs.First.{first_core, AreFirst}
+use Rattle.onll_core.specs.Created.{created_core, IsWithinLimits}
 use Rattle.onll_core.specs.Resumed.{resumed_core, AreResumed}
 use Rattle.onll_core.specs.Consistent.{IsConsistent}
 use Rattle.onll_core.specs.Outcomes.{current_of, IsLegalCore, IsFresh}
@@ -22,12 +23,16 @@ module _ {State Op Query Reply : Type 0} (b : Behaviour State Op Query Reply) wh
   abbrev pub FirstReachedLaw : Type 0
   FirstReachedLaw = (count : ℕ) (initial : State) (heads : List LogHead) (scripts : List (List (Call State Op Query Reply))) → AreFirst count heads scripts → IsReached b count (first_core initial heads scripts)
 
-  -- so is that of a core that goes on from recovered logs
+  -- so is that of a core that is made of scripts within the limits
+  abbrev pub CreatedReachedLaw : Type 0
+  CreatedReachedLaw = (initial : State) (object : ℕ) (init : List ℕ) (scripts : List (List (Call State Op Query Reply))) → IsWithinLimits object scripts → IsReached b (length scripts) (created_core initial object init scripts)
+
+  -- and that of a core that goes on from recovered logs
   abbrev pub ResumedReachedLaw : Type 0
   ResumedReachedLaw = (count : ℕ) (initial : State) (base : List Node) (heads : List LogHead) (logs : List (List Segment)) (scripts : List (List (Call State Op Query Reply))) → AreResumed count base heads logs scripts
       → IsReached b count (resumed_core initial base heads logs scripts)
 
-  -- and every consistent state in which no call has begun
+  -- so is every consistent state in which no call has begun
   abbrev pub FreshReachedLaw : Type 0
   FreshReachedLaw = (count : ℕ) (c : CoreState State Op Query Reply) → IsConsistent count c → IsFresh c → IsReached b count c
 

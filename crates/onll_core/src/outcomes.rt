@@ -1,6 +1,6 @@
 //! What holds of the calls of a core, for every object and whatever threads take steps.
 
-ghost use Rattle.onll_core.specs.OutcomeLaws.{FirstReachedLaw, ResumedReachedLaw, FreshReachedLaw, StepReachedLaw, StepsReachedLaw, ReachedConsistentLaw, ReportLaw, OrderLaw, ReturnLaw};
+ghost use Rattle.onll_core.specs.OutcomeLaws.{FirstReachedLaw, CreatedReachedLaw, ResumedReachedLaw, FreshReachedLaw, StepReachedLaw, StepsReachedLaw, ReachedConsistentLaw, ReportLaw, OrderLaw, ReturnLaw};
 
 use onll_model::Object;
 
@@ -8,6 +8,7 @@ use onll_model::Object;
 /// state that is reached; all of them are consistent.
 pub fn reached_law<O: Object>()
     ensures first { FirstReachedLaw O.means }
+    ensures created { CreatedReachedLaw O.means }
     ensures resumed { ResumedReachedLaw O.means }
     ensures fresh { FreshReachedLaw O.means }
     ensures step { StepReachedLaw O.means }

@@ -12,5 +12,8 @@ pub mod FrameLinks
 pub mod EventLaw
 pub mod FirstFrames
 pub mod Ends
-pub mod Standings
 pub mod Placed
+pub mod StepLaw
+pub mod Looks
+pub mod StandOrder
+pub mod FrameExample

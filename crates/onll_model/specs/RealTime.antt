@@ -1,53 +1,42 @@
-use Rattle.std.specs.Prelude.{ℕ, ◌≡◌, ◌<◌, ◌≤◌, ◌⊎◌, List, [], Option, Some, slice_get, slice_index_or}
+use Rattle.std.specs.Prelude.{ℕ, List, ◌≡◌, ◌<◌, ◌≤◌, ◌⊎◌, Option, Some, IfSome, slice_get}
 
--- The order of a run's calls, and how it agrees with the time at which they were made.
+-- The order of calls in time. Nodes and the reads that have returned stand in one order: the node of a place, and after it
+-- the reads at that place by the clock of their last step.
+pub data Stand : Type 0 where
+  NodeAt : ℕ → Stand
+  ReadAt : ℕ → ℕ → Stand
 
--- All nodes and all returned reads are put in one order: the node of a place, then the reads that returned at this place by
--- the clock of their last step, then the node of the next place.
-pub data Standing : Type 0 where
-  AtNode : ℕ → Standing
-  AfterNode : ℕ → ℕ → Standing
+abbrev pub StandsBefore : Stand → Stand → Type 0
+StandsBefore (NodeAt p) (NodeAt q) = p < q
+StandsBefore (NodeAt p) (ReadAt q ended) = p ≤ q
+StandsBefore (ReadAt p ended) (NodeAt q) = p < q
+StandsBefore (ReadAt p ended) (ReadAt q later) = (p < q) ⊎ ((p ≡ q) × (ended < later))
 
-abbrev pub StandsBefore : Standing → Standing → Type 0
-StandsBefore (AtNode p) (AtNode q) = p < q
-StandsBefore (AtNode p) (AfterNode q clock) = p ≤ q
-StandsBefore (AfterNode p clock) (AtNode q) = p < q
-StandsBefore (AfterNode p clock) (AfterNode q later) = (p < q) ⊎ ((p ≡ q) × (clock < later))
-
--- the order is strict, and any two points of it are comparable
-pub record IsStrictOrder {A : Type 0} (R : A → A → Type 0) : Type 0 where
-  pub not_itself : (a : A) → R a a → ⊥
-  pub chains : (a b c : A) → R a b → R b c → R a c
-  pub total : (a b : A) → R a b ⊎ ((a ≡ b) ⊎ R b a)
-
-abbrev pub StandingLaw : Type 0
-StandingLaw = IsStrictOrder StandsBefore
-
--- A call that has begun: where it stands, nowhere while it has no place; the clock at its first step, and at its last one
--- once it has returned.
+-- A call that has begun: the clock at its first step and, where it has returned, at its last; where it stands, once it
+-- has a place. An update has one from its exchange on, a read when it returns.
 pub record TimedCall : Type 0 where
-  pub standing : Option Standing
   pub began : ℕ
   pub ended : Option ℕ
+  pub stand : Option Stand
 
--- where the one returned before the other began, and the other has a place, the one stands before it
-abbrev pub IsInTime : TimedCall → TimedCall → Type 0
-IsInTime a b = (ended : ℕ) (later : Standing) → a.ended ≡ Some ended → ended < b.began → b.standing ≡ Some later
-    → (first : Standing) × (a.standing ≡ Some first) × StandsBefore first later
+-- where the first call returned before the second began, and the second has a place, the first stands before it
+abbrev pub InTime : TimedCall → TimedCall → Type 0
+InTime a c = IfSome a.ended (λ ended. ended < c.began → IfSome c.stand (λ later. (first : Stand) × (a.stand ≡ Some first) × StandsBefore first later))
 
--- the call of this number among those of a thread that have begun, each from 0
-abbrev pub call_at : List (List TimedCall) → ℕ → ℕ → Option TimedCall
-call_at calls t i = slice_get (slice_index_or calls t []) i
-
--- any two calls, of one thread or of two, returned or in flight, stand as they were made
-abbrev pub InRealTime : List (List TimedCall) → Type 0
-InRealTime calls = (t i u j : ℕ) (a b : TimedCall) → call_at calls t i ≡ Some a → call_at calls u j ≡ Some b → IsInTime a b
+-- the calls of all threads, those in flight among them, stand as they came in time
+abbrev pub IsInRealTime : List TimedCall → Type 0
+IsInRealTime calls = (i j : ℕ) (a c : TimedCall) → slice_get calls i ≡ Some a → slice_get calls j ≡ Some c → InTime a c
 
 -- no two calls stand at one point
-abbrev pub StandApart : List (List TimedCall) → Type 0
-StandApart calls = (t i u j : ℕ) (a b : TimedCall) (point : Standing) → call_at calls t i ≡ Some a → call_at calls u j ≡ Some b
-    → a.standing ≡ Some point → b.standing ≡ Some point → (t ≡ u) × (i ≡ j)
+abbrev pub StandApart : List TimedCall → Type 0
+StandApart calls = (i j : ℕ) (a c : TimedCall) (point : Stand) → slice_get calls i ≡ Some a → slice_get calls j ≡ Some c → a.stand ≡ Some point → c.stand ≡ Some point → i ≡ j
 
--- a thread's calls are made one after the other: all but its last have returned, each before the later ones began
-abbrev pub OneAfterAnother : List (List TimedCall) → Type 0
-OneAfterAnother calls = (t i j : ℕ) (a b : TimedCall) → call_at calls t i ≡ Some a → call_at calls t j ≡ Some b → i < j → (ended : ℕ) × (a.ended ≡ Some ended) × (ended < b.began)
+-- the calls of one thread are made in turn: all but the last have returned, each before the later ones began
+abbrev pub AreInTurn : List TimedCall → Type 0
+AreInTurn calls = (i j : ℕ) (a c : TimedCall) → slice_get calls i ≡ Some a → slice_get calls j ≡ Some c → i < j → (ended : ℕ) × (a.ended ≡ Some ended) × (ended < c.began)
+
+-- the order is strict, and any two points of it are comparable
+pub record StandOrder : Type 0 where
+  pub irreflexive : (a : Stand) → StandsBefore a a → ⊥
+  pub transitive : (a c e : Stand) → StandsBefore a c → StandsBefore c e → StandsBefore a e
+  pub total : (a c : Stand) → StandsBefore a c ⊎ ((a ≡ c) ⊎ StandsBefore c a)

@@ -1,8 +1,11 @@
-use Rattle.onll_core.proofs.ReachedCores.{first_reached, resumed_reached, fresh_reached, step_reached, steps_reached, reached_consistent}
+use Rattle.onll_core.proofs.ReachedCores.{first_reached, created_reached, resumed_reached, fresh_reached, step_reached, steps_reached, reached_consistent}
 use Rattle.onll_core.proofs.outcomes.reached_law.Goals as goal
 
 pub returns-clause-first : goal.returns-clause-first
 returns-clause-first g c = first_reached g.O.Object.means
+
+pub returns-clause-created : goal.returns-clause-created
+returns-clause-created g c = created_reached g.O.Object.means
 
 pub returns-clause-resumed : goal.returns-clause-resumed
 returns-clause-resumed g c = resumed_reached g.O.Object.means

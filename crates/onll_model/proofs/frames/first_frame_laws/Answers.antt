@@ -1,4 +1,4 @@
-use Rattle.onll_model.proofs.frames.first_frame_law.Goals as goal
+use Rattle.onll_model.proofs.frames.first_frame_laws.Goals as goal
 use Rattle.onll_model.proofs.FirstFrames.{resumed_sound, created_sound}
 
 pub returns-clause-resumed : goal.returns-clause-resumed

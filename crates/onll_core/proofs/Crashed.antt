@@ -1,18 +1,16 @@
-use Rattle.std.proofs.Common.{ℕ, zero, suc, ◌≡◌, ◌+◌, ◌-◌, ◌<◌, ◌≤◌, ◌⊎◌, inl, inr, ⊎_elim, max, List, [], ◌∷◌, ◌++◌, length, map, take, Option, Some, None, Ok, option_to_list, sym, refl, ap, ◌∙◌, subst, arith}
+use Rattle.std.proofs.Common.{ℕ, zero, suc, ◌≡◌, ◌≤◌, ◌⊎◌, inl, inr, ⊎_elim, List, [], ◌∷◌, ◌++◌, length, map, take, Some, Ok, option_to_list, sym, refl, ap, ◌∙◌, subst, arith}
 use Rattle.std.proofs.lemmas.List.{length-take-le}
 use Rattle.std.specs.List.{AllByRecursion, slice_get}
 use Rattle.onll_model.specs.declared.node.Node.{Node}
-use Rattle.onll_model.specs.declared.call.Call.{Call}
 use Rattle.onll_model.specs.Object.{Behaviour}
 use Rattle.onll_model.specs.Segment.{Segment}
-use Rattle.onll_model.specs.Frames.{Thread}
 use Rattle.onll_model.proofs.Lists.{same_some}
 use Rattle.onll_pmem.specs.Device.{IsImage, image_of}
 use Rattle.onll_log.specs.declared.head.LogHead.{LogHead}
 use Rattle.onll_log.specs.Grammar.{Content, content_of}
 use Rattle.onll_log.specs.Torn.{Holds}
 use Rattle.onll_merge.specs.Merge.{merge, top_of}
-use Rattle.onll_merge.specs.FrameLogs.{AreLogsOf, MergeToFront}
+use Rattle.onll_merge.specs.FrameLogs.{AreLogsOf}
 use Rattle.onll_merge.proofs.FrameLogs.{merge_to_front}
 use Rattle.onll_core.specs.declared.returned.Returned.{Returned}
 use Rattle.onll_core.specs.Core.{CoreThread, CoreState}
@@ -21,8 +19,6 @@ use Rattle.onll_core.specs.Consistent.{IsConsistent}
 use Rattle.onll_core.specs.Crash.{AreImages, images_of, heads_of, HasUpTo, Recovers}
 use Rattle.onll_core.proofs.CoreFrames.{part_at}
 use Rattle.onll_core.specs.Step.{steps_of}
-use Rattle.onll_core.specs.First.{first_threads, first_core, AreFirst}
-use Rattle.onll_core.proofs.FirstCore.{first_consistent}
 use Rattle.onll_core.proofs.Kept.{steps_consistent}
 use Rattle.onll_core.proofs.Images.{image_either, picked_image}
 use Rattle.onll_core.proofs.Stays.{steps_stay}
@@ -43,7 +39,7 @@ module _ {State Op Query Reply : Type 0} where
   HoldsEither trace th image = Holds image th.head (fenced_entries th.head th.device) ⊎ Holds image th.head (fenced_entries th.head th.device ++ option_to_list (pending_in trace th.phase))
 
   -- what the images hold are logs of the frame's threads
-  record AreHeld (base : ℕ) (trace : List Node) (ths : List (CoreThread State Op Query Reply)) (images : List (List (List ℕ))) : Type 0 where
+  pub record AreHeld (base : ℕ) (trace : List Node) (ths : List (CoreThread State Op Query Reply)) (images : List (List (List ℕ))) : Type 0 where
     pub logs : List Content
     pub contents : map content_of images ≡ map Some logs
     pub left : AreLogsOf (map (frame_thread base trace) ths) (heads_of ths) logs
@@ -57,7 +53,7 @@ module _ {State Op Query Reply : Type 0} where
     left = (record { head_kept = refl; segments = which }, rest.left);
   }
 
-  are_held : (base : ℕ) (trace : List Node) (ths : List (CoreThread State Op Query Reply)) (images : List (List (List ℕ))) → AreImages ths images
+  pub are_held : (base : ℕ) (trace : List Node) (ths : List (CoreThread State Op Query Reply)) (images : List (List (List ℕ))) → AreImages ths images
       → ((t : ℕ) (th : CoreThread State Op Query Reply) → slice_get ths t ≡ Some th → (image : List (List ℕ)) → IsImage th.device image → HoldsEither trace th image) → AreHeld base trace ths images
   are_held base trace [] [] a h = record { logs = []; contents = refl; left = tt }
   are_held base trace [] (image ∷ images) a h = absurd a
@@ -125,7 +121,7 @@ module _ {State Op Query Reply : Type 0} (b : Behaviour State Op Query Reply) wh
 
 -- ---- what code finds
 -- whoever reads these images as logs reads those that are recovered
-some_same : (xs ys : List Content) → map Some xs ≡ map Some ys → xs ≡ ys
+pub some_same : (xs ys : List Content) → map Some xs ≡ map Some ys → xs ≡ ys
 some_same [] [] e = refl
 some_same [] (y ∷ ys) e = absurd (cc)
 some_same (x ∷ xs) [] e = absurd (cc)

@@ -1,14 +1,16 @@
-use Rattle.std.proofs.Common.{ℕ, zero, suc, ◌≡◌, ◌+◌, ◌-◌, ◌<◌, ◌≤◌, ◌⊎◌, inl, inr, ⊎_elim, List, [], ◌∷◌, ◌++◌, length, take, drop, replicate, Option, Some, None, option_to_list, sym, refl, ap, ◌∙◌, subst, arith, length-append}
-use Rattle.std.proofs.lemmas.List.{length-replicate, take_at, drop-replicate}
-use Rattle.std.specs.List.{AllByRecursion, slice_get}
+use Rattle.std.proofs.Common.{ℕ, zero, suc, ◌≡◌, ◌+◌, ◌-◌, ◌≤◌, ◌⊎◌, inl, inr, ⊎_elim, List, [], ◌∷◌, ◌++◌, length, take, drop, Option, Some, None, option_to_list, sym, refl, ap, ◌∙◌, subst, arith, length-append}
+use Rattle.std.proofs.lemmas.List.{length-replicate, take_at, drop_at, drop-replicate}
+use Rattle.std.specs.List.{slice_get}
 use Rattle.onll_model.specs.Segment.{Segment}
 use Rattle.onll_model.specs.Events.{window}
 use Rattle.onll_pmem.specs.Device.{IsImage, Mixed, SameShape, zero_line, zero_lines, image_of}
 use Rattle.onll_pmem.proofs.Mixes.{Mixed-same, FillsLines-then}
 use Rattle.onll_pmem.proofs.Images.{Mixed-kept}
-use Rattle.onll_log.specs.declared.head.LogHead.{LogHead}
 use Rattle.onll_log.specs.Encoding.{entry_lines, log_lines, FitsEntry}
-use Rattle.onll_log.specs.Torn.{IsLine, AreLines, Among, log_image, Holds, TornOrWhole}
+use Rattle.onll_log.specs.declared.head.LogHead.{LogHead}
+use Rattle.onll_log.specs.Grammar.{Content, used_with}
+use Rattle.onll_log.specs.Remains.{unused, AreRemainsOf}
+use Rattle.onll_log.specs.Torn.{AreLines, Among, log_image, Holds, TornOrWhole}
 use Rattle.onll_log.proofs.Lines.{AreLines-take, AreLines-append, AreLines-zero_lines, AreLines-entry_lines, AreLines-log_lines, AreLines-log_image}
 use Rattle.onll_log.proofs.Encoded.{length-entry_lines, length-log_lines}
 use Rattle.onll_log.proofs.Torn.{Mixed-front, Among-front, Among-mixed, Holds-among, Holds-log_image, TornOrWhole-Among, log_image-more}
@@ -18,7 +20,7 @@ use Rattle.onll_core.specs.Core.{CoreThread, CoreState}
 use Rattle.onll_core.specs.CoreFrame.{pending_in, fenced_entries}
 use Rattle.onll_core.specs.Tie.{written_in, lines_needed, coming_lines, IsTied}
 use Rattle.onll_core.specs.Consistent.{IsConsistent}
-use Rattle.onll_core.specs.Crash.{with_entry, HoldsFenced}
+use Rattle.onll_core.specs.Crash.{with_entry, HoldsFenced, HasRest}
 use Rattle.onll_core.proofs.Windows.{window_of}
 use Rattle.onll_core.proofs.Ties.{fenced_is_log, length_read}
 
@@ -37,10 +39,24 @@ same_shape [] (y ∷ ys) a b e = absurd (omega arith)
 same_shape (x ∷ xs) [] a b e = absurd (omega arith)
 same_shape (x ∷ xs) (y ∷ ys) a b e = (a.0 ∙ sym b.0, same_shape xs ys a.1 b.1 (omega arith))
 
--- what an image holds, and that it is one of two lists of entries
+-- an image holds one list of entries
+entries_in : Option Content → List Segment
+entries_in None = []
+entries_in (Some content) = content.entries
+
+same_held : (image : List (List ℕ)) (head : LogHead) (ss rs : List Segment) → Holds image head ss → Holds image head rs → ss ≡ rs
+unfolding entries_in
+same_held image head ss rs h k = ap entries_in (sym h ∙ k)
+
+-- behind a log stand its zeros
+unused_zeros : (head : LogHead) (ss : List Segment) (n : ℕ) → unused head ss (log_image head ss n) ≡ zero_lines n
+unused_zeros head ss n = drop_at (log_lines head ss) (zero_lines n) (used_with (Some head) ss) (length-log_lines head ss)
+
+-- what an image holds, that it is one of two lists of entries, and what is behind it
 record IsHeld {State Op Query Reply : Type 0} (th : CoreThread State Op Query Reply) (writing : Option Segment) (image : List (List ℕ)) : Type 0 where
   pub log : HoldsFenced th writing image
   pub either : Holds image th.head (fenced_entries th.head th.device) ⊎ Holds image th.head (fenced_entries th.head th.device ++ option_to_list writing)
+  pub rest : (ss : List Segment) → Holds image th.head ss → HasRest th.head ss image
 
 module _ {State Op Query Reply : Type 0} (count t : ℕ) (th : CoreThread State Op Query Reply) where
   -- ---- no entry is being written
@@ -56,7 +72,14 @@ module _ {State Op Query Reply : Type 0} (count t : ℕ) (th : CoreThread State 
       let is : image ≡ log_image th.head tie.log (written_in ph + tie.free) = Mixed-same th.device.fenced image (subst (λ (l : List (List ℕ)). Mixed th.device.fenced l image) (settled_read o ph tie none) i) ∙ tie.fenced in
       let holds : Holds image th.head tie.log = subst (λ (l : List (List ℕ)). Holds l th.head tie.log) (sym is) (Holds-log_image th.head tie.log (written_in ph + tie.free) tie.head tie.fits) in
       let log : Holds image th.head (fenced_entries th.head th.device) = subst (Holds image th.head) (sym (fenced_is_log count t th o ph tie)) holds in
-      record { log = log; either = inl log }
+      record {
+        log = log;
+        either = inl log;
+        rest = λ ss h. inl (
+          written_in ph + tie.free,
+          ap (λ (rs : List Segment). unused th.head rs image) (same_held image th.head ss tie.log h holds) ∙ (ap (unused th.head tie.log) is ∙ unused_zeros th.head tie.log (written_in ph + tie.free)),
+        );
+      }
 
   shape_at_rest : (o : Option Segment) (ph : Phase) (tie : IsTied count t o th ph) → written_in ph ≡ 0 → SameShape th.device.fenced th.device.read
   shape_at_rest o ph tie none =
@@ -102,6 +125,9 @@ module _ {State Op Query Reply : Type 0} (count t : ℕ) (th : CoreThread State 
     held_coming image i = record {
       log = torn;
       either = ⊎_elim (λ (h : Holds image th.head tie.log). inl (subst (Holds image th.head) (sym same) h)) (λ (e : image ≡ with_entry th g). inr (torn.appended e)) choice;
+      rest = λ ss h. ⊎_elim
+          (λ (k : Holds image th.head tie.log). subst (λ (rs : List Segment). HasRest th.head rs image) (same_held image th.head tie.log ss k h) (inr (g, zeros, remains k)))
+          (λ (e : image ≡ with_entry th g). inl (zeros, behind e (same_held image th.head ss (tie.log ++ g ∷ []) h (whole_held e)))) choice;
     }
       where
         mixed : Mixed (log_image th.head tie.log (written_in ph + tie.free)) (log_lines th.head tie.log ++ read_part) image
@@ -114,12 +140,36 @@ module _ {State Op Query Reply : Type 0} (count t : ℕ) (th : CoreThread State 
         torn = subst (λ (z : List Segment × List (List ℕ)). TornOrWhole th.head z.0 g z.1 image) (λ j. (sym same j, sym whole j))
             (TornOrWhole-Among th.head tie.log g (written_in ph + tie.free) zeros read_part image tie.head tie.own.2 tie.fits fits among mixed)
 
+        front : (rest : List (List ℕ)) × (image ≡ log_lines th.head tie.log ++ rest) × Mixed (zero_lines (written_in ph + tie.free)) read_part rest
+        front = Mixed-front (log_lines th.head tie.log) (zero_lines (written_in ph + tie.free)) read_part image mixed
+
+        -- what is behind the fenced entries is some of the entry's words
+        partial : Among (lines ++ zero_lines zeros) front.0
+        partial = FillsLines-then front.0 read_part (lines ++ zero_lines zeros) (Among-mixed (written_in ph + tie.free) read_part front.0 front.2) among
+
+        is_whole : front.0 ≡ lines ++ zero_lines zeros → image ≡ with_entry th g
+        is_whole e = front.1 ∙ (ap (λ (l : List (List ℕ)). log_lines th.head tie.log ++ l) e ∙ (sym (log_image-more th.head tie.log g zeros) ∙ sym whole))
+
         choice : Holds image th.head tie.log ⊎ (image ≡ with_entry th g)
-        choice =
-            let front = Mixed-front (log_lines th.head tie.log) (zero_lines (written_in ph + tie.free)) read_part image mixed in
-            ⊎_elim (λ (h : Holds (log_lines th.head tie.log ++ front.0) th.head tie.log). inl (subst (λ (l : List (List ℕ)). Holds l th.head tie.log) (sym front.1) h))
-            (λ (e : front.0 ≡ lines ++ zero_lines zeros). inr (front.1 ∙ (ap (λ (l : List (List ℕ)). log_lines th.head tie.log ++ l) e ∙ (sym (log_image-more th.head tie.log g zeros) ∙ sym whole))))
-            (Holds-among th.head tie.log g zeros front.0 tie.head tie.own.2 tie.fits fits (FillsLines-then front.0 read_part (lines ++ zero_lines zeros) (Among-mixed (written_in ph + tie.free) read_part front.0 front.2) among))
+        choice = ⊎_elim (λ (h : Holds (log_lines th.head tie.log ++ front.0) th.head tie.log). inl (subst (λ (l : List (List ℕ)). Holds l th.head tie.log) (sym front.1) h))
+            (λ (e : front.0 ≡ lines ++ zero_lines zeros). inr (is_whole e)) (Holds-among th.head tie.log g zeros front.0 tie.head tie.own.2 tie.fits fits partial)
+
+        whole_held : image ≡ with_entry th g → Holds image th.head (tie.log ++ g ∷ [])
+        whole_held e = subst (λ (rs : List Segment). Holds image th.head (rs ++ g ∷ [])) same (torn.appended e)
+
+        behind : image ≡ with_entry th g → {rs : List Segment} → rs ≡ tie.log ++ g ∷ [] → unused th.head rs image ≡ zero_lines zeros
+        behind e {rs} is = ap (λ (l : List Segment). unused th.head l image) is ∙ (ap (unused th.head (tie.log ++ g ∷ [])) (e ∙ whole) ∙ unused_zeros th.head (tie.log ++ g ∷ []) zeros)
+
+        rest_is : unused th.head tie.log image ≡ front.0
+        rest_is = ap (unused th.head tie.log) front.1 ∙ drop_at (log_lines th.head tie.log) front.0 (used_with (Some th.head) tie.log) (length-log_lines th.head tie.log)
+
+        remains : Holds image th.head tie.log → AreRemainsOf th.head tie.log g zeros image
+        remains k = record {
+          format = tie.own.2;
+          fits = fits;
+          among = subst (Among (lines ++ zero_lines zeros)) (sym rest_is) partial;
+          torn = λ e. let n = ap length (same_held image th.head tie.log (tie.log ++ g ∷ []) k (whole_held (is_whole (sym rest_is ∙ e)))) in absurd (omega (arith, length-append tie.log (g ∷ [])));
+        }
 
     shape_coming : SameShape th.device.fenced th.device.read
     unfolding lines read_part
@@ -200,6 +250,9 @@ module _ {State Op Query Reply : Type 0} (count : ℕ) (c : CoreState State Op Q
   pub image_either : (image : List (List ℕ)) → IsImage th.device image
       → Holds image th.head (fenced_entries th.head th.device) ⊎ Holds image th.head (fenced_entries th.head th.device ++ option_to_list (pending_in c.trace th.phase))
   image_either image i = (held_in image i th.phase refl).either
+
+  pub image_rest : (image : List (List ℕ)) (ss : List Segment) → IsImage th.device image → Holds image th.head ss → HasRest th.head ss image
+  image_rest image ss i h = (held_in image i th.phase refl).rest ss h
 
   pub picked_image : (keep : ℕ) → IsImage th.device (image_of th.device keep)
   picked_image keep = Mixed-kept keep 0 th.device.fenced th.device.read (shape_in th.phase refl)

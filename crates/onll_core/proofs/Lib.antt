@@ -22,3 +22,4 @@ pub mod Stays
 pub mod Images
 pub mod Crashed
 pub mod Recovered
+pub mod GoOn

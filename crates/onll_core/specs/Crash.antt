@@ -1,4 +1,4 @@
-use Rattle.std.specs.Prelude.{ℕ, suc, ◌≡◌, ◌+◌, ◌-◌, ◌≤◌, List, [], ◌∷◌, ◌++◌, length, map, take, drop, Option, Some, None, Ok, slice_get}
+use Rattle.std.specs.Prelude.{ℕ, suc, ◌≡◌, ◌+◌, ◌-◌, ◌≤◌, ◌⊎◌, List, [], ◌∷◌, ◌++◌, length, map, take, drop, Option, Some, None, Ok, slice_get}
 use Rattle.std.specs.List.{AllByRecursion}
 use Rattle.onll_model.specs.declared.node.Node.{Node}
 use Rattle.onll_model.specs.declared.call.Call.{Call}
@@ -6,11 +6,12 @@ use Rattle.onll_model.specs.declared.call.Call.TheVariants.{Update, Ask}
 use Rattle.onll_model.specs.Object.{Behaviour}
 use Rattle.onll_model.specs.Trace.{node_at, reply_after, answer_after}
 use Rattle.onll_model.specs.Segment.{Segment}
-use Rattle.onll_pmem.specs.Device.{IsImage, image_of}
+use Rattle.onll_pmem.specs.Device.{IsImage, image_of, zero_lines}
 use Rattle.onll_log.specs.declared.head.LogHead.{LogHead}
 use Rattle.onll_log.specs.Encoding.{entry_lines}
 use Rattle.onll_log.specs.Grammar.{Content, content_of}
 use Rattle.onll_log.specs.Torn.{Holds, TornOrWhole}
+use Rattle.onll_log.specs.Remains.{unused, HasRemains}
 use Rattle.onll_merge.specs.Merge.{merge, top_of}
 use Rattle.onll_core.specs.declared.returned.Returned.{Returned}
 use Rattle.onll_core.specs.Core.{CoreThread, CoreState}
@@ -28,6 +29,10 @@ with_entry th s = take th.used th.device.fenced ++ (entry_lines th.head th.logge
 abbrev pub HoldsFenced : {State Op Query Reply : Type 0} → CoreThread State Op Query Reply → Option Segment → List (List ℕ) → Type 0
 HoldsFenced th None image = Holds image th.head (fenced_entries th.head th.device)
 HoldsFenced th (Some s) image = TornOrWhole th.head (fenced_entries th.head th.device) s (with_entry th s) image
+
+-- Behind the entries that an image holds there are zeros, or what is left of an entry that isn't whole.
+abbrev pub HasRest : LogHead → List Segment → List (List ℕ) → Type 0
+HasRest head ss image = ((n : ℕ) × (unused head ss image ≡ zero_lines n)) ⊎ HasRemains head ss image
 
 -- what a crash may leave: one image for each thread's device, whatever the others are
 abbrev pub AreImages : {State Op Query Reply : Type 0} → List (CoreThread State Op Query Reply) → List (List (List ℕ)) → Type 0

@@ -1,18 +1,22 @@
-use Rattle.std.specs.Prelude.{ℕ, ◌≡◌, List, length, take}
+use Rattle.std.specs.Prelude.{ℕ, ◌≡◌, ◌+◌, ◌≤◌, List, length, take, Some, slice_get, count_by}
 use Rattle.onll_model.specs.declared.node.Node.{Node}
 use Rattle.onll_model.specs.declared.call.Call.{Call}
 use Rattle.onll_model.specs.Object.{Behaviour}
+use Rattle.onll_model.specs.Trace.{is_of_thread}
 use Rattle.onll_model.specs.Segment.{Segment}
 use Rattle.onll_pmem.specs.Device.{IsImage}
 use Rattle.onll_log.specs.declared.head.LogHead.{LogHead}
+use Rattle.onll_log.specs.Torn.{Holds}
+use Rattle.onll_merge.specs.Resumed.{entries_of}
 use Rattle.onll_core.specs.Core.{CoreState}
 use Rattle.onll_core.specs.CoreFrame.{pending_in}
+use Rattle.onll_core.specs.Tie.{updates_in}
 use Rattle.onll_core.specs.Step.{steps_of}
 use Rattle.onll_core.specs.First.{first_core, AreFirst}
 use Rattle.onll_core.specs.Resumed.{resumed_core, AreResumed}
 use Rattle.onll_core.specs.Reached.{IsReached}
 use Rattle.onll_core.specs.Consistent.{EachCoreThread, IsConsistent}
-use Rattle.onll_core.specs.Crash.{HoldsFenced, AreImages, images_of, heads_of, Recovers, RecoversAll}
+use Rattle.onll_core.specs.Crash.{HoldsFenced, HasRest, AreImages, images_of, heads_of, Recovers, HoldAllReturned, RecoversAll}
 
 -- Laws of a crash of the step core, whatever the object, whatever threads take steps, and whatever the crash leaves.
 
@@ -20,6 +24,11 @@ use Rattle.onll_core.specs.Crash.{HoldsFenced, AreImages, images_of, heads_of, R
 abbrev pub ImageLaw : (State Op Query Reply : Type 0) → Type 0
 ImageLaw State Op Query Reply = (count : ℕ) (c : CoreState State Op Query Reply) → IsConsistent count c
     → EachCoreThread c (λ t th. (image : List (List ℕ)) → IsImage th.device image → HoldsFenced th (pending_in c.trace th.phase) image)
+
+-- behind it there is nothing that could be read as an entry: zeros, or what is left of the entry that is not whole
+abbrev pub RestLaw : (State Op Query Reply : Type 0) → Type 0
+RestLaw State Op Query Reply = (count : ℕ) (c : CoreState State Op Query Reply) → IsConsistent count c
+    → EachCoreThread c (λ t th. (image : List (List ℕ)) (ss : List Segment) → IsImage th.device image → Holds image th.head ss → HasRest th.head ss image)
 
 -- every number picks images
 abbrev pub PickedLaw : (State Op Query Reply : Type 0) → Type 0
@@ -29,6 +38,16 @@ PickedLaw State Op Query Reply = (count : ℕ) (c : CoreState State Op Query Rep
 abbrev pub RecoveryLaw : (State Op Query Reply : Type 0) → Type 0
 RecoveryLaw State Op Query Reply = (count : ℕ) (c : CoreState State Op Query Reply) (images : List (List (List ℕ))) → IsConsistent count c → AreImages c.threads images
     → Recovers (heads_of c.threads) c images
+
+-- new scripts, one for each of `count` threads, that with these nodes have no more updates than names
+pub record AreScripts {State Op Query Reply : Type 0} (count : ℕ) (nodes : List Node) (scripts : List (List (Call State Op Query Reply))) : Type 0 where
+  pub all_scripts : length scripts ≡ count
+  pub each_script : (t : ℕ) (script : List (Call State Op Query Reply)) → slice_get scripts t ≡ Some script → count_by (is_of_thread t) nodes + updates_in script ≤ 4096
+
+-- a core can go on from what is recovered of a consistent one, with the same heads
+abbrev pub GoOnLaw : (State Op Query Reply : Type 0) → Type 0
+GoOnLaw State Op Query Reply = (count : ℕ) (c : CoreState State Op Query Reply) (images : List (List (List ℕ))) (scripts : List (List (Call State Op Query Reply))) → IsConsistent count c → AreImages c.threads images
+    → (r : Recovers (heads_of c.threads) c images) → AreScripts count r.nodes scripts → AreResumed count r.nodes (heads_of c.threads) (entries_of r.logs) scripts
 
 module _ {State Op Query Reply : Type 0} (b : Behaviour State Op Query Reply) where
   -- steps keep the heads of the logs
@@ -55,3 +74,16 @@ module _ {State Op Query Reply : Type 0} (b : Behaviour State Op Query Reply) wh
   ResumedCrashLaw = (count : ℕ) (initial : State) (base : List Node) (heads : List LogHead) (logs : List (List Segment)) (scripts : List (List (Call State Op Query Reply))) (ts : List ℕ) (images : List (List (List ℕ)))
       → AreResumed count base heads logs scripts → AreImages (steps_of b (resumed_core initial base heads logs scripts) ts).threads images
       → (all : RecoversAll b heads (steps_of b (resumed_core initial base heads logs scripts) ts) images) × (take (length base) all.recovers.nodes ≡ base)
+
+  -- what nodes hold, more nodes after them hold
+  abbrev pub MoreNodesLaw : Type 0
+  MoreNodesLaw = (c : CoreState State Op Query Reply) (nodes more : List Node) → take (length nodes) more ≡ nodes → HoldAllReturned b c nodes → HoldAllReturned b c more
+
+  -- What is recovered after the next crash begins with what was recovered after the one before, and so holds what returned
+  -- before that, too.
+  abbrev pub NextCrashLaw : Type 0
+  NextCrashLaw = (count : ℕ) (c : CoreState State Op Query Reply) (images next_images : List (List (List ℕ))) (scripts : List (List (Call State Op Query Reply))) (ts : List ℕ) → IsReached b count c → AreImages c.threads images
+      → (all : RecoversAll b (heads_of c.threads) c images) → AreScripts count all.recovers.nodes scripts
+      → AreImages (steps_of b (resumed_core c.initial all.recovers.nodes (heads_of c.threads) (entries_of all.recovers.logs) scripts) ts).threads next_images
+      → (next : RecoversAll b (heads_of c.threads) (steps_of b (resumed_core c.initial all.recovers.nodes (heads_of c.threads) (entries_of all.recovers.logs) scripts) ts) next_images)
+      × (take (length all.recovers.nodes) next.recovers.nodes ≡ all.recovers.nodes) × HoldAllReturned b c next.recovers.nodes

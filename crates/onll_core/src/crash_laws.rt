@@ -1,14 +1,15 @@
 //! What a crash of a core leaves and what is recovered from it, for every object, whatever threads take steps.
 
-ghost use Rattle.onll_core.specs.CrashLaws.{ImageLaw, PickedLaw, RecoveryLaw, HeadsLaw, LaterCrashLaw, CrashLaw, ResumedCrashLaw, ReachedCrashLaw};
+ghost use Rattle.onll_core.specs.CrashLaws.{ImageLaw, RestLaw, PickedLaw, RecoveryLaw, HeadsLaw, LaterCrashLaw, CrashLaw, ResumedCrashLaw, ReachedCrashLaw, GoOnLaw, MoreNodesLaw, NextCrashLaw};
 
 use onll_model::Object;
 
 /// Each image of a thread's device, in which each word by itself is fenced or as read, is a log with the thread's head
-/// and its fenced entries, and with the entry that is being written exactly where that is whole; and every number picks
-/// such images.
+/// and its fenced entries, and with the entry that is being written exactly where that is whole. Behind them are zeros, or
+/// what is left of that entry. Every number picks such images.
 pub fn image_law<O: Object>()
     ensures holds { ImageLaw O O.Op O.Query O.Reply }
+    ensures rest { RestLaw O O.Op O.Query O.Reply }
     ensures picked { PickedLaw O O.Op O.Query O.Reply }
 {}
 
@@ -25,4 +26,12 @@ pub fn crash_law<O: Object>()
     ensures begun { CrashLaw O.means }
     ensures resumed { ResumedCrashLaw O.means }
     ensures reached { ReachedCrashLaw O.means }
+{}
+
+/// A core can go on from what is recovered after a crash, with any scripts that have room, and what returned before that
+/// crash is recovered after the next one, and so after every later one.
+pub fn next_crash_law<O: Object>()
+    ensures on { GoOnLaw O O.Op O.Query O.Reply }
+    ensures more { MoreNodesLaw O.means }
+    ensures next { NextCrashLaw O.means }
 {}

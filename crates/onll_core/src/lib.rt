@@ -7,7 +7,7 @@ mod outcomes;
 mod phase;
 mod returned;
 
-pub use crash_laws::{crash_law, image_law, recovery_law};
+pub use crash_laws::{crash_law, image_law, next_crash_law, recovery_law};
 pub use laws::{consistency_law, fence_law, stays_law, step_event_law};
 pub use outcomes::{order_law, reached_law, report_law, return_law};
 pub use phase::Phase;

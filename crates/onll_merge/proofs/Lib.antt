@@ -3,3 +3,4 @@ pub mod Asked
 pub mod Fronts
 pub mod Backs
 pub mod FrameLogs
+pub mod Resumed

@@ -2,3 +2,4 @@ pub mod Merge
 pub mod Passed
 pub mod Laws
 pub mod FrameLogs
+pub mod Resumed

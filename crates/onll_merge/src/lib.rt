@@ -3,6 +3,7 @@
 
 ghost use Rattle.onll_merge.specs.Laws.{FrontLaw, TopLaw, BackLaw, StandsLaw, NoOtherLaw, OnceLaw};
 ghost use Rattle.onll_merge.specs.FrameLogs.{FrameLogsLaw};
+ghost use Rattle.onll_merge.specs.Resumed.{ResumableLaw};
 
 mod entries;
 mod fault;
@@ -34,4 +35,9 @@ pub fn place_laws()
 /// merges to a front of the trace that holds every available place.
 pub fn frame_logs_law()
     ensures front { FrameLogsLaw }
+{}
+
+/// A run can go on from what logs merge to.
+pub fn resumable_law()
+    ensures on { ResumableLaw }
 {}

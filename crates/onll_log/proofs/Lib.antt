@@ -1,5 +1,7 @@
 pub mod Lines
 pub mod Accepted
+pub mod Bits
+pub mod Decoding
 pub mod Encoded
 pub mod Masks
 pub mod MaskBits

@@ -1,7 +1,9 @@
-use Rattle.std.specs.Prelude.{ℕ, ◌+◌, List, [], ◌∷◌, length, map, suc}
+use Rattle.std.specs.Prelude.{ℕ, ◌+◌, List, [], ◌∷◌, length, map, suc, ◌≡◌, Option, None, IsSome}
 use Rattle.onll_model.specs.Segment.{Segment}
 use Rattle.onll_log.specs.declared.decoded.Entry.{Entry}
 use Rattle.onll_log.specs.declared.decoded.Decoded.{Decoded}
+use Rattle.onll_log.specs.declared.image.DecodeFault.{DecodeFault}
+use Rattle.onll_log.specs.declared.image.DecodeFault.TheVariants.{NotLog, NoMemory}
 use Rattle.onll_log.specs.Grammar.{Content}
 
 -- What a decoded image means.
@@ -19,3 +21,8 @@ content_in d = record { head = d.head; entries = segments_in d.entries }
 abbrev pub placed_from : ℕ → List Segment → List Entry
 placed_from line [] = []
 placed_from line (s ∷ ss) = record { line = line; place = s.place; nodes = s.nodes } ∷ placed_from (line + suc (length s.nodes)) ss
+
+-- why content is refused: an image is no log exactly where it has no content
+abbrev pub Refuses : DecodeFault → Option Content → Type 0
+Refuses NotLog content = content ≡ None
+Refuses NoMemory content = IsSome content

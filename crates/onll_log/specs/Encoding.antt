@@ -50,6 +50,10 @@ pub record FitsNode (threads : ℕ) (n : Node) : Type 0 where
   pub number : HasNumber n
   pub row : length n.row.w ≡ 7
 
+-- the numbers of such a node; every row has seven words
+abbrev pub CanHold : ℕ → Node → Type 0
+CanHold threads n = (n.thread < threads) × HasNumber n
+
 -- a segment that an entry can hold
 pub record FitsEntry (threads : ℕ) (s : Segment) : Type 0 where
   pub some_nodes : 1 ≤ length s.nodes

@@ -78,3 +78,8 @@ used_with (Some head) ss = 1 + lines_in ss
 -- how many lines of an image are used: up to the end of its last accepted entry
 abbrev pub used_by : Content → ℕ
 used_by c = used_with c.head c.entries
+
+-- the format by which an image is read: 2 exactly where there is a line 0 and its word 1 is 2
+abbrev pub format_in : List (List ℕ) → ℕ
+format_in [] = 1
+format_in (l ∷ ls) = if word l 1 == 2 then 2 else 1

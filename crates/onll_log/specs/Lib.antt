@@ -3,9 +3,11 @@ pub mod Masks
 pub mod Encoding
 pub mod Grammar
 pub mod Decoded
+pub mod Digest
 pub mod Torn
 pub mod Written
 pub mod MaskBits
 pub mod Append
 pub mod Remains
 pub mod Laws
+pub mod Log

@@ -7,6 +7,11 @@ abbrev pub bits : List Bool → ℕ
 bits [] = 0
 bits (b ∷ bs) = cond {A = ℕ} b 1 0 + 2 * bits bs
 
+-- these bits below those of a number
+abbrev pub bits_on : List Bool → ℕ → ℕ
+bits_on [] above = above
+bits_on (b ∷ bs) above = cond {A = ℕ} b 1 0 + 2 * bits_on bs above
+
 -- which words of a line are not zero
 abbrev pub marks_in : List ℕ → List Bool
 marks_in [] = []

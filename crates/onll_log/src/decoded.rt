@@ -1,4 +1,6 @@
-ghost use Rattle.std.specs.Prelude.{◌≡◌};
+ghost use Rattle.std.specs.Prelude.{◌≡◌, ◌<◌, ◌^◌};
+ghost use Rattle.onll_log.specs.Grammar.{lines_in, used_by};
+ghost use Rattle.onll_log.specs.Decoded.{segments_in, content_in};
 
 use crate::head::LogHead;
 use onll_model::Node;
@@ -87,4 +89,29 @@ impl Entries {
 pub struct Decoded {
     pub head: Option<LogHead>,
     pub entries: Entries,
+}
+
+impl Decoded {
+    /// How many lines of the image are used: up to the end of its last accepted entry, and none where it has no head.
+    pub fn used(&self) -> u64
+        requires { used_by (content_in self.now) < 2 ^ 64 }
+        ensures { result ≡ used_by (content_in self.now) }
+    {
+        match self.head {
+            None => 0,
+            Some(_) => 1 + lines_of(self.entries.as_slice()),
+        }
+    }
+}
+
+/// How many lines entries take.
+fn lines_of(entries: &[Entry]) -> u64
+    requires { lines_in (segments_in entries.now) < 2 ^ 64 }
+    ensures { result ≡ lines_in (segments_in entries.now) }
+{
+    let mut lines = 0;
+    for entry in entries {
+        lines += 1 + entry.nodes.as_slice().len() as u64;
+    }
+    lines
 }

@@ -2,9 +2,16 @@
 #![tactic(auto)]
 
 mod decoded;
+mod digest;
+mod entry;
 mod head;
+mod image;
 mod laws;
+mod log;
+mod masks;
 
 pub use decoded::{Decoded, Entries, Entry, Nodes};
-pub use head::LogHead;
+pub use entry::entry_head;
+pub use head::{LogHead, format_of};
+pub use image::{DecodeFault, decode};
 pub use laws::{encoded_laws, masks_law, remains_laws, torn_laws, written_laws};

@@ -1,6 +1,6 @@
 ghost use Rattle.std.specs.Prelude.{◌≡◌, ℕ, ◌+◌, ◌-◌, ◌^◌, ◌<◌, ◌≤◌, length, slice_set, OnOk, OnErr};
 ghost use Rattle.onll_pmem.specs.Device.{line_at, FillsWords};
-ghost use Rattle.onll_pmem.specs.Pmem.{DeviceView, told_written, told_backed, told_fenced};
+ghost use Rattle.onll_pmem.specs.Pmem.{DeviceView, told_written, told_backed, told_fenced, ToldLines};
 
 use onll_words::Line;
 
@@ -13,9 +13,10 @@ pub struct FenceFailed;
 pub trait Pmem {
     ghost means: { Self → DeviceView };
 
-    /// How many lines there are.
+    /// How many lines there are. A device that tells which lines are written back tells it of each line.
     fn lines(&self) -> u64
-        ensures { result ≡ length (means self.now).read };
+        ensures lines { result ≡ length (means self.now).read }
+        ensures told { ToldLines (means self.now).told (means self.now).read };
 
     /// A line as it was last written, durable or not.
     fn read(&self, line: u64) -> Line

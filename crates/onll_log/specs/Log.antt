@@ -1,0 +1,84 @@
+use Rattle.std.specs.Prelude.{◌≡◌, ◌≢◌, ℕ, ◌+◌, ◌-◌, ◌*◌, ◌^◌, ◌<◌, ◌≤◌, Bool, true, false, List, [], ◌∷◌, ◌++◌, length, take, drop}
+use Rattle.onll_model.specs.declared.node.Node.{Node}
+use Rattle.onll_model.specs.Segment.{Segment, Rises, last_place}
+use Rattle.onll_pmem.specs.Device.{line_at, zero_line, zero_lines, FillsLines}
+use Rattle.onll_pmem.specs.Pmem.{DeviceView, ToldBacked, ToldSettled}
+use Rattle.onll_log.specs.declared.head.LogHead.{LogHead}
+use Rattle.onll_log.specs.Head.{FitsHead}
+use Rattle.onll_log.specs.Encoding.{log_lines, FitEntries}
+use Rattle.onll_log.specs.Grammar.{entries_from, lines_in}
+
+-- The log of one thread over a device.
+
+-- its head, its entries as read, the fences since the header's, whether the last of them failed, and the device
+pub record LogState (Device : Type 0) : Type 0 where
+  pub head : LogHead
+  pub entries : List Segment
+  pub fences : ℕ
+  pub broken : Bool
+  pub device : Device
+
+-- the entries of a log of this head in these lines
+abbrev pub entries_read : LogHead → List (List ℕ) → List Segment
+entries_read head lines = entries_from head 0 0 (drop 1 lines)
+
+-- this many lines that hold a log with these entries, zeros after it
+abbrev pub log_image : ℕ → LogHead → List Segment → List (List ℕ)
+log_image lines head ss = log_lines head ss ++ zero_lines (lines - (1 + lines_in ss))
+
+-- how many of this many lines such a log leaves free
+abbrev pub free_of : ℕ → List Segment → ℕ
+free_of lines ss = lines - (1 + lines_in ss)
+
+-- entries without the last
+abbrev pub but_last : List Segment → List Segment
+but_last ss = take (length ss - 1) ss
+
+-- lines with these put in from this line on
+abbrev pub placed_lines : List (List ℕ) → ℕ → List (List ℕ) → List (List ℕ)
+placed_lines read from lines = take from read ++ (lines ++ drop (from + length lines) read)
+
+-- A device holds the log. Where it tells so, all of a log that isn't broken is durable, and of one that is broken all but the last entry.
+pub record HoldsLog (d : DeviceView) (head : LogHead) (ss : List Segment) (broken : Bool) : Type 0 where
+  pub fits : FitsHead head
+  pub fit : FitEntries head.threads ss
+  pub rises : Rises 0 ss
+  pub within : 1 + lines_in ss ≤ length d.read
+  pub read : d.read ≡ log_image (length d.read) head ss
+  pub settled : broken ≡ false → ToldSettled d.told d.read
+  pub pending : broken ≡ true → ToldSettled d.told (log_image (length d.read) head (but_last ss))
+
+-- what a log keeps beside
+pub record KeepsLog (d : DeviceView) (head : LogHead) (ss : List Segment) (used count last fences : ℕ) (broken : Bool) : Type 0 where
+  pub holds : HoldsLog d head ss broken
+  pub used_is : used ≡ 1 + lines_in ss
+  pub count_is : count ≡ length ss
+  pub last_is : last ≡ last_place 0 ss
+  pub backed : ToldBacked d.told d.read
+  pub few : d.fences ≤ 2 ^ 32 + fences
+  pub fewer : fences ≤ length ss
+
+-- a call of fence, and how many of them failed
+pub record Fences (old new : DeviceView) (faults : ℕ) : Type 0 where
+  pub fences : new.fences ≡ old.fences + 1
+  pub faults : new.faults ≡ old.faults + faults
+
+-- lines from this one on are written, and wait for the next fence
+pub record Puts (old new : DeviceView) (from : ℕ) (lines : List (List ℕ)) : Type 0 where
+  pub read : new.read ≡ placed_lines old.read from lines
+  pub fences : new.fences ≡ old.fences
+  pub faults : new.faults ≡ old.faults
+  pub backed : ToldBacked old.told old.read → ToldBacked new.told new.read
+  pub fenced : (durable : List (List ℕ)) → ToldSettled old.told durable → ToldSettled new.told durable
+
+-- ---- what making a log finds
+-- the first line that isn't zero
+pub record IsDirty (read : List (List ℕ)) (line : ℕ) : Type 0 where
+  pub within : line < length read
+  pub dirty : line_at read line ≢ zero_line
+  pub first : (before : ℕ) → before < line → line_at read before ≡ zero_line
+
+-- there is a line, and all are zero
+pub record IsClean (read : List (List ℕ)) : Type 0 where
+  pub some_line : 1 ≤ length read
+  pub zeros : read ≡ zero_lines (length read)

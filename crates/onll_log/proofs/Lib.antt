@@ -9,3 +9,5 @@ pub mod Torn
 pub mod Written
 pub mod Remains
 pub mod Append
+pub mod Placed
+pub mod Writing

@@ -1,12 +1,15 @@
-use Rattle.std.specs.Prelude.{◌≡◌, ◌≢◌, ℕ, ◌+◌, ◌-◌, ◌*◌, ◌^◌, ◌<◌, ◌≤◌, Bool, true, false, List, [], ◌∷◌, ◌++◌, length, take, drop}
+use Rattle.std.specs.Prelude.{◌≡◌, ◌≢◌, ℕ, ◌+◌, ◌-◌, ◌*◌, ◌^◌, ◌<◌, ◌≤◌, ◌⊎◌, Bool, true, false, List, [], ◌∷◌, ◌++◌, length, take, drop}
 use Rattle.onll_model.specs.declared.node.Node.{Node}
 use Rattle.onll_model.specs.Segment.{Segment, Rises, last_place}
 use Rattle.onll_pmem.specs.Device.{line_at, zero_line, zero_lines, FillsLines}
 use Rattle.onll_pmem.specs.Pmem.{DeviceView, ToldBacked, ToldSettled}
 use Rattle.onll_log.specs.declared.head.LogHead.{LogHead}
+use Rattle.onll_log.specs.declared.cause.MakeCause.{MakeCause}
+use Rattle.onll_log.specs.declared.cause.MakeCause.TheVariants.{Small, Dirty, FenceFailed}
 use Rattle.onll_log.specs.Head.{FitsHead}
-use Rattle.onll_log.specs.Encoding.{log_lines, FitEntries}
+use Rattle.onll_log.specs.Encoding.{FitEntries}
 use Rattle.onll_log.specs.Grammar.{entries_from, lines_in}
+use Rattle.onll_log.specs.Torn.{log_image}
 
 -- The log of one thread over a device.
 
@@ -22,11 +25,7 @@ pub record LogState (Device : Type 0) : Type 0 where
 abbrev pub entries_read : LogHead → List (List ℕ) → List Segment
 entries_read head lines = entries_from head 0 0 (drop 1 lines)
 
--- this many lines that hold a log with these entries, zeros after it
-abbrev pub log_image : ℕ → LogHead → List Segment → List (List ℕ)
-log_image lines head ss = log_lines head ss ++ zero_lines (lines - (1 + lines_in ss))
-
--- how many of this many lines such a log leaves free
+-- how many of this many lines a log with these entries leaves free
 abbrev pub free_of : ℕ → List Segment → ℕ
 free_of lines ss = lines - (1 + lines_in ss)
 
@@ -44,24 +43,20 @@ pub record HoldsLog (d : DeviceView) (head : LogHead) (ss : List Segment) (broke
   pub fit : FitEntries head.threads ss
   pub rises : Rises 0 ss
   pub within : 1 + lines_in ss ≤ length d.read
-  pub read : d.read ≡ log_image (length d.read) head ss
+  pub read : d.read ≡ log_image head ss (free_of (length d.read) ss)
   pub settled : broken ≡ false → ToldSettled d.told d.read
-  pub pending : broken ≡ true → ToldSettled d.told (log_image (length d.read) head (but_last ss))
+  pub pending : broken ≡ true → ToldSettled d.told (log_image head (but_last ss) (free_of (length d.read) (but_last ss)))
 
 -- what a log keeps beside
 pub record KeepsLog (d : DeviceView) (head : LogHead) (ss : List Segment) (used count last fences : ℕ) (broken : Bool) : Type 0 where
   pub holds : HoldsLog d head ss broken
+  pub lines : length d.read < 2 ^ 64
   pub used_is : used ≡ 1 + lines_in ss
   pub count_is : count ≡ length ss
   pub last_is : last ≡ last_place 0 ss
   pub backed : ToldBacked d.told d.read
   pub few : d.fences ≤ 2 ^ 32 + fences
   pub fewer : fences ≤ length ss
-
--- a call of fence, and how many of them failed
-pub record Fences (old new : DeviceView) (faults : ℕ) : Type 0 where
-  pub fences : new.fences ≡ old.fences + 1
-  pub faults : new.faults ≡ old.faults + faults
 
 -- lines from this one on are written, and wait for the next fence
 pub record Puts (old new : DeviceView) (from : ℕ) (lines : List (List ℕ)) : Type 0 where
@@ -82,3 +77,44 @@ pub record IsDirty (read : List (List ℕ)) (line : ℕ) : Type 0 where
 pub record IsClean (read : List (List ℕ)) : Type 0 where
   pub some_line : 1 ≤ length read
   pub zeros : read ≡ zero_lines (length read)
+
+-- what making a log of this head leaves of a device: one fence more, and the header over zeros
+pub record HasHeader (old new : DeviceView) (head : LogHead) : Type 0 where
+  pub clean : IsClean old.read
+  pub read : new.read ≡ log_image head [] (length old.read - 1)
+  pub fences : new.fences ≡ old.fences + 1
+
+-- a device with no line
+pub record IsSmall (old new : DeviceView) : Type 0 where
+  pub none : length old.read ≡ 0
+  pub same : new ≡ old
+
+-- a device that isn't empty
+pub record IsUsed (old new : DeviceView) (line : ℕ) : Type 0 where
+  pub dirty : IsDirty old.read line
+  pub same : new ≡ old
+
+-- a device whose fence failed: the header is written, and isn't durable
+pub record IsPending (old new : DeviceView) (head : LogHead) : Type 0 where
+  pub header : HasHeader old new head
+  pub faults : new.faults ≡ old.faults + 1
+  pub pending : ToldSettled new.told old.read
+
+-- why no log of this head was made on a device, by what it was before and is now
+abbrev pub NotMade : MakeCause → DeviceView → DeviceView → LogHead → Type 0
+NotMade Small old new head = IsSmall old new
+NotMade (Dirty line) old new head = IsUsed old new line
+NotMade FenceFailed old new head = IsPending old new head
+
+-- what a log that was made holds
+pub record IsMade (old new : DeviceView) (head : LogHead) : Type 0 where
+  pub header : HasHeader old new head
+  pub faults : new.faults ≡ old.faults
+  pub settled : ToldSettled new.told new.read
+
+-- what an append of these lines from this line on leaves of a device, but for the fence
+pub record Appends (old new : DeviceView) (from : ℕ) (lines : List (List ℕ)) : Type 0 where
+  pub read : new.read ≡ placed_lines old.read from lines
+  pub fills : FillsLines old.read new.read
+  pub others : (line : ℕ) → (line < from) ⊎ (from + length lines ≤ line) → line_at new.read line ≡ line_at old.read line
+  pub fences : new.fences ≡ old.fences + 1

@@ -7,7 +7,7 @@ ghost use Rattle.onll_log.specs.Grammar.{is_entry, all_named, same_words};
 
 use crate::digest::Message;
 use crate::head::LogHead;
-use crate::masks::masks;
+use crate::mask::masks;
 use onll_model::{Node, node_line};
 use onll_words::Line;
 

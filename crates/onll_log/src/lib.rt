@@ -1,6 +1,7 @@
 //! The log of one thread: its lines, the grammar by which any image of a log is read, and the log over a device.
 #![tactic(auto)]
 
+mod cause;
 mod decoded;
 mod digest;
 mod entry;
@@ -8,10 +9,12 @@ mod head;
 mod image;
 mod laws;
 mod log;
-mod masks;
+mod mask;
 
+pub use cause::MakeCause;
 pub use decoded::{Decoded, Entries, Entry, Nodes};
 pub use entry::entry_head;
 pub use head::{LogHead, format_of};
 pub use image::{DecodeFault, decode};
 pub use laws::{encoded_laws, masks_law, remains_laws, torn_laws, written_laws};
+pub use log::{MakeFault, ThreadLog};

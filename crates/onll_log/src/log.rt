@@ -1,13 +1,15 @@
-ghost use Rattle.std.specs.Prelude.{◌≡◌, ℕ, ◌+◌, ◌-◌, ◌*◌, ◌^◌, ◌<◌, ◌≤◌, List, [], ◌∷◌, ◌++◌, length, take, drop, true, false, slice_set, IfNone, IfSome, IfOk, IfErr, OnOk, OnErr};
+ghost use Rattle.std.specs.Prelude.{◌≡◌, ℕ, ◌+◌, ◌-◌, ◌*◌, ◌^◌, ◌<◌, ◌≤◌, List, [], ◌∷◌, ◌++◌, length, take, drop, true, false, is_err, IfNone, IfSome, IfOk, IfErr, OnOk, OnErr};
 ghost use Rattle.std.specs.List.{All};
 ghost use Rattle.onll_model.specs.Segment.{Segment, last_place};
 ghost use Rattle.onll_pmem.specs.Device.{line_at, zero_line, zero_lines, FillsLines};
 ghost use Rattle.onll_pmem.specs.Pmem.{ToldBacked, ToldSettled};
 ghost use Rattle.onll_log.specs.Head.{FitsHead};
-ghost use Rattle.onll_log.specs.Encoding.{node_lines, CanHold};
+ghost use Rattle.onll_log.specs.Encoding.{node_lines, entry_lines, CanHold};
 ghost use Rattle.onll_log.specs.Grammar.{lines_in};
-ghost use Rattle.onll_log.specs.Log.{log_image, free_of, HoldsLog, Puts, IsDirty, IsClean};
+ghost use Rattle.onll_log.specs.Torn.{log_image};
+ghost use Rattle.onll_log.specs.Log.{free_of, HoldsLog, Puts, IsDirty, IsMade, NotMade, Appends};
 
+use crate::cause::MakeCause;
 use crate::entry::entry_head;
 use crate::head::LogHead;
 use crate::image::is_zero;
@@ -42,6 +44,7 @@ fn put<P: Pmem>(device: &mut P, line: u64, value: Line)
 /// Writes the lines of nodes from this line on, and hands them over to the next fence.
 fn put_nodes<P: Pmem>(device: &mut P, from: u64, nodes: &[Node])
     requires within { from + length nodes.now ≤ length (P.means device.old).read }
+    requires few { from + length nodes.now < 2 ^ 64 }
     requires zeros { (line : ℕ) → from ≤ line → line < from + length nodes.now → line_at (P.means device.old).read line ≡ zero_line }
     requires nodes { All (CanHold 16) nodes.now }
     ensures { Puts (P.means device.old) (P.means device.new) from (node_lines nodes.now) }
@@ -54,10 +57,180 @@ fn put_nodes<P: Pmem>(device: &mut P, from: u64, nodes: &[Node])
 /// Writes the lines of an entry from this line on, and hands them over to the next fence.
 fn put_entry<P: Pmem>(device: &mut P, from: u64, first: Line, nodes: &[Node])
     requires within { from + 1 + length nodes.now ≤ length (P.means device.old).read }
+    requires few { from + 1 + length nodes.now < 2 ^ 64 }
     requires zeros { (line : ℕ) → from ≤ line → line < from + 1 + length nodes.now → line_at (P.means device.old).read line ≡ zero_line }
     requires nodes { All (CanHold 16) nodes.now }
     ensures { Puts (P.means device.old) (P.means device.new) from (first.w ∷ node_lines nodes.now) }
 {
     put(device, from, first);
     put_nodes(device, from + 1, nodes);
+}
+
+/// No log was made. The device is handed back.
+#[derive(Drop)]
+pub struct MakeFault<P> {
+    pub device: P,
+    pub cause: MakeCause,
+}
+
+/// The log of one thread over a device: a header, and the entries that were appended.
+#[derive(Drop)]
+pub struct ThreadLog<P: Pmem> {
+    device: P,
+    head: LogHead,
+    used: u64,
+    entries: u64,
+    last: u64,
+    fences: u64,
+    broken: bool,
+}
+
+impl<P: Pmem> Model for ThreadLog<P> {
+    ghost use Rattle.onll_log.specs.Log.{LogState, KeepsLog, entries_read};
+
+    ghost Value = { LogState P };
+
+    ghost view = { λ l. record { head = l.head; entries = entries_read l.head (P.means l.device).read; fences = l.fences; broken = l.broken; device = l.device } };
+
+    ghost invariant = { λ l. KeepsLog (P.means l.device) l.head (entries_read l.head (P.means l.device).read) l.used l.entries l.last l.fences l.broken };
+}
+
+impl<P: Pmem> ThreadLog<P> {
+    /// Writes the header of a log, with one fence, on a device of zeros.
+    pub fn make(device: P, head: LogHead) -> Result<ThreadLog<P>, MakeFault<P>>
+        requires head { FitsHead head }
+        requires few { (P.means device).fences < 2 ^ 32 }
+        requires settled { ToldSettled (P.means device).told (P.means device).read }
+        ensures head { IfOk result (λ log. log.head ≡ head) }
+        ensures entries { IfOk result (λ log. log.entries ≡ []) }
+        ensures fences { IfOk result (λ log. log.fences ≡ 0) }
+        ensures whole { IfOk result (λ log. log.broken ≡ false) }
+        ensures made { IfOk result (λ log. IsMade (P.means device) (P.means log.device) head) }
+        ensures refused { IfErr result (λ fault. NotMade fault.cause (P.means device) (P.means fault.device) head) }
+    {
+        if device.lines() == 0 {
+            return Err(MakeFault {
+                device,
+                cause: MakeCause::Small,
+            });
+        }
+        if let Some(line) = first_dirty(&device) {
+            return Err(MakeFault {
+                device,
+                cause: MakeCause::Dirty { line },
+            });
+        }
+        let mut device = device;
+        put(&mut device, 0, head.line());
+        if device.fence().is_err() {
+            return Err(MakeFault {
+                device,
+                cause: MakeCause::FenceFailed,
+            });
+        }
+        Ok(ThreadLog {
+            device,
+            head,
+            used: 1,
+            entries: 0,
+            last: 0,
+            fences: 0,
+            broken: false,
+        })
+    }
+
+    pub fn head(&self) -> LogHead
+        ensures { result ≡ self.now.head }
+    {
+        self.head
+    }
+
+    /// How many lines the device has.
+    pub fn lines(&self) -> u64
+        ensures { result ≡ length (P.means self.now.device).read }
+    {
+        self.device.lines()
+    }
+
+    /// How many lines are free.
+    pub fn free_lines(&self) -> u64
+        ensures { result ≡ free_of (length (P.means self.now.device).read) self.now.entries }
+    {
+        self.device.lines() - self.used
+    }
+
+    /// How many entries there are as read, a pending one among them.
+    pub fn entries(&self) -> u64
+        ensures { result ≡ length self.now.entries }
+    {
+        self.entries
+    }
+
+    /// The place of the last entry as read, 0 where there is none.
+    pub fn last_place(&self) -> u64
+        ensures { result ≡ last_place 0 self.now.entries }
+    {
+        self.last
+    }
+
+    /// How many fences were made since the header's.
+    pub fn fences(&self) -> u64
+        ensures { result ≡ self.now.fences }
+    {
+        self.fences
+    }
+
+    /// Whether the last append's fence failed.
+    pub fn broken(&self) -> bool
+        ensures { result ≡ self.now.broken }
+    {
+        self.broken
+    }
+
+    pub fn device(&self) -> &P
+        ensures device { result.now ≡ self.now.device }
+        ensures holds { HoldsLog (P.means self.now.device) self.now.head self.now.entries self.now.broken }
+    {
+        &self.device
+    }
+
+    pub fn into_device(self) -> P
+        ensures device { result ≡ self.device }
+        ensures holds { HoldsLog (P.means self.device) self.head self.entries self.broken }
+    {
+        let ThreadLog { device, .. } = self;
+        device
+    }
+
+    /// Appends an entry that holds these nodes, the last of them at this place, with one fence. Where the fence fails the
+    /// entry reads as appended and isn't durable, and the log takes no more.
+    pub fn append(&mut self, place: u64, nodes: &[Node]) -> Result<(), FenceFailed>
+        requires whole { self.old.broken ≡ false }
+        requires some_nodes { 1 ≤ length nodes.now }
+        requires few_nodes { length nodes.now ≤ self.old.head.threads }
+        requires room { length nodes.now + 1 ≤ free_of (length (P.means self.old.device).read) self.old.entries }
+        requires after { last_place 0 self.old.entries + length nodes.now ≤ place }
+        requires place { place ≤ 4096 * self.old.head.threads }
+        requires nodes { All (CanHold self.old.head.threads) nodes.now }
+        ensures head { self.new.head ≡ self.old.head }
+        ensures entries { self.new.entries ≡ self.old.entries ++ record { place = place; nodes = nodes.now } ∷ [] }
+        ensures fences { self.new.fences ≡ self.old.fences + 1 }
+        ensures broken { self.new.broken ≡ is_err result }
+        ensures lines { let s = record { place = place; nodes = nodes.now } in
+            Appends (P.means self.old.device) (P.means self.new.device) (1 + lines_in self.old.entries) (entry_lines self.old.head (length self.old.entries) s) }
+        ensures faults { OnOk result ((P.means self.new.device).faults ≡ (P.means self.old.device).faults) }
+        ensures settled { OnOk result (ToldSettled (P.means self.new.device).told (P.means self.new.device).read) }
+        ensures failed { OnErr result ((P.means self.new.device).faults ≡ (P.means self.old.device).faults + 1) }
+        ensures pending { OnErr result (ToldSettled (P.means self.new.device).told (P.means self.old.device).read) }
+    {
+        let first = entry_head(self.head, self.entries + 1, place, nodes);
+        put_entry(&mut self.device, self.used, first, nodes);
+        let fenced = self.device.fence();
+        self.used += 1 + nodes.len() as u64;
+        self.entries += 1;
+        self.last = place;
+        self.fences += 1;
+        self.broken = fenced.is_err();
+        fenced
+    }
 }

@@ -2,7 +2,7 @@ use Rattle.std.proofs.Common.{rules, ◌≡◌, ℕ, ◌+◌, ◌*◌, ◌<◌, 
 use Rattle.onll_log.specs.Masks.{marks_in, bits_on}
 use Rattle.std.proofs.Math.Nat.{pow-le-pow_right}
 use Rattle.onll_log.proofs.Bits.{marks_lt}
-use Rattle.onll_log.proofs.masks.marks_below.Goals as goal
+use Rattle.onll_log.proofs.mask.marks_below.Goals as goal
 
 -- eight words
 words_lt : (ws : List ℕ) (word mask above k : ℕ) → length ws ≡ 8 → word ≤ 8 → mask ≡ bits_on (marks_in (drop (8 - word) ws)) above → above < 2 ^ k → mask < 2 ^ (word + k)

@@ -3,7 +3,7 @@ use Rattle.onll_words.specs.declared.line.Line.{Line}
 use Rattle.onll_pmem.specs.Pmem.{words_of}
 use Rattle.onll_log.specs.Masks.{bits_on, marks_in, marks}
 use Rattle.onll_log.proofs.Bits.{marks-line, bits_on-none, lines_lt}
-use Rattle.onll_log.proofs.masks.mask_word.Goals as goal
+use Rattle.onll_log.proofs.mask.mask_word.Goals as goal
 
 pub marks_below-mask-requires : goal.marks_below-mask-requires
 marks_below-mask-requires c = lines_lt (length c.args.lines.now) c.loop-line.line c.loop-line.mask c.requires c.loop-line-test.true c.loop-line.invariant.2

@@ -1,0 +1,7 @@
+use Rattle.std.proofs.Common.{take}
+use Rattle.onll_log.specs.Encoding.{node_lines}
+use Rattle.onll_log.specs.Log.{Puts}
+use Rattle.onll_log.proofs.log.put_nodes.Given as goal
+
+abbrev pub invariant-loop-i : goal.invariant-loop-i
+invariant-loop-i g l = Puts (g.P.Pmem.means l.initial.device) (g.P.Pmem.means l.device) l.from (node_lines (take l.i l.nodes))

@@ -3,3 +3,7 @@ pub mod Step
 pub mod CoreFrame
 pub mod Tie
 pub mod Consistent
+pub mod First
+pub mod Turns
+pub mod Kept
+pub mod Next

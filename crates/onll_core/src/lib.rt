@@ -1,8 +1,12 @@
 //! The step core: a model of single atomic steps on which every interleaving of threads is one list of turns.
 #![tactic(auto)]
 
+mod local;
 mod phase;
 mod returned;
+mod step_core;
+mod worker;
 
 pub use phase::Phase;
 pub use returned::{Current, Returned, Stepped};
+pub use step_core::Core;

@@ -1,1 +1,6 @@
 pub mod Replicas
+pub mod CoreFrames
+pub mod Windows
+pub mod Ties
+pub mod StepEvents
+pub mod Kept

@@ -7,3 +7,4 @@ pub mod First
 pub mod Turns
 pub mod Kept
 pub mod Next
+pub mod StepEvent

@@ -113,6 +113,8 @@ pub record IsTied {State Op Query Reply : Type 0} (count t : ℕ) (writing : Opt
   pub marks : length th.device.backed ≡ length th.device.read
   -- each line but the one behind is written back, or reads as it is fenced
   pub backed : (line : ℕ) → IsBehind th.used phase line → (is_marked th.device.backed line ≡ true) ⊎ (line_at th.device.read line ≡ line_at th.device.fenced line)
+  -- each fence but a first one, of the head, made an entry durable
+  pub fences : th.device.fences ≤ suc th.logged
   -- the entry has room, and so has a whole one of each update to come
   pub room : updates_to_log th phase * suc th.head.threads ≤ written_in phase + free
   pub space : lines_needed phase ≤ written_in phase + free

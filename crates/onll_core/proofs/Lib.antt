@@ -4,3 +4,5 @@ pub mod Windows
 pub mod Ties
 pub mod StepEvents
 pub mod Kept
+pub mod Owns
+pub mod Closings

@@ -1,12 +1,15 @@
-ghost use Rattle.std.specs.Prelude.{◌≡◌, ℕ, suc, ◌+◌, ◌-◌, ◌*◌, ◌^◌, ◌<◌, ◌≤◌, Bool, true, List, [], length, sum_by, Option, Some, None, slice_get, IfSome, IfOk};
+ghost use Rattle.std.specs.Prelude.{◌≡◌, ℕ, suc, ◌+◌, ◌-◌, ◌*◌, ◌^◌, ◌<◌, ◌≤◌, Bool, true, List, [], length, sum_by, Option, Some, None, slice_get, IfSome, IfOk, ◌↔◌};
 ghost use Rattle.std.specs.List.{All};
 ghost use Rattle.onll_model.specs.declared.call.Call.TheVariants.{Update, Ask};
 ghost use Rattle.onll_model.specs.Frames.{is_available};
 ghost use Rattle.onll_core.specs.declared.phase.Phase.TheVariants as phases;
+ghost use Rattle.onll_core.specs.declared.returned.Stepped.TheVariants as stepped;
+ghost use Rattle.onll_pmem.specs.Device.{line_at};
+ghost use Rattle.onll_log.specs.Encoding.{entry_lines, FitsEntry};
 ghost use Rattle.onll_core.specs.CoreFrame.{seen_in};
 ghost use Rattle.onll_core.specs.Step.{turned, begun, put, answered, line_of_entry, after_exchange, after_flag, after_back, next_call, step_of, steps_of};
 ghost use Rattle.onll_core.specs.Consistent.{IsConsistent};
-ghost use Rattle.onll_core.specs.Next.{IsNext};
+ghost use Rattle.onll_core.specs.Next.{IsNext, IsUpdating};
 ghost use Rattle.onll_core.specs.Turns.{turns_of, current_in};
 
 use crate::local::Local;
@@ -92,6 +95,22 @@ fn after_back(place: u64, below: u64, line: u64) -> Phase
         }
     } else {
         Phase::Fence { place, below }
+    }
+}
+
+/// The line of this number of the entry after this many others, whose last node is at this place.
+fn line_of_entry(head: LogHead, before: u64, place: u64, nodes: &[Node], line: u64) -> Line
+    requires format { (1 ≤ head.format) × (head.format ≤ 2) }
+    requires threads { head.threads ≤ 16 }
+    requires fits { FitsEntry head.threads (record { place = place; nodes = nodes.now }) }
+    requires before { before < 2 ^ 64 - 1 }
+    requires line { line ≤ length nodes.now }
+    ensures { result.w ≡ line_at (entry_lines head before (record { place = place; nodes = nodes.now })) line }
+{
+    if line == 0 {
+        entry_head(head, before + 1, place, nodes)
+    } else {
+        node_line(nodes[(line - 1) as usize])
     }
 }
 
@@ -242,13 +261,270 @@ impl<O: Object + Drop> Core<O> {
     }
 
     /// An update loads the tail.
-    fn load_tail(&mut self, thread: u64, op: O::Op)
+    fn load_tail(&mut self, thread: u64)
         requires there { thread < length self.old.threads }
         requires time { self.old.clock < 2 ^ 64 - 1 }
-        requires next { IsNext self.old thread (Update op) phases.Idle }
+        requires next { IsUpdating self.old thread phases.Idle }
         ensures { self.new ≡ step_of O.means self.old thread }
     {
         let loaded = self.trace.len() as u64;
         self.begin(thread, Phase::Exchange { loaded });
+    }
+
+    /// An update whose exchange was lost loads the tail again.
+    fn load_again(&mut self, thread: u64, before: u64)
+        requires there { thread < length self.old.threads }
+        requires time { self.old.clock < 2 ^ 64 - 1 }
+        requires next { IsUpdating self.old thread (phases.Tail before) }
+        ensures { self.new ≡ step_of O.means self.old thread }
+    {
+        let loaded = self.trace.len() as u64;
+        self.turn(thread, Phase::Exchange { loaded });
+    }
+
+    /// An update's exchange is won where the tail is as loaded, and else lost.
+    fn exchange(&mut self, thread: u64, op: O::Op, loaded: u64)
+        requires there { thread < length self.old.threads }
+        requires time { self.old.clock < 2 ^ 64 - 1 }
+        requires next { IsNext self.old thread (Update op) (phases.Exchange loaded) }
+        ensures { self.new ≡ step_of O.means self.old thread }
+    {
+        if self.trace.len() as u64 == loaded {
+            self.link(thread, op, loaded);
+        } else {
+            self.turn(thread, Phase::Tail { loaded });
+        }
+    }
+
+    /// The thread's node becomes the newest.
+    fn link(&mut self, thread: u64, op: O::Op, loaded: u64)
+        requires there { thread < length self.old.threads }
+        requires time { self.old.clock < 2 ^ 64 - 1 }
+        requires next { IsNext self.old thread (Update op) (phases.Exchange loaded) }
+        requires same { length self.old.trace ≡ loaded }
+        ensures { self.new ≡ step_of O.means self.old thread }
+    {
+        let phase = after_exchange(self.base, loaded);
+        let local = &mut self.locals[thread as usize];
+        local.linked += 1;
+        let node = Node {
+            thread,
+            number: local.linked,
+            row: O::op_row(op),
+        };
+        self.trace.push_reserved(node);
+        self.flags.push_reserved(false);
+        let worker = &mut self.workers[thread as usize];
+        worker.turn(phase);
+        self.clock += 1;
+    }
+
+    /// An update's walk loads a flag.
+    fn walk(&mut self, thread: u64, place: u64, next: u64)
+        requires there { thread < length self.old.threads }
+        requires time { self.old.clock < 2 ^ 64 - 1 }
+        requires next { IsUpdating self.old thread (phases.Flag place next) }
+        ensures { self.new ≡ step_of O.means self.old thread }
+    {
+        let is_set = is_available(&self.flags, next);
+        let phase = after_flag(self.base, place, next, is_set);
+        self.turn(thread, phase);
+    }
+
+    /// The line of this number of the entry that the thread writes.
+    fn entry_line(&self, thread: u64, place: u64, below: u64, line: u64) -> Line
+        requires there { thread < length self.now.threads }
+        requires next { IsUpdating self.now thread (phases.Line place below line) }
+        ensures { IfSome (slice_get self.now.threads thread) (λ th. result.w ≡ line_of_entry th self.now.trace place below line) }
+    {
+        let worker = &self.workers[thread as usize];
+        let nodes = &self.trace[below as usize..place as usize];
+        line_of_entry(worker.head(), worker.logged(), place, nodes, line)
+    }
+
+    /// A line of the entry is written.
+    fn write_line(&mut self, thread: u64, place: u64, below: u64, line: u64)
+        requires there { thread < length self.old.threads }
+        requires time { self.old.clock < 2 ^ 64 - 1 }
+        requires next { IsUpdating self.old thread (phases.Line place below line) }
+        ensures { self.new ≡ step_of O.means self.old thread }
+    {
+        let value = self.entry_line(thread, place, below, line);
+        let worker = &mut self.workers[thread as usize];
+        worker.write(line, value, Phase::Back { place, below, line });
+        self.clock += 1;
+    }
+
+    /// That line is written back.
+    fn write_back(&mut self, thread: u64, place: u64, below: u64, line: u64)
+        requires there { thread < length self.old.threads }
+        requires time { self.old.clock < 2 ^ 64 - 1 }
+        requires next { IsUpdating self.old thread (phases.Back place below line) }
+        ensures { self.new ≡ step_of O.means self.old thread }
+    {
+        let phase = self.next_line(thread, place, below, line);
+        let worker = &mut self.workers[thread as usize];
+        worker.write_back(line, phase);
+        self.clock += 1;
+    }
+
+    /// What follows the write-back of a line of the thread's entry.
+    fn next_line(&self, thread: u64, place: u64, below: u64, line: u64) -> Phase
+        requires { IsUpdating self.now thread (phases.Back place below line) }
+        ensures { result ≡ after_back place below line }
+    {
+        let _ = &self.clock;
+        after_back(place, below, line)
+    }
+
+    /// The log is fenced.
+    fn fence(&mut self, thread: u64, place: u64, below: u64)
+        requires there { thread < length self.old.threads }
+        requires time { self.old.clock < 2 ^ 64 - 1 }
+        requires next { IsUpdating self.old thread (phases.Fence place below) }
+        ensures { self.new ≡ step_of O.means self.old thread }
+    {
+        let worker = &mut self.workers[thread as usize];
+        worker.fence(place - below, Phase::Set { place, below });
+        self.clock += 1;
+    }
+
+    /// The update's own flag is set, and it returns.
+    fn set_flag(&mut self, thread: u64, op: O::Op, place: u64, below: u64)
+        requires there { thread < length self.old.threads }
+        requires time { self.old.clock < 2 ^ 64 - 1 }
+        requires next { IsNext self.old thread (Update op) (phases.Set place below) }
+        ensures { self.new ≡ step_of O.means self.old thread }
+    {
+        let local = &mut self.locals[thread as usize];
+        let reply = local.reply_at(&self.trace, place, op);
+        let worker = &mut self.workers[thread as usize];
+        worker.put_returned(Returned {
+            place,
+            reply,
+            began: worker.began(),
+            ended: self.clock,
+        });
+        self.flags[(place - 1) as usize] = true;
+        self.clock += 1;
+    }
+
+    /// A read that began at this moment is answered at a place, which is all that the step does.
+    fn answer(&mut self, thread: u64, query: O::Query, place: u64, began: u64)
+        requires there { thread < length self.old.threads }
+        requires time { self.old.clock < 2 ^ 64 - 1 }
+        requires step { IfSome (slice_get self.old.threads thread) (λ th. step_of O.means self.old thread ≡ answered O.means self.old thread th began place query) }
+        requires unseen { IfSome (slice_get self.old.threads thread) (λ th. seen_in self.old.base th.returned ≤ place) }
+        requires within { place ≤ length self.old.trace }
+        requires running { IfSome (slice_get self.old.threads thread) (λ th. length th.returned < length th.script) }
+        ensures { self.new ≡ step_of O.means self.old thread }
+    {
+        let local = &mut self.locals[thread as usize];
+        let reply = local.answer_at(&self.trace, place, query);
+        let worker = &mut self.workers[thread as usize];
+        worker.put_returned(Returned {
+            place,
+            reply,
+            began,
+            ended: self.clock,
+        });
+        self.clock += 1;
+    }
+
+    /// A read loads the tail, and returns where no node stands above the base.
+    fn begin_read(&mut self, thread: u64, query: O::Query)
+        requires there { thread < length self.old.threads }
+        requires time { self.old.clock < 2 ^ 64 - 1 }
+        requires next { IsNext self.old thread (Ask query) phases.Idle }
+        ensures { self.new ≡ step_of O.means self.old thread }
+    {
+        let front = self.trace.len() as u64;
+        if front <= self.base {
+            self.answer(thread, query, self.base, self.clock);
+        } else {
+            self.begin(thread, Phase::Ask { front, next: front });
+        }
+    }
+
+    /// A read loads a flag, and returns where it is set, or unset at the first place above the base.
+    fn look(&mut self, thread: u64, query: O::Query, front: u64, next: u64)
+        requires there { thread < length self.old.threads }
+        requires time { self.old.clock < 2 ^ 64 - 1 }
+        requires next { IsNext self.old thread (Ask query) (phases.Ask front next) }
+        ensures { self.new ≡ step_of O.means self.old thread }
+    {
+        let began = self.began(thread);
+        if is_available(&self.flags, next) {
+            self.answer(thread, query, next, began);
+        } else if next <= self.base + 1 {
+            self.answer(thread, query, self.base, began);
+        } else {
+            self.turn(
+                thread,
+                Phase::Ask {
+                    front,
+                    next: next - 1,
+                },
+            );
+        }
+    }
+
+    /// The clock at the first step of a thread's running call.
+    fn began(&self, thread: u64) -> u64
+        requires { thread < length self.now.threads }
+        ensures { IfSome (slice_get self.now.threads thread) (λ th. result ≡ th.began) }
+    {
+        self.workers[thread as usize].began()
+    }
+
+    /// The step of a thread that is about an update.
+    fn update(&mut self, thread: u64, op: O::Op, phase: Phase)
+        requires there { thread < length self.old.threads }
+        requires time { self.old.clock < 2 ^ 64 - 1 }
+        requires next { IsNext self.old thread (Update op) phase }
+        ensures { self.new ≡ step_of O.means self.old thread }
+    {
+        match phase {
+            Phase::Idle => self.load_tail(thread),
+            Phase::Tail { loaded } => self.load_again(thread, loaded),
+            Phase::Exchange { loaded } => self.exchange(thread, op, loaded),
+            Phase::Flag { place, next } => self.walk(thread, place, next),
+            Phase::Line { place, below, line } => self.write_line(thread, place, below, line),
+            Phase::Back { place, below, line } => self.write_back(thread, place, below, line),
+            Phase::Fence { place, below } => self.fence(thread, place, below),
+            Phase::Set { place, below } => self.set_flag(thread, op, place, below),
+            Phase::Ask { .. } => {}
+        }
+    }
+
+    /// The step of a thread that is about a read.
+    fn ask(&mut self, thread: u64, query: O::Query, phase: Phase)
+        requires there { thread < length self.old.threads }
+        requires time { self.old.clock < 2 ^ 64 - 1 }
+        requires next { IsNext self.old thread (Ask query) phase }
+        ensures { self.new ≡ step_of O.means self.old thread }
+    {
+        match phase {
+            Phase::Idle => self.begin_read(thread, query),
+            Phase::Ask { front, next } => self.look(thread, query, front, next),
+            _ => {}
+        }
+    }
+
+    /// One step of a thread.
+    pub fn step(&mut self, thread: u64) -> Stepped
+        requires there { thread < length self.old.threads }
+        requires time { self.old.clock < 2 ^ 64 - 1 }
+        ensures step { self.new ≡ step_of O.means self.old thread }
+        ensures done { IfSome (slice_get self.old.threads thread) (λ th. (result ≡ stepped.Done) ↔ (next_call th ≡ None)) }
+    {
+        let worker = &self.workers[thread as usize];
+        let phase = worker.phase();
+        match worker.next_call() {
+            None => return Stepped::Done,
+            Some(Call::Update(op)) => self.update(thread, op, phase),
+            Some(Call::Ask(query)) => self.ask(thread, query, phase),
+        }
+        Stepped::Step
     }
 }

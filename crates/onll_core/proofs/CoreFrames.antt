@@ -1,9 +1,9 @@
-use Rattle.std.proofs.Common.{ℕ, zero, suc, ◌≡◌, ◌+◌, ◌-◌, ◌<◌, ◌≤◌, max, Bool, true, false, List, [], ◌∷◌, ◌++◌, length, take, drop, map, set, Option, Some, None, option_to_list, sym, refl, ap, ◌∙◌, subst, arith}
+use Rattle.std.proofs.Common.{ℕ, zero, suc, ◌≡◌, ◌-◌, ◌≤◌, true, false, List, [], ◌∷◌, ◌++◌, length, drop, map, set, Option, Some, None, option_to_list, sym, refl, ap, ◌∙◌, subst, arith}
 use Rattle.std.proofs.lemmas.List.{map-set}
 use Rattle.std.specs.List.{AllByRecursion, slice_get}
 use Rattle.onll_model.specs.declared.node.Node.{Node}
 use Rattle.onll_model.specs.Segment.{Segment}
-use Rattle.onll_model.specs.Frames.{Frame, Thread, Sound, IsSoundSegment, fenced_segments}
+use Rattle.onll_model.specs.Frames.{Thread, Sound, IsSoundSegment, fenced_segments}
 use Rattle.onll_model.specs.Events.{window, with_thread, with_node, with_flag}
 use Rattle.onll_model.proofs.Lists.{same_some, some_not_none, take_before, all_right}
 use Rattle.onll_core.specs.declared.phase.Phase.{Phase}
@@ -81,7 +81,7 @@ module _ {State Op Query Reply : Type 0} (c : CoreState State Op Query Reply) wh
   frame_linked count s t x w =
       let long : List Node = c.trace ++ x ∷ [] in
       let others : map (frame_thread c.base long) c.threads ≡ map (frame_thread c.base c.trace) c.threads = map_same (frame_thread c.base long) (frame_thread c.base c.trace) c.threads
-          (λ u z e. let same = pending_longer count s u z e (x ∷ []) in
-          λ i. record { seen = seen_in c.base z.returned; fenced = fenced_entries z.head z.device; pending = same i; stuck = None; activity = activity_in z.phase }) in
+      (λ u z e. let same = pending_longer count s u z e (x ∷ []) in
+      λ i. record { seen = seen_in c.base z.returned; fenced = fenced_entries z.head z.device; pending = same i; stuck = None; activity = activity_in z.phase }) in
       let e = map-set (frame_thread c.base long) c.threads t w ∙ ap (λ (l : List Thread). set l t (frame_thread c.base long w)) others in
       λ i. record { trace = long; flags = c.flags ++ false ∷ []; threads = e i; notes = [] }

@@ -1,4 +1,5 @@
 pub mod Replicas
+pub mod Calls
 pub mod CoreFrames
 pub mod Windows
 pub mod Ties
@@ -6,3 +7,8 @@ pub mod StepEvents
 pub mod Kept
 pub mod Owns
 pub mod Closings
+pub mod Fences
+pub mod Begin
+pub mod FirstCore
+pub mod Ready
+pub mod Stays

@@ -1,4 +1,4 @@
-use Rattle.std.proofs.Common.{ℕ, zero, suc, ◌≡◌, ◌≢◌, ◌+◌, ◌-◌, ◌*◌, ◌<◌, ◌≤◌, Bool, true, false, List, [], ◌∷◌, ◌++◌, length, take, drop, Option, Some, None, sym, refl, ap, ◌∙◌, subst, arith, cond, true≢false, eq-eqb, ne_eqb, eqb-true, ◌==◌}
+use Rattle.std.proofs.Common.{ℕ, suc, ◌≡◌, ◌≢◌, ◌+◌, ◌-◌, ◌<◌, ◌≤◌, Bool, true, false, List, [], ◌∷◌, ◌++◌, length, take, Option, Some, None, sym, refl, ap, ◌∙◌, subst, arith, true≢false, eq-eqb, ne_eqb}
 use Rattle.std.proofs.lemmas.Bool.{le-leb, lt-leb}
 use Rattle.std.specs.Prelude.{if◌then◌else◌, nat_le}
 use Rattle.std.specs.List.{slice_get}
@@ -11,38 +11,26 @@ use Rattle.onll_model.specs.declared.call.Call.TheVariants.{Update, Ask}
 use Rattle.onll_model.specs.Object.{Behaviour}
 use Rattle.onll_model.specs.Trace.{reply_after, answer_after}
 use Rattle.onll_model.specs.Segment.{Segment}
-use Rattle.onll_model.specs.Frames.{Frame, Thread, Activity, Rest, Loaded, Walk, Logging, Fenced, Asking, is_available, Follows, IsAvailable}
-use Rattle.onll_model.specs.Events.{Event, UpdateTail, Won, Lost, FlagSet, FlagUnset, Set, ReadTail, thread_of, window, with_thread, with_flag, with_node, doing, resting_at, logging, next_node, linking, asking, after_by, after}
+use Rattle.onll_model.specs.Frames.{Frame, Thread, Rest, Loaded, Walk, Logging, Fenced, Asking, is_available, Follows, IsAvailable}
+use Rattle.onll_model.specs.Events.{Event, UpdateTail, Won, Lost, FlagSet, FlagUnset, Set, ReadTail, thread_of, window, with_thread, with_flag, with_node, doing, resting_at, logging, next_node, after_by, after}
 use Rattle.onll_model.specs.Events.{Fence as FenceEvent}
 use Rattle.onll_model.proofs.FrameParts.{in_trace}
-use Rattle.onll_pmem.specs.Device.{DeviceState, Write, WriteBack, Fence, after_step}
+use Rattle.onll_pmem.specs.Device.{Write, WriteBack, after_step}
 use Rattle.onll_log.specs.Encoding.{FitsEntry}
 use Rattle.onll_core.specs.declared.phase.Phase.{Phase}
 use Rattle.onll_core.specs.declared.phase.Phase.TheVariants as phases
-use Rattle.onll_core.specs.declared.returned.Returned.{Returned}
 use Rattle.onll_core.specs.Core.{CoreThread, CoreState}
 use Rattle.onll_core.specs.CoreFrame.{seen_in, pending_in, activity_in, fenced_entries, thread_at, frame_thread, frame_of}
-use Rattle.onll_core.specs.Step.{turned, begun, on_device, logged, returning, put, linked, flagged, line_of_entry, after_exchange, after_flag, after_back, answered, act, next_call, step_by, step_of}
-use Rattle.onll_core.specs.Tie.{updates_in, IsTied}
+use Rattle.onll_core.specs.Step.{turned, begun, on_device, logged, returning, put, linked, flagged, line_of_entry, after_exchange, after_flag, answered, act, next_call, step_by, step_of}
+use Rattle.onll_core.specs.Tie.{IsTied}
 use Rattle.onll_core.specs.Consistent.{IsConsistent}
-use Rattle.onll_core.specs.StepEvent.{event_at, event_by, event_of, after_maybe, MayCome, IsEvent}
+use Rattle.onll_core.specs.StepEvent.{event_at, event_by, event_of, IsEvent}
+use Rattle.onll_core.proofs.Calls.{update_left}
 use Rattle.onll_core.proofs.CoreFrames.{seen_snoc, part_at, frame_put, frame_still, frame_flagged, frame_linked}
 use Rattle.onll_core.proofs.Windows.{window_of}
 use Rattle.onll_core.proofs.Ties.{fenced_is_log, tie_fenced}
 
 -- Each step is its event.
-
--- what an update leaves of the updates of a script
-pub update_left : {State Op Query Reply : Type 0} (xs : List (Call State Op Query Reply)) (n : ℕ) (op : Op) → slice_get xs n ≡ Some (Update op) → updates_in (drop n xs) ≡ suc (updates_in (drop (suc n) xs))
-update_left [] n op e = absurd (cc)
-update_left {State} {Op} {Query} {Reply} (x ∷ xs) zero op e = let same : x ≡ Update op = (cc) in ap (λ (c : Call State Op Query Reply). updates_in (c ∷ xs)) same
-update_left (x ∷ xs) (suc n) op e = update_left xs n op e
-
--- and what a read leaves
-pub ask_left : {State Op Query Reply : Type 0} (xs : List (Call State Op Query Reply)) (n : ℕ) (query : Query) → slice_get xs n ≡ Some (Ask query) → updates_in (drop n xs) ≡ updates_in (drop (suc n) xs)
-ask_left [] n query e = absurd (cc)
-ask_left {State} {Op} {Query} {Reply} (x ∷ xs) zero query e = let same : x ≡ Ask query = (cc) in ap (λ (c : Call State Op Query Reply). updates_in (c ∷ xs)) same
-ask_left (x ∷ xs) (suc n) query e = ask_left xs n query e
 
 module _ {State Op Query Reply : Type 0} (b : Behaviour State Op Query Reply) (count : ℕ) (c : CoreState State Op Query Reply) (k : IsConsistent count c) (t : ℕ) (th : CoreThread State Op Query Reply) (at : slice_get c.threads t ≡ Some th) where
   abbrev f : Frame
@@ -65,7 +53,7 @@ module _ {State Op Query Reply : Type 0} (b : Behaviour State Op Query Reply) (c
   seen = k.sound.seen t (part th.phase) (part_at c t th at th.phase refl)
 
   -- an unset flag is above the base
-  pub above : (d : ℕ) → is_available c.flags d ≡ false → c.base < d
+  above : (d : ℕ) → is_available c.flags d ≡ false → c.base < d
   above d unset = dite (native.Mathlib.Decide.dec_le d c.base) (λ le. absurd (true≢false (sym (k.based.available d le) ∙ unset))) (λ gt. omega arith)
 
   abbrev Is : CoreState State Op Query Reply → Option Event → Type 0
@@ -138,7 +126,7 @@ module _ {State Op Query Reply : Type 0} (b : Behaviour State Op Query Reply) (c
       let w : CoreThread State Op Query Reply = logged th (p - d) (phases.Set p d) in
       let tie' = fence_tie op call p d is in
       let log : fenced_entries w.head w.device ≡ fenced_entries th.head th.device ++ g ∷ [] = fenced_is_log count t w None (phases.Set p d) tie'.0 ∙
-          (tie'.1 ∙ ap (λ (l : List Segment). l ++ g ∷ []) (sym (fenced_is_log count t th (Some g) (phases.Fence p d) (tie_at (phases.Fence p d) is)))) in
+      (tie'.1 ∙ ap (λ (l : List Segment). l ++ g ∷ []) (sym (fenced_is_log count t th (Some g) (phases.Fence p d) (tie_at (phases.Fence p d) is)))) in
       record {
         frame = frame_put c t w ∙ (ap (with_thread f t) (λ i. record { seen = seen_in c.base th.returned; fenced = log i; pending = None; stuck = None; activity = Fenced p (p - d) }) ∙ sym (after_event (phases.Fence p d) is (FenceEvent t) refl));
         may = record { thread = part (phases.Fence p d); here = part_at c t th at (phases.Fence p d) is; allowed = (p, p - d, refl) };

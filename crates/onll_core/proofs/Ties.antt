@@ -1,14 +1,13 @@
-use Rattle.std.proofs.Common.{ℕ, zero, suc, ◌≡◌, ◌≢◌, ◌+◌, ◌-◌, ◌*◌, ◌<◌, ◌≤◌, ◌⊎◌, inl, inr, ⊎_elim, Bool, true, false, List, [], ◌∷◌, ◌++◌, length, take, drop, set, Option, Some, None, sym, refl, ap, ◌∙◌, subst, arith, append_assoc, append-nil, length-append, true≢false, get_or-set_same, get_or-set_other}
+use Rattle.std.proofs.Common.{ℕ, suc, ◌≡◌, ◌+◌, ◌-◌, ◌*◌, ◌<◌, ◌≤◌, inl, inr, ⊎_elim, true, false, List, [], ◌∷◌, ◌++◌, length, take, drop, set, Option, Some, None, sym, refl, ap, ◌∙◌, subst, arith, append_assoc, append-nil, length-append, true≢false, get_or-set_same, get_or-set_other}
 use Rattle.std.proofs.lemmas.List.{length-set, length-replicate, length-take-le, take_all}
-use Rattle.std.specs.List.{AllByRecursion}
 use mathlib.Core.Logic.{dite}
 use native.Mathlib.Decide.{ℕ_discrete}
 use Rattle.onll_model.specs.Segment.{Segment}
 use Rattle.onll_model.proofs.Lists.{all_append}
-use Rattle.onll_pmem.specs.Device.{DeviceState, Write, WriteBack, Fence, after_step, line_at, is_marked, zero_line, zero_lines, settled}
+use Rattle.onll_pmem.specs.Device.{Write, WriteBack, after_step, line_at, is_marked, zero_line, zero_lines, settled}
 use Rattle.onll_pmem.proofs.Lines.{settled-all}
-use Rattle.onll_log.specs.Encoding.{entry_lines, log_lines, FitsEntry, FitEntries}
-use Rattle.onll_log.specs.Grammar.{entries_from, lines_in}
+use Rattle.onll_log.specs.Encoding.{entry_lines, log_lines, FitsEntry}
+use Rattle.onll_log.specs.Grammar.{entries_from}
 use Rattle.onll_log.specs.Append.{written_front}
 use Rattle.onll_log.proofs.Encoded.{entries_from-entries_lines, entries_from-zero_lines, log_lines-more, length-entry_lines, length-log_lines}
 use Rattle.onll_log.proofs.Append.{set-written_front}
@@ -166,7 +165,7 @@ module _ {State Op Query Reply : Type 0} (count t : ℕ) (th : CoreThread State 
       let whole : take (suc (p - d)) lines ≡ lines = take_all (suc (p - d)) lines (omega arith) in
       let longer : log_lines th.head (tie.log ++ g ∷ []) ≡ front ++ lines = log_lines-more th.head tie.log g in
       let read : th.device.read ≡ log_lines th.head (tie.log ++ g ∷ []) ++ zero_lines tie.free = tie.read ∙ (ap (λ (l : List (List ℕ)). front ++ (l ++ zero_lines tie.free)) whole ∙
-          (sym (append_assoc front lines (zero_lines tie.free)) ∙ ap (λ (l : List (List ℕ)). l ++ zero_lines tie.free) (sym longer))) in
+      (sym (append_assoc front lines (zero_lines tie.free)) ∙ ap (λ (l : List (List ℕ)). l ++ zero_lines tie.free) (sym longer))) in
       let all = length_read g (phases.Fence p d) tie (omega arith) in
       let u = tie.lines in
       let b = length-log_lines th.head tie.log in
@@ -180,24 +179,26 @@ module _ {State Op Query Reply : Type 0} (count t : ℕ) (th : CoreThread State 
       let e = tie.entries in
       let n = tie.fences in
       let l = length-log_lines th.head (tie.log ++ g ∷ []) in
-      let l' = ap length longer in
-      (record {
-        log = tie.log ++ g ∷ [];
-        free = tie.free;
-        head = tie.head;
-        own = tie.own;
-        fits = all_append (FitsEntry th.head.threads) tie.log (g ∷ []) tie.fits (fits, tt);
-        entries = omega (arith, length-append tie.log (g ∷ []));
-        lines = omega (arith, length-append front lines);
-        in_entry = tt;
-        fenced = now ∙ (read ∙ (let z : tie.free ≡ 0 + tie.free = omega arith in ap (λ (m : ℕ). log_lines th.head (tie.log ++ g ∷ []) ++ zero_lines m) z));
-        read = read;
-        marks = tie.marks;
-        backed = λ line _. inr (sym (ap (λ (l : List (List ℕ)). line_at l line) now));
-        fences = omega arith;
-        room = smaller (updates_in (drop (length th.returned) th.script)) (updates_in (drop (suc (length th.returned)) th.script)) th.head.threads (p - d) tie.free more few tie.room;
-        space = omega arith;
-      }, refl)
+      let l' = ap length longer in (
+        record {
+          log = tie.log ++ g ∷ [];
+          free = tie.free;
+          head = tie.head;
+          own = tie.own;
+          fits = all_append (FitsEntry th.head.threads) tie.log (g ∷ []) tie.fits (fits, tt);
+          entries = omega (arith, length-append tie.log (g ∷ []));
+          lines = omega (arith, length-append front lines);
+          in_entry = tt;
+          fenced = now ∙ (read ∙ (let z : tie.free ≡ 0 + tie.free = omega arith in ap (λ (m : ℕ). log_lines th.head (tie.log ++ g ∷ []) ++ zero_lines m) z));
+          read = read;
+          marks = tie.marks;
+          backed = λ line _. inr (sym (ap (λ (l : List (List ℕ)). line_at l line) now));
+          fences = omega arith;
+          room = smaller (updates_in (drop (length th.returned) th.script)) (updates_in (drop (suc (length th.returned)) th.script)) th.head.threads (p - d) tie.free more few tie.room;
+          space = omega arith;
+        },
+        refl,
+      )
     where
       smaller : (a b c n r : ℕ) → a ≡ suc b → n ≤ c → a * suc c ≤ suc n + r → b * suc c ≤ 0 + r
       smaller a b c n r e f h = let k : suc b * suc c ≡ b * suc c + suc c = grind arith in let m : a * suc c ≡ suc b * suc c = ap (λ (x : ℕ). x * suc c) e in omega arith

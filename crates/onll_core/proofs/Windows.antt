@@ -1,4 +1,4 @@
-use Rattle.std.proofs.Common.{ℕ, zero, suc, ◌≡◌, ◌+◌, ◌-◌, ◌*◌, ◌<◌, ◌≤◌, Bool, true, false, List, [], ◌∷◌, ◌++◌, length, take, drop, Option, Some, None, sym, refl, ap, ◌∙◌, subst, arith, count_by, cond, ◌==◌, eq-eqb, ne_eqb}
+use Rattle.std.proofs.Common.{ℕ, zero, suc, ◌≡◌, ◌+◌, ◌-◌, ◌*◌, ◌<◌, ◌≤◌, Bool, true, false, List, [], ◌∷◌, length, take, drop, Some, sym, refl, ap, ◌∙◌, arith, count_by, cond, ◌==◌, eq-eqb, ne_eqb}
 use Rattle.std.proofs.lemmas.Bool.{le-leb, lt-leb}
 use Rattle.std.proofs.lemmas.List.Sums.{sum_by-cons}
 use Rattle.std.specs.Prelude.{nat_le}
@@ -11,7 +11,7 @@ use Rattle.onll_model.specs.Segment.{Segment}
 use Rattle.onll_model.specs.Frames.{Sound}
 use Rattle.onll_model.specs.Events.{window}
 use Rattle.onll_model.proofs.Lists.{same_some, some_not_none, all_at, all_from, at_window, length_window, present}
-use Rattle.onll_model.proofs.Traces.{number_at_place, count_own, count_other}
+use Rattle.onll_model.proofs.Traces.{number_at_place}
 use Rattle.onll_log.specs.Encoding.{FitsNode, FitsEntry}
 use Rattle.onll_core.specs.Core.{CoreThread, CoreState}
 use Rattle.onll_core.specs.CoreFrame.{pending_in, frame_of}
@@ -43,6 +43,7 @@ below_next n (x ∷ xs) = let h = below_next n xs in let e = here x.thread n in 
       where
         yes : (b : Bool) → b ≡ true → cond {A = ℕ} b 1 0 ≡ 1
         yes b e = ap (λ (c : Bool). cond {A = ℕ} c 1 0) e
+
         not : (b : Bool) → b ≡ false → cond {A = ℕ} b 1 0 ≡ 0
         not b e = ap (λ (c : Bool). cond {A = ℕ} c 1 0) e
 
@@ -61,7 +62,7 @@ below_most k zero xs h = let e = below_none xs in omega arith
 below_most k (suc n) xs h = let a = below_most k n xs (λ t l. h t (omega arith)) in let b = h n (omega arith) in let c = below_next n xs in let e : k * suc n ≡ k * n + k = grind arith in omega arith
 
 -- no more nodes than each thread's together
-few_in_all : (k n : ℕ) (xs : List Node) → ((t : ℕ) → t < n → count_by (is_of_thread t) xs ≤ k) → AllByRecursion (λ (x : Node). x.thread < n) xs → length xs ≤ k * n
+pub few_in_all : (k n : ℕ) (xs : List Node) → ((t : ℕ) → t < n → count_by (is_of_thread t) xs ≤ k) → AllByRecursion (λ (x : Node). x.thread < n) xs → length xs ≤ k * n
 few_in_all k n xs h low = let a = below_most k n xs h in let b = below_all n xs low in omega arith
 
 -- a thread's node is one more than those below it

@@ -1,13 +1,14 @@
-use Rattle.std.specs.Prelude.{ℕ, ◌≡◌, ◌+◌, ◌*◌, ◌≤◌, List, [], ◌∷◌, length, Option, Some, slice_get}
+use Rattle.std.specs.Prelude.{ℕ, ◌≡◌, ◌+◌, ◌*◌, ◌≤◌, List, [], ◌∷◌, length, Some, slice_get}
 use Rattle.onll_model.specs.declared.call.Call.{Call}
 use Rattle.onll_pmem.specs.Device.{DeviceState, Write, WriteBack, Fence, after_steps, new_device}
 use Rattle.onll_log.specs.declared.head.LogHead.{LogHead}
-use Rattle.onll_log.specs.Head.{head_line, FitsHead}
+use Rattle.onll_log.specs.Head.{head_line}
 use Rattle.onll_core.specs.declared.phase.Phase.TheVariants as phases
 use Rattle.onll_core.specs.Core.{CoreThread, CoreState}
 use Rattle.onll_core.specs.Tie.{updates_in}
+use Rattle.onll_core.specs.Begin.{IsHeadOf}
 
--- The first state of a core, before any step.
+-- The first state of a core that begins anew.
 
 -- how many lines a log takes: its head, and a whole entry of each update
 abbrev pub lines_for : ℕ → ℕ → ℕ
@@ -36,13 +37,6 @@ first_threads heads scripts = []
 
 abbrev pub first_core : {State Op Query Reply : Type 0} → State → List LogHead → List (List (Call State Op Query Reply)) → CoreState State Op Query Reply
 first_core initial heads scripts = record { initial = initial; base = 0; trace = []; flags = []; clock = 0; threads = first_threads heads scripts }
-
--- the head of the log of thread t of `count`
-pub record IsHeadOf (count t : ℕ) (head : LogHead) : Type 0 where
-  pub fits : FitsHead head
-  pub thread : head.thread ≡ t
-  pub threads : head.threads ≡ count
-  pub format : head.format ≡ 2
 
 -- heads and scripts within the limits, one of each for each of `count` threads
 pub record AreFirst {State Op Query Reply : Type 0} (count : ℕ) (heads : List LogHead) (scripts : List (List (Call State Op Query Reply))) : Type 0 where

@@ -8,3 +8,10 @@ pub mod Turns
 pub mod Kept
 pub mod Next
 pub mod StepEvent
+pub mod Begin
+pub mod Resumed
+pub mod Fences
+pub mod Entries
+pub mod Laws
+pub mod Ready
+pub mod Stays

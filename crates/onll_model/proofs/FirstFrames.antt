@@ -50,8 +50,10 @@ resumed_sound count base logs r =
         numbered = r.numbered;
         below = r.below;
         earlier = λ p q x y e _ _ _. available p ((node_place base p x e).1);
-        latest = λ t th e p last. ((λ unset. absurd (true≢false (sym (available p ((node_place base p last.node last.here).1)) ∙ unset))),
-            λ opens. absurd (closed t th e p opens));
+        latest = λ t th e p last. (
+          (λ unset. absurd (true≢false (sym (available p ((node_place base p last.node last.here).1)) ∙ unset))),
+          λ opens. absurd (closed t th e p opens),
+        );
         opened = λ t th e p opens. absurd (closed t th e p opens);
         quiet = resumed_at b logs (λ th. th.stuck ≢ None → IsQuiet th.activity) (every_log _ logs (λ ss _. tt));
         segments = resumed_at b logs (λ th. AllByRecursion (IsSoundSegment count base (fenced_segments f.threads)) (segments_of th))
@@ -75,8 +77,8 @@ resumed_sound count base logs r =
     closed : (t : ℕ) (th : Thread) → slice_get (map (resumed_thread (length base)) logs) t ≡ Some th → (p : ℕ) → open_place th ≢ Some p
     closed t th e p opens = let none = resumed_at (length base) logs (λ z. open_place z ≡ None) (every_log _ logs (λ ss. refl)) t th e in absurd (let both = sym none ∙ opens in (cc))
 
-pub created_sound : (count : ℕ) → SoundOver count 0 (resumed_frame [] (replicate count []))
-created_sound count = resumed_sound count [] (replicate count []) record {
+pub created_resumable : (count : ℕ) → IsResumable count [] (replicate count [])
+created_resumable count = record {
   threads = length-replicate count [];
   numbered = tt;
   below = tt;
@@ -92,3 +94,6 @@ created_sound count = resumed_sound count [] (replicate count []) record {
     empty' : (n : ℕ) → AllByRecursion (λ (ss : List Segment). Rises 0 ss) (replicate n [])
     empty' zero = tt
     empty' (suc n) = (tt, empty' n)
+
+pub created_sound : (count : ℕ) → SoundOver count 0 (resumed_frame [] (replicate count []))
+created_sound count = resumed_sound count [] (replicate count []) (created_resumable count)

@@ -167,9 +167,9 @@ won_base_sound count f t th l x s at is own_x number b size available =
     let n = s.threads in
     linked_sound count f s t th at closed x own_x number (logging th (f.trace ++ x ∷ []) b (suc b)) refl (ap (λ (o : Option ℕ). open_at o (Logging (suc b) (suc b - b))) free ∙ ap (λ (m : ℕ). Some (suc m)) (sym size))
     (own_logging count (with_node f x) th b (suc b) free
-      (subst (AllByRecursion (IsSoundSegment count (f.trace ++ x ∷ []) (fenced_segments f.threads))) alone (old_segments count f s t th at closed x own_x number))
-      (subst (Rises 0) alone own.rising)
-      (subst (IsSettled th.seen th.fenced) is own.settled)
-      (still_available count f s t th at closed x own_x number th.seen own.seen)
-      (omega arith) (omega arith) (omega arith) (omega arith)
-      (s.covered b available))
+    (subst (AllByRecursion (IsSoundSegment count (f.trace ++ x ∷ []) (fenced_segments f.threads))) alone (old_segments count f s t th at closed x own_x number))
+    (subst (Rises 0) alone own.rising)
+    (subst (IsSettled th.seen th.fenced) is own.settled)
+    (still_available count f s t th at closed x own_x number th.seen own.seen)
+    (omega arith) (omega arith) (omega arith) (omega arith)
+    (s.covered b available))

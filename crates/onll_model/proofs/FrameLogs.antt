@@ -34,11 +34,14 @@ own_logging count f th d p free old rises settled available above below high few
     let first : d ≡ p - length g.nodes = omega arith in
     record {
       quiet = λ h. absurd (h free);
-      segments = all_append (IsSoundSegment count f.trace (fenced_segments f.threads)) th.fenced (g ∷ []) old (record {
-        agrees = record { some_nodes = omega arith; from_one = omega arith; in_trace = high; nodes = ap (λ (n : ℕ). nodes_between f.trace n p) first };
-        few = omega arith;
-        below = subst (Covers (fenced_segments f.threads)) first cover;
-      }, tt);
+      segments = all_append (IsSoundSegment count f.trace (fenced_segments f.threads)) th.fenced (g ∷ []) old (
+        record {
+          agrees = record { some_nodes = omega arith; from_one = omega arith; in_trace = high; nodes = ap (λ (n : ℕ). nodes_between f.trace n p) first };
+          few = omega arith;
+          below = subst (Covers (fenced_segments f.threads)) first cover;
+        },
+        tt,
+      );
       rising = rises_snoc 0 th.fenced g rises (omega arith);
       settled = settled;
       pending = subst (λ (o : Option ℕ). IsPending (Some g) o (Logging p (p - d))) (sym free) (g, refl, (refl, len));
@@ -58,12 +61,12 @@ walk_to_sound count f t th p d e s at is above below apart available =
     let high = (node_place f.trace p last.node last.here).1 in
     put_sound count f t th (logging th f.trace e p) s at (λ q l. l) (ap (λ (o : Option ℕ). open_at o (Logging p (p - e))) free ∙ sym opens)
     (own_logging count f th e p free
-      (subst (AllByRecursion (IsSoundSegment count f.trace (fenced_segments f.threads))) alone own.segments)
-      (subst (Rises 0) alone own.rising)
-      (subst (IsSettled th.seen th.fenced) is own.settled)
-      own.seen above below high
-      (window_few count f e p s (omega arith) high apart)
-      (s.covered e available))
+    (subst (AllByRecursion (IsSoundSegment count f.trace (fenced_segments f.threads))) alone own.segments)
+    (subst (Rises 0) alone own.rising)
+    (subst (IsSettled th.seen th.fenced) is own.settled)
+    own.seen above below high
+    (window_few count f e p s (omega arith) high apart)
+    (s.covered e available))
 
 -- the walk meets a flagged node
 pub walk_ends_sound : (count : ℕ) (f : Frame) (t : ℕ) (th : Thread) (p d : ℕ) → Sound count f → slice_get f.threads t ≡ Some th → th.activity ≡ Walk p d → IsAvailable f d → Sound count (with_thread f t (logging th f.trace d p))

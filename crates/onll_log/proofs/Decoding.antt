@@ -89,7 +89,7 @@ pub entry_test : (head : LogHead) (before : ℕ) (line : List ℕ) (rest : List 
     → t ≡ is_entry head before line (words_of rest)
 entry_test head before line rest x y t ex tx ey ty et =
     et ∙ in_three (word line 0 == entry_magic) (word line 1 == head.thread) (word line 2 == before + 1) (nat_le 1 (word line 4)) (nat_le (word line 4) head.threads) (nat_le (word line 4) (word line 3))
-        (nat_le (word line 3) (4096 * head.threads)) (nat_le (word line 4) (length rest)) (guarded (words_of (take (word line 4) rest))) (sym ex ∙ tx) (sym ey ∙ ty)
+    (nat_le (word line 3) (4096 * head.threads)) (nat_le (word line 4) (length rest)) (guarded (words_of (take (word line 4) rest))) (sym ex ∙ tx) (sym ey ∙ ty)
     ∙ ap (λ (n : ℕ). whole n (words_of (take (word line 4) rest))) (sym (length-map rest (λ (l : Line). l.w))) ∙ ap (whole (length (words_of rest))) (sym (words_of-take (word line 4) rest))
   where
     guarded : List (List ℕ) → Bool
@@ -156,14 +156,14 @@ Read-more head lines entries at next d e r l accepted place same step =
     let ok = Accepted-if head (length entries) (get_or lines at d).w (words_of (drop (at + 1) lines)) accepted in
     let whole = ok.whole in
     let here : entries_from head (length entries) 0 (words_of (drop at lines)) ≡ segment_in e ∷ entries_from head (length (entries ++ e ∷ [])) 0 (words_of (drop next lines)) =
-        ap (entries_from head (length entries) 0) (words_left lines at d l) ∙ entries_from-entry head (length entries) (get_or lines at d).w (words_of (drop (at + 1) lines)) accepted
-        ∙ ap (λ (s : Segment). s ∷ entries_from head (suc (length entries)) (word (get_or lines at d).w 4) (words_of (drop (at + 1) lines))) (sym same)
-        ∙ ap (λ (ss : List Segment). segment_in e ∷ ss) (entries_from-drop head (suc (length entries)) (word (get_or lines at d).w 4) (words_of (drop (at + 1) lines)) ∙ left) in
+    ap (entries_from head (length entries) 0) (words_left lines at d l) ∙ entries_from-entry head (length entries) (get_or lines at d).w (words_of (drop (at + 1) lines)) accepted
+    ∙ ap (λ (s : Segment). s ∷ entries_from head (suc (length entries)) (word (get_or lines at d).w 4) (words_of (drop (at + 1) lines))) (sym same)
+    ∙ ap (λ (ss : List Segment). segment_in e ∷ ss) (entries_from-drop head (suc (length entries)) (word (get_or lines at d).w 4) (words_of (drop (at + 1) lines)) ∙ left) in
     record {
       within = omega (arith, length-map (drop (at + 1) lines) (λ (line : Line). line.w), length-drop (at + 1) lines);
       few = let f = r.few in omega (arith, length-append entries (e ∷ []));
       all = append_assoc entries (e ∷ []) _ ∙ (ap (λ (es : List Entry). entries ++ es) (placed (entries_from head (length (entries ++ e ∷ [])) 0 (words_of (drop next lines))))
-        ∙ (ap (λ (ss : List Segment). entries ++ placed_from (at + 1) ss) (sym here) ∙ r.all));
+          ∙ (ap (λ (ss : List Segment). entries ++ placed_from (at + 1) ss) (sym here) ∙ r.all));
     }
   where
     left : entries_from head (suc (length entries)) 0 (drop (word (get_or lines at d).w 4) (words_of (drop (at + 1) lines))) ≡ entries_from head (length (entries ++ e ∷ [])) 0 (words_of (drop next lines))
@@ -187,10 +187,10 @@ pub Read-step : (head : LogHead) (lines rest : List Line) (entries items : List 
 Read-step head lines rest entries items at before d e answer r l left count says accepted place same more =
     let rest_is : words_of rest ≡ words_of (drop (at + 1) lines) = ap words_of left in
     let ok : is_entry head (length entries) (get_or lines at d).w (words_of (drop (at + 1) lines)) ≡ true =
-        ap (is_entry head (length entries) (get_or lines at d).w) (sym rest_is) ∙ (ap (λ (n : ℕ). is_entry head n (get_or lines at d).w (words_of rest)) (sym count) ∙ (sym says ∙ accepted)) in
+    ap (is_entry head (length entries) (get_or lines at d).w) (sym rest_is) ∙ (ap (λ (n : ℕ). is_entry head n (get_or lines at d).w (words_of rest)) (sym count) ∙ (sym says ∙ accepted)) in
     let to : at + (1 + word (get_or lines at d).w 4) ≡ at + (1 + word (get_or lines at d).w 4) = refl in
     subst (λ (es : List Entry). Read head lines es (at + (1 + word (get_or lines at d).w 4))) (sym more)
-        (Read-more head lines entries at (at + (1 + word (get_or lines at d).w 4)) d e r l ok place (same ∙ ap (segment_of (get_or lines at d).w) rest_is) to)
+    (Read-more head lines entries at (at + (1 + word (get_or lines at d).w 4)) d e r l ok place (same ∙ ap (segment_of (get_or lines at d).w) rest_is) to)
 
 pub segments_of_read : (es : List Entry) (ss : List Segment) → es ≡ placed_from 1 ss → segments_in es ≡ ss
 segments_of_read es ss e = ap segments_in e ∙ segments_in-placed_from 1 ss

@@ -11,3 +11,4 @@ pub mod Remains
 pub mod Append
 pub mod Placed
 pub mod Writing
+pub mod Kept

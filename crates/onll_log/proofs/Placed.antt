@@ -32,7 +32,7 @@ placed_lines-append read from xs ys l =
     ap (λ (r : List (List ℕ)). placed_lines r (from + length xs) ys) (in_two read from xs)
     ∙ ap (λ (ls : List (List ℕ)). ls ++ (ys ++ drop (from + length xs + length ys) (front read from xs ++ rest))) (take_at (front read from xs) rest (from + length xs) len)
     ∙ ap (λ (ls : List (List ℕ)). front read from xs ++ (ys ++ ls)) (sym (drop-drop (length ys) (from + length xs) (front read from xs ++ rest))
-        ∙ ap (drop (length ys)) (drop_at (front read from xs) rest (from + length xs) len) ∙ drop-drop (length ys) (from + length xs) read ∙ ap (λ (n : ℕ). drop n read) to)
+    ∙ ap (drop (length ys)) (drop_at (front read from xs) rest (from + length xs) len) ∙ drop-drop (length ys) (from + length xs) read ∙ ap (λ (n : ℕ). drop n read) to)
     ∙ append_assoc (take from read) xs (ys ++ drop (from + length (xs ++ ys)) read)
     ∙ ap (λ (ls : List (List ℕ)). take from read ++ ls) (sym (append_assoc xs ys (drop (from + length (xs ++ ys)) read)))
 
@@ -77,8 +77,8 @@ FillsLines-before (x ∷ xs) (y ∷ ys) k f = (f.0, FillsLines-before xs ys k f.
 pub FillsLines-zeros : (done lines : List (List ℕ)) (zeros : ℕ) → AreLines lines → length lines ≤ zeros → FillsLines (done ++ zero_lines zeros) (done ++ (lines ++ zero_lines (zeros - length lines)))
 FillsLines-zeros done lines zeros a l =
     FillsLines-after done (zero_lines zeros) (lines ++ zero_lines (zeros - length lines))
-        (subst (λ (ls : List (List ℕ)). FillsLines ls (lines ++ zero_lines (zeros - length lines))) (replicate-append-replicate (length lines) (zeros - length lines) zero_line ∙ ap zero_lines to)
-        (FillsLines-before (zero_lines (length lines)) lines (zeros - length lines) (FillsLines-zero_lines lines a)))
+    (subst (λ (ls : List (List ℕ)). FillsLines ls (lines ++ zero_lines (zeros - length lines))) (replicate-append-replicate (length lines) (zeros - length lines) zero_line ∙ ap zero_lines to)
+    (FillsLines-before (zero_lines (length lines)) lines (zeros - length lines) (FillsLines-zero_lines lines a)))
   where
     to : length lines + (zeros - length lines) ≡ zeros
     to = omega arith

@@ -82,17 +82,8 @@ pub record IsClean (read : List (List ℕ)) : Type 0 where
 pub record HasHeader (old new : DeviceView) (head : LogHead) : Type 0 where
   pub clean : IsClean old.read
   pub read : new.read ≡ log_image head [] (length old.read - 1)
+  pub count : length new.read ≡ length old.read
   pub fences : new.fences ≡ old.fences + 1
-
--- a device with no line
-pub record IsSmall (old new : DeviceView) : Type 0 where
-  pub none : length old.read ≡ 0
-  pub same : new ≡ old
-
--- a device that isn't empty
-pub record IsUsed (old new : DeviceView) (line : ℕ) : Type 0 where
-  pub dirty : IsDirty old.read line
-  pub same : new ≡ old
 
 -- a device whose fence failed: the header is written, and isn't durable
 pub record IsPending (old new : DeviceView) (head : LogHead) : Type 0 where
@@ -102,8 +93,8 @@ pub record IsPending (old new : DeviceView) (head : LogHead) : Type 0 where
 
 -- why no log of this head was made on a device, by what it was before and is now
 abbrev pub NotMade : MakeCause → DeviceView → DeviceView → LogHead → Type 0
-NotMade Small old new head = IsSmall old new
-NotMade (Dirty line) old new head = IsUsed old new line
+NotMade Small old new head = length old.read ≡ 0
+NotMade (Dirty line) old new head = IsDirty old.read line
 NotMade FenceFailed old new head = IsPending old new head
 
 -- what a log that was made holds
@@ -115,6 +106,7 @@ pub record IsMade (old new : DeviceView) (head : LogHead) : Type 0 where
 -- what an append of these lines from this line on leaves of a device, but for the fence
 pub record Appends (old new : DeviceView) (from : ℕ) (lines : List (List ℕ)) : Type 0 where
   pub read : new.read ≡ placed_lines old.read from lines
+  pub count : length new.read ≡ length old.read
   pub fills : FillsLines old.read new.read
   pub others : (line : ℕ) → (line < from) ⊎ (from + length lines ≤ line) → line_at new.read line ≡ line_at old.read line
   pub fences : new.fences ≡ old.fences + 1

@@ -2,7 +2,6 @@ ghost use Rattle.std.specs.Prelude.{◌≡◌, List, ℕ, ◌++◌, [], length};
 ghost use Rattle.onll_words.specs.Lines.{bytes_of_words};
 ghost use Rattle.onll_log.specs.Head.{digest_words};
 ghost use Rattle.onll_log.specs.Digest.{IsMessage};
-
 ghost use Rattle.std.specs.List.{flat_map};
 ghost use Rattle.onll_pmem.specs.Pmem.{words_of};
 

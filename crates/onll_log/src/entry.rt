@@ -74,7 +74,16 @@ pub fn entry_head(head: LogHead, sequence: u64, place: u64, nodes: &[Node]) -> L
     let lines = node_lines(nodes);
     let [a, b, c] = guard(&head, &front, &lines[..count]);
     Line {
-        w: [ENTRY_MAGIC, head.thread, sequence, place, count as u64, a, b, c],
+        w: [
+            ENTRY_MAGIC,
+            head.thread,
+            sequence,
+            place,
+            count as u64,
+            a,
+            b,
+            c,
+        ],
     }
 }
 

@@ -64,7 +64,16 @@ impl LogHead {
     {
         let [a, b, c] = self.digest;
         Line {
-            w: [LOG_MAGIC, self.format, self.thread, self.threads, self.object, a, b, c],
+            w: [
+                LOG_MAGIC,
+                self.format,
+                self.thread,
+                self.threads,
+                self.object,
+                a,
+                b,
+                c,
+            ],
         }
     }
 

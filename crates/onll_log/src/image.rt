@@ -98,7 +98,6 @@ fn entries_of(alloc: Global, head: &LogHead, lines: &[Line]) -> Result<Vec<Entry
     Ok(entries)
 }
 
-
 /// What a log of this head holds, whose lines these are.
 fn log_of(alloc: Global, head: LogHead, lines: &[Line]) -> Result<Decoded, DecodeFault>
     requires threads { head.threads ≤ 16 }

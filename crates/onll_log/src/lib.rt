@@ -10,6 +10,8 @@ mod image;
 mod laws;
 mod log;
 mod mask;
+#[cfg(test)]
+mod tests;
 
 pub use cause::MakeCause;
 pub use decoded::{Decoded, Entries, Entry, Nodes};

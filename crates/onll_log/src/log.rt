@@ -1,4 +1,4 @@
-ghost use Rattle.std.specs.Prelude.{◌≡◌, ℕ, ◌+◌, ◌-◌, ◌*◌, ◌^◌, ◌<◌, ◌≤◌, List, [], ◌∷◌, ◌++◌, length, take, drop, true, false, is_err, IfNone, IfSome, IfOk, IfErr, OnOk, OnErr};
+ghost use Rattle.std.specs.Prelude.{◌≡◌, ℕ, ◌+◌, ◌-◌, ◌*◌, ◌^◌, ◌<◌, ◌≤◌, ◌⊎◌, List, [], ◌∷◌, ◌++◌, length, take, drop, true, false, is_err, IfNone, IfSome, IfOk, IfErr, OnOk, OnErr};
 ghost use Rattle.std.specs.List.{All};
 ghost use Rattle.onll_model.specs.Segment.{Segment, last_place};
 ghost use Rattle.onll_pmem.specs.Device.{line_at, zero_line, zero_lines, FillsLines};
@@ -7,7 +7,7 @@ ghost use Rattle.onll_log.specs.Head.{FitsHead};
 ghost use Rattle.onll_log.specs.Encoding.{node_lines, entry_lines, CanHold};
 ghost use Rattle.onll_log.specs.Grammar.{lines_in};
 ghost use Rattle.onll_log.specs.Torn.{log_image};
-ghost use Rattle.onll_log.specs.Log.{free_of, HoldsLog, Puts, IsDirty, IsMade, NotMade, Appends};
+ghost use Rattle.onll_log.specs.Log.{free_of, HoldsLog, Puts, IsDirty, IsClean, IsMade, IsPending, NotMade, Appends};
 
 use crate::cause::MakeCause;
 use crate::entry::entry_head;
@@ -47,7 +47,8 @@ fn put_nodes<P: Pmem>(device: &mut P, from: u64, nodes: &[Node])
     requires few { from + length nodes.now < 2 ^ 64 }
     requires zeros { (line : ℕ) → from ≤ line → line < from + length nodes.now → line_at (P.means device.old).read line ≡ zero_line }
     requires nodes { All (CanHold 16) nodes.now }
-    ensures { Puts (P.means device.old) (P.means device.new) from (node_lines nodes.now) }
+    ensures lines { Puts (P.means device.old) (P.means device.new) from (node_lines nodes.now) }
+    ensures rows { All (λ n. length n.row.w ≡ 7) nodes.now }
 {
     for (i, node) in nodes.iter().enumerate() {
         put(device, from + i as u64, node_line(*node));
@@ -60,7 +61,8 @@ fn put_entry<P: Pmem>(device: &mut P, from: u64, first: Line, nodes: &[Node])
     requires few { from + 1 + length nodes.now < 2 ^ 64 }
     requires zeros { (line : ℕ) → from ≤ line → line < from + 1 + length nodes.now → line_at (P.means device.old).read line ≡ zero_line }
     requires nodes { All (CanHold 16) nodes.now }
-    ensures { Puts (P.means device.old) (P.means device.new) from (first.w ∷ node_lines nodes.now) }
+    ensures lines { Puts (P.means device.old) (P.means device.new) from (first.w ∷ node_lines nodes.now) }
+    ensures rows { All (λ n. length n.row.w ≡ 7) nodes.now }
 {
     put(device, from, first);
     put_nodes(device, from + 1, nodes);
@@ -107,6 +109,7 @@ impl<P: Pmem> ThreadLog<P> {
         ensures whole { IfOk result (λ log. log.broken ≡ false) }
         ensures made { IfOk result (λ log. IsMade (P.means device) (P.means log.device) head) }
         ensures refused { IfErr result (λ fault. NotMade fault.cause (P.means device) (P.means fault.device) head) }
+        ensures unchanged { IfErr result (λ fault. (fault.cause ≡ MakeCause.FenceFailed) ⊎ (fault.device ≡ device)) }
     {
         if device.lines() == 0 {
             return Err(MakeFault {
@@ -114,29 +117,47 @@ impl<P: Pmem> ThreadLog<P> {
                 cause: MakeCause::Small,
             });
         }
-        if let Some(line) = first_dirty(&device) {
-            return Err(MakeFault {
+        match first_dirty(&device) {
+            Some(line) => Err(MakeFault {
                 device,
                 cause: MakeCause::Dirty { line },
-            });
+            }),
+            None => ThreadLog::begin(device, head),
         }
-        let mut device = device;
+    }
+
+    /// Writes the header of a log, with one fence, on a device that is known to have lines, all of zeros.
+    fn begin(mut device: P, head: LogHead) -> Result<ThreadLog<P>, MakeFault<P>>
+        requires head { FitsHead head }
+        requires few { (P.means device).fences < 2 ^ 32 }
+        requires lines { length (P.means device).read < 2 ^ 64 }
+        requires clean { IsClean (P.means device).read }
+        requires settled { ToldSettled (P.means device).told (P.means device).read }
+        requires backed { ToldBacked (P.means device).told (P.means device).read }
+        ensures head { IfOk result (λ log. log.head ≡ head) }
+        ensures entries { IfOk result (λ log. log.entries ≡ []) }
+        ensures fences { IfOk result (λ log. log.fences ≡ 0) }
+        ensures whole { IfOk result (λ log. log.broken ≡ false) }
+        ensures made { IfOk result (λ log. IsMade (P.means device) (P.means log.device) head) }
+        ensures cause { IfErr result (λ fault. fault.cause ≡ MakeCause.FenceFailed) }
+        ensures refused { IfErr result (λ fault. IsPending (P.means device) (P.means fault.device) head) }
+    {
         put(&mut device, 0, head.line());
-        if device.fence().is_err() {
-            return Err(MakeFault {
+        match device.fence() {
+            Ok(()) => Ok(ThreadLog {
+                device,
+                head,
+                used: 1,
+                entries: 0,
+                last: 0,
+                fences: 0,
+                broken: false,
+            }),
+            Err(FenceFailed) => Err(MakeFault {
                 device,
                 cause: MakeCause::FenceFailed,
-            });
+            }),
         }
-        Ok(ThreadLog {
-            device,
-            head,
-            used: 1,
-            entries: 0,
-            last: 0,
-            fences: 0,
-            broken: false,
-        })
     }
 
     pub fn head(&self) -> LogHead
@@ -216,7 +237,7 @@ impl<P: Pmem> ThreadLog<P> {
         ensures entries { self.new.entries ≡ self.old.entries ++ record { place = place; nodes = nodes.now } ∷ [] }
         ensures fences { self.new.fences ≡ self.old.fences + 1 }
         ensures broken { self.new.broken ≡ is_err result }
-        ensures lines { let s = record { place = place; nodes = nodes.now } in
+        ensures lines { let s : Segment = record { place = place; nodes = nodes.now } in
             Appends (P.means self.old.device) (P.means self.new.device) (1 + lines_in self.old.entries) (entry_lines self.old.head (length self.old.entries) s) }
         ensures faults { OnOk result ((P.means self.new.device).faults ≡ (P.means self.old.device).faults) }
         ensures settled { OnOk result (ToldSettled (P.means self.new.device).told (P.means self.new.device).read) }

@@ -11,10 +11,11 @@ marks_below-mask-requires c = lines_lt (length c.args.lines.now) c.loop-line.lin
 pub loop-line-preserved : goal.loop-line-preserved
 loop-line-preserved c =
     let e : 8 + 8 * (length c.args.lines.now - c.loop-line.line) ≡ 8 * (length c.args.lines.now - (c.loop-line.line - 1)) = omega arith in
-    let next : suc (c.loop-line.line - 1) ≡ c.loop-line.line = omega arith in
-    (omega arith,
-     c.marks_below-mask.ensures.bits ∙ (ap (bits_on (marks_in _)) c.loop-line.invariant.1 ∙ sym (marks-line c.args.lines.now (c.loop-line.line - 1) c.loop-line.line _ next (omega arith))),
-     subst (λ (n : ℕ). c.marks_below-mask.result < 2 ^ n) e (c.marks_below-mask.ensures.low (8 * (length c.args.lines.now - c.loop-line.line)) c.loop-line.invariant.2))
+    let next : suc (c.loop-line.line - 1) ≡ c.loop-line.line = omega arith in (
+      omega arith,
+      c.marks_below-mask.ensures.bits ∙ (ap (bits_on (marks_in _)) c.loop-line.invariant.1 ∙ sym (marks-line c.args.lines.now (c.loop-line.line - 1) c.loop-line.line _ next (omega arith))),
+      subst (λ (n : ℕ). c.marks_below-mask.result < 2 ^ n) e (c.marks_below-mask.ensures.low (8 * (length c.args.lines.now - c.loop-line.line)) c.loop-line.invariant.2),
+    )
 
 pub returns : goal.returns
 returns c = let none : c.loop-line.line ≡ 0 = omega arith in

@@ -10,7 +10,15 @@ use Rattle.onll_core.specs.declared.returned.Returned.{Returned}
 use Rattle.onll_core.specs.declared.local.Local.{Local}
 use Rattle.onll_core.specs.Core.{CoreThread, CoreState}
 use Rattle.onll_core.specs.CoreFrame.{seen_in}
-use Rattle.onll_core.specs.Step.{put, step_of}
+use Rattle.onll_pmem.specs.Device.{Write, WriteBack, after_step}
+use Rattle.onll_core.specs.declared.phase.Phase.{Phase}
+use Rattle.onll_core.specs.declared.phase.Phase.TheVariants as phases
+use Rattle.onll_model.specs.declared.call.Call.{Call}
+use Rattle.onll_model.specs.declared.call.Call.TheVariants.{Update, Ask}
+use Rattle.onll_core.specs.Step.{put, turned, begun, on_device, logged, line_of_entry, after_back, act, next_call, step_by, step_of}
+use Rattle.onll_core.specs.Next.{IsNext, IsUpdating}
+use Rattle.onll_core.specs.Ready.{FitsLog, MayWrite, MayWriteBack}
+use Rattle.onll_core.proofs.Ready.{line_fits, may_write, may_write_back, back_fits, fence_fits}
 use Rattle.onll_core.specs.Consistent.{IsConsistent}
 use Rattle.onll_core.specs.Kept.{IsLocal, AreLocal, HoldOwn, KeepsCore}
 use Rattle.onll_core.proofs.Kept.{step_consistent}
@@ -71,13 +79,59 @@ module _ {State Op Query Reply : Type 0} (b : Behaviour State Op Query Reply) (n
   pub of_thread : (P : CoreState State Op Query Reply → CoreThread State Op Query Reply → Type 0) → IfSome (slice_get now.threads t) (P now) → P c th
   of_thread P h = subst (λ (o : Option (CoreThread State Op Query Reply)). IfSome o (P c)) reads (subst (λ (s : CoreState State Op Query Reply). IfSome (slice_get s.threads t) (P s)) (sym view) h)
 
-  pub made_put : (f : CoreState State Op Query Reply → CoreThread State Op Query Reply → CoreThread State Op Query Reply) (w : CoreThread State Op Query Reply) → w ≡ f c th → (f c th).returned ≡ th.returned
-      → IfSome (slice_get now.threads t) (λ z. step_of b now t ≡ put now t (f now z)) → Made b nodes flags locals (record (put c t w) { clock = c.clock + 1 }) (step_of b now t)
-  made_put f w is same step =
-      let here : step_of b c t ≡ put c t (f c th) = of_thread (λ s z. step_of b s t ≡ put s t (f s z)) step in
-      let mine : step_of b c t ≡ put c t w = here ∙ ap (put c t) (sym is) in
+  -- the step changes this thread alone, and nothing of it returns
+  pub made_put : (w : CoreThread State Op Query Reply) → w.returned ≡ th.returned → step_of b c t ≡ put c t w → Made b nodes flags locals (record (put c t w) { clock = c.clock + 1 }) (step_of b now t)
+  made_put w same mine =
       let clock = set_clock (put c t w) c.clock refl in
       record {
-        kept = subst (KeepsCore b nodes flags locals) clock (kept_put b nodes flags locals c k t th reads w (ap (λ (z : CoreThread State Op Query Reply). z.returned) is ∙ same) mine);
+        kept = subst (KeepsCore b nodes flags locals) clock (kept_put b nodes flags locals c k t th reads w same mine);
         done = sym clock ∙ (sym mine ∙ ap (λ (s : CoreState State Op Query Reply). step_of b s t) view);
       }
+
+  -- what the thread does next
+  pub next_is : (call : Call State Op Query Reply) (ph : Phase) → IsNext now t call ph → (next_call th ≡ Some call) × (th.phase ≡ ph)
+  next_is call ph n =
+      let at : slice_get now.threads t ≡ Some th = subst (λ (s : CoreState State Op Query Reply). slice_get s.threads t ≡ Some th) view reads in
+      let same : n.thread ≡ th = same_some n.thread th (sym n.here ∙ at) in
+      subst (λ (z : CoreThread State Op Query Reply). (next_call z ≡ Some call) × (z.phase ≡ ph)) same (n.call_is, n.phase_is)
+
+  step_is : (call : Call State Op Query Reply) (ph : Phase) → IsNext now t call ph → step_of b c t ≡ act b c t th (Some call) ph
+  step_is call ph n = let h = next_is call ph n in
+      ap (step_by b c t) reads ∙ λ i. act b c t th (h.0 i) (h.1 i)
+
+  pub turn_made : (w : CoreThread State Op Query Reply) (ph : Phase) → w ≡ turned th ph → IfSome (slice_get now.threads t) (λ z. step_of b now t ≡ put now t (turned z ph))
+      → Made b nodes flags locals (record (put c t w) { clock = c.clock + 1 }) (step_of b now t)
+  turn_made w ph is step = made_put w (ap (λ (z : CoreThread State Op Query Reply). z.returned) is) (of_thread (λ s z. step_of b s t ≡ put s t (turned z ph)) step ∙ ap (put c t) (sym is))
+
+  pub begin_made : (w : CoreThread State Op Query Reply) (ph : Phase) → w ≡ begun th c.clock ph → IfSome (slice_get now.threads t) (λ z. step_of b now t ≡ put now t (begun z now.clock ph))
+      → Made b nodes flags locals (record (put c t w) { clock = c.clock + 1 }) (step_of b now t)
+  begin_made w ph is step = made_put w (ap (λ (z : CoreThread State Op Query Reply). z.returned) is) (of_thread (λ s z. step_of b s t ≡ put s t (begun z s.clock ph)) step ∙ ap (put c t) (sym is))
+
+  -- ---- the log
+  pub line_fits_here : (p d j : ℕ) → IsUpdating now t (phases.Line p d j) → FitsLog (length c.threads) c t th p d
+  line_fits_here p d j u = line_fits (length c.threads) c k.consistent t th reads p d j (next_is (Update u.op) (phases.Line p d j) u.next).1
+
+  pub may_write_here : (p d j : ℕ) → IsUpdating now t (phases.Line p d j) → MayWrite c th p d j
+  may_write_here p d j u = may_write (length c.threads) c k.consistent t th reads p d j (next_is (Update u.op) (phases.Line p d j) u.next).1
+
+  pub write_made : (p d j : ℕ) → (u : IsUpdating now t (phases.Line p d j)) → (line : List ℕ) → IfSome (slice_get now.threads t) (λ z. line ≡ line_of_entry z now.trace p d j)
+      → (w : CoreThread State Op Query Reply) → w ≡ on_device th (after_step th.device (Write (th.used + j) line)) (phases.Back p d j) → Made b nodes flags locals (record (put c t w) { clock = c.clock + 1 }) (step_of b now t)
+  write_made p d j u line is w e =
+      let same : line ≡ line_of_entry th c.trace p d j = of_thread (λ s z. line ≡ line_of_entry z s.trace p d j) is in
+      made_put w (ap (λ (z : CoreThread State Op Query Reply). z.returned) e)
+      (step_is (Update u.op) (phases.Line p d j) u.next ∙ ap (put c t) ((λ i. on_device th (after_step th.device (Write (th.used + j) (sym same i))) (phases.Back p d j)) ∙ sym e))
+
+  pub may_write_back_here : (p d j : ℕ) → IsUpdating now t (phases.Back p d j) → MayWriteBack th p d j
+  may_write_back_here p d j u = may_write_back (length c.threads) c k.consistent t th reads p d j (next_is (Update u.op) (phases.Back p d j) u.next).1
+
+  pub back_made : (p d j : ℕ) → (u : IsUpdating now t (phases.Back p d j)) → (ph : Phase) → ph ≡ after_back p d j
+      → (w : CoreThread State Op Query Reply) → w ≡ on_device th (after_step th.device (WriteBack (th.used + j))) ph → Made b nodes flags locals (record (put c t w) { clock = c.clock + 1 }) (step_of b now t)
+  back_made p d j u ph is w e = made_put w (ap (λ (z : CoreThread State Op Query Reply). z.returned) e)
+      (step_is (Update u.op) (phases.Back p d j) u.next ∙ ap (put c t) ((λ i. on_device th (after_step th.device (WriteBack (th.used + j))) (sym is i)) ∙ sym e))
+
+  pub fence_fits_here : (p d : ℕ) → IsUpdating now t (phases.Fence p d) → FitsLog (length c.threads) c t th p d
+  fence_fits_here p d u = fence_fits (length c.threads) c k.consistent t th reads p d (next_is (Update u.op) (phases.Fence p d) u.next).1
+
+  pub fence_made : (p d : ℕ) → (u : IsUpdating now t (phases.Fence p d)) → (w : CoreThread State Op Query Reply) → w ≡ logged th (p - d) (phases.Set p d)
+      → Made b nodes flags locals (record (put c t w) { clock = c.clock + 1 }) (step_of b now t)
+  fence_made p d u w e = made_put w (ap (λ (z : CoreThread State Op Query Reply). z.returned) e) (step_is (Update u.op) (phases.Fence p d) u.next ∙ ap (put c t) (sym e))

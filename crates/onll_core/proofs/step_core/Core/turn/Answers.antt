@@ -1,10 +1,9 @@
-use Rattle.std.proofs.Common.{refl, ◌≡◌}
-use Rattle.onll_core.specs.Step.{turned}
-use Rattle.onll_core.proofs.Closings.{made_put}
+use Rattle.std.proofs.Common.{◌≡◌, ◌+◌, ◌<◌, ◌≤◌, refl, arith}
+use Rattle.onll_core.proofs.Closings.{turn_made}
 use Rattle.onll_core.proofs.step_core.Core.turn.Goals as goal
 
 pub invariant_of-self : goal.invariant_of-self
-invariant_of-self g c = (made_put g.O.Object.means _ _ c.self.inside.locals.items _ c.self.invariant c.args.self.now c.self.view_is c.args.thread c.index_mut-worker.result.now c.requires.there c.index_mut-worker.ensures.value (λ s th. turned th c.args.phase) c.turn.new.self c.turn.ensures refl c.requires.step).kept
+invariant_of-self g c = (turn_made g.O.Object.means _ _ c.self.inside.locals.items _ c.self.invariant c.args.self.now c.self.view_is c.args.thread c.index_mut-worker.result.now c.requires.there c.index_mut-worker.ensures.value c.turn.new.self c.args.phase c.turn.ensures c.requires.step).kept
 
 pub returns : goal.returns
-returns g c = (made_put g.O.Object.means _ _ c.self.inside.locals.items _ c.self.invariant c.args.self.now c.self.view_is c.args.thread c.index_mut-worker.result.now c.requires.there c.index_mut-worker.ensures.value (λ s th. turned th c.args.phase) c.turn.new.self c.turn.ensures refl c.requires.step).done
+returns g c = (turn_made g.O.Object.means _ _ c.self.inside.locals.items _ c.self.invariant c.args.self.now c.self.view_is c.args.thread c.index_mut-worker.result.now c.requires.there c.index_mut-worker.ensures.value c.turn.new.self c.args.phase c.turn.ensures c.requires.step).done

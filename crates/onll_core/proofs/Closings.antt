@@ -95,7 +95,7 @@ module _ {State Op Query Reply : Type 0} (b : Behaviour State Op Query Reply) (n
       let same : n.thread ≡ th = same_some n.thread th (sym n.here ∙ at) in
       subst (λ (z : CoreThread State Op Query Reply). (next_call z ≡ Some call) × (z.phase ≡ ph)) same (n.call_is, n.phase_is)
 
-  step_is : (call : Call State Op Query Reply) (ph : Phase) → IsNext now t call ph → step_of b c t ≡ act b c t th (Some call) ph
+  pub step_is : (call : Call State Op Query Reply) (ph : Phase) → IsNext now t call ph → step_of b c t ≡ act b c t th (Some call) ph
   step_is call ph n = let h = next_is call ph n in
       ap (step_by b c t) reads ∙ λ i. act b c t th (h.0 i) (h.1 i)
 

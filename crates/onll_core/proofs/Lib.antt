@@ -12,3 +12,5 @@ pub mod Begin
 pub mod FirstCore
 pub mod Ready
 pub mod Stays
+pub mod Rows
+pub mod EntryLines

@@ -24,6 +24,16 @@ fn apply_rows<O: Object>(object: &mut O, nodes: &[Node])
     }
 }
 
+/// The nodes of the places above `below`, up to `place`.
+#[tactic(auto, using(crate::proofs::Replicas::window_is))]
+pub fn window(trace: &[Node], below: u64, place: u64) -> &[Node]
+    requires upward { below ≤ place }
+    requires within { place ≤ length trace.now }
+    ensures { result.now ≡ nodes_between trace.now below place }
+{
+    &trace[below as usize..place as usize]
+}
+
 /// What a thread has for itself: a replica of the object after the nodes of the trace up to a place, and how many nodes of
 /// the trace are its own.
 #[derive(Drop)]
@@ -40,10 +50,7 @@ impl<O: Object + Drop> Local<O> {
         requires within { place ≤ length trace.now }
         ensures { self.new ≡ moved O.means self.old trace.now place }
     {
-        apply_rows(
-            &mut self.object,
-            &trace[self.place as usize..place as usize],
-        );
+        apply_rows(&mut self.object, window(trace, self.place, place));
         self.place = place;
     }
 

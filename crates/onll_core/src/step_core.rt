@@ -12,7 +12,7 @@ ghost use Rattle.onll_core.specs.Consistent.{IsConsistent};
 ghost use Rattle.onll_core.specs.Next.{IsNext, IsUpdating};
 ghost use Rattle.onll_core.specs.Turns.{turns_of, current_in};
 
-use crate::local::Local;
+use crate::local::{Local, window};
 use crate::phase::Phase;
 use crate::returned::{Current, Returned, Stepped};
 use crate::worker::Worker;
@@ -338,7 +338,7 @@ impl<O: Object + Drop> Core<O> {
         ensures { IfSome (slice_get self.now.threads thread) (λ th. result.w ≡ line_of_entry th self.now.trace place below line) }
     {
         let worker = &self.workers[thread as usize];
-        let nodes = &self.trace[below as usize..place as usize];
+        let nodes = window(&self.trace, below, place);
         line_of_entry(worker.head(), worker.logged(), place, nodes, line)
     }
 
@@ -439,8 +439,9 @@ impl<O: Object + Drop> Core<O> {
         ensures { self.new ≡ step_of O.means self.old thread }
     {
         let front = self.trace.len() as u64;
-        if front <= self.base {
-            self.answer(thread, query, self.base, self.clock);
+        let (base, now) = (self.base, self.clock);
+        if front <= base {
+            self.answer(thread, query, base, now);
         } else {
             self.begin(thread, Phase::Ask { front, next: front });
         }
@@ -454,10 +455,11 @@ impl<O: Object + Drop> Core<O> {
         ensures { self.new ≡ step_of O.means self.old thread }
     {
         let began = self.began(thread);
+        let base = self.base;
         if is_available(&self.flags, next) {
             self.answer(thread, query, next, began);
-        } else if next <= self.base + 1 {
-            self.answer(thread, query, self.base, began);
+        } else if next <= base + 1 {
+            self.answer(thread, query, base, began);
         } else {
             self.turn(
                 thread,

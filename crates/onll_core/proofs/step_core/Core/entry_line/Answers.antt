@@ -1,17 +1,14 @@
-use Rattle.std.proofs.Common.{◌≡◌}
+use Rattle.std.proofs.Common.{◌≡◌, ◌+◌, ◌<◌, ◌≤◌, ◌∙◌, refl, sym, ap, arith}
+use Rattle.onll_core.proofs.Rows.{entry_format, entry_threads, entry_fits, entry_before, entry_number, entry_told}
+use Rattle.onll_model.specs.Segment.{nodes_between}
+use Rattle.onll_core.proofs.Closings.{line_fits_here}
 use Rattle.onll_core.proofs.step_core.Core.entry_line.Goals as goal
 
-pub offset_bounds-deref-below : goal.offset_bounds-deref-below
-offset_bounds-deref-below g c = ?
+pub window-nodes-requires-clause-upward : goal.window-nodes-requires-clause-upward
+window-nodes-requires-clause-upward g c = let h = (line_fits_here g.O.Object.means _ _ c.self.inside.locals.items _ c.self.invariant c.args.self.now c.self.view_is c.args.thread c.index-worker.result.now c.requires.there c.index-worker.ensures c.args.place c.args.below c.args.line c.requires.next).lower in omega arith
 
-pub slice_bounds-nodes-count : goal.slice_bounds-nodes-count
-slice_bounds-nodes-count g c = ?
-
-pub slice_bounds-nodes-start : goal.slice_bounds-nodes-start
-slice_bounds-nodes-start g c = ?
-
-pub slice_bounds-nodes-end : goal.slice_bounds-nodes-end
-slice_bounds-nodes-end g c = ?
+pub window-nodes-requires-clause-within : goal.window-nodes-requires-clause-within
+window-nodes-requires-clause-within g c = ?
 
 pub line_of_entry-requires-clause-format : goal.line_of_entry-requires-clause-format
 line_of_entry-requires-clause-format g c = ?

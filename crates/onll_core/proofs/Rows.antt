@@ -163,7 +163,7 @@ module _ {State Op Query Reply : Type 0} (b : Behaviour State Op Query Reply) (n
   now_is e step = sym e ∙ (sym step ∙ ap (λ (s : CoreState State Op Query Reply). step_of b s t) view)
 
   pub link_made : (op : Op) (l : ℕ) → IsNext now t (Update op) (phases.Exchange l) → length now.trace ≡ l → (trace : List Node) (fs : List Bool) (w : CoreThread State Op Query Reply) (nodes' flags' : ℕ)
-      → trace ≡ c.trace ++ record { thread = t; number = own.linked + 1; row = b.row_of op } ∷ [] → fs ≡ c.flags ++ false ∷ [] → (ph : Phase) → ph ≡ after_exchange c.base l → w ≡ turned th ph → nodes ≤ nodes' → flags ≤ flags'
+      → trace ≡ c.trace ++ record { thread = t; number = own.linked + 1; row = b.row_of op } ∷ [] → fs ≡ c.flags ++ false ∷ [] → (ph : Phase) → ph ≡ after_exchange c.base l → w ≡ turned th ph → nodes' ≡ nodes → flags' ≡ flags
       → Made b nodes' flags' (set locals t (record { object = own.object; place = own.place; linked = own.linked + 1 })) (record { initial = c.initial; base = c.base; trace = trace; flags = fs; clock = c.clock + 1; threads = set c.threads t w }) (step_of b now t)
   link_made op l n same trace fs w nodes' flags' trace_is flags_is ph ph_is w_is more_nodes more_flags =
       let x : Node = next_node c.trace t (b.row_of op) in
@@ -182,7 +182,7 @@ module _ {State Op Query Reply : Type 0} (b : Behaviour State Op Query Reply) (n
           (λ i. record { initial = c.initial; base = c.base; trace = trace_same i; flags = flags_same i; clock = clock i; threads = set c.threads t (w_same i) }) in
       let low : (u : ℕ) (v : CoreThread State Op Query Reply) → slice_get c.threads u ≡ Some v → (o : Local State Op Query Reply) → IsLocal b c u v o → o.place ≤ length c.trace
           = (λ u v e o h. let a = seen_low (length c.threads) c k.consistent u v e in let s = h.seen in omega arith) in
-      let kept : KeepsCore b nodes' flags' (set locals t own') new = kept_step b nodes flags locals c k t th at new w0 nodes' flags' (set locals t own') step refl more_nodes more_flags (length-set locals t own')
+      let kept : KeepsCore b nodes' flags' (set locals t own') new = kept_step b nodes flags locals c k t th at new w0 nodes' flags' (set locals t own') step refl (omega arith) (omega arith) (length-set locals t own')
           (λ o oe. let is : own' ≡ o = same_some own' o (sym (set_here locals t own' own own_at) ∙ oe) in
             subst (IsLocal b new t w0) is (record {
               state = is_local.state ∙ ap (state_after b c.initial) (sym (take_before c.trace (x ∷ []) own.place (low t th at own is_local)));
@@ -194,6 +194,9 @@ module _ {State Op Query Reply : Type 0} (b : Behaviour State Op Query Reply) (n
       record { kept = subst (KeepsCore b nodes' flags' (set locals t own')) all kept; done = now_is all step }
 
   -- ---- a call returns
+  pub running_here : (call : Call State Op Query Reply) (ph : Phase) → IsNext now t call ph → length th.returned < length th.script
+  running_here call ph n = inside th.script (length th.returned) call (next_is b nodes flags locals c k now view t th there read call ph n).0
+
   pub answer_made : (query : Query) (place began : ℕ) → IfSome (slice_get now.threads t) (λ z. step_of b now t ≡ answered b now t z began place query) → own.place ≤ place
       → (reply : Reply) (l : Local State Op Query Reply) (w : CoreThread State Op Query Reply)
       → reply ≡ b.answer (state_after b own.object (nodes_between c.trace own.place place)) query → l ≡ moved b own c.trace place → w ≡ returning th place reply began c.clock
@@ -291,6 +294,18 @@ module _ {State Op Query Reply : Type 0} (b : Behaviour State Op Query Reply) (n
       let l = next_local b nodes flags locals c k now view t (Update op) (phases.Set p d) n own mine in
       let s = l.seen in
       let u = set_unseen (length c.threads) c k.consistent t n.thread at p d n.phase_is in
+      omega arith
+
+  -- where a read is answered, the replica stands at or below
+  pub answer_ahead : (t : ℕ) → t < length now.threads → (own : Local State Op Query Reply) → own ≡ get_or locals t own → (place : ℕ) → IfSome (slice_get now.threads t) (λ z. seen_in now.base z.returned ≤ place) → own.place ≤ place
+  answer_ahead t there own mine place h =
+      let low : t < length c.threads = subst (λ (s : CoreState State Op Query Reply). t < length s.threads) (sym view) there in
+      let x = present c.threads t low in
+      let m = k.as_many in
+      let l = k.replicas t x.0 x.1 own (at_read locals t own (omega arith) mine) in
+      let seen = l.seen in
+      let unseen : seen_in c.base x.0.returned ≤ place = subst (λ (o : Option (CoreThread State Op Query Reply)). IfSome o (λ z. seen_in c.base z.returned ≤ place)) x.1
+          (subst (λ (s : CoreState State Op Query Reply). IfSome (slice_get s.threads t) (λ z. seen_in s.base z.returned ≤ place)) (sym view) h) in
       omega arith
 
   -- the numbers of a write-back

@@ -13,7 +13,7 @@ pub answer-requires-clause-running : goal.answer-requires-clause-running
 answer-requires-clause-running g c = if_running g.O.Object.means _ _ c.self.inside.locals.items _ c.self.invariant c.args.self.now c.self.view_is c.args.thread _ _ c.requires.next
 
 pub answer-requires-then-next-base-clause-unseen : goal.answer-requires-then-next-base-clause-unseen
-answer-requires-then-next-base-clause-unseen g c = ?
+answer-requires-then-next-base-clause-unseen g c = base_unseen g.O.Object.means _ _ c.self.inside.locals.items _ c.self.invariant c.args.self.now c.self.view_is c.args.thread c.args.query c.args.front c.args.next c.requires.next (sym (rw c.deref.ensures.value at c.is_available.ensures) ∙ c.if-is_available.false) c.if-next-base.true
 
 pub answer-requires-then-next-base-clause-running : goal.answer-requires-then-next-base-clause-running
 answer-requires-then-next-base-clause-running g c = if_running g.O.Object.means _ _ c.self.inside.locals.items _ c.self.invariant c.args.self.now c.self.view_is c.args.thread _ _ c.requires.next

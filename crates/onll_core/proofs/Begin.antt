@@ -1,9 +1,9 @@
-use Rattle.std.proofs.Common.{ℕ, zero, suc, ◌≡◌, ◌+◌, ◌*◌, ◌≤◌, inr, Bool, true, false, List, [], ◌∷◌, ◌++◌, length, map, take, drop, replicate, Option, Some, None, sym, refl, ap, ◌∙◌, subst, arith, count_by}
+use Rattle.std.proofs.Common.{ℕ, suc, ◌≡◌, ◌+◌, ◌*◌, ◌≤◌, inr, true, List, [], ◌∷◌, ◌++◌, length, map, take, drop, replicate, Some, None, sym, refl, ap, ◌∙◌, subst, arith, count_by}
 use Rattle.std.specs.List.{slice_get}
 use Rattle.onll_model.specs.declared.node.Node.{Node}
 use Rattle.onll_model.specs.Trace.{is_of_thread}
 use Rattle.onll_model.specs.Segment.{Segment}
-use Rattle.onll_model.specs.Frames.{Frame, Thread, resumed_thread, resumed_frame}
+use Rattle.onll_model.specs.Frames.{resumed_thread, resumed_frame}
 use Rattle.onll_model.specs.FrameLaws.{SoundOver}
 use Rattle.onll_model.proofs.Lists.{inside, present}
 use Rattle.onll_model.proofs.FirstFrames.{resumed_sound}

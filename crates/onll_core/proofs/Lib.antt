@@ -10,7 +10,10 @@ pub mod Closings
 pub mod Fences
 pub mod Begin
 pub mod FirstCore
+pub mod Created
 pub mod Ready
 pub mod Stays
 pub mod Rows
 pub mod EntryLines
+pub mod Crash
+pub mod Choices

@@ -1,17 +1,22 @@
-use Rattle.std.specs.Prelude.{ℕ, List}
+use Rattle.std.specs.Prelude.{ℕ, ◌≡◌, List, length, Some, slice_get}
 use Rattle.onll_model.specs.declared.call.Call.{Call}
 use Rattle.onll_model.specs.declared.node.Node.{Node}
 use Rattle.onll_model.specs.Object.{Behaviour}
 use Rattle.onll_model.specs.Segment.{Segment}
+use Rattle.onll_pmem.specs.Device.{IsImage}
 use Rattle.onll_log.specs.declared.head.LogHead.{LogHead}
-use Rattle.onll_core.specs.Core.{CoreState}
+use Rattle.onll_core.specs.Core.{CoreThread, CoreState}
+use Rattle.onll_core.specs.CoreFrame.{pending_in}
 use Rattle.onll_core.specs.Step.{step_of, steps_of}
 use Rattle.onll_core.specs.StepEvent.{event_of, IsEvent}
 use Rattle.onll_core.specs.First.{first_core, AreFirst}
+use Rattle.onll_core.specs.Created.{created_core, IsWithinLimits}
 use Rattle.onll_core.specs.Resumed.{resumed_core, AreResumed}
 use Rattle.onll_core.specs.Fences.{CountsFences}
 use Rattle.onll_core.specs.Entries.{EntriesAreFew}
 use Rattle.onll_core.specs.Consistent.{IsConsistent}
+use Rattle.onll_core.specs.Stays.{Stays}
+use Rattle.onll_core.specs.Crash.{HoldsFenced, AreImages, Survives}
 
 -- Laws of the step core, whatever the object and whatever threads take steps.
 
@@ -22,6 +27,13 @@ module _ (State Op Query Reply : Type 0) where
 
   abbrev pub FirstFencesLaw : Type 0
   FirstFencesLaw = (count : ℕ) (initial : State) (heads : List LogHead) (scripts : List (List (Call State Op Query Reply))) → AreFirst count heads scripts → CountsFences 1 (first_core initial heads scripts)
+
+  -- such as the one that is made of scripts within the limits
+  abbrev pub CreatedLaw : Type 0
+  CreatedLaw = (initial : State) (object : ℕ) (init : List ℕ) (scripts : List (List (Call State Op Query Reply))) → IsWithinLimits object scripts → IsConsistent (length scripts) (created_core initial object init scripts)
+
+  abbrev pub CreatedFencesLaw : Type 0
+  CreatedFencesLaw = (initial : State) (object : ℕ) (init : List ℕ) (scripts : List (List (Call State Op Query Reply))) → IsWithinLimits object scripts → CountsFences 1 (created_core initial object init scripts)
 
   -- so is that of a core that goes on, which has made none
   abbrev pub ResumedLaw : Type 0
@@ -35,6 +47,15 @@ module _ (State Op Query Reply : Type 0) where
   -- no fenced entry of a consistent core holds more nodes than there are threads
   abbrev pub EntriesLaw : Type 0
   EntriesLaw = (count : ℕ) (c : CoreState State Op Query Reply) → IsConsistent count c → EntriesAreFew count c
+
+  -- an image of a thread's device holds the fenced entries, and the one that is being written exactly where it is whole
+  abbrev pub TornLaw : Type 0
+  TornLaw = (count : ℕ) (c : CoreState State Op Query Reply) (t : ℕ) (th : CoreThread State Op Query Reply) (image : List (List ℕ)) → IsConsistent count c → slice_get c.threads t ≡ Some th → IsImage th.device image
+      → HoldsFenced th (pending_in c.trace th.phase) image
+
+  -- whatever images a crash leaves, their logs hold a front of the trace with every place at which a call returned
+  abbrev pub CrashLaw : Type 0
+  CrashLaw = (count : ℕ) (c : CoreState State Op Query Reply) (images : List (List (List ℕ))) → IsConsistent count c → AreImages c.threads images → Survives c images
 
 module _ {State Op Query Reply : Type 0} (b : Behaviour State Op Query Reply) where
   -- a step of a thread is its event
@@ -51,3 +72,7 @@ module _ {State Op Query Reply : Type 0} (b : Behaviour State Op Query Reply) wh
   -- steps keep the count of fences
   abbrev pub FencesLaw : Type 0
   FencesLaw = (before : ℕ) (c : CoreState State Op Query Reply) (ts : List ℕ) → CountsFences before c → CountsFences before (steps_of b c ts)
+
+  -- steps leave the initial state, the base, heads and scripts; they add nodes, flags and returned calls, and take none back
+  abbrev pub StaysLaw : Type 0
+  StaysLaw = (c : CoreState State Op Query Reply) (ts : List ℕ) → Stays c (steps_of b c ts)

@@ -9,9 +9,12 @@ pub mod Kept
 pub mod Next
 pub mod StepEvent
 pub mod Begin
+pub mod Created
 pub mod Resumed
 pub mod Fences
 pub mod Entries
 pub mod Laws
 pub mod Ready
 pub mod Stays
+pub mod Crash
+pub mod Choices

@@ -1,6 +1,6 @@
 //! What steps of a core keep, for every object and whatever threads take them.
 
-ghost use Rattle.onll_core.specs.Laws.{FirstLaw, FirstFencesLaw, ResumedLaw, ResumedFencesLaw, StepEventLaw, StepLaw, StepsLaw, FencesLaw, EntriesLaw};
+ghost use Rattle.onll_core.specs.Laws.{FirstLaw, FirstFencesLaw, CreatedLaw, CreatedFencesLaw, ResumedLaw, ResumedFencesLaw, StepEventLaw, StepLaw, StepsLaw, StaysLaw, FencesLaw, EntriesLaw, TornLaw, CrashLaw};
 
 use onll_model::Object;
 
@@ -12,6 +12,7 @@ pub fn step_event_law<O: Object>()
 /// The first state of a core is consistent, of one that begins anew and of one that goes on; each step keeps it so.
 pub fn consistency_law<O: Object>()
     ensures first { FirstLaw O O.Op O.Query O.Reply }
+    ensures created { CreatedLaw O O.Op O.Query O.Reply }
     ensures resumed { ResumedLaw O O.Op O.Query O.Reply }
     ensures step { StepLaw O.means }
     ensures steps { StepsLaw O.means }
@@ -20,7 +21,20 @@ pub fn consistency_law<O: Object>()
 /// An update fences once and a read never, and no entry holds more nodes than there are threads.
 pub fn fence_law<O: Object>()
     ensures first { FirstFencesLaw O O.Op O.Query O.Reply }
+    ensures created { CreatedFencesLaw O O.Op O.Query O.Reply }
     ensures resumed { ResumedFencesLaw O O.Op O.Query O.Reply }
     ensures fences { FencesLaw O.means }
     ensures entries { EntriesLaw O O.Op O.Query O.Reply }
+{}
+
+/// Steps take nothing back: nodes stay where they are, a flag that is set stays set, and so do returned calls.
+pub fn stays_law<O: Object>()
+    ensures { StaysLaw O.means }
+{}
+
+/// Whatever images a crash leaves of a consistent core, their logs hold a front of its trace, and in it the base and every
+/// place at which a call returned. A torn entry is not there, and what is left of it can be wiped.
+pub fn crash_law<O: Object>()
+    ensures torn { TornLaw O O.Op O.Query O.Reply }
+    ensures crash { CrashLaw O O.Op O.Query O.Reply }
 {}

@@ -8,7 +8,7 @@ mod returned;
 mod step_core;
 mod worker;
 
-pub use laws::{consistency_law, fence_law, step_event_law};
+pub use laws::{consistency_law, crash_law, fence_law, stays_law, step_event_law};
 pub use phase::Phase;
 pub use returned::{Current, Returned, Stepped};
 pub use step_core::Core;

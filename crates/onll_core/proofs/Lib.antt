@@ -17,3 +17,5 @@ pub mod Rows
 pub mod EntryLines
 pub mod Crash
 pub mod Choices
+pub mod Plays
+pub mod Firsts

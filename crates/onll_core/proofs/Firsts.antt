@@ -98,7 +98,7 @@ module _ {State Op Query Reply : Type 0} (b : Behaviour State Op Query Reply) (i
       let no_nodes : [] ≡ trace = sym t.0 in
       let no_flags : [] ≡ fs = sym f.0 in
       subst (λ (x : ℕ × ℕ × List (Local State Op Query Reply) × List Node × List Bool × List (CoreThread State Op Query Reply)). KeepsCore b x.0 x.1 x.2 (record { initial = initial; base = 0; trace = x.3; flags = x.4; clock = 0; threads = x.5 }))
-          (λ i. (room i, flag_room i, os i, no_nodes i, no_flags i, ws i)) first_keeps
+      (λ i. (room i, flag_room i, os i, no_nodes i, no_flags i, ws i)) first_keeps
 
 -- scripts that the code holds
 pub within_limits : {State Op Query Reply A : Type 0} (f : A → List (Call State Op Query Reply)) (object : ℕ) (scripts : List A) → (1 ≤ object) × (object ≤ 4) → length scripts ≤ 16 → All (λ (s : A). updates_in (f s) ≤ 4096) scripts → IsWithinLimits object (map f scripts)

@@ -70,12 +70,12 @@ module _ {State Op Query Reply : Type 0} (b : Behaviour State Op Query Reply) (c
       let long : List Node = c.trace ++ x ∷ [] in
       let w : CoreThread State Op Query Reply = turned th (after_exchange c.base l) in
       set_own long w (λ op' p' call' own'.
-          let same : op ≡ op' = (let e : Some (Update op) ≡ Some (Update op') = sym call ∙ call' in cc) in
-          let place : l + 1 ≡ p' = same_some (l + 1) p' (sym (exchange_place c.base l) ∙ own') in
-          let here : suc (length c.trace) ≡ p' = omega arith in
-          let h : Holds b long (suc (length c.trace)) op = record { node = x; here = at_end c.trace x; row = b.op_of_its_row op } in
-          subst (λ (o : Op). Holds b long p' o) same (subst (λ (q : ℕ). Holds b long q op) here h))
-        (λ u v e op' p' call' own'. holds_more b c.trace (x ∷ []) p' op' (k u v e op' p' call' own'))
+      let same : op ≡ op' = (let e : Some (Update op) ≡ Some (Update op') = sym call ∙ call' in cc) in
+      let place : l + 1 ≡ p' = same_some (l + 1) p' (sym (exchange_place c.base l) ∙ own') in
+      let here : suc (length c.trace) ≡ p' = omega arith in
+      let h : Holds b long (suc (length c.trace)) op = record { node = x; here = at_end c.trace x; row = b.op_of_its_row op } in
+      subst (λ (o : Op). Holds b long p' o) same (subst (λ (q : ℕ). Holds b long q op) here h))
+      (λ u v e op' p' call' own'. holds_more b c.trace (x ∷ []) p' op' (k u v e op' p' call' own'))
 
   update_own : (op : Op) → next_call th ≡ Some (Update op) → (ph : Phase) → th.phase ≡ ph → HoldOwn b (act b c t th (Some (Update op)) ph)
   update_own op call phases.Idle is = rests (begun th c.clock (phases.Exchange (length c.trace))) refl

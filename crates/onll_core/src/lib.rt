@@ -3,8 +3,8 @@
 
 mod crash_laws;
 mod laws;
-mod outcomes;
 mod local;
+mod outcomes;
 mod phase;
 mod returned;
 mod step_core;

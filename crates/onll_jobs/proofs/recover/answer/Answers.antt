@@ -1,9 +1,7 @@
-use Rattle.std.proofs.lemmas.Result.{IfOk-weaker}
 use Rattle.onll_text.specs.Init.{init_of}
-use Rattle.onll_jobs.specs.Job.{JobSays}
 use Rattle.onll_jobs.specs.Images.{reading_images}
-use Rattle.onll_jobs.specs.RecoverJob.{recover_any, recover_job}
-use Rattle.onll_jobs.proofs.Jobs.{read_whole_on, stopped_whole}
+use Rattle.onll_jobs.specs.RecoverJob.{recover_any}
+use Rattle.onll_jobs.proofs.Jobs.{stopped_whole}
 use Rattle.onll_jobs.proofs.recover.answer.Goals as goal
 
 pub returns-in-Err-clause-says : goal.returns-in-Err-clause-says

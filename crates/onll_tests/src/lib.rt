@@ -11,6 +11,8 @@ mod hostile_inits;
 #[cfg(test)]
 mod hostile_scripts;
 #[cfg(test)]
+mod images;
+#[cfg(test)]
 mod large;
 #[cfg(test)]
 mod leases;
@@ -18,5 +20,9 @@ mod leases;
 mod maps;
 #[cfg(test)]
 mod queues;
+#[cfg(test)]
+mod recovers;
+#[cfg(test)]
+mod shows;
 #[cfg(test)]
 mod worked;

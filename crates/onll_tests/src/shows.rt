@@ -1,0 +1,180 @@
+use crate::calls::Program;
+use crate::images::{
+    BOTH_AT_2, DEPOSIT_5, DEPOSIT_7, FULL, HEAD_1, Image, LEASE_HEAD, OLD_BOTH_AT_2, OLD_HEAD_1,
+    ONE_AT_2, ONE_HEAD, ONE_MAP_HEAD, ONES, PUT, PUT_AT_1, QUEUE_HEAD, SECOND, SECOND_AT_2, ZERO,
+};
+use std::test::Fail;
+
+/// An image, and how `show` of it ends.
+struct Shown<'a> {
+    name: &'a str,
+    image: Image<'a>,
+    status: u8,
+    output: &'a str,
+}
+
+const SHOWS: &[Shown<'static>] = &[
+    Shown {
+        name: "a log of two updates",
+        image: Image {
+            name: "out.1",
+            lines: &[HEAD_1, BOTH_AT_2, DEPOSIT_5, DEPOSIT_7],
+            length: 256,
+        },
+        status: 0,
+        output: "log thread 1 threads 2 object bank\nentry 1 place 2 count 2\nrow 1 0 1 1 0 5 0 0 0 0\nrow 2 1 1 1 1 7 0 0 0 0\nentries 1 lines 4\n",
+    },
+    Shown {
+        name: "a log of two updates and lines that are left",
+        image: Image {
+            name: "out.1",
+            lines: &[
+                HEAD_1, BOTH_AT_2, DEPOSIT_5, DEPOSIT_7, ZERO, ZERO, ZERO, ZERO,
+            ],
+            length: 512,
+        },
+        status: 0,
+        output: "log thread 1 threads 2 object bank\nentry 1 place 2 count 2\nrow 1 0 1 1 0 5 0 0 0 0\nrow 2 1 1 1 1 7 0 0 0 0\nentries 1 lines 4\n",
+    },
+    Shown {
+        name: "the same in format 1",
+        image: Image {
+            name: "out.1",
+            lines: &[OLD_HEAD_1, OLD_BOTH_AT_2, DEPOSIT_5, DEPOSIT_7],
+            length: 256,
+        },
+        status: 0,
+        output: "log thread 1 threads 2 object bank\nentry 1 place 2 count 2\nrow 1 0 1 1 0 5 0 0 0 0\nrow 2 1 1 1 1 7 0 0 0 0\nentries 1 lines 4\n",
+    },
+    Shown {
+        name: "a head whose entry was not fenced",
+        image: Image {
+            name: "out.1",
+            lines: &[HEAD_1, ZERO, ZERO, ZERO, ZERO, ZERO, ZERO, ZERO],
+            length: 512,
+        },
+        status: 0,
+        output: "log thread 1 threads 2 object bank\nentries 0 lines 1\n",
+    },
+    Shown {
+        name: "bytes after the last whole line",
+        image: Image {
+            name: "out.1",
+            lines: &[HEAD_1, BOTH_AT_2, DEPOSIT_5, DEPOSIT_7, FULL],
+            length: 300,
+        },
+        status: 0,
+        output: "log thread 1 threads 2 object bank\nentry 1 place 2 count 2\nrow 1 0 1 1 0 5 0 0 0 0\nrow 2 1 1 1 1 7 0 0 0 0\nentries 1 lines 4\n",
+    },
+    Shown {
+        name: "two entries",
+        image: Image {
+            name: "out.1",
+            lines: &[ONE_HEAD, ONE_AT_2, DEPOSIT_5, SECOND_AT_2, SECOND],
+            length: 320,
+        },
+        status: 0,
+        output: "log thread 0 threads 1 object bank\nentry 1 place 2 count 1\nrow 2 0 1 1 0 5 0 0 0 0\nentry 2 place 2 count 1\nrow 2 0 2 1 0 5 0 0 0 0\nentries 2 lines 5\n",
+    },
+    Shown {
+        name: "a map",
+        image: Image {
+            name: "out.1",
+            lines: &[ONE_MAP_HEAD, PUT_AT_1, PUT],
+            length: 192,
+        },
+        status: 0,
+        output: "log thread 0 threads 1 object map\nentry 1 place 1 count 1\nrow 1 0 1 1 6989586621679009792 0 1 8646911284551352320 0 1\nentries 1 lines 3\n",
+    },
+    Shown {
+        name: "a queue",
+        image: Image {
+            name: "out.1",
+            lines: &[QUEUE_HEAD],
+            length: 64,
+        },
+        status: 0,
+        output: "log thread 0 threads 1 object queue\nentries 0 lines 1\n",
+    },
+    Shown {
+        name: "a lease table",
+        image: Image {
+            name: "out.1",
+            lines: &[LEASE_HEAD],
+            length: 64,
+        },
+        status: 0,
+        output: "log thread 0 threads 1 object lease\nentries 0 lines 1\n",
+    },
+    Shown {
+        name: "zeros",
+        image: Image {
+            name: "out.1",
+            lines: &[ZERO],
+            length: 64,
+        },
+        status: 0,
+        output: "empty\n",
+    },
+    Shown {
+        name: "an empty file",
+        image: Image {
+            name: "out.1",
+            lines: &[],
+            length: 0,
+        },
+        status: 4,
+        output: "not a log\n",
+    },
+    Shown {
+        name: "bytes of 1",
+        image: Image {
+            name: "out.1",
+            lines: &[ONES],
+            length: 64,
+        },
+        status: 4,
+        output: "not a log\n",
+    },
+    Shown {
+        name: "less than one line",
+        image: Image {
+            name: "out.1",
+            lines: &[ZERO],
+            length: 63,
+        },
+        status: 4,
+        output: "not a log\n",
+    },
+];
+
+#[test]
+fn images_of_logs(rt: HostRuntime) -> Result<(), Fail> {
+    for case in SHOWS {
+        let bytes = case.image.bytes(rt.alloc())?;
+        let program = Program {
+            words: &["show", "out.1"],
+            files: &[("out.1", &bytes)],
+            failing_calls: &[],
+            failing_puts: &[],
+        };
+        program
+            .run(rt.alloc())?
+            .expect(&rt, case.name, case.status, case.output);
+    }
+    Ok(())
+}
+
+#[test]
+fn an_image_that_is_not_there(rt: HostRuntime) -> Result<(), Fail> {
+    let program = Program {
+        words: &["show", "out.1"],
+        files: &[],
+        failing_calls: &[],
+        failing_puts: &[],
+    };
+    program
+        .run(rt.alloc())?
+        .expect(&rt, "no image", 5, "read fault out.1\n");
+    Ok(())
+}

@@ -1,10 +1,10 @@
-use Rattle.std.proofs.Common.{ℕ, zero, suc, ◌≡◌, ◌≢◌, ◌+◌, ◌*◌, ◌-◌, ◌<◌, ◌≤◌, Bool, false, List, [], ◌∷◌, ◌++◌, length, take, map, set, get_or, replicate, Option, Some, None, sym, refl, ap, ◌∙◌, subst, arith, append_assoc}
+use Rattle.std.proofs.Common.{ℕ, zero, suc, ◌≡◌, ◌+◌, ◌*◌, ◌≤◌, Bool, List, [], ◌∷◌, ◌++◌, length, map, replicate, Some, sym, refl, ap, ◌∙◌, subst, arith, append_assoc}
 use Rattle.std.specs.List.{slice_get, All}
 use Rattle.std.proofs.lemmas.List.{length-set, length-replicate, length-map}
 use Rattle.std.proofs.lemmas.List.Elements.{All-head, All-tail}
 use Rattle.onll_model.specs.declared.call.Call.{Call}
 use Rattle.onll_model.specs.Object.{Behaviour}
-use Rattle.onll_model.proofs.Lists.{same_some, some_not_none, all_from}
+use Rattle.onll_model.proofs.Lists.{same_some, some_not_none}
 use Rattle.std.specs.List.{AllByRecursion}
 use Rattle.onll_pmem.specs.Device.{zero_lines}
 use Rattle.onll_pmem.specs.Memory.{MemoryState}
@@ -19,7 +19,7 @@ use Rattle.onll_core.specs.Created.{heads_from, created_core, IsWithinLimits}
 use Rattle.onll_model.specs.declared.node.Node.{Node}
 use Rattle.onll_core.specs.Consistent.{IsConsistent}
 use Rattle.onll_core.proofs.Windows.{threads_count}
-use Rattle.onll_core.specs.Kept.{own_place, KeepsWorker, IsLocal, HoldOwn, KeepsCore}
+use Rattle.onll_core.specs.Kept.{own_place, KeepsWorker, IsLocal, KeepsCore}
 use Rattle.onll_core.proofs.Created.{created_consistent}
 
 -- What the code of a core keeps before any step.

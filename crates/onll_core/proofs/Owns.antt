@@ -1,5 +1,5 @@
 use Rattle.std.proofs.Common.{ℕ, zero, suc, ◌≡◌, ◌≢◌, ◌+◌, ◌-◌, ◌<◌, ◌≤◌, ◌⊎◌, inl, inr, ⊎_elim, Bool, true, false, List, [], ◌∷◌, ◌++◌, length, take, drop, set, Option, Some, None, sym, refl, ap, ◌∙◌, subst, arith}
-use Rattle.std.specs.Prelude.{◌==◌, nat_le, if◌then◌else◌}
+use Rattle.std.specs.Prelude.{nat_le, if◌then◌else◌}
 use Rattle.std.specs.List.{slice_get}
 use mathlib.Core.Logic.{dite}
 use native.Mathlib.Decide.{ℕ_discrete}
@@ -7,7 +7,7 @@ use Rattle.onll_model.specs.declared.node.Node.{Node}
 use Rattle.onll_model.specs.declared.call.Call.{Call}
 use Rattle.onll_model.specs.declared.call.Call.TheVariants.{Update, Ask}
 use Rattle.onll_model.specs.Object.{Behaviour}
-use Rattle.onll_model.specs.Trace.{node_at, reply_after, answer_after}
+use Rattle.onll_model.specs.Trace.{reply_after, answer_after}
 use Rattle.onll_model.specs.Frames.{is_available}
 use Rattle.onll_model.specs.Events.{next_node}
 use Rattle.onll_model.proofs.Lists.{same_some, some_not_none, inside, at_set, at_before, at_end}
@@ -15,7 +15,7 @@ use Rattle.onll_pmem.specs.Device.{Write, WriteBack, after_step}
 use Rattle.onll_core.specs.declared.phase.Phase.{Phase}
 use Rattle.onll_core.specs.declared.phase.Phase.TheVariants as phases
 use Rattle.onll_core.specs.Core.{CoreThread, CoreState}
-use Rattle.onll_core.specs.Step.{turned, begun, on_device, logged, returning, put, linked, flagged, answered, line_of_entry, after_exchange, after_flag, after_back, act, next_call, step_by, step_of}
+use Rattle.onll_core.specs.Step.{turned, begun, on_device, logged, returning, put, linked, answered, line_of_entry, after_exchange, after_flag, after_back, act, next_call, step_by, step_of}
 use Rattle.onll_core.specs.Kept.{own_place, Holds, HoldOwn}
 
 -- An update that has a place holds its operation there, after every step.

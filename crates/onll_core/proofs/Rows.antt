@@ -1,5 +1,5 @@
-use Rattle.std.proofs.Common.{ℕ, zero, suc, ◌≡◌, ◌≢◌, ◌+◌, ◌-◌, ◌*◌, ◌<◌, ◌≤◌, ◌⊎◌, inl, inr, ⊎_elim, max, Bool, true, false, true≢false, List, [], ◌∷◌, ◌++◌, length, take, drop, set, get_or, Option, Some, None, sym, refl, ap, ◌∙◌, subst, arith, eq-eqb, length-append}
-use Rattle.std.specs.Prelude.{IfSome, ◌==◌, if◌then◌else◌, count_by}
+use Rattle.std.proofs.Common.{ℕ, zero, suc, ◌≡◌, ◌≢◌, ◌+◌, ◌-◌, ◌*◌, ◌<◌, ◌≤◌, Bool, true, false, true≢false, List, [], ◌∷◌, ◌++◌, length, take, drop, set, get_or, Option, Some, sym, refl, ap, ◌∙◌, subst, arith, eq-eqb, length-append}
+use Rattle.std.specs.Prelude.{IfSome, if◌then◌else◌, count_by}
 use Rattle.std.specs.List.{slice_get}
 use Rattle.std.proofs.lemmas.List.{length-set, take-append-drop}
 use mathlib.Core.Logic.{dite}
@@ -10,10 +10,10 @@ use Rattle.onll_model.specs.declared.call.Call.{Call}
 use Rattle.onll_model.specs.declared.call.Call.TheVariants.{Update, Ask}
 use Rattle.onll_model.specs.Object.{Behaviour}
 use Rattle.onll_model.specs.Segment.{nodes_between}
-use Rattle.onll_model.specs.Trace.{node_at, is_of_thread, state_after, after_row, reply_after, answer_after}
-use Rattle.onll_model.specs.Frames.{is_available, Frame, Thread, Follows, open_place}
+use Rattle.onll_model.specs.Trace.{is_of_thread, state_after, after_row, reply_after, answer_after}
+use Rattle.onll_model.specs.Frames.{is_available, Thread, Follows}
 use Rattle.onll_model.specs.Events.{next_node}
-use Rattle.onll_model.proofs.Lists.{at_set, same_some, inside, present, set_here, set_else, take_before, all_append}
+use Rattle.onll_model.proofs.Lists.{same_some, inside, present, set_here, set_else, take_before, all_append}
 use Rattle.onll_model.proofs.States.{state_after-append}
 use Rattle.onll_model.proofs.Traces.{count_own, count_other}
 use Rattle.onll_model.proofs.FrameParts.{in_trace}
@@ -23,11 +23,11 @@ use Rattle.onll_core.specs.declared.returned.Returned.{Returned}
 use Rattle.onll_core.specs.declared.local.Local.{Local}
 use Rattle.onll_core.specs.Core.{CoreThread, CoreState}
 use Rattle.onll_core.specs.CoreFrame.{seen_in, frame_of, frame_thread, thread_at, activity_in}
-use Rattle.onll_core.specs.Step.{put, turned, linked, flagged, returning, answered, after_exchange, act, next_call, step_by, step_of}
+use Rattle.onll_core.specs.Step.{put, turned, linked, flagged, returning, answered, after_exchange, step_of}
 use Rattle.onll_core.specs.Next.{IsNext, IsUpdating}
 use Rattle.onll_core.specs.Consistent.{IsConsistent}
 use Rattle.onll_core.specs.Kept.{IsLocal, AreLocal, HoldOwn, Holds, KeepsCore, moved}
-use Rattle.onll_core.specs.Ready.{MayLink, MaySet, MayLook}
+use Rattle.onll_core.specs.Ready.{MayLink, MaySet}
 use Rattle.onll_core.proofs.CoreFrames.{part_at}
 use Rattle.onll_core.proofs.Windows.{few_in_all, few_of_thread}
 use Rattle.onll_pmem.specs.Device.{line_at, FillsWords}

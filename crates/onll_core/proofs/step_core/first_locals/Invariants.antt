@@ -1,4 +1,4 @@
-use Rattle.std.proofs.Common.{◌≡◌, ◌≤◌, replicate}
+use Rattle.std.proofs.Common.{◌≡◌, replicate}
 use Rattle.std.specs.Vec.{vec_capacity}
 use Rattle.onll_core.proofs.step_core.first_locals.Given as goal
 

@@ -1,4 +1,4 @@
-use Rattle.std.proofs.Common.{◌≡◌, ◌+◌, ◌-◌, ◌≤◌, ◌∙◌, arith}
+use Rattle.std.proofs.Common.{◌+◌, ◌-◌, ◌∙◌, arith}
 use Rattle.onll_core.proofs.Plays.{done_run, run_more}
 use Rattle.onll_core.proofs.step_core.Core.run.Goals as goal
 

@@ -1,6 +1,5 @@
-use Rattle.std.proofs.Common.{◌≡◌, ◌≤◌, ◌+◌, ◌*◌, ◌∙◌, length, arith}
+use Rattle.std.proofs.Common.{◌≤◌, ◌+◌, ◌*◌, arith}
 use Rattle.std.specs.Vec.{vec_capacity}
-use Rattle.onll_core.specs.Tie.{updates_in}
 use Rattle.onll_core.proofs.Firsts.{first_worker, lines_few}
 use Rattle.onll_core.proofs.worker.Worker.new.Goals as goal
 

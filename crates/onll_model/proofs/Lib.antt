@@ -12,8 +12,8 @@ pub mod FrameLinks
 pub mod EventLaw
 pub mod FirstFrames
 pub mod Ends
-pub mod Placed
 pub mod StepLaw
 pub mod Looks
 pub mod StandOrder
 pub mod FrameExample
+pub mod Placed

@@ -627,7 +627,9 @@ impl<O: Object + Drop> Core<O> {
     pub fn play(&mut self, turns: &[Turn])
         requires there { All (λ turn. turn.thread < length self.old.threads) turns.now }
         requires time { self.old.clock + sum_by (λ turn. turn.count) turns.now < 2 ^ 64 }
-        ensures { self.new ≡ steps_of O.means self.old (turns_of turns.now) }
+        ensures steps { self.new ≡ steps_of O.means self.old (turns_of turns.now) }
+        ensures clock { self.new.clock ≤ self.old.clock + sum_by (λ turn. turn.count) turns.now }
+        ensures threads { length self.new.threads ≡ length self.old.threads }
     {
         for turn in turns {
             self.run(turn.thread, turn.count);

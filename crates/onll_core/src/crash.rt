@@ -82,7 +82,10 @@ fn recover_images(
     ensures { MatchResult result (λ v. merge_images heads.now (map (λ image. words_of image.items) images.now) ≡ Ok v.items) (λ e. (e ≡ Recover OutOfMemory) ⊎ (merge_images heads.now (map (λ image. words_of image.items) images.now) ≡ Err e)) }
 {
     let logs = decode_all(alloc, images)?;
-    recover(alloc, &logs, heads).map_err(|fault| ImagesFault::Recover(fault))
+    match recover(alloc, &logs, heads) {
+        Ok(nodes) => Ok(nodes),
+        Err(fault) => Err(ImagesFault::Recover(fault)),
+    }
 }
 
 impl<O: Object + Drop> Core<O> {

@@ -34,6 +34,14 @@ logs_merge heads images logs e =
     ap (λ (o : Option ImagesFault). option_map_or (λ (fault : ImagesFault). Err fault) o (of_logs (merge heads (contents_of images)))) (all_logs 0 images logs e)
     ∙ ap (λ (l : List Content). of_logs (merge heads l)) (their_contents images logs e)
 
+pub logs_give : (heads : List LogHead) (images : List (List (List ℕ))) (logs : List Content) (nodes : List Node) → map content_of images ≡ map Some logs → merge heads logs ≡ Ok nodes → merge_images heads images ≡ Ok nodes
+logs_give heads images logs nodes e m = logs_merge heads images logs e ∙ ap of_logs m
+
+-- or want of memory
+pub logs_refuse : (heads : List LogHead) (images : List (List (List ℕ))) (logs : List Content) (fault : RecoverFault) → map content_of images ≡ map Some logs → (fault ≡ NoMemory) ⊎ (merge heads logs ≡ Err fault)
+    → (Recover fault ≡ Recover NoMemory) ⊎ (merge_images heads images ≡ Err (Recover fault))
+logs_refuse heads images logs fault e h = ⊎_elim (λ (a : fault ≡ NoMemory). inl (ap Recover a)) (λ (m : merge heads logs ≡ Err fault). inr (logs_merge heads images logs e ∙ ap of_logs m)) h
+
 pub no_log : (heads : List LogHead) (images : List (List (List ℕ))) (fault : ImagesFault) → not_log 0 images ≡ Some fault → merge_images heads images ≡ Err fault
 no_log heads images fault e = ap (λ (o : Option ImagesFault). option_map_or (λ (f : ImagesFault). Err f) o (of_logs (merge heads (contents_of images)))) e
 

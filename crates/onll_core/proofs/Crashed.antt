@@ -132,7 +132,10 @@ some_same [] (y ∷ ys) e = absurd (cc)
 some_same (x ∷ xs) [] e = absurd (cc)
 some_same (x ∷ xs) (y ∷ ys) e = let a : Some x ≡ Some y = (cc) in let b : map Some xs ≡ map Some ys = (cc) in let here = same_some x y a in let rest = some_same xs ys b in λ i. here i ∷ rest i
 
--- so what images of a core give is what is recovered, or want of memory
+pub recovered_by : {State Op Query Reply : Type 0} (heads : List LogHead) (c : CoreState State Op Query Reply) (images : List (List (List ℕ))) (r : Recovers heads c images) (logs : List Content) → map content_of images ≡ map Some logs → merge heads logs ≡ Ok r.nodes
+recovered_by heads c images r logs e = ap (merge heads) (some_same logs r.logs (sym e ∙ r.contents)) ∙ r.recovered
+
+-- what code gives for images of a core is what is recovered, or want of memory
 pub own_images : {State Op Query Reply V : Type 0} (items : V → List Node) (count : ℕ) (c : CoreState State Op Query Reply) (images : List (List (List ℕ))) (heads : List LogHead) → IsConsistent count c → heads ≡ heads_of c.threads
     → (result : Result V ImagesFault) → MatchResult result (λ v. merge_images heads images ≡ Ok (items v)) (λ e. (e ≡ Recover NoMemory) ⊎ (merge_images heads images ≡ Err e)) → AreImages c.threads images
     → (r : Recovers (heads_of c.threads) c images) × MatchResult result (λ v. items v ≡ r.nodes) (λ e. e ≡ Recover NoMemory)
@@ -146,6 +149,3 @@ pub own_crash : {State Op Query Reply V E : Type 0} (lines : V → List (List (L
     → (result : Result V E) → IfOk result (λ v. lines v ≡ images_of keep ths) → IfOk result (λ v. AreImages c.threads (lines v))
 own_crash lines count c keep ths k same (Ok v) h = subst (λ (images : List (List (List ℕ))). AreImages c.threads images) (sym (h ∙ ap (images_of keep) same)) (picked_images count c keep k)
 own_crash lines count c keep ths k same (Err e) h = tt
-
-pub recovered_by : {State Op Query Reply : Type 0} (heads : List LogHead) (c : CoreState State Op Query Reply) (images : List (List (List ℕ))) (r : Recovers heads c images) (logs : List Content) → map content_of images ≡ map Some logs → merge heads logs ≡ Ok r.nodes
-recovered_by heads c images r logs e = ap (merge heads) (some_same logs r.logs (sym e ∙ r.contents)) ∙ r.recovered

@@ -1,4 +1,4 @@
-use Rattle.std.proofs.Common.{ℕ, zero, suc, ◌≡◌, ◌≤◌, ◌⊎◌, inl, inr, ⊎_elim, List, [], ◌∷◌, ◌++◌, length, map, take, Some, Ok, option_to_list, sym, refl, ap, ◌∙◌, subst, arith}
+use Rattle.std.proofs.Common.{ℕ, zero, suc, ◌≡◌, ◌≤◌, ◌⊎◌, inl, inr, ⊎_elim, List, [], ◌∷◌, ◌++◌, length, map, take, Some, Result, Ok, Err, IfOk, MatchResult, option_to_list, sym, refl, ap, ◌∙◌, subst, arith}
 use Rattle.std.proofs.lemmas.List.{length-take-le}
 use Rattle.std.specs.List.{AllByRecursion, slice_get}
 use Rattle.onll_model.specs.declared.node.Node.{Node}
@@ -11,6 +11,11 @@ use Rattle.onll_log.specs.Grammar.{Content, content_of}
 use Rattle.onll_log.specs.Torn.{Holds}
 use Rattle.onll_merge.specs.Merge.{merge, top_of}
 use Rattle.onll_merge.specs.FrameLogs.{AreLogsOf}
+use Rattle.onll_merge.specs.declared.fault.RecoverFault.TheVariants.{NoMemory}
+use Rattle.onll_merge.specs.declared.fault.ImagesFault.{ImagesFault}
+use Rattle.onll_merge.specs.declared.fault.ImagesFault.TheVariants.{Recover}
+use Rattle.onll_merge.specs.Images.{merge_images}
+use Rattle.onll_merge.proofs.Images.{logs_give, merged_only}
 use Rattle.onll_merge.proofs.FrameLogs.{merge_to_front}
 use Rattle.onll_core.specs.declared.returned.Returned.{Returned}
 use Rattle.onll_core.specs.Core.{CoreThread, CoreState}
@@ -129,3 +134,18 @@ some_same (x ∷ xs) (y ∷ ys) e = let a : Some x ≡ Some y = (cc) in let b : 
 
 pub recovered_by : {State Op Query Reply : Type 0} (heads : List LogHead) (c : CoreState State Op Query Reply) (images : List (List (List ℕ))) (r : Recovers heads c images) (logs : List Content) → map content_of images ≡ map Some logs → merge heads logs ≡ Ok r.nodes
 recovered_by heads c images r logs e = ap (merge heads) (some_same logs r.logs (sym e ∙ r.contents)) ∙ r.recovered
+
+-- what code gives for images of a core is what is recovered, or want of memory
+pub own_images : {State Op Query Reply V : Type 0} (items : V → List Node) (count : ℕ) (c : CoreState State Op Query Reply) (images : List (List (List ℕ))) (heads : List LogHead) → IsConsistent count c → heads ≡ heads_of c.threads
+    → (result : Result V ImagesFault) → MatchResult result (λ v. merge_images heads images ≡ Ok (items v)) (λ e. (e ≡ Recover NoMemory) ⊎ (merge_images heads images ≡ Err e)) → AreImages c.threads images
+    → (r : Recovers (heads_of c.threads) c images) × MatchResult result (λ v. items v ≡ r.nodes) (λ e. e ≡ Recover NoMemory)
+own_images items count c images heads k same result h a =
+    let r = recovers count c images k a in
+    let e : merge_images heads images ≡ Ok r.nodes = ap (λ (hs : List LogHead). merge_images hs images) same ∙ logs_give (heads_of c.threads) images r.logs r.nodes r.contents r.recovered in
+    (r, merged_only items (merge_images heads images) r.nodes e result h)
+
+-- and a crash leaves images of it
+pub own_crash : {State Op Query Reply V E : Type 0} (lines : V → List (List (List ℕ))) (count : ℕ) (c : CoreState State Op Query Reply) (keep : ℕ) (ths : List (CoreThread State Op Query Reply)) → IsConsistent count c → ths ≡ c.threads
+    → (result : Result V E) → IfOk result (λ v. lines v ≡ images_of keep ths) → IfOk result (λ v. AreImages c.threads (lines v))
+own_crash lines count c keep ths k same (Ok v) h = subst (λ (images : List (List (List ℕ))). AreImages c.threads images) (sym (h ∙ ap (images_of keep) same)) (picked_images count c keep k)
+own_crash lines count c keep ths k same (Err e) h = tt

@@ -1,6 +1,7 @@
 //! The step core: a model of single atomic steps on which every interleaving of threads is one list of turns.
 #![tactic(auto)]
 
+mod crash;
 mod crash_laws;
 mod laws;
 mod local;

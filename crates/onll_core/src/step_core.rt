@@ -227,6 +227,12 @@ impl<O: Object + Drop> Core<O> {
         self.workers.len() as u64
     }
 
+    pub(crate) fn workers(&self) -> &[Worker<O>]
+        ensures { result.now ≡ self.now.threads }
+    {
+        &self.workers
+    }
+
     /// The object before the first node.
     pub fn initial(&self) -> &O
         ensures { result.now ≡ self.now.initial }

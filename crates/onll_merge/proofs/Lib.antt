@@ -4,3 +4,4 @@ pub mod Fronts
 pub mod Backs
 pub mod FrameLogs
 pub mod Resumed
+pub mod Images

@@ -3,3 +3,4 @@ pub mod Passed
 pub mod Laws
 pub mod FrameLogs
 pub mod Resumed
+pub mod Images

@@ -30,3 +30,14 @@ pub enum RecoverFault {
     /// Memory ran out.
     NoMemory,
 }
+
+/// Why images were not merged. The first of these that stands is answered, in this order.
+#[derive(Clone, Copy, Debug, PartialEq, Eq)]
+pub enum ImagesFault {
+    /// An image is no log: the first such one, numbered from 0.
+    NotLog {
+        log: u64,
+    },
+    /// All images are logs, and these were not merged; or memory ran out.
+    Recover(RecoverFault),
+}

@@ -13,7 +13,7 @@ mod numbers;
 #[cfg(test)]
 mod tests;
 
-pub use fault::RecoverFault;
+pub use fault::{ImagesFault, RecoverFault};
 pub use merge::recover;
 
 /// Logs that hold one trace merge to a front of it that has each of their places, and logs that merge hold the trace

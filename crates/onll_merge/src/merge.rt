@@ -16,7 +16,7 @@ pub fn recover(
     logs: &[Decoded],
     heads: &[LogHead],
 ) -> Result<Vec<Node>, RecoverFault>
-    requires logs { (1 ≤ length logs.now) × (length logs.now ≤ 16) }
+    requires logs { length logs.now ≤ 16 }
     requires heads { length heads.now ≡ length logs.now }
     ensures { MatchResult result (λ v. merge heads.now (contents_in logs.now) ≡ Ok v.items) (λ e. (e ≡ NoMemory) ⊎ (merge heads.now (contents_in logs.now) ≡ Err e)) }
 {

@@ -1,9 +1,11 @@
-//! Tests that cross the crates: all of them call the program through its top call, over files and an
+//! Tests that cross the crates: most of them call the program through its top call, over files and an
 //! output in memory. There is nothing here to be called.
 #![tactic(auto)]
 
 #[cfg(test)]
 mod calls;
+#[cfg(test)]
+mod crashes;
 #[cfg(test)]
 mod faults;
 #[cfg(test)]

@@ -1,0 +1,120 @@
+ghost use Rattle.std.specs.Prelude.{◌≡◌, ◌≤◌, ◌⊎◌, length, map, Some, None, Ok, Err, IfOk, MatchResult};
+ghost use Rattle.onll_pmem.specs.Pmem.{words_of};
+ghost use Rattle.onll_log.specs.Grammar.{content_of};
+ghost use Rattle.onll_log.specs.Decoded.{content_in};
+ghost use Rattle.onll_merge.specs.Merge.{contents_in};
+ghost use Rattle.onll_merge.specs.Images.{not_log, merge_images};
+ghost use Rattle.onll_merge.specs.declared.fault.RecoverFault.TheVariants.{NoMemory as OutOfMemory};
+ghost use Rattle.onll_merge.specs.declared.fault.ImagesFault.TheVariants.{NotLog, Recover};
+ghost use Rattle.onll_core.specs.Crash.{AreImages, images_of, heads_of, Recovers};
+
+use crate::step_core::Core;
+use crate::worker::Worker;
+use onll_log::{DecodeFault, Decoded, LogHead, decode};
+use onll_merge::{ImagesFault, RecoverFault, recover};
+use onll_model::{Node, Object};
+use onll_words::{Line, NoMemory};
+use std::alloc::{AllocError, Global};
+
+/// An image of each thread's device.
+fn images_of<O: Object>(
+    alloc: Global,
+    workers: &[Worker<O>],
+    keep: u64,
+) -> Result<Vec<Vec<Line>>, NoMemory>
+    ensures { IfOk result (λ images. map (λ image. words_of image.items) images.items ≡ images_of keep workers.now) }
+{
+    let mut images = Vec::new(alloc);
+    for worker in workers {
+        let image = worker.device().image(alloc, keep)?;
+        images.push(image).map_err(|_| NoMemory)?;
+    }
+    Ok(images)
+}
+
+/// The head of each thread's log.
+fn heads_of<O: Object>(
+    alloc: Global,
+    workers: &[Worker<O>],
+) -> Result<Vec<LogHead>, AllocError>
+    ensures { IfOk result (λ heads. heads.items ≡ heads_of workers.now) }
+{
+    let mut heads = Vec::with_capacity(alloc, workers.len())?;
+    for worker in workers {
+        heads.push(worker.head())?;
+    }
+    Ok(heads)
+}
+
+/// What the image of this number holds.
+fn decode_one(alloc: Global, log: u64, image: &[Line]) -> Result<Decoded, ImagesFault>
+    ensures { MatchResult result (λ d. content_of (words_of image.now) ≡ Some (content_in d)) (λ e. (e ≡ Recover OutOfMemory) ⊎ ((content_of (words_of image.now) ≡ None) × (e ≡ NotLog log))) }
+{
+    match decode(alloc, image) {
+        Ok(decoded) => Ok(decoded),
+        Err(DecodeFault::NotLog) => Err(ImagesFault::NotLog { log }),
+        Err(DecodeFault::NoMemory) => Err(ImagesFault::Recover(RecoverFault::NoMemory)),
+    }
+}
+
+/// What all images hold.
+fn decode_all(alloc: Global, images: &[Vec<Line>]) -> Result<Vec<Decoded>, ImagesFault>
+    ensures { MatchResult result (λ logs. map content_of (map (λ image. words_of image.items) images.now) ≡ map Some (contents_in logs.items)) (λ e. (e ≡ Recover OutOfMemory) ⊎ (not_log 0 (map (λ image. words_of image.items) images.now) ≡ Some e)) }
+{
+    let mut logs = Vec::new(alloc);
+    for (log, image) in images.iter().enumerate() {
+        let decoded = decode_one(alloc, log as u64, image)?;
+        if logs.push(decoded).is_err() {
+            return Err(ImagesFault::Recover(RecoverFault::NoMemory));
+        }
+    }
+    Ok(logs)
+}
+
+/// The nodes that images hold as logs with these heads.
+fn recover_images(
+    alloc: Global,
+    heads: &[LogHead],
+    images: &[Vec<Line>],
+) -> Result<Vec<Node>, ImagesFault>
+    requires few { length images.now ≤ 16 }
+    requires heads { length heads.now ≡ length images.now }
+    ensures { MatchResult result (λ v. merge_images heads.now (map (λ image. words_of image.items) images.now) ≡ Ok v.items) (λ e. (e ≡ Recover OutOfMemory) ⊎ (merge_images heads.now (map (λ image. words_of image.items) images.now) ≡ Err e)) }
+{
+    let logs = decode_all(alloc, images)?;
+    match recover(alloc, &logs, heads) {
+        Ok(nodes) => Ok(nodes),
+        Err(fault) => Err(ImagesFault::Recover(fault)),
+    }
+}
+
+impl<O: Object + Drop> Core<O> {
+    /// What a crash leaves: one image for each thread's device, in each of which this number picks the pending words that
+    /// are kept.
+    pub fn crash(&self, alloc: Global, keep: u64) -> Result<Vec<Vec<Line>>, NoMemory>
+        ensures exact { IfOk result (λ images. map (λ image. words_of image.items) images.items ≡ images_of keep self.now.threads) }
+        ensures own { IfOk result (λ images. AreImages self.now.threads (map (λ image. words_of image.items) images.items)) }
+    {
+        self.consistent();
+        images_of(alloc, self.workers(), keep)
+    }
+
+    /// The nodes that images hold as logs with this core's heads, one image for each thread. Images of this core's devices
+    /// are refused only for want of memory, and what they hold is a front of the trace up to the place of each returned
+    /// call, or further.
+    pub fn recover_from(
+        &self,
+        alloc: Global,
+        images: &[Vec<Line>],
+    ) -> Result<Vec<Node>, ImagesFault>
+        requires { length images.now ≡ length self.now.threads }
+        ensures all { MatchResult result (λ v. merge_images (heads_of self.now.threads) (map (λ image. words_of image.items) images.now) ≡ Ok v.items) (λ e. (e ≡ Recover OutOfMemory) ⊎ (merge_images (heads_of self.now.threads) (map (λ image. words_of image.items) images.now) ≡ Err e)) }
+        ensures own { AreImages self.now.threads (map (λ image. words_of image.items) images.now) → (r : Recovers (heads_of self.now.threads) self.now (map (λ image. words_of image.items) images.now)) × MatchResult result (λ v. v.items ≡ r.nodes) (λ e. e ≡ Recover OutOfMemory) }
+    {
+        self.consistent();
+        match heads_of(alloc, self.workers()) {
+            Ok(heads) => recover_images(alloc, &heads, images),
+            Err(_) => Err(ImagesFault::Recover(RecoverFault::NoMemory)),
+        }
+    }
+}

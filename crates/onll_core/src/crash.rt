@@ -33,10 +33,7 @@ fn images_of<O: Object>(
 }
 
 /// The head of each thread's log.
-fn heads_of<O: Object>(
-    alloc: Global,
-    workers: &[Worker<O>],
-) -> Result<Vec<LogHead>, AllocError>
+fn heads_of<O: Object>(alloc: Global, workers: &[Worker<O>]) -> Result<Vec<LogHead>, AllocError>
     ensures { IfOk result (λ heads. heads.items ≡ heads_of workers.now) }
 {
     let mut heads = Vec::with_capacity(alloc, workers.len())?;

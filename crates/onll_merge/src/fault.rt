@@ -35,9 +35,7 @@ pub enum RecoverFault {
 #[derive(Clone, Copy, Debug, PartialEq, Eq)]
 pub enum ImagesFault {
     /// An image is no log: the first such one, numbered from 0.
-    NotLog {
-        log: u64,
-    },
+    NotLog { log: u64 },
     /// All images are logs, and these were not merged; or memory ran out.
     Recover(RecoverFault),
 }

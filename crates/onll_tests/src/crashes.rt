@@ -36,11 +36,7 @@ fn steps(core: &mut Core<Bank>, thread: u64, count: u64) {
 }
 
 /// How many nodes are recovered of these images, or why none are.
-fn recovered(
-    alloc: Global,
-    core: &Core<Bank>,
-    images: &[Vec<Line>],
-) -> Result<u64, ImagesFault> {
+fn recovered(alloc: Global, core: &Core<Bank>, images: &[Vec<Line>]) -> Result<u64, ImagesFault> {
     if images.len() as u64 != core.threads() {
         return Err(ImagesFault::NotLog { log: u64::MAX });
     }
@@ -95,10 +91,16 @@ fn images_that_are_refused(rt: HostRuntime) -> Result<(), Fail> {
     if images.len() == 2 {
         images[1] = vec![in alloc; Line { w: [1; 8] }]?;
     }
-    assert_eq!(rt; recovered(alloc, &core, &images), Err(ImagesFault::NotLog { log: 1 }));
+    assert_eq!(rt;
+        recovered(alloc, &core, &images),
+        Err(ImagesFault::NotLog { log: 1 })
+    );
     if images.len() == 2 {
         images[0] = Vec::new(alloc);
     }
-    assert_eq!(rt; recovered(alloc, &core, &images), Err(ImagesFault::NotLog { log: 0 }));
+    assert_eq!(rt;
+        recovered(alloc, &core, &images),
+        Err(ImagesFault::NotLog { log: 0 })
+    );
     Ok(())
 }

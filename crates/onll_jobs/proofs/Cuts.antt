@@ -1,12 +1,18 @@
-use Rattle.std.proofs.lemmas.List.{take_all}
-use Rattle.std.proofs.Common.{ℕ, zero, suc, Bool, true, false, List, [], ◌∷◌, ◌≡◌, ◌+◌, ◌≤◌, length, take, arith, inl, inr, Option, Some, None, refl, sym, ap, ◌∙◌}
+use Rattle.std.proofs.lemmas.List.{take_all, length-take-le}
+use Rattle.std.proofs.lemmas.Bool.{cases_lt}
+use Rattle.std.proofs.lemmas.Bool.Decides.{nat_tests}
+use Rattle.std.proofs.Common.{ℕ, zero, suc, Bool, true, false, List, [], ◌∷◌, ◌≡◌, ◌+◌, ◌≤◌, length, take, arith, inl, inr, Option, Some, None, Result, Ok, Err, nat_lt, cond, ◌<◌, refl, sym, ap, ◌∙◌, subst}
 use Rattle.onll_outside.specs.Views.{StoreView, IsFront, Gives}
 use Rattle.onll_log.specs.ImageFile.{longest_image, whole_lines, image_lines}
 use Rattle.onll_text.specs.Wording.{Wording}
 use Rattle.onll_text.specs.Script.{longest_text, script_of}
-use Rattle.onll_text.specs.Init.{init_of}
+use Rattle.onll_text.specs.Init.{init_of, init_of_lines}
 use Rattle.onll_text.proofs.Whole.{init_of-take, script_of-take}
-use Rattle.onll_jobs.specs.Reading.{IsCut, HoldsImage}
+use Rattle.onll_words.specs.Texts.{meaningful_lines}
+use Rattle.onll_text.specs.declared.any_object.AnyObject.{AnyObject}
+use Rattle.onll_text.specs.declared.reason.Reason.TheVariants.{TooLong}
+use Rattle.onll_text.specs.Refusal.{Refusal, refused}
+use Rattle.onll_jobs.specs.Reading.{Holds, IsCut, ReadsWhole, HoldsImage}
 
 -- what a store that tells its files gives
 told : (s : StoreView) (name text : List ℕ) (found : Option (List ℕ)) → s.file name ≡ found → IsFront (longest_text + 1) found text → IsCut s name text
@@ -33,6 +39,31 @@ script_of-cut w s name text c = elim c.cut [
   | inl whole ↦ ap (script_of w) (sym whole)
   | inr front ↦ sym (script_of-take w c.bytes) ∙ ap (script_of w) (sym front)
 ]
+
+within : {A : Type 0} (m n : ℕ) (r : Refusal) (x : Result A Refusal) (v : A) → cond (nat_lt m n) (Err r) x ≡ Ok v → n ≤ m
+within m n r x v h = elim (cases_lt m n) [
+  | inl more ↦
+      let long : nat_lt m n ≡ true = grind (arith, nat_tests) in
+      let e : Err r ≡ Ok v = sym (ap (λ t. cond t (Err r) x) long) ∙ h in
+      (cc)
+  | inr few ↦ few
+]
+
+front_whole : (m : ℕ) (text bytes : List ℕ) → length text ≤ m → text ≡ take (m + 1) bytes → bytes ≡ text
+front_whole m text bytes h e = elim (cases_lt (m + 1) (length bytes)) [
+  | inl more ↦ absurd (omega (arith, ap length e, length-take-le (m + 1) bytes (omega arith)))
+  | inr few ↦ sym (e ∙ take_all (m + 1) bytes few)
+]
+
+-- an accepted text is the whole file
+pub init_whole : (s : StoreView) (name text : List ℕ) (object : AnyObject) (c : IsCut s name text) → init_of text ≡ Ok object → ReadsWhole s init_of name text object
+init_whole s name text object c h = record { held = subst (Holds s name) same c.held; accepted = h }
+  where
+    same : c.bytes ≡ text
+    same = elim c.cut [
+      | inl whole ↦ sym whole
+      | inr front ↦ front_whole longest_text text c.bytes (within longest_text (length text) (refused 0 TooLong) (init_of_lines (meaningful_lines text)) object h) front
+    ]
 
 -- an image read up to its limit has the lines of the whole file
 image_lines-take : (bytes : List ℕ) → image_lines (take longest_image bytes) ≡ image_lines bytes

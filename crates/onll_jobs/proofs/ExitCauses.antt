@@ -1,4 +1,4 @@
-use Rattle.std.proofs.Common.{ℕ, zero, suc, List, ◌≡◌, ◌⊎◌, inl, inr, Option, Some, None, refl, sym, ap, ◌∙◌, subst, arith}
+use Rattle.std.proofs.Common.{ℕ, zero, suc, List, ◌≡◌, ◌⊎◌, inl, inr, Option, Some, None, Result, Ok, Err, refl, sym, ap, ◌∙◌, subst, arith}
 use Rattle.onll_outside.specs.Views.{Puts}
 use Rattle.onll_text.specs.declared.any_object.AnyObject.{AnyObject}
 use Rattle.onll_text.specs.declared.any_object.AnyObject.TheVariants as objects
@@ -21,15 +21,19 @@ use Rattle.onll_jobs.specs.declared.ending.Ending.TheVariants.{Done, Usage, Refu
 use Rattle.onll_jobs.specs.declared.ending.Exit.{Exit}
 use Rattle.onll_jobs.specs.declared.ending.Exit.TheVariants.{Said, SinkFault, NoMemory}
 use Rattle.onll_jobs.specs.Seen.{Seen}
-use Rattle.onll_jobs.specs.Command.{Form, Fold, Show, form_of}
+use Rattle.onll_jobs.specs.Command.{Form, Fold, Show, Recover, form_of}
 use Rattle.onll_jobs.specs.Printed.{usage_text, status_of, exit_status}
 use Rattle.onll_jobs.specs.Job.{Say, JobSays, Never, Decides}
 use Rattle.onll_log.specs.Grammar.{Content, content_of}
 use Rattle.onll_log.specs.ImageFile.{image_lines}
 use Rattle.onll_jobs.specs.ShowJob.{shown}
+use Rattle.onll_jobs.specs.declared.bad_logs.LogsFault.{LogsFault}
+use Rattle.onll_jobs.specs.Images.{reading_images}
+use Rattle.onll_jobs.specs.RecoverJob.{Recovered, recovered, found_says, recover_any}
 use Rattle.onll_jobs.specs.FoldJob.{script_job, script_job_on, fold_job}
 use Rattle.onll_jobs.specs.Says.{job_of, PutWhole, OutOfMemory, SinkFailed, ExitSays, NoneRose, SaysThis}
-use Rattle.onll_jobs.proofs.Jobs.{decided, never_says, reading_never}
+use Rattle.onll_jobs.proofs.Jobs.{decided, never_says, reading_never, reading_whole_never}
+use Rattle.onll_jobs.proofs.ImageFiles.{reading_images_never}
 
 -- the ending of a status
 ending_at : ℕ → Ending
@@ -95,10 +99,23 @@ content_never : (content : Option Content) → Never Usage (shown content)
 content_never None = λ e. cc
 content_never (Some content) = λ e. cc
 
+found_never : {State Op Query Reply : Type 0} (b : Behaviour State Op Query Reply) (w : Wording State Op Query Reply) (s : State) (r : Result Recovered LogsFault) → Never Usage (found_says b w s r)
+found_never b w s (Ok r) = λ e. cc
+found_never b w s (Err fault) = λ e. cc
+
+recover_never : (init : List ℕ) (object : AnyObject) (images : List (List (List ℕ))) → Never Usage (recover_any init object images)
+recover_never init (objects.Bank s) images = found_never bank bank_wording s (recovered bank 1 init images)
+recover_never init (objects.Map s) images = found_never map_object map_wording s (recovered map_object 2 init images)
+recover_never init (objects.Queue s) images = found_never queue queue_wording s (recovered queue 3 init images)
+recover_never init (objects.Lease s) images = found_never lease lease_wording s (recovered lease 4 init images)
+
 -- words of a form never get the usage text
 form_never : (form : Form) → Never Usage (job_of (Some form))
 form_never (Fold init script) = reading_never init init_of (script_job_on script) (script_never script)
 form_never (Show image) = λ bytes. content_never (content_of (image_lines bytes))
+form_never (Recover init logs threads) =
+    reading_whole_never init init_of (λ bytes object. reading_images logs 0 threads (recover_any bytes object))
+    (λ bytes object. reading_images_never logs threads 0 (recover_any bytes object) (recover_never bytes object))
 
 usage_put : (w : Seen) (form : Option Form) → form_of w.words ≡ form → PutWhole w Usage → (form ≡ None) × Puts w.sink w.sink_after usage_text
 usage_put w None e h = (refl, subst (Puts w.sink w.sink_after) (subst (λ f. JobSays w.store w.store_after (job_of f) Usage h.text) e h.allowed).1 h.put)

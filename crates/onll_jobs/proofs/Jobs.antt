@@ -10,8 +10,8 @@ use Rattle.onll_jobs.specs.declared.answer.Stop.{Stop}
 use Rattle.onll_jobs.specs.declared.answer.Stop.TheVariants as stops
 use Rattle.onll_jobs.specs.Stop.{StopSays}
 use Rattle.onll_jobs.specs.Printed.{refusal_text}
-use Rattle.onll_jobs.specs.Reading.{Holds, IsTold, Reads, Unread, CannotRead, Stops}
-use Rattle.onll_jobs.specs.Job.{Job, Say, Read, JobSays, Decides, Never, on_value, reading}
+use Rattle.onll_jobs.specs.Reading.{Holds, IsTold, ReadsWhole, Unread, CannotRead, Stops}
+use Rattle.onll_jobs.specs.Job.{Job, Say, Read, JobSays, Decides, Never, on_value, reading, reading_whole}
 
 -- a told file holds its bytes alone
 held_bytes : (store : StoreView) (name bytes found : List ℕ) → IsTold store name bytes → Holds store name found → found ≡ bytes
@@ -38,7 +38,7 @@ never_says store after (Say e t) text never h = never (sym h.0)
 never_says store after (Read name next) text never (inl h) = h
 never_says store after (Read name next) text never (inr h) = never_says store after (next h.0) text (never h.0) h.1.1
 
-cannot_from : (store mid after : StoreView) (name : List ℕ) (ending : Ending) (text : List ℕ) → SameFaults store mid → CannotRead mid after name ending text → CannotRead store after name ending text
+pub cannot_from : (store mid after : StoreView) (name : List ℕ) (ending : Ending) (text : List ℕ) → SameFaults store mid → CannotRead mid after name ending text → CannotRead store after name ending text
 cannot_from store mid after name Done text same h = h
 cannot_from store mid after name Usage text same h = h
 cannot_from store mid after name Refused text same h = h
@@ -52,34 +52,53 @@ says_from store mid after (Read name next) ending text files faults (inl h) = in
 says_from store mid after (Read name next) ending text files faults (inr h) =
     inr (h.0, ((λ tells. sym (files.file name) ∙ h.1.0 (files.tells ∙ tells)), says_from store mid after (next h.0) ending text files faults h.1.1))
 
--- a text was read, and the job went on with its value
-pub read_on : {A : Type 0} (store mid after : StoreView) (name : List ℕ) (grammar : List ℕ → Result A Refusal) (next : A → Job) (value : A) (ending : Ending) (text : List ℕ)
-    → Reads store grammar name value → SameFiles store mid → SameFaults store mid → JobSays mid after (next value) ending text → JobSays store after (reading name grammar next) ending text
-read_on store mid after name grammar next value ending text r files faults h =
-    inr (r.bytes, (r.held, subst (λ v. JobSays store after (on_value name next v) ending text) (sym r.accepted) (says_from store mid after (next value) ending text files faults h)))
+-- a text was read, and the job went on with its bytes and its value
+pub read_whole_on : {A : Type 0} (store mid after : StoreView) (name : List ℕ) (grammar : List ℕ → Result A Refusal) (next : List ℕ → A → Job) (bytes : List ℕ) (value : A) (ending : Ending) (text : List ℕ)
+    → ReadsWhole store grammar name bytes value → SameFiles store mid → SameFaults store mid → JobSays mid after (next bytes value) ending text → JobSays store after (reading_whole name grammar next) ending text
+read_whole_on store mid after name grammar next bytes value ending text r files faults h =
+    inr (bytes, (r.held, subst (λ v. JobSays store after (on_value name (next bytes) v) ending text) (sym r.accepted) (says_from store mid after (next bytes value) ending text files faults h)))
+
+-- with its value alone
+pub read_on : {A : Type 0} (store mid after : StoreView) (name : List ℕ) (grammar : List ℕ → Result A Refusal) (next : A → Job) (bytes : List ℕ) (value : A) (ending : Ending) (text : List ℕ)
+    → ReadsWhole store grammar name bytes value → SameFiles store mid → SameFaults store mid → JobSays mid after (next value) ending text → JobSays store after (reading name grammar next) ending text
+read_on store mid after name grammar next bytes value ending text r files faults h =
+    read_whole_on store mid after name grammar (λ _. next) bytes value ending text r files faults h
 
 -- the reading of a text ended the call
-pub read_stopped : {A : Type 0} (store after : StoreView) (name : List ℕ) (grammar : List ℕ → Result A Refusal) (next : A → Job) (ending : Ending) (text : List ℕ)
-    → Stops store after grammar name ending text → JobSays store after (reading name grammar next) ending text
+read_stopped : {A : Type 0} (store after : StoreView) (name : List ℕ) (grammar : List ℕ → Result A Refusal) (next : List ℕ → A → Job) (ending : Ending) (text : List ℕ)
+    → Stops store after grammar name ending text → JobSays store after (reading_whole name grammar next) ending text
 read_stopped store after name grammar next Done text h = absurd h
 read_stopped store after name grammar next Usage text h = absurd h
 read_stopped store after name grammar next Refused text h =
-    inr (h.bytes, (h.held, subst (λ v. JobSays store after (on_value name next v) Refused text) (sym h.outside) (refl, h.line)))
+    inr (h.bytes, (h.held, subst (λ v. JobSays store after (on_value name (next h.bytes) v) Refused text) (sym h.outside) (refl, h.line)))
 read_stopped store after name grammar next BadLog text h = absurd h
 read_stopped store after name grammar next ReadFault text h = inl h
 
+-- what is said of the stop is said of the answer
+pub stopped_says : (s : Stop) (r : Result Answer NoMemory) (P Q : Ending → List ℕ → Type 0) → ((e : Ending) (t : List ℕ) → P e t → Q e t)
+    → MatchResult r (λ answer. s ≡ stops.Says answer) (λ e. s ≡ stops.NoMemory) → StopSays s P → IfOk r (λ answer. Q answer.ending answer.text.items)
+stopped_says s (Ok answer) P Q f m h = f answer.ending answer.text.items (subst (λ z. StopSays z P) m h)
+stopped_says s (Err e) P Q f m h = tt
+
 -- what was said in its place
+pub stopped_whole : {A : Type 0} (store after : StoreView) (name : List ℕ) (grammar : List ℕ → Result A Refusal) (next : List ℕ → A → Job) (s : Stop) (r : Result Answer NoMemory)
+    → MatchResult r (λ answer. s ≡ stops.Says answer) (λ e. s ≡ stops.NoMemory) → StopSays s (Stops store after grammar name)
+    → IfOk r (λ answer. JobSays store after (reading_whole name grammar next) answer.ending answer.text.items)
+stopped_whole store after name grammar next s r m h =
+    stopped_says s r (Stops store after grammar name) (JobSays store after (reading_whole name grammar next)) (λ e t. read_stopped store after name grammar next e t) m h
+
 pub stopped : {A : Type 0} (store after : StoreView) (name : List ℕ) (grammar : List ℕ → Result A Refusal) (next : A → Job) (s : Stop) (r : Result Answer NoMemory)
     → MatchResult r (λ answer. s ≡ stops.Says answer) (λ e. s ≡ stops.NoMemory) → StopSays s (Stops store after grammar name)
     → IfOk r (λ answer. JobSays store after (reading name grammar next) answer.ending answer.text.items)
-stopped store after name grammar next s (Ok answer) m h =
-    read_stopped store after name grammar next answer.ending answer.text.items (subst (λ z. StopSays z (Stops store after grammar name)) m h)
-stopped store after name grammar next s (Err e) m h = tt
+stopped store after name grammar next s r m h = stopped_whole store after name grammar (λ _. next) s r m h
 
 -- a job that reads a text and goes on so never says the usage
-pub reading_never : {A : Type 0} (name : List ℕ) (grammar : List ℕ → Result A Refusal) (next : A → Job) → ((value : A) → Never Usage (next value)) → Never Usage (reading name grammar next)
-reading_never {A = A} name grammar next f bytes = by (grammar bytes)
+pub reading_whole_never : {A : Type 0} (name : List ℕ) (grammar : List ℕ → Result A Refusal) (next : List ℕ → A → Job) → ((bytes : List ℕ) (value : A) → Never Usage (next bytes value)) → Never Usage (reading_whole name grammar next)
+reading_whole_never {A = A} name grammar next f bytes = by (grammar bytes)
   where
-    by : (r : Result A Refusal) → Never Usage (on_value name next r)
-    by (Ok value) = f value
+    by : (r : Result A Refusal) → Never Usage (on_value name (next bytes) r)
+    by (Ok value) = f bytes value
     by (Err refusal) = λ e. cc
+
+pub reading_never : {A : Type 0} (name : List ℕ) (grammar : List ℕ → Result A Refusal) (next : A → Job) → ((value : A) → Never Usage (next value)) → Never Usage (reading name grammar next)
+reading_never name grammar next f = reading_whole_never name grammar (λ _. next) (λ _. f)

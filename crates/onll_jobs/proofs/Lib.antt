@@ -1,6 +1,8 @@
 mod Cuts
 mod ExitCauses
 mod FoldSteps
+mod ImageFiles
+mod RecoverSteps
 mod Stops
 pub mod Jobs
 pub mod ShowWords

@@ -40,3 +40,7 @@ on_value name next (Err refusal) = Say Refused (refusal_text name refusal)
 -- reads a text by its grammar
 abbrev pub reading : {A : Type 0} → List ℕ → (List ℕ → Result A Refusal) → (A → Job) → Job
 reading name grammar next = Read name (λ bytes. on_value name next (grammar bytes))
+
+-- the same, going on with the bytes of the file as well
+abbrev pub reading_whole : {A : Type 0} → List ℕ → (List ℕ → Result A Refusal) → (List ℕ → A → Job) → Job
+reading_whole name grammar next = Read name (λ bytes. on_value name (next bytes) (grammar bytes))

@@ -2,9 +2,12 @@ pub mod Command
 pub mod Exits
 pub mod Fold
 pub mod FoldJob
+pub mod Found
+pub mod Images
 pub mod Job
 pub mod Printed
 pub mod Reading
+pub mod RecoverJob
 pub mod Says
 pub mod Seen
 pub mod ShowJob

@@ -31,6 +31,11 @@ pub record Reads {A : Type 0} (store : StoreView) (grammar : List ℕ → Result
   pub held : Holds store name bytes
   pub accepted : grammar bytes ≡ Ok value
 
+-- the file has these bytes, and is read as this value
+pub record ReadsWhole {A : Type 0} (store : StoreView) (grammar : List ℕ → Result A Refusal) (name bytes : List ℕ) (value : A) : Type 0 where
+  pub held : Holds store name bytes
+  pub accepted : grammar bytes ≡ Ok value
+
 -- the named file holds an image with these lines
 pub record HoldsImage (store : StoreView) (name : List ℕ) (lines : List (List ℕ)) : Type 0 where
   pub bytes : List ℕ

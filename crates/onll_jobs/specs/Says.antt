@@ -5,17 +5,19 @@ use Rattle.onll_jobs.specs.declared.ending.Ending.TheVariants.{Usage}
 use Rattle.onll_jobs.specs.declared.ending.Exit.{Exit}
 use Rattle.onll_jobs.specs.declared.ending.Exit.TheVariants.{Said, SinkFault, NoMemory}
 use Rattle.onll_jobs.specs.Seen.{Seen}
-use Rattle.onll_jobs.specs.Command.{Form, Fold, Show, form_of}
+use Rattle.onll_jobs.specs.Command.{Form, Fold, Show, Recover, form_of}
 use Rattle.onll_jobs.specs.Printed.{usage_text, status_of, exit_status}
 use Rattle.onll_jobs.specs.Job.{Job, Say, JobSays}
 use Rattle.onll_jobs.specs.FoldJob.{fold_job}
 use Rattle.onll_jobs.specs.ShowJob.{show_job}
+use Rattle.onll_jobs.specs.RecoverJob.{recover_job}
 
 -- what a call does by its words: those of no form get the usage text
 abbrev pub job_of : Option Form → Job
 job_of None = Say Usage usage_text
 job_of (Some (Fold init script)) = fold_job init script
 job_of (Some (Show image)) = show_job image
+job_of (Some (Recover init logs threads)) = recover_job init logs threads
 
 -- how words may end the call, and with which text
 abbrev pub FormSays : Option Form → StoreView → StoreView → Ending → List ℕ → Type 0

@@ -1,17 +1,38 @@
-ghost use Rattle.std.specs.Prelude.{◌≡◌, map, string_bytes, Some, None, MatchOption};
-ghost use Rattle.onll_jobs.specs.Command.{form_of, form_in};
+ghost use Rattle.std.specs.Prelude.{◌≡◌, map, string_bytes, Some, None, MatchOption, IfSome};
+ghost use Rattle.onll_jobs.specs.Command.{form_of, form_in, recover_form, IsCommand};
+ghost use Rattle.onll_words.specs.Numbers.{number_of};
+
+use onll_words::whole_number;
 
 /// A command and its names, as the program's words say it.
 #[derive(Clone, Copy, Debug)]
 pub(crate) enum Command<'a> {
     Fold { init: &'a str, script: &'a str },
     Show { image: &'a str },
+    Recover { init: &'a str, logs: &'a str, threads: u64 },
+}
+
+/// The recovery from the logs of so many threads, as the last word says; nothing where it is no number from 1 to 16.
+fn recover<'a>(init: &'a str, logs: &'a str, threads: &str) -> Option<Command<'a>>
+    ensures form { let form = recover_form init.now logs.now (number_of threads.now) in
+        MatchOption result (form ≡ None) (λ command. form ≡ Some (form_in command)) }
+    ensures command { IfSome result IsCommand }
+{
+    match whole_number(threads.as_bytes()) {
+        Some(threads) if 1 <= threads && threads <= 16 => Some(Command::Recover {
+            init,
+            logs,
+            threads,
+        }),
+        _ => None,
+    }
 }
 
 impl<'a> Command<'a> {
     /// The command of the words; nothing where they are of no form.
     pub(crate) fn read(words: &'a [String]) -> Option<Command<'a>>
-        ensures { MatchOption result (form_of (map string_bytes words.now) ≡ None) (λ command. form_of (map string_bytes words.now) ≡ Some (form_in command)) }
+        ensures form { MatchOption result (form_of (map string_bytes words.now) ≡ None) (λ command. form_of (map string_bytes words.now) ≡ Some (form_in command)) }
+        ensures command { IfSome result IsCommand }
     {
         match words {
             [command, init, script] if command.as_str() == "fold" => Some(Command::Fold {
@@ -21,6 +42,9 @@ impl<'a> Command<'a> {
             [command, image] if command.as_str() == "show" => Some(Command::Show {
                 image: image.as_str(),
             }),
+            [command, init, logs, threads] if command.as_str() == "recover" => {
+                recover(init.as_str(), logs.as_str(), threads.as_str())
+            }
             _ => None,
         }
     }

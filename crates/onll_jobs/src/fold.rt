@@ -77,7 +77,7 @@ fn put_calls<O: Texted>(
 }
 
 /// Appends the line of each node.
-fn put_nodes<O: Texted>(trace: &[Node], out: &mut Report) -> Result<(), NoMemory>
+pub(crate) fn put_nodes<O: Texted>(trace: &[Node], out: &mut Report) -> Result<(), NoMemory>
     requires operations { AllByRecursion (λ n. IsSome (O.means.op_at n.row)) trace.now }
     requires begins { begins_line out.old ≡ true }
     ensures { OnOk result (out.new ≡ with_lines out.old (node_lines O.means O.wording 0 trace.now)) }
@@ -163,7 +163,7 @@ pub(crate) fn answer<S: Store>(
     ensures same { SameFiles (S.seen store.old) (S.seen store.new) }
 {
     match init_file(alloc, init, store) {
-        Ok(object) => fold_any(alloc, object, script, store),
+        Ok(read) => fold_any(alloc, read.object, script, store),
         Err(stop) => stop.answer(),
     }
 }

@@ -2,10 +2,13 @@
 #![tactic(auto)]
 
 mod answer;
+mod bad_logs;
 mod command;
 mod ending;
 mod fold;
+mod images;
 mod program;
+mod recover;
 mod show;
 mod texts;
 

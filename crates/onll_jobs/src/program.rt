@@ -1,7 +1,7 @@
 ghost use Rattle.std.specs.Prelude.{◌≡◌, ◌⊎◌, ℕ, List, map, string_bytes, Some, None, IfOk};
 ghost use Rattle.onll_outside.specs.Views.{Puts, SameFiles};
 ghost use Rattle.onll_jobs.specs.declared.ending.Ending.{Ending};
-ghost use Rattle.onll_jobs.specs.Command.{form_of, form_in};
+ghost use Rattle.onll_jobs.specs.Command.{form_of, form_in, IsCommand};
 ghost use Rattle.onll_jobs.specs.Exits.{PutExits};
 ghost use Rattle.onll_jobs.specs.Seen.{seen_by};
 ghost use Rattle.onll_jobs.specs.Says.{job_of, FormSays, ExitSays, Ended, PutWhole, OutOfMemory, SinkFailed, NoneRose, SaysThis};
@@ -11,7 +11,7 @@ ghost use Rattle.onll_jobs.specs.Printed.{usage_text};
 use crate::answer::{Answer, usage};
 use crate::command::Command;
 use crate::ending::Exit;
-use crate::{fold, show};
+use crate::{fold, recover, show};
 use onll_outside::{OutsideFault, Sink, Store};
 use onll_words::NoMemory;
 use std::alloc::Global;
@@ -22,6 +22,7 @@ fn command_answer<S: Store>(
     command: Command<'_>,
     store: &mut S,
 ) -> Result<Answer, NoMemory>
+    requires { IsCommand command }
     ensures says { let form = form_in command.entry in
         IfOk result (λ answer. FormSays (Some form) (S.seen store.old) (S.seen store.new) answer.ending answer.text.items) }
     ensures same { SameFiles (S.seen store.old) (S.seen store.new) }
@@ -29,6 +30,11 @@ fn command_answer<S: Store>(
     match command {
         Command::Fold { init, script } => fold::answer(alloc, init, script, store),
         Command::Show { image } => show::answer(alloc, image, store),
+        Command::Recover {
+            init,
+            logs,
+            threads,
+        } => recover::answer(alloc, init, logs, threads, store),
     }
 }
 

@@ -4,7 +4,7 @@ ghost use Rattle.onll_outside.specs.declared.store.FaultKind.TheVariants.{Read};
 ghost use Rattle.onll_pmem.specs.Pmem.{words_of};
 ghost use Rattle.onll_text.specs.Init.{init_of};
 ghost use Rattle.onll_text.specs.Script.{script_of};
-ghost use Rattle.onll_jobs.specs.Reading.{IsCut, Reads, HoldsImage, CannotRead, Stops};
+ghost use Rattle.onll_jobs.specs.Reading.{IsCut, Reads, ReadsWhole, HoldsImage, CannotRead, Stops};
 ghost use Rattle.onll_jobs.specs.Stop.{StopSays};
 
 use crate::answer::Stop;
@@ -24,13 +24,20 @@ fn read_text<S: Store>(alloc: Global, name: &str, store: &mut S) -> Result<Vec<u
     store.read(alloc, name, LONGEST_TEXT as u64 + 1)
 }
 
-/// The object that a file holds as an initial state, or what is said in its place.
+/// An initial state, with the text that says it.
+#[derive(Drop)]
+pub(crate) struct InitText {
+    pub(crate) text: Vec<u8>,
+    pub(crate) object: AnyObject,
+}
+
+/// The object that a file holds as an initial state, and the file's bytes; or what is said in its place.
 pub(crate) fn init_file<S: Store>(
     alloc: Global,
     name: &str,
     store: &mut S,
-) -> Result<AnyObject, Stop>
-    ensures object { IfOk result (λ object. Reads (S.seen store.old) init_of name.now object) }
+) -> Result<InitText, Stop>
+    ensures object { IfOk result (λ read. ReadsWhole (S.seen store.old) init_of name.now read.text.items read.object) }
     ensures stop { IfErr result (λ stop. StopSays stop (Stops (S.seen store.old) (S.seen store.new) init_of name.now)) }
     ensures same { SameFiles (S.seen store.old) (S.seen store.new) }
     ensures count { OnOk result (SameFaults (S.seen store.old) (S.seen store.new)) }
@@ -41,7 +48,7 @@ pub(crate) fn init_file<S: Store>(
         Err(OutsideFault::NoMemory) => return Err(Stop::NoMemory),
     };
     match read_init(alloc, &text) {
-        Ok(object) => Ok(object),
+        Ok(object) => Ok(InitText { text, object }),
         Err(TextFault::Refused { line, reason }) => Err(Stop::refused(alloc, name, line, reason)),
         Err(TextFault::NoMemory) => Err(Stop::NoMemory),
     }

@@ -12,9 +12,9 @@ returns-in-Ok-clause-says g c =
     let after = g.S.Store.seen c.fold_any.new.store in
     let script = c.args.script.now in
     IfOk-weaker c.fold_any.result
-    (λ answer. JobSays mid after (script_job_on script c.in-Ok.object) answer.ending answer.text.items)
+    (λ answer. JobSays mid after (script_job_on script c.in-Ok.read.object) answer.ending answer.text.items)
     (λ answer. JobSays store after (fold_job c.args.init.now script) answer.ending answer.text.items)
-    (λ answer h. read_on store mid after c.args.init.now init_of (script_job_on script) c.in-Ok.object answer.ending answer.text.items c.in-Ok.ensures.object c.in-Ok.ensures.same c.in-Ok.ensures.count h)
+    (λ answer h. read_on store mid after c.args.init.now init_of (script_job_on script) c.in-Ok.read.text.items c.in-Ok.read.object answer.ending answer.text.items c.in-Ok.ensures.object c.in-Ok.ensures.same c.in-Ok.ensures.count h)
     c.fold_any.ensures.says
 
 pub returns-in-Err-clause-says : goal.returns-in-Err-clause-says

@@ -1,14 +1,14 @@
 use Rattle.std.proofs.Common.{◌∙◌, sym, ap}
 use Rattle.onll_text.specs.Init.{init_of}
-use Rattle.onll_jobs.proofs.Cuts.{init_of-cut}
-use Rattle.onll_jobs.proofs.Stops.{reads_cut, stops_refused}
+use Rattle.onll_jobs.proofs.Cuts.{init_of-cut, init_whole}
+use Rattle.onll_jobs.proofs.Stops.{stops_refused}
 use Rattle.onll_jobs.proofs.texts.init_file.Goals as goal
 
 pub returns-in-Ok-read_init-clause-object : goal.returns-in-Ok-read_init-clause-object
 returns-in-Ok-read_init-clause-object g c =
     let store = g.S.Store.seen c.args.store.now in
     let cut = c.in-Ok.ensures.text in
-    reads_cut store init_of c.args.name.now c.in-Ok.text.items c.in-Ok-read_init.object cut (init_of-cut store c.args.name.now c.in-Ok.text.items cut)
+    init_whole store c.args.name.now c.in-Ok.text.items c.in-Ok-read_init.object cut
     (sym (ap init_of c.deref.ensures.value) ∙ c.in-Ok-read_init.ensures)
 
 pub returns-in-Err-Refused-clause-stop : goal.returns-in-Err-Refused-clause-stop

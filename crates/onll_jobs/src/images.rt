@@ -1,0 +1,96 @@
+ghost use Rattle.std.specs.Prelude.{◌≡◌, length, string_bytes, IfOk, IfErr, OnOk};
+ghost use Rattle.onll_outside.specs.Views.{SameFiles, SameFaults};
+ghost use Rattle.onll_pmem.specs.Pmem.{words_of};
+ghost use Rattle.onll_jobs.specs.Reading.{HoldsImage, CannotRead};
+ghost use Rattle.onll_jobs.specs.Images.{image_name, images_in, HoldImages, CannotReadImages};
+ghost use Rattle.onll_jobs.specs.Stop.{StopSays};
+
+use crate::answer::Stop;
+use crate::texts::image_file;
+use itoa::Buffer;
+use onll_outside::Store;
+use onll_words::Line;
+use std::alloc::{AllocError, Global};
+use std::marker::Model;
+
+/// The lines of an image, seen as their list.
+#[derive(Drop)]
+pub(crate) struct Image {
+    lines: Vec<Line>,
+}
+
+impl Model for Image {
+    ghost use Rattle.std.specs.Prelude.{List};
+    ghost use Rattle.onll_words.specs.declared.line.Line.{Line};
+
+    ghost Value = { List Line };
+
+    ghost view = { λ s. s.lines.items };
+}
+
+impl Image {
+    fn of_vec(lines: Vec<Line>) -> Image
+        ensures { result ≡ lines.items }
+    {
+        Image { lines }
+    }
+
+    pub(crate) fn as_slice(&self) -> &[Line]
+        ensures { result.now ≡ self.now }
+    {
+        &self.lines
+    }
+}
+
+/// The name of a thread's image.
+fn image_name(alloc: Global, logs: &str, thread: u64) -> Result<String, AllocError>
+    ensures { IfOk result (λ name. string_bytes name ≡ image_name logs.now thread) }
+{
+    let mut buffer = Buffer::new();
+    let mut name = String::new(alloc);
+    name.push_str(logs)?;
+    name.push_str(".")?;
+    name.push_str(buffer.format(thread))?;
+    Ok(name)
+}
+
+/// The image of a thread's log, or what is said in its place.
+fn read_image<S: Store>(
+    alloc: Global,
+    logs: &str,
+    thread: u64,
+    store: &mut S,
+) -> Result<Image, Stop>
+    ensures image { IfOk result (λ image. HoldsImage (S.seen store.old) (image_name logs.now thread) (words_of image)) }
+    ensures stop { IfErr result (λ stop. StopSays stop (CannotRead (S.seen store.old) (S.seen store.new) (image_name logs.now thread))) }
+    ensures same { SameFiles (S.seen store.old) (S.seen store.new) }
+    ensures faults { OnOk result (SameFaults (S.seen store.old) (S.seen store.new)) }
+{
+    match image_name(alloc, logs, thread) {
+        Ok(name) => Ok(Image::of_vec(image_file(alloc, &name, store)?)),
+        Err(_) => Err(Stop::NoMemory),
+    }
+}
+
+/// The images of the logs of so many threads, or what is said in their place.
+pub(crate) fn read_images<S: Store>(
+    alloc: Global,
+    logs: &str,
+    threads: u64,
+    store: &mut S,
+) -> Result<Vec<Image>, Stop>
+    ensures images { IfOk result (λ images. HoldImages (S.seen store.old) logs.now 0 (images_in images.items)) }
+    ensures count { IfOk result (λ images. length images.items ≡ threads) }
+    ensures stop { IfErr result (λ stop. StopSays stop (CannotReadImages (S.seen store.old) (S.seen store.new) logs.now 0 threads)) }
+    ensures same { SameFiles (S.seen store.old) (S.seen store.new) }
+    ensures faults { OnOk result (SameFaults (S.seen store.old) (S.seen store.new)) }
+{
+    let mut images = Vec::new(alloc);
+    for thread in 0..threads {
+        let image = read_image(alloc, logs, thread, store)?;
+        if images.push(image).is_err() {
+            return Err(Stop::NoMemory);
+        }
+    }
+    Ok(images)
+}

@@ -1,9 +1,9 @@
-use Rattle.std.proofs.Common.{ℕ, zero, suc, ◌≡◌, ◌+◌, ◌-◌, ◌<◌, ◌≤◌, max, Bool, true, false, List, [], ◌∷◌, ◌++◌, length, take, drop, map, set, Option, Some, None, option_to_list, sym, refl, ap, ◌∙◌, subst, arith}
+use Rattle.std.proofs.Common.{ℕ, zero, suc, ◌≡◌, ◌-◌, ◌≤◌, true, false, List, [], ◌∷◌, ◌++◌, length, drop, map, set, Option, Some, None, option_to_list, sym, refl, ap, ◌∙◌, subst, arith}
 use Rattle.std.proofs.lemmas.List.{map-set}
 use Rattle.std.specs.List.{AllByRecursion, slice_get}
 use Rattle.onll_model.specs.declared.node.Node.{Node}
 use Rattle.onll_model.specs.Segment.{Segment}
-use Rattle.onll_model.specs.Frames.{Frame, Thread, Sound, IsSoundSegment, fenced_segments}
+use Rattle.onll_model.specs.Frames.{Thread, Sound, IsSoundSegment, fenced_segments}
 use Rattle.onll_model.specs.Events.{window, with_thread, with_node, with_flag}
 use Rattle.onll_model.proofs.Lists.{same_some, some_not_none, take_before, all_right}
 use Rattle.onll_core.specs.declared.phase.Phase.{Phase}
@@ -16,7 +16,7 @@ use Rattle.onll_core.specs.Step.{put, linked, flagged}
 -- How the frame of a core changes with one of its threads.
 
 -- ---- lists
-get_map : {A B : Type 0} (f : A → B) (xs : List A) (i : ℕ) (x : A) → slice_get xs i ≡ Some x → slice_get (map f xs) i ≡ Some (f x)
+pub get_map : {A B : Type 0} (f : A → B) (xs : List A) (i : ℕ) (x : A) → slice_get xs i ≡ Some x → slice_get (map f xs) i ≡ Some (f x)
 get_map f [] i x e = some_not_none x (sym e)
 get_map f (y ∷ xs) zero x e = ap (λ z. Some (f z)) (same_some y x e)
 get_map f (y ∷ xs) (suc i) x e = get_map f xs i x e

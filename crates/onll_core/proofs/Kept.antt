@@ -1,9 +1,7 @@
-use Rattle.std.proofs.Common.{ℕ, zero, suc, ◌≡◌, ◌≢◌, ◌+◌, ◌-◌, ◌*◌, ◌<◌, ◌≤◌, ◌⊎◌, ⊎_elim, Bool, true, false, List, [], ◌∷◌, ◌++◌, length, take, drop, set, Option, Some, None, sym, refl, ap, ◌∙◌, subst, arith, count_by, eq-eqb, ne_eqb, ◌==◌}
-use Rattle.std.proofs.lemmas.Bool.{le-leb, lt-leb, leb-true, leb-false}
+use Rattle.std.proofs.Common.{ℕ, suc, ◌≡◌, ◌≢◌, ◌+◌, ◌-◌, ◌*◌, ◌≤◌, ⊎_elim, Bool, true, false, List, [], ◌∷◌, ◌++◌, length, take, drop, set, Option, Some, None, sym, refl, ap, ◌∙◌, subst, arith, count_by, ◌==◌}
+use Rattle.std.proofs.lemmas.Bool.{leb-true, leb-false}
 use Rattle.std.specs.Prelude.{if◌then◌else◌, nat_le}
-use Rattle.std.specs.List.{AllByRecursion, slice_get}
-use mathlib.Core.Logic.{dite}
-use native.Mathlib.Decide.{ℕ_discrete}
+use Rattle.std.specs.List.{slice_get}
 use Rattle.onll_words.specs.declared.line.OpRow.{OpRow}
 use Rattle.onll_model.specs.declared.node.Node.{Node}
 use Rattle.onll_model.specs.declared.call.Call.{Call}
@@ -12,22 +10,22 @@ use Rattle.onll_model.specs.Object.{Behaviour}
 use Rattle.onll_model.specs.Trace.{is_of_thread, reply_after, answer_after}
 use Rattle.onll_model.specs.Segment.{Segment}
 use Rattle.onll_model.specs.Frames.{Frame, is_available}
-use Rattle.onll_model.specs.Events.{Event, Won, Lost, ReadTail, window, next_node, after, Possible}
+use Rattle.onll_model.specs.Events.{Event, Won, Lost, ReadTail, window, next_node}
 use Rattle.onll_model.specs.FrameLaws.{SoundOver}
 use Rattle.onll_model.proofs.Lists.{at_set, set_here, all_append}
 use Rattle.onll_model.proofs.Traces.{count_own, count_other}
 use Rattle.onll_model.proofs.EventLaw.{event_sound}
-use Rattle.onll_pmem.specs.Device.{Write, WriteBack, Fence, after_step, line_at}
+use Rattle.onll_pmem.specs.Device.{Write, WriteBack, after_step, line_at}
 use Rattle.onll_log.specs.Encoding.{entry_lines}
 use Rattle.onll_core.specs.declared.phase.Phase.{Phase}
 use Rattle.onll_core.specs.declared.phase.Phase.TheVariants as phases
 use Rattle.onll_core.specs.declared.returned.Returned.{Returned}
 use Rattle.onll_core.specs.Core.{CoreThread, CoreState}
-use Rattle.onll_core.specs.CoreFrame.{pending_in, frame_thread, frame_of}
-use Rattle.onll_core.specs.Step.{turned, begun, on_device, logged, returning, put, linked, flagged, line_of_entry, after_exchange, after_flag, after_back, answered, act, next_call, step_by, step_of, steps_of}
+use Rattle.onll_core.specs.CoreFrame.{pending_in, frame_of}
+use Rattle.onll_core.specs.Step.{turned, begun, on_device, logged, returning, put, linked, flagged, line_of_entry, after_exchange, after_flag, answered, act, next_call, step_by, step_of, steps_of}
 use Rattle.onll_core.specs.Tie.{written_in, lines_needed, IsBehind, InEntry, updates_in, updates_to_log, updates_to_link, IsTied}
 use Rattle.onll_core.specs.Consistent.{IsConsistent}
-use Rattle.onll_core.specs.StepEvent.{event_at, event_of, after_maybe, MayCome, IsEvent}
+use Rattle.onll_core.specs.StepEvent.{event_at, after_maybe, MayCome, IsEvent}
 use Rattle.onll_core.proofs.Calls.{length_snoc, update_left, ask_left}
 use Rattle.onll_core.proofs.CoreFrames.{pending_longer}
 use Rattle.onll_core.proofs.Windows.{short_of, window_of}

@@ -1,3 +1,10 @@
+pub mod Phases
+pub mod Lawful
+pub mod LawfulSteps
+pub mod LegalReport
+pub mod Timed
+pub mod TimedSteps
+pub mod InTime
 pub mod Calls
 pub mod CoreFrames
 pub mod Windows
@@ -5,5 +12,13 @@ pub mod Ties
 pub mod StepEvents
 pub mod Kept
 pub mod Fences
+pub mod Begin
 pub mod FirstCore
+pub mod Created
 pub mod Ready
+pub mod Bounds
+pub mod ReachedCores
+pub mod Stays
+pub mod Images
+pub mod Crashed
+pub mod Recovered

@@ -1,16 +1,15 @@
-use Rattle.std.proofs.Common.{ℕ, zero, suc, ◌≡◌, ◌≢◌, ◌+◌, ◌-◌, ◌*◌, ◌<◌, ◌≤◌, List, [], ◌∷◌, ◌++◌, length, take, drop, Option, Some, None, option_to_list, sym, refl, ap, ◌∙◌, subst, arith, count_by, length-append}
+use Rattle.std.proofs.Common.{ℕ, zero, suc, ◌≡◌, ◌+◌, ◌-◌, ◌*◌, ◌<◌, ◌≤◌, List, [], ◌∷◌, ◌++◌, length, Option, Some, option_to_list, sym, refl, ap, ◌∙◌, subst, arith, count_by, length-append}
 use Rattle.std.specs.List.{AllByRecursion, slice_get}
 use mathlib.Core.Logic.{dite}
 use native.Mathlib.Decide.{ℕ_discrete}
 use Rattle.onll_words.specs.declared.line.OpRow.{OpRow}
 use Rattle.onll_model.specs.declared.node.Node.{Node}
-use Rattle.onll_model.specs.declared.call.Call.{Call}
 use Rattle.onll_model.specs.declared.call.Call.TheVariants.{Update}
 use Rattle.onll_model.specs.Trace.{is_of_thread}
-use Rattle.onll_model.specs.Segment.{Segment, Rises, last_place}
+use Rattle.onll_model.specs.Segment.{Segment, Rises}
 use Rattle.onll_model.specs.Frames.{Thread, IsSoundSegment, fenced_segments, segments_of, open_in, Follows}
 use Rattle.onll_model.specs.Events.{window, next_node}
-use Rattle.onll_model.proofs.Lists.{all_at, all_map, all_left, all_append, inside}
+use Rattle.onll_model.proofs.Lists.{all_map, all_left, all_append, inside}
 use Rattle.onll_model.proofs.Traces.{node_place, count_own, count_other}
 use Rattle.onll_pmem.specs.Device.{line_at, FillsWords}
 use Rattle.onll_log.specs.Encoding.{entry_lines, log_lines, FitsEntry, FitEntries}
@@ -22,7 +21,7 @@ use Rattle.onll_log.proofs.Append.{FillsWords-written_front}
 use Rattle.onll_core.specs.declared.phase.Phase.{Phase}
 use Rattle.onll_core.specs.declared.phase.Phase.TheVariants as phases
 use Rattle.onll_core.specs.Core.{CoreThread, CoreState}
-use Rattle.onll_core.specs.CoreFrame.{seen_in, pending_in, activity_in, fenced_entries, thread_at, frame_thread, frame_of}
+use Rattle.onll_core.specs.CoreFrame.{seen_in, pending_in, activity_in, thread_at, frame_thread, frame_of}
 use Rattle.onll_core.specs.Step.{line_of_entry, next_call}
 use Rattle.onll_core.specs.Tie.{written_in, lines_needed, updates_to_link, IsTied}
 use Rattle.onll_core.specs.Entries.{EntriesAreFew}
@@ -30,7 +29,7 @@ use Rattle.onll_core.specs.Consistent.{IsConsistent}
 use Rattle.onll_core.specs.Ready.{IsSmall, MayLink, MayWalk, FitsLog, MayWrite, MayWriteBack, MaySet, MayLook}
 use Rattle.onll_core.proofs.Calls.{update_left}
 use Rattle.onll_core.proofs.CoreFrames.{part_at}
-use Rattle.onll_core.proofs.Windows.{IsWindowOf, window_of, few_in_all, few_of_thread, places, threads_count}
+use Rattle.onll_core.proofs.Windows.{window_of, few_in_all, few_of_thread, places, threads_count}
 use Rattle.onll_core.proofs.Ties.{fenced_is_log, as_front, next_line, length_read}
 
 -- What a step of a consistent core finds.

@@ -1,4 +1,4 @@
-use Rattle.std.proofs.Common.{ℕ, zero, suc, ◌≡◌, ◌≢◌, ◌+◌, ◌-◌, ◌*◌, ◌<◌, ◌≤◌, Bool, true, false, List, [], ◌∷◌, ◌++◌, length, take, drop, Option, Some, None, sym, refl, ap, ◌∙◌, subst, arith, cond, true≢false, eq-eqb, ne_eqb, eqb-true, ◌==◌}
+use Rattle.std.proofs.Common.{ℕ, suc, ◌≡◌, ◌≢◌, ◌+◌, ◌-◌, ◌<◌, ◌≤◌, Bool, true, false, List, [], ◌∷◌, ◌++◌, length, take, Option, Some, None, sym, refl, ap, ◌∙◌, subst, arith, true≢false, eq-eqb, ne_eqb}
 use Rattle.std.proofs.lemmas.Bool.{le-leb, lt-leb}
 use Rattle.std.specs.Prelude.{if◌then◌else◌, nat_le}
 use Rattle.std.specs.List.{slice_get}
@@ -11,21 +11,20 @@ use Rattle.onll_model.specs.declared.call.Call.TheVariants.{Update, Ask}
 use Rattle.onll_model.specs.Object.{Behaviour}
 use Rattle.onll_model.specs.Trace.{reply_after, answer_after}
 use Rattle.onll_model.specs.Segment.{Segment}
-use Rattle.onll_model.specs.Frames.{Frame, Thread, Activity, Rest, Loaded, Walk, Logging, Fenced, Asking, is_available, Follows, IsAvailable}
-use Rattle.onll_model.specs.Events.{Event, UpdateTail, Won, Lost, FlagSet, FlagUnset, Set, ReadTail, thread_of, window, with_thread, with_flag, with_node, doing, resting_at, logging, next_node, linking, asking, after_by, after}
+use Rattle.onll_model.specs.Frames.{Frame, Thread, Rest, Loaded, Walk, Logging, Fenced, Asking, is_available, Follows, IsAvailable}
+use Rattle.onll_model.specs.Events.{Event, UpdateTail, Won, Lost, FlagSet, FlagUnset, Set, ReadTail, thread_of, window, with_thread, with_flag, with_node, doing, resting_at, logging, next_node, after_by, after}
 use Rattle.onll_model.specs.Events.{Fence as FenceEvent}
 use Rattle.onll_model.proofs.FrameParts.{in_trace}
-use Rattle.onll_pmem.specs.Device.{DeviceState, Write, WriteBack, Fence, after_step}
+use Rattle.onll_pmem.specs.Device.{Write, WriteBack, after_step}
 use Rattle.onll_log.specs.Encoding.{FitsEntry}
 use Rattle.onll_core.specs.declared.phase.Phase.{Phase}
 use Rattle.onll_core.specs.declared.phase.Phase.TheVariants as phases
-use Rattle.onll_core.specs.declared.returned.Returned.{Returned}
 use Rattle.onll_core.specs.Core.{CoreThread, CoreState}
 use Rattle.onll_core.specs.CoreFrame.{seen_in, pending_in, activity_in, fenced_entries, thread_at, frame_thread, frame_of}
-use Rattle.onll_core.specs.Step.{turned, begun, on_device, logged, returning, put, linked, flagged, line_of_entry, after_exchange, after_flag, after_back, answered, act, next_call, step_by, step_of}
-use Rattle.onll_core.specs.Tie.{updates_in, IsTied}
+use Rattle.onll_core.specs.Step.{turned, begun, on_device, logged, returning, put, linked, flagged, line_of_entry, after_exchange, after_flag, answered, act, next_call, step_by, step_of}
+use Rattle.onll_core.specs.Tie.{IsTied}
 use Rattle.onll_core.specs.Consistent.{IsConsistent}
-use Rattle.onll_core.specs.StepEvent.{event_at, event_by, event_of, after_maybe, MayCome, IsEvent}
+use Rattle.onll_core.specs.StepEvent.{event_at, event_by, event_of, IsEvent}
 use Rattle.onll_core.proofs.Calls.{update_left}
 use Rattle.onll_core.proofs.CoreFrames.{seen_snoc, part_at, frame_put, frame_still, frame_flagged, frame_linked}
 use Rattle.onll_core.proofs.Windows.{window_of}

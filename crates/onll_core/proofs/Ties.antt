@@ -1,14 +1,13 @@
-use Rattle.std.proofs.Common.{ℕ, zero, suc, ◌≡◌, ◌≢◌, ◌+◌, ◌-◌, ◌*◌, ◌<◌, ◌≤◌, ◌⊎◌, inl, inr, ⊎_elim, Bool, true, false, List, [], ◌∷◌, ◌++◌, length, take, drop, set, Option, Some, None, sym, refl, ap, ◌∙◌, subst, arith, append_assoc, append-nil, length-append, true≢false, get_or-set_same, get_or-set_other}
+use Rattle.std.proofs.Common.{ℕ, suc, ◌≡◌, ◌+◌, ◌-◌, ◌*◌, ◌<◌, ◌≤◌, inl, inr, ⊎_elim, true, false, List, [], ◌∷◌, ◌++◌, length, take, drop, set, Option, Some, None, sym, refl, ap, ◌∙◌, subst, arith, append_assoc, append-nil, length-append, true≢false, get_or-set_same, get_or-set_other}
 use Rattle.std.proofs.lemmas.List.{length-set, length-replicate, length-take-le, take_all}
-use Rattle.std.specs.List.{AllByRecursion}
 use mathlib.Core.Logic.{dite}
 use native.Mathlib.Decide.{ℕ_discrete}
 use Rattle.onll_model.specs.Segment.{Segment}
 use Rattle.onll_model.proofs.Lists.{all_append}
-use Rattle.onll_pmem.specs.Device.{DeviceState, Write, WriteBack, Fence, after_step, line_at, is_marked, zero_line, zero_lines, settled}
+use Rattle.onll_pmem.specs.Device.{Write, WriteBack, after_step, line_at, is_marked, zero_line, zero_lines, settled}
 use Rattle.onll_pmem.proofs.Lines.{settled-all}
-use Rattle.onll_log.specs.Encoding.{entry_lines, log_lines, FitsEntry, FitEntries}
-use Rattle.onll_log.specs.Grammar.{entries_from, lines_in}
+use Rattle.onll_log.specs.Encoding.{entry_lines, log_lines, FitsEntry}
+use Rattle.onll_log.specs.Grammar.{entries_from}
 use Rattle.onll_log.specs.Append.{written_front}
 use Rattle.onll_log.proofs.Encoded.{entries_from-entries_lines, entries_from-zero_lines, log_lines-more, length-entry_lines, length-log_lines}
 use Rattle.onll_log.proofs.Append.{set-written_front}

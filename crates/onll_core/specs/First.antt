@@ -1,14 +1,14 @@
-use Rattle.std.specs.Prelude.{ℕ, ◌≡◌, ◌+◌, ◌*◌, ◌≤◌, List, [], ◌∷◌, ◌++◌, length, Option, Some, slice_get}
+use Rattle.std.specs.Prelude.{ℕ, ◌≡◌, ◌+◌, ◌*◌, ◌≤◌, List, [], ◌∷◌, length, Some, slice_get}
 use Rattle.onll_model.specs.declared.call.Call.{Call}
-use Rattle.onll_pmem.specs.Device.{DeviceState, Write, WriteBack, Fence, after_steps, new_device, zero_lines}
+use Rattle.onll_pmem.specs.Device.{DeviceState, Write, WriteBack, Fence, after_steps, new_device}
 use Rattle.onll_log.specs.declared.head.LogHead.{LogHead}
-use Rattle.onll_log.specs.Head.{head_line, FitsHead}
-use Rattle.onll_log.specs.Encoding.{log_lines}
+use Rattle.onll_log.specs.Head.{head_line}
 use Rattle.onll_core.specs.declared.phase.Phase.TheVariants as phases
 use Rattle.onll_core.specs.Core.{CoreThread, CoreState}
 use Rattle.onll_core.specs.Tie.{updates_in}
+use Rattle.onll_core.specs.Begin.{IsHeadOf}
 
--- The first state of a core, before any step.
+-- The first state of a core that begins anew.
 
 -- how many lines a log takes: its head, and a whole entry of each update
 abbrev pub lines_for : ℕ → ℕ → ℕ
@@ -38,13 +38,6 @@ first_threads heads scripts = []
 abbrev pub first_core : {State Op Query Reply : Type 0} → State → List LogHead → List (List (Call State Op Query Reply)) → CoreState State Op Query Reply
 first_core initial heads scripts = record { initial = initial; base = 0; trace = []; flags = []; clock = 0; threads = first_threads heads scripts }
 
--- the head of the log of thread t of `count`
-pub record IsHeadOf (count t : ℕ) (head : LogHead) : Type 0 where
-  pub fits : FitsHead head
-  pub thread : head.thread ≡ t
-  pub threads : head.threads ≡ count
-  pub format : head.format ≡ 2
-
 -- heads and scripts within the limits, one of each for each of `count` threads
 pub record AreFirst {State Op Query Reply : Type 0} (count : ℕ) (heads : List LogHead) (scripts : List (List (Call State Op Query Reply))) : Type 0 where
   pub few : count ≤ 16
@@ -52,10 +45,3 @@ pub record AreFirst {State Op Query Reply : Type 0} (count : ℕ) (heads : List 
   pub all_scripts : length scripts ≡ count
   pub each_head : (t : ℕ) (head : LogHead) → slice_get heads t ≡ Some head → IsHeadOf count t head
   pub each_script : (t : ℕ) (script : List (Call State Op Query Reply)) → slice_get scripts t ≡ Some script → updates_in script ≤ 4096
-
--- a device that holds the head of a log, and this many lines of zeros after it
-pub record IsFirstDevice (head : LogHead) (free : ℕ) (device : DeviceState) : Type 0 where
-  pub fenced : device.fenced ≡ log_lines head [] ++ zero_lines free
-  pub read : device.read ≡ log_lines head [] ++ zero_lines free
-  pub marks : length device.backed ≡ length device.read
-  pub fences : device.fences ≡ 1

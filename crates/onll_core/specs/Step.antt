@@ -1,5 +1,4 @@
 use Rattle.std.specs.Prelude.{ℕ, suc, ◌+◌, ◌-◌, ◌==◌, nat_le, Bool, true, false, if◌then◌else◌, List, [], ◌∷◌, ◌++◌, length, take, Option, Some, None, slice_get, slice_set, slice_index_or}
-use Rattle.onll_words.specs.declared.line.OpRow.{OpRow}
 use Rattle.onll_model.specs.declared.node.Node.{Node}
 use Rattle.onll_model.specs.declared.call.Call.{Call}
 use Rattle.onll_model.specs.declared.call.Call.TheVariants.{Update, Ask}
@@ -11,7 +10,6 @@ use Rattle.onll_pmem.specs.Device.{DeviceState, Write, WriteBack, Fence, after_s
 use Rattle.onll_log.specs.Encoding.{entry_lines}
 use Rattle.onll_core.specs.declared.phase.Phase.{Phase}
 use Rattle.onll_core.specs.declared.phase.Phase.TheVariants as phases
-use Rattle.onll_core.specs.declared.returned.Returned.{Returned}
 use Rattle.onll_core.specs.Core.{CoreThread, CoreState}
 
 -- One atomic step of a thread, by what its next step is: a load, store or exchange of one word of the shared trace, or a

@@ -1,6 +1,6 @@
 //! What steps of a core keep, for every object and whatever threads take them.
 
-ghost use Rattle.onll_core.specs.Laws.{FirstLaw, FirstFenceLaw, StepEventLaw, StepLaw, StepsLaw, FencesLaw, EntriesLaw};
+ghost use Rattle.onll_core.specs.Laws.{FirstLaw, FirstFencesLaw, CreatedLaw, CreatedFencesLaw, ResumedLaw, ResumedFencesLaw, StepEventLaw, StepLaw, StepsLaw, StaysLaw, FencesLaw, EntriesLaw};
 
 use onll_model::Object;
 
@@ -9,16 +9,25 @@ pub fn step_event_law<O: Object>()
     ensures { StepEventLaw O.means }
 {}
 
-/// The first state of a core is consistent, and each step keeps it so.
+/// The first state of a core is consistent, of one that begins anew and of one that goes on; each step keeps it so.
 pub fn consistency_law<O: Object>()
     ensures first { FirstLaw O O.Op O.Query O.Reply }
+    ensures created { CreatedLaw O O.Op O.Query O.Reply }
+    ensures resumed { ResumedLaw O O.Op O.Query O.Reply }
     ensures step { StepLaw O.means }
     ensures steps { StepsLaw O.means }
 {}
 
 /// An update fences once and a read never, and no entry holds more nodes than there are threads.
 pub fn fence_law<O: Object>()
-    ensures first { FirstFenceLaw O O.Op O.Query O.Reply }
+    ensures first { FirstFencesLaw O O.Op O.Query O.Reply }
+    ensures created { CreatedFencesLaw O O.Op O.Query O.Reply }
+    ensures resumed { ResumedFencesLaw O O.Op O.Query O.Reply }
     ensures fences { FencesLaw O.means }
     ensures entries { EntriesLaw O O.Op O.Query O.Reply }
+{}
+
+/// Steps take nothing back: nodes stay where they are, a flag that is set stays set, and so do returned calls.
+pub fn stays_law<O: Object>()
+    ensures { StaysLaw O.means }
 {}

@@ -1,10 +1,14 @@
 //! The step core: a model of single atomic steps on which every interleaving of threads is one list of turns.
 #![tactic(auto)]
 
+mod crash_laws;
 mod laws;
+mod outcomes;
 mod phase;
 mod returned;
 
-pub use laws::{consistency_law, fence_law, step_event_law};
+pub use crash_laws::{crash_law, image_law, recovery_law};
+pub use laws::{consistency_law, fence_law, stays_law, step_event_law};
+pub use outcomes::{order_law, reached_law, report_law, return_law};
 pub use phase::Phase;
 pub use returned::{Current, Returned, Stepped};

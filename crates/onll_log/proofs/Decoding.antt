@@ -1,11 +1,9 @@
 -- What the decoder's steps make of lines.
-use Rattle.std.proofs.Common.{◌≡◌, ℕ, zero, suc, ◌+◌, ◌-◌, ◌*◌, ◌<◌, ◌≤◌, ◌==◌, eqb, Bool, true, false, true≢false, List, [], ◌∷◌, ◌++◌, length, get_or, set, take, drop, map, replicate, sym, refl, ap, ◌∙◌, subst, arith, append_assoc, append-nil, length-append, ◌⊎◌, inl, inr}
-use Rattle.std.specs.Prelude.{◌&&◌, nat_le, cond, Option, Some, None}
+use Rattle.std.proofs.Common.{◌≡◌, ℕ, zero, suc, ◌+◌, ◌-◌, ◌*◌, ◌<◌, ◌≤◌, ◌==◌, eqb, Bool, true, false, List, [], ◌∷◌, ◌++◌, length, get_or, set, take, drop, map, replicate, sym, refl, ap, ◌∙◌, subst, arith, append_assoc, append-nil, length-append, ◌⊎◌, inl, inr}
+use Rattle.std.specs.Prelude.{◌&&◌, nat_le}
 use Rattle.std.specs.Cmp.Lexicographic.{pointwise}
-use Rattle.std.specs.List.{All, AllByRecursion}
 use Rattle.std.proofs.lemmas.Bool.{leb-true, le-leb, cases_Bool}
 use Rattle.std.proofs.lemmas.List.{take_more_set, map_more, map-append, take-map, drop-map, drop-drop, length-map, length-drop, length-take-le, drop_more}
-use Rattle.std.proofs.lemmas.List.Elements.{recursion_from_All}
 use Rattle.onll_words.specs.declared.line.Line.{Line}
 use Rattle.onll_model.specs.declared.node.Node.{Node}
 use Rattle.onll_model.specs.Names.{words_of_node}
@@ -13,11 +11,11 @@ use Rattle.onll_model.specs.Segment.{Segment}
 use Rattle.onll_pmem.specs.Pmem.{words_of}
 use Rattle.onll_log.specs.declared.head.LogHead.{LogHead}
 use Rattle.onll_log.specs.declared.decoded.Entry.{Entry}
-use Rattle.onll_log.specs.Head.{word, head_of, is_head}
-use Rattle.onll_log.specs.Encoding.{entry_magic, guard, entry_line, entry_front, node_lines}
+use Rattle.onll_log.specs.Head.{word}
+use Rattle.onll_log.specs.Encoding.{entry_magic, guard, entry_line, node_lines}
 use Rattle.onll_log.specs.Grammar.{same_words, all_named, is_entry, node_of_line, segment_of, entries_from, is_zero_line, lines_in}
 use Rattle.onll_log.specs.Decoded.{segment_in, segments_in, placed_from}
-use Rattle.onll_log.proofs.Accepted.{both_true, and_true, entries_from-entry, entries_from-none, entries_from-drop, Accepted, Accepted-if}
+use Rattle.onll_log.proofs.Accepted.{both_true, and_true, entries_from-entry, entries_from-none, entries_from-drop, Accepted-if}
 
 -- ---- words
 pub same_words-pointwise : (xs ys : List ℕ) → pointwise eqb xs ys ≡ same_words xs ys

@@ -1,21 +1,20 @@
 -- A log over a device: what making it leaves, and what an append leaves.
-use Rattle.std.proofs.Common.{ℕ, zero, suc, ◌≡◌, ◌+◌, ◌-◌, ◌*◌, ◌^◌, ◌<◌, ◌≤◌, Bool, true, false, true≢false, List, [], ◌∷◌, ◌++◌, length, get_or, take, drop, sym, refl, ap, ◌∙◌, subst, inl, inr, ◌⊎◌, arith, append-nil, length-append, Result, Ok, Err}
+use Rattle.std.proofs.Common.{ℕ, suc, ◌≡◌, ◌+◌, ◌-◌, ◌*◌, ◌^◌, ◌<◌, ◌≤◌, Bool, true, false, true≢false, List, [], ◌∷◌, ◌++◌, length, sym, refl, ap, ◌∙◌, subst, arith, append-nil, length-append, Result, Ok, Err}
 use Rattle.std.specs.Prelude.{OnOk, OnErr, Option, is_err}
-use Rattle.std.specs.List.{All, AllByRecursion}
-use Rattle.std.proofs.lemmas.List.{length-replicate, length-map, get_or-append_right, get_or-replicate, take_at}
+use Rattle.std.specs.List.{All}
+use Rattle.std.proofs.lemmas.List.{length-replicate, get_or-append_right, get_or-replicate, take_at}
 use Rattle.std.proofs.lemmas.List.Elements.{recursion_from_All}
 use Rattle.onll_model.specs.declared.node.Node.{Node}
-use Rattle.onll_model.specs.Names.{words_of_node}
 use Rattle.onll_model.specs.Segment.{Segment, Rises, last_place}
 use Rattle.onll_pmem.specs.Device.{line_at, zero_line, zero_lines, AllBacked, FillsLines}
 use Rattle.onll_pmem.specs.Pmem.{Told, DeviceView, told_fenced, ToldLines, ToldBacked, ToldSettled}
 use Rattle.onll_pmem.proofs.Devices.{AllBacked-even, KeepsTold-backed, ToldBacked-fence, ToldSettled-fence}
 use Rattle.onll_log.specs.declared.head.LogHead.{LogHead}
 use Rattle.onll_log.specs.Head.{FitsHead, head_line}
-use Rattle.onll_log.specs.Encoding.{CanHold, FitsNode, FitsEntry, FitEntries, entry_line, entry_lines, entries_lines, log_lines, node_lines}
-use Rattle.onll_log.specs.Grammar.{entries_from, lines_in}
+use Rattle.onll_log.specs.Encoding.{CanHold, FitsNode, FitsEntry, FitEntries, entry_line, entry_lines, log_lines, node_lines}
+use Rattle.onll_log.specs.Grammar.{lines_in}
 use Rattle.onll_log.specs.Torn.{log_image}
-use Rattle.onll_log.specs.Log.{entries_read, free_of, but_last, placed_lines, Puts, HoldsLog, KeepsLog, IsClean, HasHeader, IsMade, IsPending, Appends}
+use Rattle.onll_log.specs.Log.{entries_read, free_of, but_last, placed_lines, Puts, HoldsLog, KeepsLog, IsClean, HasHeader, IsMade, Appends}
 use Rattle.onll_log.proofs.Lines.{AreLines-entry_lines}
 use Rattle.onll_log.proofs.Encoded.{entries_from-entries_lines, entries_from-zero_lines, length-entry_lines, length-log_lines, FitEntries-append}
 use Rattle.onll_log.proofs.Torn.{log_image-more}

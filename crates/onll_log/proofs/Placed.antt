@@ -1,6 +1,6 @@
 -- Lines that are put in among others.
-use Rattle.std.proofs.Common.{ℕ, zero, suc, ◌≡◌, ◌+◌, ◌-◌, ◌<◌, ◌≤◌, List, [], ◌∷◌, ◌++◌, length, get_or, set, take, drop, sym, refl, ap, ◌∙◌, subst, inl, inr, ◌⊎◌, arith, append_assoc, append-nil, length-append, length-take}
-use Rattle.std.proofs.lemmas.List.{set_split, take_at, drop_at, take-append-drop, length-take-le, length-drop, drop-drop, get_or-drop, get_or-take, get_or_append_left, get_or-append_right, drop-replicate, length-replicate, replicate-append-replicate}
+use Rattle.std.proofs.Common.{ℕ, suc, ◌≡◌, ◌+◌, ◌-◌, ◌<◌, ◌≤◌, List, [], ◌∷◌, ◌++◌, length, set, take, drop, sym, ap, ◌∙◌, subst, inl, inr, ◌⊎◌, arith, append_assoc, length-append}
+use Rattle.std.proofs.lemmas.List.{set_split, take_at, drop_at, take-append-drop, length-take-le, length-drop, drop-drop, get_or-drop, get_or-take, get_or_append_left, get_or-append_right, drop-replicate, replicate-append-replicate}
 use Rattle.onll_pmem.specs.Device.{line_at, zero_line, zero_lines, FillsLines}
 use Rattle.onll_pmem.proofs.Mixes.{FillsWords-self, FillsLines-self}
 use Rattle.onll_log.specs.Log.{placed_lines}

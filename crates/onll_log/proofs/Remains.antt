@@ -1,7 +1,7 @@
 -- Remains of an entry stay no entry, whatever words of them are wiped.
-use Rattle.std.proofs.Common.{ℕ, ◌≡◌, List, [], ◌∷◌, ◌++◌, length, take, drop, sym, refl, ap, ◌∙◌, subst, ⊎_elim, ◌⊎◌, inl, inr}
+use Rattle.std.proofs.Common.{ℕ, ◌≡◌, List, [], ◌∷◌, ◌++◌, length, drop, sym, refl, ap, ◌∙◌, subst, ⊎_elim, ◌⊎◌, inl, inr}
 use Rattle.std.specs.Prelude.{Some}
-use Rattle.std.proofs.lemmas.List.{take-append-drop, take_at, drop_at}
+use Rattle.std.proofs.lemmas.List.{take-append-drop, drop_at}
 use Rattle.onll_pmem.specs.Device.{zero_lines, FillsWords, FillsLines, Mixed}
 use Rattle.onll_pmem.proofs.Mixes.{FillsLines-then}
 use Rattle.onll_model.specs.Segment.{Segment}
@@ -10,10 +10,9 @@ use Rattle.onll_log.specs.Encoding.{entry_lines, log_lines, FitsEntry}
 use Rattle.onll_log.specs.Grammar.{used_with}
 use Rattle.onll_log.specs.Torn.{AreLines, log_image, Holds}
 use Rattle.onll_log.specs.Remains.{unused, HasRemains, IsWiped}
-use Rattle.onll_log.specs.Written.{IsWritten}
 use Rattle.onll_log.proofs.Encoded.{length-log_lines}
 use Rattle.onll_log.proofs.Torn.{Holds-among, Mixed-front, Among-mixed, log_image-more}
-use Rattle.onll_log.proofs.Written.{IsWritten-Holds}
+use Rattle.onll_log.proofs.Written.{IsWritten-Holds, take-used}
 
 -- ---- what fills each other is equal
 same_word : (x y : ℕ) → ((x ≡ 0) ⊎ (x ≡ y)) → ((y ≡ 0) ⊎ (y ≡ x)) → x ≡ y
@@ -35,18 +34,16 @@ FillsLines-both (x ∷ xs) (y ∷ ys) a b = let here = FillsWords-both x y a.0 b
 
 -- ---- remains
 -- an image by its used lines and what stands after them
-wiped_lines : (head : LogHead) (ss : List Segment) (image wiped : List (List ℕ)) → IsWritten image head ss → IsWiped head ss image wiped → wiped ≡ log_lines head ss ++ unused head ss wiped
-wiped_lines head ss image wiped w i =
-    let used : ℕ = used_with (Some head) ss in
-    let front : take used image ≡ log_lines head ss = ap (take used) w.lines ∙ take_at (log_lines head ss) (unused head ss image) used (length-log_lines head ss) in
-    sym (take-append-drop used wiped) ∙ ap (λ (l : List (List ℕ)). l ++ unused head ss wiped) (i.used ∙ front)
+wiped_lines : (head : LogHead) (ss : List Segment) (image wiped : List (List ℕ)) → AreLines image → Holds image head ss → IsWiped head ss image wiped → wiped ≡ log_lines head ss ++ unused head ss wiped
+wiped_lines head ss image wiped eights h i =
+    sym (take-append-drop (used_with (Some head) ss) wiped) ∙ ap (λ (l : List (List ℕ)). l ++ unused head ss wiped) (i.used ∙ take-used image head ss eights h)
 
 -- what is wiped holds what it held
 pub Holds-wiped : (head : LogHead) (ss : List Segment) (image wiped : List (List ℕ)) → AreLines image → Holds image head ss → HasRemains head ss image → IsWiped head ss image wiped → Holds wiped head ss
 Holds-wiped head ss image wiped eights h r i =
     let s : Segment = r.0 in let zeros : ℕ = r.1 in let a = r.2 in let w = IsWritten-Holds image head ss eights h in
     let whole : List (List ℕ) = entry_lines head (length ss) s ++ zero_lines zeros in
-    subst (λ (l : List (List ℕ)). Holds l head ss) (sym (wiped_lines head ss image wiped w i)) (⊎_elim
+    subst (λ (l : List (List ℕ)). Holds l head ss) (sym (wiped_lines head ss image wiped eights h i)) (⊎_elim
     (λ (t : Holds (log_lines head ss ++ unused head ss wiped) head ss). t)
     (λ (t : unused head ss wiped ≡ whole). absurd (a.torn (FillsLines-both (unused head ss image) whole a.among (subst (λ (l : List (List ℕ)). FillsLines l (unused head ss image)) t i.rest))))
     (Holds-among head ss s zeros (unused head ss wiped) w.fits_head a.format w.fit_entries a.fits (FillsLines-then (unused head ss wiped) (unused head ss image) whole i.rest a.among)))

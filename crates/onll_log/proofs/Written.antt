@@ -3,7 +3,7 @@ use Rattle.std.proofs.Common.{ℕ, zero, suc, ◌≡◌, ◌+◌, ◌-◌, ◌*�
 use Rattle.std.specs.Prelude.{◌||◌, ◌↔◌, nat_le, replicate, Option, Some, None}
 use Rattle.std.specs.List.{AllByRecursion}
 use Rattle.std.proofs.lemmas.Bool.{leb-true, ltb-true, cases_Bool}
-use Rattle.std.proofs.lemmas.List.{length-map, length-take-le, take-append-drop, drop_at}
+use Rattle.std.proofs.lemmas.List.{length-map, length-take-le, take-append-drop, drop_at, take_at, length-drop}
 use Rattle.onll_pmem.specs.Device.{zero_line, zero_lines}
 use Rattle.onll_model.specs.declared.node.Node.{Node}
 use Rattle.onll_model.specs.Names.{words_of_node}
@@ -12,7 +12,7 @@ use Rattle.onll_log.specs.declared.head.LogHead.{LogHead}
 use Rattle.onll_log.specs.Head.{word, log_magic, head_line, head_of, is_head, FitsHead}
 use Rattle.onll_log.specs.Encoding.{entry_magic, guard, entry_front, entry_line, entry_lines, entries_lines, log_lines, node_lines, FitsNode, FitsEntry, FitEntries}
 use Rattle.onll_log.specs.Grammar.{all_named, is_entry, node_of_line, segment_of, entries_from, Content, is_zero_line, are_zero_lines, content_of, lines_in, used_with}
-use Rattle.onll_log.specs.Torn.{IsLine, AreLines, Holds}
+use Rattle.onll_log.specs.Torn.{IsLine, AreLines, log_image, Holds}
 use Rattle.onll_log.specs.Written.{IsWritten, IsEmptyLog}
 use Rattle.onll_log.proofs.Lines.{AreLines-take, AreLines-drop}
 use Rattle.onll_log.proofs.Accepted.{both_true, Accepted-if, entries_from-entry, entries_from-none, entries_from-drop}
@@ -246,3 +246,19 @@ no_head-IsEmptyLog image ss f = ap content_of f.zeros ∙ (content_of-zero_lines
 
 pub no_head-exactly : (image : List (List ℕ)) (ss : List Segment) → AreLines image → (content_of image ≡ Some (record { head = None; entries = ss })) ↔ IsEmptyLog image ss
 no_head-exactly image ss eights = (IsEmptyLog-no_head image ss eights, no_head-IsEmptyLog image ss)
+
+-- ---- the used lines of an image
+-- they are the lines of its log
+pub take-used : (image : List (List ℕ)) (head : LogHead) (ss : List Segment) → AreLines image → Holds image head ss → take (used_with (Some head) ss) image ≡ log_lines head ss
+take-used image head ss eights h =
+    let used : ℕ = used_with (Some head) ss in let w = IsWritten-Holds image head ss eights h in
+    ap (take used) w.lines ∙ take_at (log_lines head ss) (drop used image) used (length-log_lines head ss)
+
+-- where only zeros stand after them, the image is that log and zeros
+pub log_image-Holds : (image : List (List ℕ)) (head : LogHead) (ss : List Segment) → AreLines image → Holds image head ss → are_zero_lines (drop (used_with (Some head) ss) image) ≡ true
+    → image ≡ log_image head ss (length image - used_with (Some head) ss)
+log_image-Holds image head ss eights h z =
+    let used : ℕ = used_with (Some head) ss in let w = IsWritten-Holds image head ss eights h in
+    let zeros : drop used image ≡ zero_lines (length (drop used image)) = zero_lines-tested (drop used image) (AreLines-drop used image eights) z in
+    let count : length (drop used image) ≡ length image - used = length-drop used image in
+    w.lines ∙ ap (λ (l : List (List ℕ)). log_lines head ss ++ l) (zeros ∙ ap zero_lines count)

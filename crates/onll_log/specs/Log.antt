@@ -1,5 +1,4 @@
-use Rattle.std.specs.Prelude.{◌≡◌, ◌≢◌, ℕ, ◌+◌, ◌-◌, ◌*◌, ◌^◌, ◌<◌, ◌≤◌, ◌⊎◌, Bool, true, false, List, [], ◌∷◌, ◌++◌, length, take, drop}
-use Rattle.onll_model.specs.declared.node.Node.{Node}
+use Rattle.std.specs.Prelude.{◌≡◌, ◌≢◌, ℕ, ◌+◌, ◌-◌, ◌^◌, ◌<◌, ◌≤◌, ◌⊎◌, Bool, true, false, List, [], ◌++◌, length, take, drop}
 use Rattle.onll_model.specs.Segment.{Segment, Rises, last_place}
 use Rattle.onll_pmem.specs.Device.{line_at, zero_line, zero_lines, FillsLines}
 use Rattle.onll_pmem.specs.Pmem.{DeviceView, ToldBacked, ToldSettled}

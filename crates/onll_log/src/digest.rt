@@ -16,6 +16,7 @@ pub struct Message {
 }
 
 impl Message {
+    /// A message of no bytes.
     pub fn new() -> Message
         ensures { IsMessage result [] }
     {

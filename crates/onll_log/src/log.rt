@@ -80,9 +80,12 @@ pub struct MakeFault<P> {
 pub struct ThreadLog<P: Pmem> {
     device: P,
     head: LogHead,
+    /// How many lines are used as read, the header's among them.
     used: u64,
     entries: u64,
+    /// The place of the last entry.
     last: u64,
+    /// The fences since the header's.
     fences: u64,
     broken: bool,
 }
@@ -160,6 +163,7 @@ impl<P: Pmem> ThreadLog<P> {
         }
     }
 
+    /// The head that the log was made with.
     pub fn head(&self) -> LogHead
         ensures { result ≡ self.now.head }
     {
@@ -208,6 +212,7 @@ impl<P: Pmem> ThreadLog<P> {
         self.broken
     }
 
+    /// The device under the log.
     pub fn device(&self) -> &P
         ensures device { result.now ≡ self.now.device }
         ensures holds { HoldsLog (P.means self.now.device) self.now.head self.now.entries self.now.broken }
@@ -215,6 +220,7 @@ impl<P: Pmem> ThreadLog<P> {
         &self.device
     }
 
+    /// Hands the device back.
     pub fn into_device(self) -> P
         ensures device { result ≡ self.device }
         ensures holds { HoldsLog (P.means self.device) self.head self.entries self.broken }

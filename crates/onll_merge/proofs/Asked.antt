@@ -1,18 +1,17 @@
 -- What is asked of all logs.
-use Rattle.std.proofs.Common.{◌≡◌, ◌≢◌, ℕ, zero, suc, ◌+◌, ◌<◌, ◌≤◌, Bool, true, false, List, [], ◌∷◌, length, get_or, sym, refl, ap, subst, ◌∙◌, arith, Option, Some, None, eq-eqb, ne_eqb, ◌==◌, cond}
-use Rattle.std.specs.Prelude.{◌&&◌, not}
+use Rattle.std.proofs.Common.{◌≡◌, ◌≢◌, ℕ, zero, suc, ◌<◌, ◌≤◌, Bool, true, false, List, [], ◌∷◌, length, get_or, sym, refl, ap, subst, ◌∙◌, arith, Option, Some, None, eq-eqb, ◌==◌}
+use Rattle.std.specs.Prelude.{◌&&◌}
 use mathlib.Core.Logic.{dite}
 use native.Mathlib.Decide.{ℕ_discrete}
 use Rattle.std.specs.Option.{option_or, option_map_or}
 use Rattle.onll_model.specs.declared.node.Node.{Node}
 use Rattle.onll_model.specs.Segment.{Rises}
-use Rattle.onll_log.specs.declared.head.LogHead.{LogHead}
 use Rattle.onll_log.specs.declared.decoded.Entry.{Entry}
 use Rattle.onll_log.specs.declared.decoded.Decoded.{Decoded}
 use Rattle.onll_log.specs.Decoded.{segments_in}
 use Rattle.onll_log.specs.Grammar.{Content, same_words}
 use Rattle.onll_merge.specs.declared.fault.RecoverFault.{RecoverFault}
-use Rattle.onll_merge.specs.Merge.{AllRise, contents_in, same_head, same_node, node_in_log, node_in_logs, differs, clash_from, first_to}
+use Rattle.onll_merge.specs.Merge.{AllRise, contents_in, node_in_log, node_in_logs, differs, clash_from, first_to}
 
 -- ---- each log of logs that rise
 pub AllRise-at : (logs : List Decoded) (k : ℕ) (d : Decoded) → AllRise (contents_in logs) → k < length logs → Rises 0 (segments_in (get_or logs k d).entries)

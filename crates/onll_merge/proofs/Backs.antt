@@ -1,26 +1,24 @@
 -- Logs that merge hold the trace that the merge gives.
-use Rattle.std.proofs.Common.{◌≡◌, ◌≢◌, ℕ, zero, suc, ◌+◌, ◌-◌, ◌<◌, ◌≤◌, ◌==◌, ◌⊎◌, inl, inr, ⊎_elim, max, Bool, true, false, List, [], ◌∷◌, ◌++◌, length, get_or, take, drop, sym, refl, ap, subst, ◌∙◌, arith, Option, Some, None, Result, Ok, Err, option_to_list, eq-eqb, ne_eqb, eqb-true, cond, true≢false}
-use Rattle.std.specs.Prelude.{◌&&◌, nat_lt, IfSome, count_by}
+use Rattle.std.proofs.Common.{◌≡◌, ℕ, zero, suc, ◌+◌, ◌-◌, ◌<◌, ◌≤◌, ◌==◌, inl, inr, ⊎_elim, Bool, true, false, List, [], ◌∷◌, ◌++◌, length, get_or, take, drop, sym, refl, ap, subst, ◌∙◌, arith, Option, Some, None, Ok, option_to_list, eqb-true, cond}
+use Rattle.std.specs.Prelude.{nat_lt, IfSome, count_by}
 use Rattle.std.specs.List.{AllByRecursion}
 use Rattle.std.specs.Option.{option_or, option_map_or}
-use Rattle.std.proofs.lemmas.Bool.{cases_Bool}
 use mathlib.Core.Option.{some, some-injective, some-ne-none}
 use mathlib.Core.Logic.{dite}
 use native.Mathlib.Decide.{ℕ_discrete, dec_le}
 use lib.ListN.{get_elem?}
-use Rattle.onll_words.specs.declared.line.OpRow.{OpRow}
 use Rattle.onll_model.specs.declared.node.Node.{Node}
-use Rattle.onll_model.specs.Segment.{Segment, Agrees, Within, LiesIn, Covers, Rises}
+use Rattle.onll_model.specs.Segment.{Segment, Agrees, Within, LiesIn, Rises}
 use Rattle.onll_model.specs.Trace.{is_of_thread, NumberedAbove}
 use Rattle.onll_log.specs.declared.head.LogHead.{LogHead}
 use Rattle.onll_log.specs.Grammar.{Content, same_words}
 use Rattle.onll_merge.specs.declared.fault.RecoverFault.{RecoverFault}
 use Rattle.onll_merge.specs.declared.fault.RecoverFault.TheVariants.{NotThisRun, Disorder, Clash, Gap, Stray}
-use Rattle.onll_merge.specs.Merge.{node_among, node_in_segment, node_in_log, node_in_logs, nodes_to, top_in_log, top_of, same_head, fits_run, foreign, disorder_in, disorder, AllRise, first_to, same_node, agrees_at, differs, clash_from, clash_at, gap_at, stray_above, refusal, unless, merge}
+use Rattle.onll_merge.specs.Merge.{node_in_segment, node_in_log, node_in_logs, nodes_to, top_in_log, top_of, same_head, fits_run, foreign, disorder_in, disorder, AllRise, first_to, same_node, agrees_at, differs, clash_from, clash_at, gap_at, unlike, stray_above, refusal, unless, merge}
 use Rattle.onll_merge.specs.Laws.{all_segments, EachSegment, HeadsFit, HoldMerged}
 use Rattle.onll_merge.proofs.Places.{node_among-at, node_among-above, node_in_log-low}
 use Rattle.onll_merge.proofs.Asked.{by_option, both, same_words-eq}
-use Rattle.onll_merge.proofs.Fronts.{Is, Has, inside, either_some, node_among-is, top_in_log-lies, top_of-lies}
+use Rattle.onll_merge.proofs.Fronts.{Is, Has, inside, either_some, node_among-is, top_in_log-lies}
 
 -- ---- what an answer of none says
 none_both : {A : Type 0} (a b : Option A) → option_or a b ≡ None → (a ≡ None) × (b ≡ None)
@@ -254,5 +252,5 @@ module _ (cs : List Content) (r : AllRise cs) (clash : first_to (clash_at cs) (t
   }
 
 pub merge-back : (nodes : List Node) (heads : List LogHead) (cs : List Content) → merge heads cs ≡ Ok nodes → HoldMerged nodes heads cs
-merge-back nodes heads cs h = let a = accepted (refusal heads cs) (nodes_to cs (top_of cs)) nodes h in let e0 = none_both (foreign 0 cs heads) _ a.0 in let e1 = none_both (disorder 0 cs) _ e0.1 in let e2 = none_both (first_to (clash_at cs) (top_of cs)) _ e1.1 in let e3 = none_both (first_to (gap_at cs) (top_of cs)) _ e2.1 in
-    let P : List Node → Type 0 = λ ns. HoldMerged ns heads cs in subst P a.1 (merged cs (all_rise 0 cs e1.0) e2.0 e3.0 heads (heads_fit 0 cs heads e0.0) e3.1)
+merge-back nodes heads cs h = let a = accepted (refusal heads cs) (nodes_to cs (top_of cs)) nodes h in let e0 = none_both (foreign 0 cs heads) _ a.0 in let e1 = none_both (disorder 0 cs) _ e0.1 in let e2 = none_both (unlike cs (top_of cs)) _ e1.1 in let e3 = none_both (first_to (clash_at cs) (top_of cs)) _ e2.0 in
+    let P : List Node → Type 0 = λ ns. HoldMerged ns heads cs in subst P a.1 (merged cs (all_rise 0 cs e1.0) e3.0 e3.1 heads (heads_fit 0 cs heads e0.0) e2.1)

@@ -1,5 +1,5 @@
 -- Logs that hold one trace merge to its front.
-use Rattle.std.proofs.Common.{◌≡◌, ◌≢◌, ℕ, zero, suc, ◌+◌, ◌-◌, ◌<◌, ◌≤◌, ◌==◌, ◌⊎◌, inl, inr, ⊎_elim, max, Bool, true, false, List, [], ◌∷◌, ◌++◌, length, get_or, take, drop, sym, refl, ap, subst, ◌∙◌, arith, Option, Some, None, Ok, Err, option_to_list, eq-eqb, ne_eqb, cond, true≢false}
+use Rattle.std.proofs.Common.{◌≡◌, ℕ, zero, suc, ◌+◌, ◌-◌, ◌<◌, ◌≤◌, ◌==◌, ◌⊎◌, inl, inr, ⊎_elim, Bool, true, false, List, [], ◌∷◌, ◌++◌, length, take, drop, sym, refl, ap, ◌∙◌, arith, Option, Some, None, Ok, option_to_list, eq-eqb, cond}
 use Rattle.std.specs.Prelude.{◌&&◌, nat_lt, IfSome, count_by}
 use Rattle.std.specs.List.{AllByRecursion}
 use Rattle.std.specs.Option.{option_or, option_map_or}
@@ -8,13 +8,13 @@ use mathlib.Core.Logic.{dite}
 use native.Mathlib.Decide.{ℕ_discrete}
 use lib.ListN.{get_elem?}
 use Rattle.onll_model.specs.declared.node.Node.{Node}
-use Rattle.onll_model.specs.Segment.{Segment, Agrees, Within, LiesIn, Covers, Rises}
+use Rattle.onll_model.specs.Segment.{Segment, Agrees, LiesIn, Rises}
 use Rattle.onll_model.specs.Trace.{is_of_thread, NumberedAbove}
 use Rattle.onll_log.specs.declared.head.LogHead.{LogHead}
 use Rattle.onll_log.specs.Grammar.{Content, same_words}
 use Rattle.onll_merge.specs.declared.fault.RecoverFault.{RecoverFault}
 use Rattle.onll_merge.specs.declared.fault.RecoverFault.TheVariants.{NotThisRun, Disorder, Clash, Gap, Stray}
-use Rattle.onll_merge.specs.Merge.{node_among, node_in_segment, node_in_log, node_in_logs, nodes_to, top_in_log, top_of, same_head, fits_run, foreign, disorder_in, disorder, AllRise, first_to, same_node, agrees_at, differs, clash_from, clash_at, gap_at, stray_above, refusal, unless, merge}
+use Rattle.onll_merge.specs.Merge.{node_among, node_in_segment, node_in_log, node_in_logs, nodes_to, top_in_log, top_of, same_head, fits_run, foreign, disorder_in, disorder, AllRise, first_to, same_node, agrees_at, differs, clash_from, clash_at, gap_at, unlike, stray_above, refusal, unless, merge}
 use Rattle.onll_merge.specs.Laws.{all_segments, EachSegment, HeadsFit, HoldOne}
 use Rattle.onll_merge.proofs.Places.{node_among-skip, node_among-first}
 use Rattle.onll_merge.proofs.Asked.{by_option, same_words-self, first_to-more}
@@ -166,7 +166,7 @@ merge-front trace heads cs m = let top : ℕ = top_of cs in let has : (p : ℕ) 
     let gap : first_to (gap_at cs) top ≡ None = none_to (gap_at cs) top (λ p a b. ap (λ (o : Option Node). option_map_or (λ x. None) o (Some (Gap p))) (has p a b).1) in
     let clash : first_to (clash_at cs) top ≡ None = none_to (clash_at cs) top (λ p a b. no_clash trace p 0 cs m.agree) in
     let stray : stray_above [] (nodes_to cs top) ≡ None = ap (stray_above []) nodes ∙ no_stray [] (take top trace) (numbered_take [] trace top m.numbered) in
-    let all : refusal heads cs ≡ None = none_or (foreign 0 cs heads) _ (no_foreign 0 cs heads m.heads_fit) (none_or (disorder 0 cs) _ (no_disorder 0 cs m.rise) (none_or (first_to (clash_at cs) top) _ clash (none_or (first_to (gap_at cs) top) _ gap stray))) in
+    let all : refusal heads cs ≡ None = none_or (foreign 0 cs heads) _ (no_foreign 0 cs heads m.heads_fit) (none_or (disorder 0 cs) _ (no_disorder 0 cs m.rise) (none_or (unlike cs top) _ (none_or (first_to (clash_at cs) top) _ clash gap) stray)) in
     ap (λ (o : Option RecoverFault). unless o (nodes_to cs top)) all ∙ ap Ok nodes
 
 -- ---- the greatest place

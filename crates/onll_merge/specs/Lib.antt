@@ -1,2 +1,4 @@
 pub mod Merge
+pub mod Passed
 pub mod Laws
+pub mod FrameLogs

@@ -1,4 +1,4 @@
-use Rattle.std.specs.Prelude.{ℕ, zero, suc, ◌+◌, ◌==◌, ◌&&◌, not, max, nat_lt, if◌then◌else◌, Bool, true, false, List, [], ◌∷◌, ◌++◌, length, map, count_by, Option, Some, None, Result, Ok, Err}
+use Rattle.std.specs.Prelude.{ℕ, zero, suc, ◌+◌, ◌==◌, ◌&&◌, max, nat_lt, if◌then◌else◌, Bool, true, List, [], ◌∷◌, ◌++◌, length, map, count_by, Option, Some, None, Result, Ok, Err}
 use Rattle.std.specs.List.{AllByRecursion}
 use Rattle.std.specs.Option.{option_or, option_map_or, option_to_list}
 use Rattle.onll_model.specs.declared.node.Node.{Node}
@@ -112,6 +112,10 @@ clash_at logs p = clash_from 0 logs p
 abbrev pub gap_at : List Content → ℕ → Option RecoverFault
 gap_at logs p = option_map_or (λ x. None) (node_in_logs logs p) (Some (Gap p))
 
+-- two logs hold different nodes for a place up to k; where none do, such a place is in no log
+abbrev pub unlike : List Content → ℕ → Option RecoverFault
+unlike logs k = option_or (first_to (clash_at logs) k) (first_to (gap_at logs) k)
+
 -- ---- numbers
 -- the first node whose number is not one more than the count of lower nodes of its thread, where these are below
 abbrev pub stray_above : List Node → List Node → Option RecoverFault
@@ -127,9 +131,8 @@ abbrev pub refusal : List LogHead → List Content → Option RecoverFault
 refusal heads logs =
     option_or (foreign 0 logs heads)
     (option_or (disorder 0 logs)
-    (option_or (first_to (clash_at logs) (top_of logs))
-    (option_or (first_to (gap_at logs) (top_of logs))
-    (stray_above [] (nodes_to logs (top_of logs))))))
+    (option_or (unlike logs (top_of logs))
+    (stray_above [] (nodes_to logs (top_of logs)))))
 
 abbrev pub unless : {A E : Type 0} → Option E → A → Result A E
 unless None value = Ok value

@@ -1,8 +1,9 @@
 ghost use Rattle.std.specs.Prelude.{◌≡◌, ℕ, ◌+◌, ◌<◌, ◌≤◌, length, slice_index_or, Some, None, OnOk, MatchResult};
-ghost use Rattle.std.specs.List.{AllWithin};
 ghost use Rattle.onll_model.specs.Segment.{Rises};
+ghost use Rattle.onll_log.specs.declared.decoded.Entry.{Entry};
 ghost use Rattle.onll_log.specs.Decoded.{segment_in, segments_in};
 ghost use Rattle.onll_merge.specs.Merge.{node_in_segment, node_in_log, agrees_at, top_in_log, disorder_in};
+ghost use Rattle.onll_merge.specs.Passed.{ArePassed};
 
 use crate::fault::RecoverFault;
 use onll_log::Entry;
@@ -38,14 +39,17 @@ pub fn top_place(entries: &[Entry]) -> u64
     top
 }
 
-/// The index of the first entry whose last place is at least this place.
-fn first_from(entries: &[Entry], place: u64) -> usize
-    requires { Rises 0 (segments_in entries.now) }
-    ensures bound { result ≤ length entries.now }
-    ensures below { AllWithin (λ e. e.place < place) entries.now 0 result }
-    ensures from { AllWithin (λ e. place ≤ e.place) entries.now result (length entries.now) }
+/// The index of the first entry that ends at this place or above, where those before `passed` end below it.
+fn first_from(entries: &[Entry], passed: usize, place: u64) -> usize
+    requires { ArePassed entries.now passed place }
+    ensures passed { ArePassed entries.now result place }
+    ensures reached { (d : Entry) → result < length entries.now → place ≤ (slice_index_or entries.now result d).place }
 {
-    entries.partition_point(|entry| entry.place < place)
+    let mut at = passed;
+    while at < entries.len() && entries[at].place < place {
+        at += 1;
+    }
+    at
 }
 
 /// The node of a place in an entry that ends there or above.
@@ -62,12 +66,15 @@ fn node_of_entry(entry: &Entry, place: u64) -> Option<Node>
     }
 }
 
-/// The node of a place in a log.
-pub fn node_of_log(entries: &[Entry], place: u64) -> Option<Node>
-    requires { Rises 0 (segments_in entries.now) }
-    ensures { result ≡ node_in_log (segments_in entries.now) place }
+/// The node of a place in a log, of which the first entries were passed; it passes those that end below the place.
+pub fn node_of_log(entries: &[Entry], passed: &mut usize, place: u64) -> Option<Node>
+    requires rises { Rises 0 (segments_in entries.now) }
+    requires passed { ArePassed entries.now passed.old place }
+    ensures node { result ≡ node_in_log (segments_in entries.now) place }
+    ensures passed { ArePassed entries.now passed.new place }
 {
-    let at = first_from(entries, place);
+    let at = first_from(entries, *passed, place);
+    *passed = at;
     if at < entries.len() {
         node_of_entry(&entries[at], place)
     } else {
@@ -76,25 +83,28 @@ pub fn node_of_log(entries: &[Entry], place: u64) -> Option<Node>
 }
 
 /// Whether a log holds no other node than this one at a place.
-pub fn agrees(entries: &[Entry], place: u64, node: Node) -> bool
-    requires { Rises 0 (segments_in entries.now) }
-    ensures { result ≡ agrees_at (segments_in entries.now) place node }
+pub fn agrees(entries: &[Entry], passed: &mut usize, place: u64, node: Node) -> bool
+    requires rises { Rises 0 (segments_in entries.now) }
+    requires passed { ArePassed entries.now passed.old place }
+    ensures agrees { result ≡ agrees_at (segments_in entries.now) place node }
+    ensures passed { ArePassed entries.now passed.new place }
 {
-    match node_of_log(entries, place) {
+    match node_of_log(entries, passed, place) {
         Some(found) => node == found,
         None => true,
     }
 }
 
 /// The next place above this one that a log may hold, at most `end`: it holds none in between.
-pub fn next_of_log(entries: &[Entry], place: u64, end: u64) -> u64
+pub fn next_of_log(entries: &[Entry], passed: usize, place: u64, end: u64) -> u64
     requires rises { Rises 0 (segments_in entries.now) }
+    requires passed { ArePassed entries.now passed (place + 1) }
     requires end { place < end }
     ensures above { place < result }
     ensures bound { result ≤ end }
     ensures none { (q : ℕ) → place < q → q < result → node_in_log (segments_in entries.now) q ≡ None }
 {
-    let at = first_from(entries, place + 1);
+    let at = first_from(entries, passed, place + 1);
     if at >= entries.len() {
         return end;
     }

@@ -2,6 +2,7 @@
 #![tactic(auto)]
 
 ghost use Rattle.onll_merge.specs.Laws.{FrontLaw, TopLaw, BackLaw, StandsLaw, NoOtherLaw, OnceLaw};
+ghost use Rattle.onll_merge.specs.FrameLogs.{FrameLogsLaw};
 
 mod entries;
 mod fault;
@@ -27,4 +28,10 @@ pub fn place_laws()
     ensures stands { StandsLaw }
     ensures no_other { NoOtherLaw }
     ensures once { OnceLaw }
+{}
+
+/// Whatever a crash leaves of the threads of a sound frame, for each its fenced segments or these and the pending one,
+/// merges to a front of the trace that holds every available place.
+pub fn frame_logs_law()
+    ensures front { FrameLogsLaw }
 {}

@@ -1,5 +1,6 @@
-ghost use Rattle.std.specs.Prelude.{◌≡◌, ℕ, ◌+◌, ◌<◌, ◌≤◌, ◌⊎◌, length, drop, Some, None, OnOk, MatchResult};
-ghost use Rattle.onll_merge.specs.Merge.{AllRise, contents_in, fits_run, foreign, disorder, top_of, node_in_logs, nodes_to, first_to, differs, clash_at, gap_at};
+ghost use Rattle.std.specs.Prelude.{◌≡◌, ℕ, ◌+◌, ◌<◌, ◌≤◌, ◌⊎◌, length, drop, Some, None, IfOk, OnOk, MatchResult};
+ghost use Rattle.onll_merge.specs.Merge.{AllRise, contents_in, fits_run, foreign, unlike, disorder, top_of, node_in_logs, nodes_to, first_to, differs, clash_at, gap_at};
+ghost use Rattle.onll_merge.specs.Passed.{ArePassedInAll};
 ghost use Rattle.onll_merge.specs.declared.fault.RecoverFault.TheVariants.{NoMemory};
 
 use crate::entries::{agrees, check_order, next_of_log, node_of_log, top_place};
@@ -7,6 +8,9 @@ use crate::fault::RecoverFault;
 use onll_log::{Decoded, LogHead};
 use onll_model::Node;
 use std::alloc::Global;
+
+/// The most logs of a run.
+const LOGS: usize = 16;
 
 /// Whether a log with this head can be of the run of the expected head: one without a head fits each run.
 fn fits(head: Option<LogHead>, expected: LogHead) -> bool
@@ -53,43 +57,41 @@ pub fn top_of_logs(logs: &[Decoded]) -> u64
     top
 }
 
-/// The node of a place in the first log that holds it.
-fn node_of_logs(logs: &[Decoded], place: u64) -> Option<Node>
-    requires { AllRise (contents_in logs.now) }
-    ensures { result ≡ node_in_logs (contents_in logs.now) place }
-{
-    for decoded in logs {
-        let node = node_of_log(decoded.entries.as_slice(), place);
-        if node.is_some() {
-            return node;
-        }
-    }
-    None
-}
-
 /// The next place above this one that a log may hold, at most `end`: they hold none in between.
-fn next_of_logs(logs: &[Decoded], place: u64, end: u64) -> u64
+fn next_of_logs(logs: &[Decoded], passed: &[usize], place: u64, end: u64) -> u64
     requires rise { AllRise (contents_in logs.now) }
+    requires count { length logs.now ≤ length passed.now }
+    requires passed { ArePassedInAll logs.now passed.now place }
     requires end { place < end }
     ensures above { place < result }
     ensures bound { result ≤ end }
     ensures none { (q : ℕ) → place < q → q < result → node_in_logs (contents_in logs.now) q ≡ None }
 {
     let mut next = end;
-    for decoded in logs {
-        next = next_of_log(decoded.entries.as_slice(), place, next);
+    for (log, decoded) in logs.iter().enumerate() {
+        next = next_of_log(decoded.entries.as_slice(), passed[log], place, next);
     }
     next
 }
 
 /// Whether the logs after this one hold no other node than its own at a place.
-fn check_others(logs: &[Decoded], place: u64, log: usize, node: Node) -> Result<(), RecoverFault>
+fn check_others(
+    logs: &[Decoded],
+    passed: &mut [usize],
+    place: u64,
+    log: usize,
+    node: Node,
+) -> Result<(), RecoverFault>
     requires rise { AllRise (contents_in logs.now) }
+    requires count { length logs.now ≤ length passed.old }
+    requires passed { ArePassedInAll logs.now passed.old place }
     requires log { log < length logs.now }
-    ensures { MatchResult result (λ _. differs place log (log + 1) node (contents_in (drop (log + 1) logs.now)) ≡ None) (λ e. differs place log (log + 1) node (contents_in (drop (log + 1) logs.now)) ≡ Some e) }
+    ensures others { MatchResult result (λ _. differs place log (log + 1) node (contents_in (drop (log + 1) logs.now)) ≡ None) (λ e. differs place log (log + 1) node (contents_in (drop (log + 1) logs.now)) ≡ Some e) }
+    ensures passed { ArePassedInAll logs.now passed.new place }
 {
     for other in log + 1..logs.len() {
-        if !agrees(logs[other].entries.as_slice(), place, node) {
+        let entries = logs[other].entries.as_slice();
+        if !agrees(entries, &mut passed[other], place, node) {
             return Err(RecoverFault::Clash {
                 place,
                 log: log as u64,
@@ -100,48 +102,71 @@ fn check_others(logs: &[Decoded], place: u64, log: usize, node: Node) -> Result<
     Ok(())
 }
 
-/// Whether no two logs hold different nodes at a place.
-fn check_place(logs: &[Decoded], place: u64) -> Result<(), RecoverFault>
-    requires { AllRise (contents_in logs.now) }
-    ensures { MatchResult result (λ _. clash_at (contents_in logs.now) place ≡ None) (λ e. clash_at (contents_in logs.now) place ≡ Some e) }
+/// The node of a place in the logs that hold it, none where no log does; it refuses logs that hold different nodes.
+fn node_of_place(
+    logs: &[Decoded],
+    passed: &mut [usize],
+    place: u64,
+) -> Result<Option<Node>, RecoverFault>
+    requires rise { AllRise (contents_in logs.now) }
+    requires count { length logs.now ≤ length passed.old }
+    requires passed { ArePassedInAll logs.now passed.old place }
+    ensures clash { MatchResult result (λ _. clash_at (contents_in logs.now) place ≡ None) (λ e. clash_at (contents_in logs.now) place ≡ Some e) }
+    ensures node { IfOk result (λ node. node ≡ node_in_logs (contents_in logs.now) place) }
+    ensures passed { ArePassedInAll logs.now passed.new place }
 {
     for (log, decoded) in logs.iter().enumerate() {
-        if let Some(node) = node_of_log(decoded.entries.as_slice(), place) {
-            return check_others(logs, place, log, node);
+        if let Some(node) = node_of_log(decoded.entries.as_slice(), &mut passed[log], place) {
+            check_others(logs, passed, place, log, node)?;
+            return Ok(Some(node));
         }
     }
-    Ok(())
+    Ok(None)
 }
 
-/// Whether no two logs hold different nodes at a place up to `top`.
-pub fn check_places(logs: &[Decoded], top: u64) -> Result<(), RecoverFault>
-    requires { AllRise (contents_in logs.now) }
+/// Whether no two logs hold different nodes at a place up to `top`, where none do up to `place`.
+fn check_above(
+    logs: &[Decoded],
+    passed: &mut [usize],
+    place: u64,
+    top: u64,
+) -> Result<(), RecoverFault>
+    requires rise { AllRise (contents_in logs.now) }
+    requires count { length logs.now ≤ length passed.old }
+    requires passed { ArePassedInAll logs.now passed.old place }
+    requires below { first_to (clash_at (contents_in logs.now)) place ≡ None }
+    requires top { place ≤ top }
     ensures { MatchResult result (λ _. first_to (clash_at (contents_in logs.now)) top ≡ None) (λ e. first_to (clash_at (contents_in logs.now)) top ≡ Some e) }
 {
-    let mut place = 0;
-    while place < top {
-        place = next_of_logs(logs, place, top);
-        check_place(logs, place)?;
+    let mut at = place;
+    while at < top {
+        at = next_of_logs(logs, passed, at, top);
+        node_of_place(logs, passed, at)?;
     }
     Ok(())
 }
 
-/// The nodes of the places up to `top`.
+/// The nodes of the places up to `top`, which the logs hold alike.
 pub fn gather(alloc: Global, logs: &[Decoded], top: u64) -> Result<Vec<Node>, RecoverFault>
-    requires { AllRise (contents_in logs.now) }
-    ensures nodes { MatchResult result (λ v. v.items ≡ nodes_to (contents_in logs.now) top) (λ e. (e ≡ NoMemory) ⊎ (first_to (gap_at (contents_in logs.now)) top ≡ Some e)) }
-    ensures whole { OnOk result (first_to (gap_at (contents_in logs.now)) top ≡ None) }
+    requires rise { AllRise (contents_in logs.now) }
+    requires count { length logs.now ≤ 16 }
+    ensures places { MatchResult result (λ _. unlike (contents_in logs.now) top ≡ None) (λ e. (e ≡ NoMemory) ⊎ (unlike (contents_in logs.now) top ≡ Some e)) }
+    ensures nodes { IfOk result (λ v. v.items ≡ nodes_to (contents_in logs.now) top) }
 {
+    let mut passed = [0; LOGS];
     let mut nodes = Vec::new(alloc);
     for below in 0..top {
         let place = below + 1;
-        match node_of_logs(logs, place) {
+        match node_of_place(logs, &mut passed, place)? {
             Some(node) => {
                 if nodes.push(node).is_err() {
                     return Err(RecoverFault::NoMemory);
                 }
             }
-            None => return Err(RecoverFault::Gap { place }),
+            None => {
+                check_above(logs, &mut passed, place, top)?;
+                return Err(RecoverFault::Gap { place });
+            }
         }
     }
     Ok(nodes)

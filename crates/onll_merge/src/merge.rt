@@ -3,7 +3,7 @@ ghost use Rattle.onll_merge.specs.Merge.{contents_in, merge};
 ghost use Rattle.onll_merge.specs.declared.fault.RecoverFault.TheVariants.{NoMemory};
 
 use crate::fault::RecoverFault;
-use crate::logs::{check_heads, check_orders, check_places, gather, top_of_logs};
+use crate::logs::{check_heads, check_orders, gather, top_of_logs};
 use crate::numbers::check_numbers;
 use onll_log::{Decoded, LogHead};
 use onll_model::Node;
@@ -23,7 +23,6 @@ pub fn recover(
     check_heads(logs, heads)?;
     check_orders(logs)?;
     let top = top_of_logs(logs);
-    check_places(logs, top)?;
     let nodes = gather(alloc, logs, top)?;
     check_numbers(alloc, &nodes)?;
     Ok(nodes)

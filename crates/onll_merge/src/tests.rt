@@ -332,6 +332,7 @@ fn logs_that_merge(rt: HostRuntime) -> Result<(), Fail> {
     }
     merge_laws();
     place_laws();
+    frame_logs_law();
     Ok(())
 }
 

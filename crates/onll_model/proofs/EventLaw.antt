@@ -1,4 +1,4 @@
-use Rattle.std.proofs.Common.{◌≡◌, ◌≢◌, ℕ, zero, suc, ◌+◌, ◌-◌, ◌<◌, ◌≤◌, max, Bool, true, false, List, [], ◌∷◌, ◌++◌, length, take, drop, set, Option, Some, None, refl, sym, ap, ◌∙◌, subst, ⊎_elim, ◌⊎◌, arith, length-append, true≢false, eq-eqb, ne_eqb, ◌==◌}
+use Rattle.std.proofs.Common.{◌≡◌, ◌≢◌, ℕ, zero, suc, ◌+◌, ◌-◌, ◌<◌, ◌≤◌, max, Bool, true, false, List, [], ◌∷◌, ◌++◌, length, take, drop, set, Option, Some, None, refl, sym, ap, ◌∙◌, subst, ⊎_elim, arith, length-append, true≢false, eq-eqb, ne_eqb}
 use Rattle.std.specs.Prelude.{if◌then◌else◌}
 use Rattle.std.specs.List.{AllByRecursion, slice_get}
 use mathlib.Core.Logic.{dite}
@@ -6,7 +6,7 @@ use native.Mathlib.Decide.{ℕ_discrete}
 use Rattle.onll_words.specs.declared.line.OpRow.{OpRow}
 use Rattle.onll_model.specs.declared.node.Node.{Node}
 use Rattle.onll_model.specs.Frames.{Frame, Thread, Activity, Rest, Loaded, Walk, Logging, Fenced, Asking, Sound, Based, IsAvailable, is_available, IsQuiet, Follows}
-use Rattle.onll_model.specs.Events.{Event, UpdateTail, Won, Lost, FlagSet, FlagUnset, Fence, Set, ReadTail, Withdraw, Fail, MakeNote, Learn, thread_of, with_thread, with_flag, with_node, with_notes, doing, resting_at, logging, fencing, stuck_at, next_node, linking, at_set_flag, at_unset_flag, asking, after_fence, after_fail, after_set, after_learn, after_by, after, MayLoad, LoadsNext, Allows, Possible}
+use Rattle.onll_model.specs.Events.{Event, UpdateTail, Won, Lost, FlagSet, FlagUnset, Fence, Set, ReadTail, Withdraw, Fail, MakeNote, Learn, thread_of, with_thread, with_flag, with_node, with_notes, doing, resting_at, logging, fencing, stuck_at, next_node, at_set_flag, at_unset_flag, asking, after_fence, after_fail, after_set, after_learn, after_by, after, MayLoad, LoadsNext, Allows, Possible}
 use Rattle.onll_model.specs.FrameLaws.{SoundOver}
 use Rattle.onll_model.proofs.Lists.{present, all_at, all_append, all_take, all_drop}
 use Rattle.onll_model.proofs.Traces.{node_place}
@@ -147,7 +147,8 @@ module _ (count b : ℕ) (f : Frame) (s : Sound count f) (k : Based b f) (t : �
         based = based_put b (with_notes f rest) t (resting_at th (max th.seen p)) kept.based (omega arith);
       }
 
-event_by : (count b : ℕ) (f : Frame) (e : Event) → Sound count f → Based b f → (th : Thread) → slice_get f.threads (thread_of e) ≡ Some th → Allows f th e → SoundOver count b (after_by b f e (Some th))
+event_by : (count b : ℕ) (f : Frame) (e : Event) → Sound count f → Based b f → (th : Thread) → slice_get f.threads (thread_of e) ≡ Some th → Allows f th e
+    → SoundOver count b (after_by b f e (Some th))
 event_by count b f (UpdateTail t) s k th at a = look_over count b f s k t th at th.activity refl a.0 a.1
 event_by count b f (Won t row) s k th at a = won_over count b f s k t th at row a
 event_by count b f (Lost t) s k th at a = record { sound = s; based = k }

@@ -1,9 +1,8 @@
-use Rattle.std.proofs.Common.{◌≡◌, ◌≢◌, ℕ, zero, suc, ◌+◌, ◌-◌, ◌<◌, ◌≤◌, Bool, true, false, List, [], ◌∷◌, ◌++◌, length, map, replicate, Option, Some, None, option_to_list, refl, sym, ap, ◌∙◌, subst, ⊎_elim, ◌⊎◌, arith, append-nil, true≢false, get_or}
+use Rattle.std.proofs.Common.{◌≡◌, ◌≢◌, ℕ, zero, suc, ◌≤◌, true, false, List, [], ◌∷◌, ◌++◌, length, map, replicate, Some, None, refl, sym, ◌∙◌, subst, arith, append-nil, true≢false}
 use Rattle.std.proofs.lemmas.List.{length-map, length-replicate, get_or-replicate}
 use Rattle.std.specs.List.{AllByRecursion, slice_get}
 use Rattle.onll_model.specs.declared.node.Node.{Node}
-use Rattle.onll_model.specs.Trace.{node_at}
-use Rattle.onll_model.specs.Segment.{Segment, Covers, LiesIn, Rises, last_place}
+use Rattle.onll_model.specs.Segment.{Segment, Covers, Rises, last_place}
 use Rattle.onll_model.specs.Frames.{Frame, Thread, IsAvailable, is_available, IsSoundSegment, fenced_segments, segments_of, open_place, IsQuiet, IsSettled, IsPending, Follows, resumed_thread, resumed_frame}
 use Rattle.onll_model.specs.FrameLaws.{SoundOver, IsResumable}
 use Rattle.onll_model.proofs.Lists.{same_some, some_not_none, all_map}
@@ -17,15 +16,13 @@ all_available n zero le = refl
 all_available n (suc p) le = get_or-replicate n p true false (omega arith)
 
 -- each thread of the first frame is at rest
-resumed_at : (b : ℕ) (logs : List (List Segment)) (P : Thread → Type 0) → AllByRecursion (λ (ss : List Segment). P (resumed_thread b ss)) logs → (t : ℕ) (th : Thread) → slice_get (map (resumed_thread b) logs) t ≡ Some th → P th
+resumed_at : (b : ℕ) (logs : List (List Segment)) (P : Thread → Type 0) → AllByRecursion (λ (ss : List Segment). P (resumed_thread b ss)) logs → (t : ℕ) (th : Thread)
+    → slice_get (map (resumed_thread b) logs) t ≡ Some th → P th
 resumed_at b [] P all t th e = some_not_none th (sym e)
 resumed_at b (ss ∷ logs) P all zero th e = subst P (same_some (resumed_thread b ss) th e) all.0
 resumed_at b (ss ∷ logs) P all (suc t) th e = resumed_at b logs P all.1 t th e
 
--- what holds of each log, from a fact of each
-each_log : (P Q : List Segment → Type 0) (logs : List (List Segment)) → ((ss : List Segment) → P ss → Q ss) → AllByRecursion P logs → AllByRecursion Q logs
-each_log P Q logs f all = all_map P Q logs f all
-
+-- what holds of any segments
 every_log : (Q : List Segment → Type 0) (logs : List (List Segment)) → ((ss : List Segment) → Q ss) → AllByRecursion Q logs
 every_log Q [] f = tt
 every_log Q (ss ∷ logs) f = (f ss, every_log Q logs f)
@@ -50,16 +47,18 @@ resumed_sound count base logs r =
         numbered = r.numbered;
         below = r.below;
         earlier = λ p q x y e _ _ _. available p ((node_place base p x e).1);
-        latest = λ t th e p last. ((λ unset. absurd (true≢false (sym (available p ((node_place base p last.node last.here).1)) ∙ unset))),
-            λ opens. absurd (closed t th e p opens));
+        latest = λ t th e p last. (
+          (λ unset. absurd (true≢false (sym (available p ((node_place base p last.node last.here).1)) ∙ unset))),
+          λ opens. absurd (closed t th e p opens),
+        );
         opened = λ t th e p opens. absurd (closed t th e p opens);
         quiet = resumed_at b logs (λ th. th.stuck ≢ None → IsQuiet th.activity) (every_log _ logs (λ ss _. tt));
         segments = resumed_at b logs (λ th. AllByRecursion (IsSoundSegment count base (fenced_segments f.threads)) (segments_of th))
-            (each_log _ _ logs (λ ss all. subst (AllByRecursion (IsSoundSegment count base (fenced_segments f.threads))) (sym (alone ss)) all) r.segments);
+            (all_map _ _ logs (λ ss all. subst (AllByRecursion (IsSoundSegment count base (fenced_segments f.threads))) (sym (alone ss)) all) r.segments);
         covered = λ p e. covers p (let h = available_low f.flags p e in omega arith);
-        rising = resumed_at b logs (λ th. Rises 0 (segments_of th)) (each_log _ _ logs (λ ss all. subst (Rises 0) (sym (alone ss)) all) r.rising);
+        rising = resumed_at b logs (λ th. Rises 0 (segments_of th)) (all_map _ _ logs (λ ss all. subst (Rises 0) (sym (alone ss)) all) r.rising);
         settled = resumed_at b logs (λ th. IsSettled th.seen th.fenced th.activity)
-            (each_log _ _ logs (λ ss all. last_low count 0 base (fenced_segments f.threads) ss all (omega arith)) r.segments);
+            (all_map _ _ logs (λ ss all. last_low count 0 base (fenced_segments f.threads) ss all (omega arith)) r.segments);
         pending = resumed_at b logs (λ th. IsPending th.pending th.stuck th.activity) (every_log _ logs (λ ss. refl));
         follows = resumed_at b logs (λ th. Follows base th.seen th.activity) (every_log _ logs (λ ss. tt));
         seen = resumed_at b logs (λ th. IsAvailable f th.seen) (every_log _ logs (λ ss. available b (omega arith)));
@@ -75,8 +74,8 @@ resumed_sound count base logs r =
     closed : (t : ℕ) (th : Thread) → slice_get (map (resumed_thread (length base)) logs) t ≡ Some th → (p : ℕ) → open_place th ≢ Some p
     closed t th e p opens = let none = resumed_at (length base) logs (λ z. open_place z ≡ None) (every_log _ logs (λ ss. refl)) t th e in absurd (let both = sym none ∙ opens in (cc))
 
-pub created_sound : (count : ℕ) → SoundOver count 0 (resumed_frame [] (replicate count []))
-created_sound count = resumed_sound count [] (replicate count []) record {
+pub created_resumable : (count : ℕ) → IsResumable count [] (replicate count [])
+created_resumable count = record {
   threads = length-replicate count [];
   numbered = tt;
   below = tt;
@@ -92,3 +91,6 @@ created_sound count = resumed_sound count [] (replicate count []) record {
     empty' : (n : ℕ) → AllByRecursion (λ (ss : List Segment). Rises 0 ss) (replicate n [])
     empty' zero = tt
     empty' (suc n) = (tt, empty' n)
+
+pub created_sound : (count : ℕ) → SoundOver count 0 (resumed_frame [] (replicate count []))
+created_sound count = resumed_sound count [] (replicate count []) (created_resumable count)

@@ -1,15 +1,15 @@
-use Rattle.std.proofs.Common.{◌≡◌, ◌≢◌, ℕ, zero, suc, ◌+◌, ◌-◌, ◌<◌, ◌≤◌, Bool, true, false, List, [], ◌∷◌, ◌++◌, length, set, Option, Some, None, refl, sym, ap, ◌∙◌, subst, ⊎_elim, ◌⊎◌, inl, inr, arith, length-append, length-set, true≢false, count_by}
+use Rattle.std.proofs.Common.{◌≡◌, ◌≢◌, ℕ, suc, ◌+◌, ◌-◌, ◌<◌, ◌≤◌, Bool, true, false, List, [], ◌∷◌, ◌++◌, length, set, Option, Some, None, refl, sym, ap, ◌∙◌, subst, ⊎_elim, arith, length-append, length-set, true≢false, count_by}
 use Rattle.std.specs.List.{AllByRecursion, slice_get}
 use Rattle.std.proofs.lemmas.Bool.{cases_Bool}
 use mathlib.Core.Logic.{◌↔◌, dite}
 use native.Mathlib.Decide.{ℕ_discrete}
 use Rattle.onll_model.specs.declared.node.Node.{Node}
 use Rattle.onll_model.specs.Trace.{node_at, is_of_thread}
-use Rattle.onll_model.specs.Segment.{Segment, Agrees, Covers, Rises}
-use Rattle.onll_model.specs.Frames.{Frame, Thread, Activity, Rest, Loaded, Walk, Logging, Fenced, Asking, Sound, IsLast, IsAvailable, is_available, AreApart, IsSoundSegment, fenced_segments, segments_of, open_in, open_at, open_place, IsQuiet, IsSettled, IsPending, Follows}
+use Rattle.onll_model.specs.Segment.{Segment, Rises}
+use Rattle.onll_model.specs.Frames.{Frame, Thread, Activity, Rest, Loaded, Walk, Logging, Fenced, Asking, Sound, IsLast, IsAvailable, is_available, AreApart, IsSoundSegment, fenced_segments, segments_of, open_in, open_at, open_place, IsSettled, IsPending, Follows}
 use Rattle.onll_model.specs.Events.{with_thread, with_node, doing, logging}
 use Rattle.onll_model.proofs.Lists.{inside, all_append, all_map}
-use Rattle.onll_model.proofs.Segments.{Grows, same_grows, covers_still, agrees_longer}
+use Rattle.onll_model.proofs.Segments.{same_grows, covers_still, agrees_longer}
 use Rattle.onll_model.proofs.Traces.{node_place, node_snoc, node_before, node_end, numbered_longer}
 use Rattle.onll_model.proofs.Flags.{available_low, flag_before, flag_past}
 use Rattle.onll_model.proofs.FrameParts.{each_put, segments_still, Own, own_of, in_trace, unflagged_last, free_of, open_free, still_open, pends_none, none_pends}
@@ -133,7 +133,8 @@ pub loaded_closed : (count : ℕ) (f : Frame) (t : ℕ) (th : Thread) (l : ℕ) 
 loaded_closed count f t th l s at is = open_free th (Loaded l) (free_of count f th (Loaded l) (own_of count f s t th at) is (λ q. q)) is
 
 -- the exchange has linked a node, and the walk begins
-pub won_walks_sound : (count : ℕ) (f : Frame) (t : ℕ) (th : Thread) (l : ℕ) (x : Node) → Sound count f → slice_get f.threads t ≡ Some th → th.activity ≡ Loaded l → x.thread ≡ t → x.number ≡ count_by (is_of_thread t) f.trace + 1 → 1 ≤ length f.trace
+pub won_walks_sound : (count : ℕ) (f : Frame) (t : ℕ) (th : Thread) (l : ℕ) (x : Node) → Sound count f → slice_get f.threads t ≡ Some th → th.activity ≡ Loaded l → x.thread ≡ t
+    → x.number ≡ count_by (is_of_thread t) f.trace + 1 → 1 ≤ length f.trace
     → Sound count (with_thread (with_node f x) t (doing th (Walk (suc (length f.trace)) (length f.trace))))
 won_walks_sound count f t th l x s at is own_x number some_nodes =
     let own = own_of count f s t th at in
@@ -153,7 +154,8 @@ won_walks_sound count f t th l x s at is own_x number some_nodes =
     }
 
 -- the exchange has linked the first node above the base, and there is no walk
-pub won_base_sound : (count : ℕ) (f : Frame) (t : ℕ) (th : Thread) (l : ℕ) (x : Node) → Sound count f → slice_get f.threads t ≡ Some th → th.activity ≡ Loaded l → x.thread ≡ t → x.number ≡ count_by (is_of_thread t) f.trace + 1 → (b : ℕ) → length f.trace ≡ b → IsAvailable f b
+pub won_base_sound : (count : ℕ) (f : Frame) (t : ℕ) (th : Thread) (l : ℕ) (x : Node) → Sound count f → slice_get f.threads t ≡ Some th → th.activity ≡ Loaded l → x.thread ≡ t
+    → x.number ≡ count_by (is_of_thread t) f.trace + 1 → (b : ℕ) → length f.trace ≡ b → IsAvailable f b
     → Sound count (with_thread (with_node f x) t (logging th (f.trace ++ x ∷ []) b (suc b)))
 won_base_sound count f t th l x s at is own_x number b size available =
     let own = own_of count f s t th at in
@@ -167,9 +169,9 @@ won_base_sound count f t th l x s at is own_x number b size available =
     let n = s.threads in
     linked_sound count f s t th at closed x own_x number (logging th (f.trace ++ x ∷ []) b (suc b)) refl (ap (λ (o : Option ℕ). open_at o (Logging (suc b) (suc b - b))) free ∙ ap (λ (m : ℕ). Some (suc m)) (sym size))
     (own_logging count (with_node f x) th b (suc b) free
-      (subst (AllByRecursion (IsSoundSegment count (f.trace ++ x ∷ []) (fenced_segments f.threads))) alone (old_segments count f s t th at closed x own_x number))
-      (subst (Rises 0) alone own.rising)
-      (subst (IsSettled th.seen th.fenced) is own.settled)
-      (still_available count f s t th at closed x own_x number th.seen own.seen)
-      (omega arith) (omega arith) (omega arith) (omega arith)
-      (s.covered b available))
+    (subst (AllByRecursion (IsSoundSegment count (f.trace ++ x ∷ []) (fenced_segments f.threads))) alone (old_segments count f s t th at closed x own_x number))
+    (subst (Rises 0) alone own.rising)
+    (subst (IsSettled th.seen th.fenced) is own.settled)
+    (still_available count f s t th at closed x own_x number th.seen own.seen)
+    (omega arith) (omega arith) (omega arith) (omega arith)
+    (s.covered b available))

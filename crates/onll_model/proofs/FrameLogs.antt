@@ -1,16 +1,16 @@
-use Rattle.std.proofs.Common.{◌≡◌, ◌≢◌, ℕ, zero, suc, ◌+◌, ◌-◌, ◌<◌, ◌≤◌, Bool, true, false, List, [], ◌∷◌, ◌++◌, length, take, drop, set, Option, Some, None, option_to_list, refl, sym, ap, ◌∙◌, subst, ⊎_elim, ◌⊎◌, inl, inr, arith, append-nil, length-set, true≢false}
+use Rattle.std.proofs.Common.{◌≡◌, ◌≢◌, ℕ, suc, ◌+◌, ◌-◌, ◌<◌, ◌≤◌, Bool, true, false, List, [], ◌∷◌, ◌++◌, length, take, drop, set, Option, Some, None, option_to_list, refl, sym, ap, ◌∙◌, subst, ⊎_elim, ◌⊎◌, inl, arith, append-nil, length-set, true≢false}
 use Rattle.std.specs.List.{AllByRecursion, slice_get}
 use mathlib.Core.Logic.{◌↔◌, dite}
 use Rattle.onll_model.specs.declared.node.Node.{Node}
 use Rattle.onll_model.specs.Trace.{node_at}
-use Rattle.onll_model.specs.Segment.{Segment, Agrees, LiesIn, Covers, Rises, last_place, nodes_between}
-use Rattle.onll_model.specs.Frames.{Frame, Thread, Activity, Rest, Loaded, Walk, Logging, Fenced, Asking, Sound, IsLast, IsAvailable, is_available, AreApart, IsSoundSegment, IsWindow, fenced_segments, segments_of, open_in, open_at, open_place, IsQuiet, IsSettled, IsPending, Follows}
+use Rattle.onll_model.specs.Segment.{Segment, LiesIn, Covers, Rises, last_place, nodes_between}
+use Rattle.onll_model.specs.Frames.{Frame, Thread, Activity, Rest, Walk, Logging, Fenced, Sound, IsLast, IsAvailable, is_available, AreApart, IsSoundSegment, IsWindow, fenced_segments, segments_of, open_at, open_place, IsSettled, IsPending, Follows}
 use Rattle.onll_model.specs.Events.{with_thread, with_flag, resting_at, window, logging, fencing, stuck_at}
 use Rattle.onll_model.proofs.Lists.{same_some, inside, at_window, length_window, all_append, all_left, all_right, all_map}
-use Rattle.onll_model.proofs.Segments.{Grows, covers_still, rises_snoc, last_snoc, lies_left, lies_right, lies_of_thread}
+use Rattle.onll_model.proofs.Segments.{covers_still, rises_snoc, last_snoc, lies_left, lies_right, lies_of_thread}
 use Rattle.onll_model.proofs.Traces.{node_place, few_nodes}
-use Rattle.onll_model.proofs.Flags.{flag_set, available_low}
-use Rattle.onll_model.proofs.FrameParts.{each_put, segments_still, Own, own_of, put_sound, in_trace, unflagged_last, free_of, open_free, pends_none}
+use Rattle.onll_model.proofs.Flags.{flag_set}
+use Rattle.onll_model.proofs.FrameParts.{each_put, segments_still, Own, own_of, put_sound, free_of, open_free, pends_none}
 use Rattle.onll_model.proofs.FrameSteps.{apart_more, seen_below}
 
 -- The steps that log a window, fence it, and set the own flag; and a fence that fails.
@@ -26,7 +26,8 @@ pub fenced_alone : (th : Thread) → th.pending ≡ None → segments_of th ≡ 
 fenced_alone th e = ap (λ (o : Option Segment). th.fenced ++ option_to_list o) e ∙ append-nil th.fenced
 
 -- The part of a thread that logs the window above d, where d is available. `fenced` are the segments that cover.
-pub own_logging : (count : ℕ) (f : Frame) (th : Thread) (d p : ℕ) → th.stuck ≡ None → AllByRecursion (IsSoundSegment count f.trace (fenced_segments f.threads)) th.fenced → Rises 0 th.fenced → last_place 0 th.fenced ≤ th.seen → IsAvailable f th.seen
+pub own_logging : (count : ℕ) (f : Frame) (th : Thread) (d p : ℕ) → th.stuck ≡ None → AllByRecursion (IsSoundSegment count f.trace (fenced_segments f.threads)) th.fenced → Rises 0 th.fenced
+    → last_place 0 th.fenced ≤ th.seen → IsAvailable f th.seen
     → th.seen ≤ d → d < p → p ≤ length f.trace → p - d ≤ count → Covers (fenced_segments f.threads) d → Own count f (logging th f.trace d p)
 own_logging count f th d p free old rises settled available above below high few cover =
     let g : Segment = window f.trace d p in
@@ -34,11 +35,14 @@ own_logging count f th d p free old rises settled available above below high few
     let first : d ≡ p - length g.nodes = omega arith in
     record {
       quiet = λ h. absurd (h free);
-      segments = all_append (IsSoundSegment count f.trace (fenced_segments f.threads)) th.fenced (g ∷ []) old (record {
-        agrees = record { some_nodes = omega arith; from_one = omega arith; in_trace = high; nodes = ap (λ (n : ℕ). nodes_between f.trace n p) first };
-        few = omega arith;
-        below = subst (Covers (fenced_segments f.threads)) first cover;
-      }, tt);
+      segments = all_append (IsSoundSegment count f.trace (fenced_segments f.threads)) th.fenced (g ∷ []) old (
+        record {
+          agrees = record { some_nodes = omega arith; from_one = omega arith; in_trace = high; nodes = ap (λ (n : ℕ). nodes_between f.trace n p) first };
+          few = omega arith;
+          below = subst (Covers (fenced_segments f.threads)) first cover;
+        },
+        tt,
+      );
       rising = rises_snoc 0 th.fenced g rises (omega arith);
       settled = settled;
       pending = subst (λ (o : Option ℕ). IsPending (Some g) o (Logging p (p - d))) (sym free) (g, refl, (refl, len));
@@ -47,7 +51,8 @@ own_logging count f th d p free old rises settled available above below high few
     }
 
 -- a walk ends at an available place
-walk_to_sound : (count : ℕ) (f : Frame) (t : ℕ) (th : Thread) (p d e : ℕ) → Sound count f → slice_get f.threads t ≡ Some th → th.activity ≡ Walk p d → th.seen ≤ e → e < p → AreApart f.trace e p → IsAvailable f e → Sound count (with_thread f t (logging th f.trace e p))
+walk_to_sound : (count : ℕ) (f : Frame) (t : ℕ) (th : Thread) (p d e : ℕ) → Sound count f → slice_get f.threads t ≡ Some th → th.activity ≡ Walk p d → th.seen ≤ e → e < p → AreApart f.trace e p
+    → IsAvailable f e → Sound count (with_thread f t (logging th f.trace e p))
 walk_to_sound count f t th p d e s at is above below apart available =
     let own = own_of count f s t th at in
     let free = free_of count f th (Walk p d) own is (λ q. q) in
@@ -58,27 +63,30 @@ walk_to_sound count f t th p d e s at is above below apart available =
     let high = (node_place f.trace p last.node last.here).1 in
     put_sound count f t th (logging th f.trace e p) s at (λ q l. l) (ap (λ (o : Option ℕ). open_at o (Logging p (p - e))) free ∙ sym opens)
     (own_logging count f th e p free
-      (subst (AllByRecursion (IsSoundSegment count f.trace (fenced_segments f.threads))) alone own.segments)
-      (subst (Rises 0) alone own.rising)
-      (subst (IsSettled th.seen th.fenced) is own.settled)
-      own.seen above below high
-      (window_few count f e p s (omega arith) high apart)
-      (s.covered e available))
+    (subst (AllByRecursion (IsSoundSegment count f.trace (fenced_segments f.threads))) alone own.segments)
+    (subst (Rises 0) alone own.rising)
+    (subst (IsSettled th.seen th.fenced) is own.settled)
+    own.seen above below high
+    (window_few count f e p s (omega arith) high apart)
+    (s.covered e available))
 
 -- the walk meets a flagged node
-pub walk_ends_sound : (count : ℕ) (f : Frame) (t : ℕ) (th : Thread) (p d : ℕ) → Sound count f → slice_get f.threads t ≡ Some th → th.activity ≡ Walk p d → IsAvailable f d → Sound count (with_thread f t (logging th f.trace d p))
+pub walk_ends_sound : (count : ℕ) (f : Frame) (t : ℕ) (th : Thread) (p d : ℕ) → Sound count f → slice_get f.threads t ≡ Some th → th.activity ≡ Walk p d → IsAvailable f d
+    → Sound count (with_thread f t (logging th f.trace d p))
 walk_ends_sound count f t th p d s at is available = let fol = subst (Follows f.trace th.seen) is (s.follows t th at) in
     walk_to_sound count f t th p d d s at is fol.0 fol.1 fol.3 available
 
 -- the walk meets the base
-pub walk_base_sound : (count : ℕ) (f : Frame) (t : ℕ) (th : Thread) (p b : ℕ) → Sound count f → slice_get f.threads t ≡ Some th → th.activity ≡ Walk p (suc b) → is_available f.flags (suc b) ≡ false → IsAvailable f b → Sound count (with_thread f t (logging th f.trace b p))
+pub walk_base_sound : (count : ℕ) (f : Frame) (t : ℕ) (th : Thread) (p b : ℕ) → Sound count f → slice_get f.threads t ≡ Some th → th.activity ≡ Walk p (suc b) → is_available f.flags (suc b) ≡ false
+    → IsAvailable f b → Sound count (with_thread f t (logging th f.trace b p))
 walk_base_sound count f t th p b s at is unset available =
     let fol = subst (Follows f.trace th.seen) is (s.follows t th at) in
     let below = fol.1 in
     walk_to_sound count f t th p (suc b) b s at is (seen_below count f t th b s at fol.0 unset) (omega arith) (apart_more count f s b p unset fol.3) available
 
 -- the segment that is pending while it is logged
-pub logged : (count : ℕ) (f : Frame) (t : ℕ) (th : Thread) (p n : ℕ) → Sound count f → slice_get f.threads t ≡ Some th → th.activity ≡ Logging p n → (g : Segment) × (th.pending ≡ Some g) × IsWindow p n g
+pub logged : (count : ℕ) (f : Frame) (t : ℕ) (th : Thread) (p n : ℕ) → Sound count f → slice_get f.threads t ≡ Some th → th.activity ≡ Logging p n
+    → (g : Segment) × (th.pending ≡ Some g) × IsWindow p n g
 logged count f t th p n s at is =
     let own = own_of count f s t th at in
     let free = free_of count f th (Logging p n) own is (λ q. q) in
@@ -131,7 +139,8 @@ last_covers count f t th p n s at is q low high =
     (λ gt. lies_of_thread q f.threads t th at (subst (LiesIn q) (sym settled.2) (lies_right q settled.0 (g ∷ []) (inl (omega arith, omega arith)))))
 
 -- the own flag is set, and the update returns
-pub set_sound : (count : ℕ) (f : Frame) (t : ℕ) (th : Thread) (p n : ℕ) → Sound count f → slice_get f.threads t ≡ Some th → th.activity ≡ Fenced p n → Sound count (with_thread (with_flag f p) t (resting_at th p))
+pub set_sound : (count : ℕ) (f : Frame) (t : ℕ) (th : Thread) (p n : ℕ) → Sound count f → slice_get f.threads t ≡ Some th → th.activity ≡ Fenced p n
+    → Sound count (with_thread (with_flag f p) t (resting_at th p))
 set_sound count f t th p n s at is =
     let own = own_of count f s t th at in
     let free = free_of count f th (Fenced p n) own is (λ q. q) in

@@ -1,4 +1,4 @@
-use Rattle.std.proofs.Common.{◌≡◌, ◌≢◌, ℕ, zero, suc, ◌+◌, ◌-◌, ◌<◌, ◌≤◌, Bool, true, false, List, [], ◌∷◌, ◌++◌, length, set, Option, Some, None, refl, sym, ap, ◌∙◌, subst, ⊎_elim, ◌⊎◌, inl, inr, arith, length-set, true≢false}
+use Rattle.std.proofs.Common.{◌≡◌, ◌≢◌, ℕ, ◌-◌, ◌≤◌, false, List, length, set, Option, Some, None, refl, sym, ap, ◌∙◌, subst, ⊎_elim, arith, length-set, true≢false}
 use Rattle.std.specs.List.{AllByRecursion, slice_get}
 use mathlib.Core.Logic.{◌↔◌, dite}
 use Rattle.onll_model.specs.declared.node.Node.{Node}
@@ -6,14 +6,15 @@ use Rattle.onll_model.specs.Trace.{node_at}
 use Rattle.onll_model.specs.Segment.{Segment, Agrees, Covers, Rises, last_place}
 use Rattle.onll_model.specs.Frames.{Frame, Thread, Activity, Rest, Loaded, Walk, Logging, Fenced, Asking, Sound, IsLast, IsAvailable, is_available, IsSoundSegment, fenced_segments, segments_of, open_in, open_at, open_place, IsQuiet, IsSettled, IsPending, Follows}
 use Rattle.onll_model.specs.Events.{with_thread}
-use Rattle.onll_model.proofs.Lists.{at_set, all_map, same_some, some_not_none}
+use Rattle.onll_model.proofs.Lists.{at_set, all_map}
 use Rattle.onll_model.proofs.Segments.{Grows, covers_still}
 use Rattle.onll_model.proofs.Flags.{available_low}
 
 -- A change of one thread's part keeps a frame sound, where it keeps the place that is open.
 
 -- what holds of each thread holds after one of them has changed
-pub each_put : (P : ℕ → Thread → Type 0) (ths : List Thread) (t : ℕ) (w : Thread) → P t w → ((u : ℕ) (z : Thread) → u ≢ t → slice_get ths u ≡ Some z → P u z) → (u : ℕ) (z : Thread) → slice_get (set ths t w) u ≡ Some z → P u z
+pub each_put : (P : ℕ → Thread → Type 0) (ths : List Thread) (t : ℕ) (w : Thread) → P t w → ((u : ℕ) (z : Thread) → u ≢ t → slice_get ths u ≡ Some z → P u z) → (u : ℕ) (z : Thread)
+    → slice_get (set ths t w) u ≡ Some z → P u z
 each_put P ths t w mine others u z e = ⊎_elim (λ (x : (u ≡ t) × (w ≡ z)). subst (λ (y : ℕ × Thread). P y.0 y.1) (λ i. (sym x.0 i, x.1 i)) mine)
     (λ (x : (u ≢ t) × (slice_get ths u ≡ Some z)). others u z x.0 x.1) (at_set ths t u w z e)
 
@@ -44,7 +45,8 @@ own_of count f s t th at = record {
   seen = s.seen t th at;
 }
 
-pub put_sound : (count : ℕ) (f : Frame) (t : ℕ) (th w : Thread) → Sound count f → slice_get f.threads t ≡ Some th → Grows th w → open_place w ≡ open_place th → Own count f w → Sound count (with_thread f t w)
+pub put_sound : (count : ℕ) (f : Frame) (t : ℕ) (th w : Thread) → Sound count f → slice_get f.threads t ≡ Some th → Grows th w → open_place w ≡ open_place th → Own count f w
+    → Sound count (with_thread f t w)
 put_sound count f t th w s at more same own =
     let cover = covers_still f.threads t th w at more in
     let old : List Segment = fenced_segments f.threads in

@@ -11,3 +11,9 @@ pub mod FrameLogs
 pub mod FrameLinks
 pub mod EventLaw
 pub mod FirstFrames
+pub mod Ends
+pub mod StepLaw
+pub mod Looks
+pub mod StandOrder
+pub mod FrameExample
+pub mod Placed

@@ -1,4 +1,4 @@
-use Rattle.std.proofs.Common.{◌≡◌, ◌≢◌, ℕ, zero, suc, ◌+◌, ◌-◌, ◌<◌, ◌≤◌, ◌⊎◌, inl, inr, List, [], ◌∷◌, ◌++◌, length, take, drop, set, Option, Some, None, refl, sym, ap, ◌∙◌, subst, ⊎_elim, arith, append-nil}
+use Rattle.std.proofs.Common.{◌≡◌, ◌≢◌, ℕ, zero, suc, ◌+◌, ◌-◌, ◌<◌, ◌≤◌, ◌⊎◌, inl, inr, List, [], ◌∷◌, ◌++◌, length, take, drop, set, Some, None, refl, sym, ap, ◌∙◌, subst, ⊎_elim, arith}
 use Rattle.std.specs.List.{AllByRecursion, slice_get}
 
 -- On lists read by place.
@@ -39,6 +39,11 @@ module _ {A : Type 0} where
   set_else (x ∷ xs) (suc i) zero a n = refl
   set_else (x ∷ xs) (suc i) (suc j) a n = set_else xs i j a (λ e. n (ap suc e))
 
+  pub set_same : (xs : List A) (i : ℕ) (x : A) → slice_get xs i ≡ Some x → set xs i x ≡ xs
+  set_same [] i x e = refl
+  set_same (y ∷ xs) zero x e = ap (λ z. z ∷ xs) (sym (same_some y x e))
+  set_same (y ∷ xs) (suc i) x e = ap (λ l. y ∷ l) (set_same xs i x e)
+
   pub set_set : (xs : List A) (i : ℕ) (x y : A) → set (set xs i x) i y ≡ set xs i y
   set_set [] i x y = refl
   set_set (z ∷ xs) zero x y = refl
@@ -63,6 +68,10 @@ module _ {A : Type 0} where
   take_before xs ys zero l = refl
   take_before [] ys (suc p) l = absurd (omega arith)
   take_before (x ∷ xs) ys (suc p) l = ap (λ zs. x ∷ zs) (take_before xs ys p (omega arith))
+
+  pub take_all : (xs : List A) → take (length xs) xs ≡ xs
+  take_all [] = refl
+  take_all (x ∷ xs) = ap (λ l. x ∷ l) (take_all xs)
 
   -- the elements above d, up to p
 

@@ -1,4 +1,4 @@
-use Rattle.std.proofs.Common.{◌≡◌, ◌≢◌, ℕ, zero, suc, ◌+◌, ◌-◌, ◌<◌, ◌≤◌, ◌⊎◌, inl, inr, List, [], ◌∷◌, ◌++◌, length, take, drop, Option, Some, None, refl, sym, ap, ◌∙◌, subst, ⊎_elim, arith, append_assoc, append-nil}
+use Rattle.std.proofs.Common.{◌≡◌, ◌≢◌, ℕ, zero, suc, ◌+◌, ◌-◌, ◌<◌, ◌≤◌, ◌⊎◌, inl, inr, List, [], ◌∷◌, ◌++◌, length, take, Some, refl, sym, ap, ◌∙◌, subst, ⊎_elim, arith, append_assoc, append-nil}
 use Rattle.std.proofs.Common.{map, eqb, Bool, true, false, true≢false, ne_eqb, eqb-true, cond, ◌==◌, eq-eqb, count_by}
 use Rattle.std.proofs.lemmas.Bool.{or_cases}
 use Rattle.std.proofs.lemmas.List.{length-map}
@@ -59,6 +59,17 @@ numbered_at below (y ∷ xs) h (suc i) x e = numbered_at (below ++ y ∷ []) xs 
 pub number_at_place : (trace : List Node) → IsNumbered trace → (p : ℕ) (x : Node) → node_at trace p ≡ Some x → x.number ≡ count_by (is_of_thread x.thread) (take (p - 1) trace) + 1
 number_at_place trace h zero x e = some_not_none x (sym e)
 number_at_place trace h (suc p) x e = let k : p ≡ suc p - 1 = omega arith in subst (λ (i : ℕ). x.number ≡ count_by (is_of_thread x.thread) (take i trace) + 1) k (numbered_at [] trace h p x e)
+
+numbered_above_from : (below xs : List Node) → ((i : ℕ) (x : Node) → slice_get xs i ≡ Some x → x.number ≡ count_by (is_of_thread x.thread) (below ++ take i xs) + 1) → NumberedAbove below xs
+numbered_above_from below [] h = tt
+numbered_above_from below (y ∷ xs) h = (
+  h 0 y refl ∙ ap (λ (l : List Node). count_by (is_of_thread y.thread) l + 1) (append-nil below),
+  numbered_above_from (below ++ y ∷ []) xs (λ i x e. h (suc i) x e ∙ ap (λ (l : List Node). count_by (is_of_thread x.thread) l + 1) (sym (append_assoc below (y ∷ []) (take i xs)))),
+)
+
+-- and the other way round
+pub numbered_from : (trace : List Node) → ((p : ℕ) (x : Node) → node_at trace p ≡ Some x → x.number ≡ count_by (is_of_thread x.thread) (take (p - 1) trace) + 1) → IsNumbered trace
+numbered_from trace h = numbered_above_from [] trace (λ i x e. let k : suc i - 1 ≡ i = omega arith in subst (λ (n : ℕ). x.number ≡ count_by (is_of_thread x.thread) (take n trace) + 1) k (h (suc i) x e))
 
 -- nodes of different threads are no more than the threads
 

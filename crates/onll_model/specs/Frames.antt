@@ -1,4 +1,4 @@
-use Rattle.std.specs.Prelude.{ℕ, Bool, true, false, List, [], ◌∷◌, ◌++◌, ◌≡◌, ◌≢◌, ◌+◌, ◌-◌, ◌<◌, ◌≤◌, ◌↔◌, length, Option, Some, None, IfSome, option_to_list, map, replicate, slice_get, slice_index_or}
+use Rattle.std.specs.Prelude.{ℕ, Bool, true, false, List, [], ◌∷◌, ◌++◌, ◌≡◌, ◌≢◌, ◌+◌, ◌-◌, ◌<◌, ◌≤◌, ◌↔◌, length, Option, Some, None, option_to_list, map, replicate, slice_get, slice_index_or}
 use Rattle.std.specs.List.{AllByRecursion, flat_map}
 use Rattle.onll_model.specs.declared.node.Node.{Node}
 use Rattle.onll_model.specs.Trace.{node_at, IsNumbered}
@@ -26,7 +26,7 @@ pub record Thread : Type 0 where
   pub stuck : Option ℕ
   pub activity : Activity
 
--- the node at place p has the flag p - 1 of the list; the notes that are out have the places that their makers had seen
+-- The flag of the node at place p stands at p - 1 of `flags`. A note that is out has the place that its maker had seen.
 pub record Frame : Type 0 where
   pub trace : List Node
   pub flags : List Bool
@@ -120,7 +120,7 @@ Follows trace seen (Logging p n) = seen + n ≤ p
 Follows trace seen (Fenced p n) = seen + n ≤ p
 Follows trace seen (Asking f d) = (seen ≤ d) × (d ≤ f) × (f ≤ length trace) × (1 ≤ d)
 
--- The frame is one that threads can reach, where `count` is the number of threads.
+-- What holds of every frame of a running object with `count` threads.
 pub record Sound (count : ℕ) (f : Frame) : Type 0 where
   -- a flag for each node, a part for each thread
   pub flags : length f.flags ≡ length f.trace

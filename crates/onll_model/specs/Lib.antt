@@ -8,3 +8,5 @@ pub mod Segment
 pub mod Frames
 pub mod Events
 pub mod FrameLaws
+pub mod Looks
+pub mod RealTime

@@ -1,4 +1,4 @@
-//! Sequential objects, the calls on them, and the traces of their updates.
+//! Sequential objects, the calls on them, the traces of their updates, and the frames of a running object.
 #![tactic(auto)]
 
 mod call;
@@ -10,7 +10,7 @@ mod recovered;
 mod turn;
 
 pub use call::{Call, CallEnd};
-pub use frames::{event_law, first_frame_law};
+pub use frames::{event_laws, first_frame_laws, look_law, stand_law};
 pub use laws::{capacity_kept, name_law, op_of_its_row, row_of_its_op, undone};
 pub use node::{Node, node_line};
 pub use object::Object;

@@ -1,11 +1,11 @@
-use Rattle.std.specs.Prelude.{ℕ, Bool, true, List, [], ◌∷◌, ◌≡◌, ◌==◌, Result, Ok, Err, Option, Some, None, if◌then◌else◌}
+use Rattle.std.specs.Prelude.{ℕ, suc, Bool, true, false, List, [], ◌∷◌, ◌≡◌, ◌==◌, Result, Ok, Err, Option, Some, None, if◌then◌else◌}
 use Rattle.std.specs.Str.{bytes_eq}
 use Rattle.std.specs.String.{string_bytes}
 use Rattle.std.specs.List.{list_any}
 use Rattle.std.specs.declared.vec.Vec.{Vec}
 use Rattle.onll_outside.specs.declared.OutsideFault.{OutsideFault}
 use Rattle.onll_outside.specs.declared.OutsideFault.TheVariants.{Failed, NoMemory}
-use Rattle.onll_outside.specs.declared.store.FaultKind.TheVariants.{Read}
+use Rattle.onll_outside.specs.declared.store.FaultKind.TheVariants.{Read, Write}
 use Rattle.onll_outside.specs.declared.mem_store.Named.{Named}
 use Rattle.onll_outside.specs.declared.mem_store.FenceAt.{FenceAt}
 use Rattle.onll_outside.specs.Views.{Last, StoreView, IsFront}
@@ -55,3 +55,19 @@ MemReads old new name limit (Ok v) = IsFront limit (found old name) v.items × (
 MemReads old new name limit (Err Failed) =
     (found old name ≡ None) × (new ≡ failed old (record { kind = Read; name = name }))
 MemReads old new name limit (Err NoMemory) = new ≡ called old
+
+-- the place of the first file of that name, from 0, or the count of files where there is none
+abbrev pub place_in : List (List ℕ × List ℕ) → List ℕ → ℕ
+place_in [] name = 0
+place_in (f ∷ fs) name = if bytes_eq f.0 name then 0 else suc (place_in fs name)
+
+-- the files after these bytes were written under a name
+abbrev pub with_file : List (List ℕ × List ℕ) → List ℕ → List ℕ → List (List ℕ × List ℕ)
+with_file [] name bytes = (name, bytes) ∷ []
+with_file (f ∷ fs) name bytes = if bytes_eq f.0 name then (f.0, bytes) ∷ fs else f ∷ with_file fs name bytes
+
+-- a write is Failed exactly where it is to fail, unless memory runs out, and changes no file then
+abbrev pub MemWrites : FilesHeld → FilesHeld → List ℕ → List ℕ → Result (Unit {0}) OutsideFault → Type 0
+MemWrites old new name bytes (Ok done) = (call_fails old ≡ false) × (new ≡ record (called old) { files = with_file old.files name bytes })
+MemWrites old new name bytes (Err Failed) = (call_fails old ≡ true) × (new ≡ failed old (record { kind = Write; name = name }))
+MemWrites old new name bytes (Err NoMemory) = new ≡ called old

@@ -30,6 +30,15 @@ pub record SameFiles (old new : StoreView) : Type 0 where
   pub tells : new.tells ≡ old.tells
   pub file : (name : List ℕ) → new.file name ≡ old.file name
 
+-- no file changed but perhaps that of this name
+pub record SameOthers (name : List ℕ) (old new : StoreView) : Type 0 where
+  pub tells : new.tells ≡ old.tells
+  pub file : (other : List ℕ) → (other ≡ name → ⊥) → new.file other ≡ old.file other
+
+-- where the store tells its files, the named one holds these bytes
+abbrev pub Holds : StoreView → List ℕ → List ℕ → Type 0
+Holds view name bytes = view.tells ≡ true → view.file name ≡ Some bytes
+
 -- at most the first limit bytes of a file that is there
 abbrev pub IsFront : ℕ → Option (List ℕ) → List ℕ → Type 0
 IsFront limit None bytes = ⊥

@@ -51,4 +51,12 @@ impl<R: Files + Drop> Store for FileStore<R> {
             Err(_) => Err(self.faults.raise(alloc, FaultKind::Read, name)),
         }
     }
+
+    fn write(&mut self, alloc: Global, name: &str, bytes: &[u8]) -> Result<(), OutsideFault> {
+        match fs::write(&self.files, name, bytes) {
+            Ok(()) => Ok(()),
+            Err(e) if e.kind() == ErrorKind::OutOfMemory => Err(OutsideFault::NoMemory),
+            Err(_) => Err(self.faults.raise(alloc, FaultKind::Write, name)),
+        }
+    }
 }

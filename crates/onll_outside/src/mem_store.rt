@@ -1,7 +1,7 @@
-ghost use Rattle.std.specs.Prelude.{◌≡◌, MatchOption, None, IfOk, map};
+ghost use Rattle.std.specs.Prelude.{◌≡◌, ◌≤◌, length, MatchOption, None, IfOk, IfErr, OnOk, map};
 ghost use Rattle.std.specs.Option.{option_copied};
-ghost use Rattle.onll_outside.specs.Views.{SameFiles, Gives, FaultsOf};
-ghost use Rattle.onll_outside.specs.MemStore.{FilesHeld, texts_of, file_in, store_of, call_fails, called, MemReads};
+ghost use Rattle.onll_outside.specs.Views.{SameFiles, SameOthers, Holds, Gives, FaultsOf};
+ghost use Rattle.onll_outside.specs.MemStore.{FilesHeld, texts_of, file_in, place_in, with_file, store_of, call_fails, called, MemReads, MemWrites};
 
 use crate::faults::Faults;
 use crate::{FaultKind, OutsideFault, Store};
@@ -49,6 +49,46 @@ fn find<'a>(files: &'a [Named], name: &str) -> Option<&'a Named>
         }
     }
     None
+}
+
+/// The place of the first file of that name, or the count of files where there is none.
+#[tactic(auto, using(crate::proofs::Names::same_names))]
+fn place_of(files: &[Named], name: &str) -> usize
+    ensures within { result ≤ length files.now }
+    ensures place { result ≡ place_in (texts_of files.now) name.now }
+{
+    let mut place = 0;
+    for held in files {
+        if held.name.as_str() == name {
+            return place;
+        }
+        place += 1;
+    }
+    place
+}
+
+/// Makes these bytes the first file of that name.
+fn put_file(
+    alloc: Global,
+    files: &mut Vec<Named>,
+    name: &str,
+    bytes: Vec<u8>,
+) -> Result<(), OutsideFault>
+    ensures put { OnOk result (texts_of files.new.items ≡ with_file (texts_of files.old.items) name.now bytes.items) }
+    ensures kept { IfErr result (λ e. (e ≡ OutsideFault.NoMemory) × (files.new.items ≡ files.old.items)) }
+{
+    let place = place_of(files, name);
+    if place < files.len() {
+        files[place].bytes = bytes;
+        return Ok(());
+    }
+    let Ok(name) = String::from_str(alloc, name) else {
+        return Err(OutsideFault::NoMemory);
+    };
+    let Ok(()) = files.push(Named { name, bytes }) else {
+        return Err(OutsideFault::NoMemory);
+    };
+    Ok(())
 }
 
 impl MemStore {
@@ -101,5 +141,23 @@ impl Store for MemStore {
             };
         }
         Err(self.faults.raise(alloc, FaultKind::Read, name))
+    }
+
+    fn write(&mut self, alloc: Global, name: &str, bytes: &[u8]) -> Result<(), OutsideFault>
+        ensures written { OnOk result (Holds (store_of self.new) name.now bytes.now) }
+        ensures others { SameOthers name.now (store_of self.old) (store_of self.new) }
+        ensures faults { FaultsOf (record { kind = FaultKind.Write; name = name.now }) (store_of self.old) (store_of self.new) result }
+        ensures exact { MemWrites self.old self.new name.now bytes.now result }
+    {
+        if self.begin_call() {
+            return Err(self.faults.raise(alloc, FaultKind::Write, name));
+        }
+        let Ok(bytes) = Vec::from_slice(alloc, bytes) else {
+            return Err(OutsideFault::NoMemory);
+        };
+        let Ok(()) = put_file(alloc, &mut self.files, name, bytes) else {
+            return Err(OutsideFault::NoMemory);
+        };
+        Ok(())
     }
 }

@@ -1,5 +1,5 @@
-ghost use Rattle.std.specs.Prelude.{IfOk};
-ghost use Rattle.onll_outside.specs.Views.{StoreView, SameFiles, Gives, FaultsOf};
+ghost use Rattle.std.specs.Prelude.{IfOk, OnOk};
+ghost use Rattle.onll_outside.specs.Views.{StoreView, SameFiles, SameOthers, Holds, Gives, FaultsOf};
 
 use crate::OutsideFault;
 use std::alloc::Global;
@@ -27,4 +27,10 @@ pub trait Store {
         ensures bytes { IfOk result (λ v. Gives (seen self.old) name.now limit v.items) }
         ensures same { SameFiles (seen self.old) (seen self.new) }
         ensures faults { FaultsOf (record { kind = FaultKind.Read; name = name.now }) (seen self.old) (seen self.new) result };
+
+    /// Makes these bytes the file `name`. A write that fails may leave anything in that file.
+    fn write(&mut self, alloc: Global, name: &str, bytes: &[u8]) -> Result<(), OutsideFault>
+        ensures written { OnOk result (Holds (seen self.new) name.now bytes.now) }
+        ensures others { SameOthers name.now (seen self.old) (seen self.new) }
+        ensures faults { FaultsOf (record { kind = FaultKind.Write; name = name.now }) (seen self.old) (seen self.new) result };
 }

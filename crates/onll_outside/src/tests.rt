@@ -169,3 +169,30 @@ fn streams_of_the_system(rt: HostRuntime) -> Result<(), Fail> {
     fs::remove_file(&rt, name)?;
     Ok(())
 }
+
+#[test]
+fn files_are_written(rt: HostRuntime) -> Result<(), Fail> {
+    let alloc = rt.alloc();
+    let files = files_of(alloc, &[("i", "balances 3")])?;
+    let failing = Vec::from_slice(alloc, &[2])?;
+    let mut store = MemStore::new(files, failing, Vec::new(alloc));
+    assert_eq!(rt; store.write(alloc, "out.0", b"one"), Ok(()));
+    assert_eq!(rt;
+        store.write(alloc, "out.0", b"two"),
+        Err(OutsideFault::Failed)
+    );
+    assert_eq!(rt; store.file("out.0").ok_or("gone")?, b"one".as_slice());
+    assert_eq!(rt; store.write(alloc, "i", b""), Ok(()));
+    assert_eq!(rt; store.file("i").ok_or("gone")?, b"".as_slice());
+    assert_eq!(rt; store.file("out.0").ok_or("gone")?, b"one".as_slice());
+    let name = "onll_outside_test_written";
+    let mut store = FileStore::new(&rt);
+    assert_eq!(rt; store.write(alloc, name, b"a longer text"), Ok(()));
+    assert_eq!(rt; store.write(alloc, name, b"short"), Ok(()));
+    let text = fs::read_to_string(&rt, name)?;
+    assert_eq!(rt; text.as_str(), "short");
+    fs::remove_file(&rt, name)?;
+    // A folder is no file to be written.
+    assert_eq!(rt; store.write(alloc, ".", b"text"), Err(OutsideFault::Failed));
+    Ok(())
+}

@@ -7,8 +7,8 @@ use Rattle.std.proofs.lemmas.Bool.Decides.{nat_tests}
 use Rattle.onll_words.specs.Texts.{Numbered, words_of}
 use Rattle.onll_model.specs.declared.turn.Turn.{Turn}
 use Rattle.onll_text.specs.declared.schedule.Schedule.{Schedule}
-use Rattle.onll_text.specs.declared.schedule.Told.{Told}
-use Rattle.onll_text.specs.declared.schedule.Told.TheVariants.{Steps, Crash}
+use Rattle.onll_text.specs.declared.schedule.ScheduleLine.{ScheduleLine}
+use Rattle.onll_text.specs.declared.schedule.ScheduleLine.TheVariants.{Steps, Crash}
 use Rattle.onll_text.specs.declared.reason.Reason.{Reason}
 use Rattle.onll_text.specs.declared.reason.Reason.TheVariants.{OutOfRange, TooMany}
 use Rattle.onll_text.specs.Refusal.{Refusal, ◌>>=◌, only_if, at_line}
@@ -60,29 +60,29 @@ turn_is_lawful threads steps words turn e =
     )
 
 -- what holds of what an accepted line says
-abbrev IsLawful : ℕ → ℕ → Told → Type 0
+abbrev IsLawful : ℕ → ℕ → ScheduleLine → Type 0
 IsLawful threads steps (Steps turn) = IsTurn threads turn × (steps + turn.count ≤ most_steps)
 IsLawful threads steps (Crash keep) = Unit {0}
 
-turn_told : (threads steps : ℕ) (words : List (List ℕ)) (told : Told) → (turn_after threads steps words >>= λ turn. Ok (Steps turn)) ≡ Ok told → IsLawful threads steps told
+turn_told : (threads steps : ℕ) (words : List (List ℕ)) (told : ScheduleLine) → (turn_after threads steps words >>= λ turn. Ok (Steps turn)) ≡ Ok told → IsLawful threads steps told
 turn_told threads steps words (Steps turn) e =
     let read = accepted (turn_after threads steps words) (λ (t : Turn). Ok (Steps t)) (Steps turn) e in
     let same : read.0 ≡ turn = cc read.2 in
     turn_is_lawful threads steps words turn (read.1 ∙ ap Ok same)
 turn_told threads steps words (Crash keep) e = tt
 
-crash_told : (threads steps : ℕ) (args : List (List ℕ)) (told : Told) → (one_number args >>= λ keep. Ok (Crash keep)) ≡ Ok told → IsLawful threads steps told
+crash_told : (threads steps : ℕ) (args : List (List ℕ)) (told : ScheduleLine) → (one_number args >>= λ keep. Ok (Crash keep)) ≡ Ok told → IsLawful threads steps told
 crash_told threads steps args (Crash keep) e = tt
 crash_told threads steps args (Steps turn) e =
     let read = accepted (one_number args) (λ (k : ℕ). Ok (Crash k)) (Steps turn) e in
     cc read.2
 
-told_by : (threads steps : ℕ) (first : List ℕ) (args : List (List ℕ)) (told : Told) (is_crash : Bool)
+told_by : (threads steps : ℕ) (first : List ℕ) (args : List (List ℕ)) (told : ScheduleLine) (is_crash : Bool)
     → cond is_crash (one_number args >>= λ keep. Ok (Crash keep)) (turn_after threads steps (first ∷ args) >>= λ turn. Ok (Steps turn)) ≡ Ok told → IsLawful threads steps told
 told_by threads steps first args told true e = crash_told threads steps args told e
 told_by threads steps first args told false e = turn_told threads steps (first ∷ args) told e
 
-line_told : (threads steps : ℕ) (words : List (List ℕ)) (told : Told) → line_after threads steps words ≡ Ok told → IsLawful threads steps told
+line_told : (threads steps : ℕ) (words : List (List ℕ)) (told : ScheduleLine) → line_after threads steps words ≡ Ok told → IsLawful threads steps told
 line_told threads steps [] told e = cc e
 line_told threads steps (first ∷ args) told e = told_by threads steps first args told (bytes_eq first (codes "crash")) e
 
@@ -104,7 +104,7 @@ turn_follows threads steps turn (Ok r) s h f e =
     let after = f r refl in
     subst (Follows threads steps) same (All-cons (IsTurn threads) turn r.turns h after.0, omega (arith, sum_by-cons (λ (t : Turn). t.count) turn r.turns, after.1))
 
-line_follows : (threads steps : ℕ) (told : Told) (lines : List Numbered) (after : ℕ → Result Schedule Refusal) (s : Schedule) → steps ≤ most_steps → IsLawful threads steps told
+line_follows : (threads steps : ℕ) (told : ScheduleLine) (lines : List Numbered) (after : ℕ → Result Schedule Refusal) (s : Schedule) → steps ≤ most_steps → IsLawful threads steps told
     → ((count : ℕ) (r : Schedule) → steps + count ≤ most_steps → after count ≡ Ok r → Follows threads (steps + count) r) → from_line told lines after ≡ Ok s → Follows threads steps s
 line_follows threads steps (Steps turn) lines after s h k f e = turn_follows threads steps turn (after turn.count) s k.0 (λ r d. f turn.count r k.1 d) e
 line_follows threads steps (Crash keep) lines after s h k f e = crash_follows threads steps keep lines s h e
@@ -113,7 +113,7 @@ lines_follow : (threads steps : ℕ) (lines : List Numbered) (s : Schedule) → 
 lines_follow threads steps [] s h e = cc e
 lines_follow threads steps (l ∷ lines) s h e =
     let after : ℕ → Result Schedule Refusal = λ count. schedule_in threads (steps + count) lines in
-    let read = accepted (at_line l.number (line_after threads steps (words_of l.line))) (λ (told : Told). from_line told lines after) s e in
+    let read = accepted (at_line l.number (line_after threads steps (words_of l.line))) (λ (told : ScheduleLine). from_line told lines after) s e in
     let told = line_told threads steps (words_of l.line) read.0 (accepted_line l.number (line_after threads steps (words_of l.line)) read.0 read.1) in
     line_follows threads steps read.0 lines after s h told (λ count r few d. lines_follow threads (steps + count) lines r few d) read.2
 

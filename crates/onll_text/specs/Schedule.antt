@@ -4,8 +4,8 @@ use Rattle.std.specs.Str.{bytes_eq}
 use Rattle.onll_words.specs.Texts.{Numbered, words_of, meaningful_lines}
 use Rattle.onll_model.specs.declared.turn.Turn.{Turn}
 use Rattle.onll_text.specs.declared.schedule.Schedule.{Schedule}
-use Rattle.onll_text.specs.declared.schedule.Told.{Told}
-use Rattle.onll_text.specs.declared.schedule.Told.TheVariants.{Steps, Crash}
+use Rattle.onll_text.specs.declared.schedule.ScheduleLine.{ScheduleLine}
+use Rattle.onll_text.specs.declared.schedule.ScheduleLine.TheVariants.{Steps, Crash}
 use Rattle.onll_text.specs.declared.reason.Reason.{Reason}
 use Rattle.onll_text.specs.declared.reason.Reason.TheVariants.{TooLong, Missing, WrongCount, OutOfRange, TooMany, AfterCrash}
 use Rattle.onll_text.specs.Refusal.{Refusal, refused, ◌>>=◌, only_if, at_line}
@@ -30,14 +30,14 @@ turn_after threads steps words =
     >>= (λ turn. only_if (nat_le (steps + turn.count) most_steps) TooMany turn)
 
 -- what a line's words say, among so many threads and after so many steps
-abbrev pub line_after : ℕ → ℕ → List (List ℕ) → Result Told Reason
+abbrev pub line_after : ℕ → ℕ → List (List ℕ) → Result ScheduleLine Reason
 line_after threads steps [] = Err WrongCount
 line_after threads steps (first ∷ args) =
     if bytes_eq first (codes "crash") then (one_number args >>= λ keep. Ok (Crash keep))
     else (turn_after threads steps (first ∷ args) >>= λ turn. Ok (Steps turn))
 
 -- what a line said fits behind so many steps
-abbrev pub HasRoom : ℕ → Told → Type 0
+abbrev pub HasRoom : ℕ → ScheduleLine → Type 0
 HasRoom steps (Steps turn) = steps + turn.count ≤ most_steps
 HasRoom steps (Crash keep) = Unit {0}
 
@@ -52,7 +52,7 @@ after_turns front (Err refusal) = Err refusal
 after_turns front (Ok s) = Ok (record { turns = front ++ s.turns; keep = s.keep })
 
 -- the schedule from a line on, whose further lines make this schedule after a turn
-abbrev pub from_line : Told → List Numbered → (ℕ → Result Schedule Refusal) → Result Schedule Refusal
+abbrev pub from_line : ScheduleLine → List Numbered → (ℕ → Result Schedule Refusal) → Result Schedule Refusal
 from_line (Crash keep) lines after = ended_by keep lines
 from_line (Steps turn) lines after = after_turns (turn ∷ []) (after turn.count)
 
@@ -60,7 +60,7 @@ from_line (Steps turn) lines after = after_turns (turn ∷ []) (after turn.count
 abbrev pub schedule_in : ℕ → ℕ → List Numbered → Result Schedule Refusal
 schedule_in threads steps [] = Err (refused 0 Missing)
 schedule_in threads steps (l ∷ lines) =
-    at_line l.number (line_after threads steps (words_of l.line)) >>= λ told. from_line told lines (λ count. schedule_in threads (steps + count) lines)
+    at_line l.number (line_after threads steps (words_of l.line)) >>= λ said. from_line said lines (λ count. schedule_in threads (steps + count) lines)
 
 -- the schedule of a text for so many threads, or why the text is none
 abbrev pub schedule_of : ℕ → List ℕ → Result Schedule Refusal

@@ -59,7 +59,7 @@ pub struct Schedule {
 
 /// What a line of a schedule says.
 #[derive(Clone, Copy)]
-enum Told {
+enum ScheduleLine {
     Steps(Turn),
     Crash { keep: u64 },
 }
@@ -99,20 +99,20 @@ fn next_turn(first: &[u8], args: &[u8], threads: u64, steps: u64) -> Result<Turn
 }
 
 /// What a line says, among so many threads and after so many steps.
-fn read_line(line: &[u8], threads: u64, steps: u64) -> Result<Told, Reason>
+fn read_line(line: &[u8], threads: u64, steps: u64) -> Result<ScheduleLine, Reason>
     requires { steps ≤ most_steps }
-    ensures told { result ≡ line_after threads steps (words_of line.now) }
-    ensures room { IfOk result (λ told. HasRoom steps told) }
+    ensures said { result ≡ line_after threads steps (words_of line.now) }
+    ensures room { IfOk result (λ line. HasRoom steps line) }
 {
     let Some(Cut { word, rest }) = split_word(line) else {
         return Err(Reason::WrongCount);
     };
     if is_text(word, b"crash") {
         let keep = one_number(rest)?;
-        Ok(Told::Crash { keep })
+        Ok(ScheduleLine::Crash { keep })
     } else {
         let turn = next_turn(word, rest, threads, steps)?;
-        Ok(Told::Steps(turn))
+        Ok(ScheduleLine::Steps(turn))
     }
 }
 
@@ -142,13 +142,13 @@ fn read_lines(alloc: Global, lines: &mut Lines<'_>, threads: u64) -> Result<Sche
     let mut steps = 0;
     while let Some(NumberedLine { number, line }) = lines.next_line() {
         match read_line(line, threads, steps) {
-            Ok(Told::Steps(turn)) => {
+            Ok(ScheduleLine::Steps(turn)) => {
                 steps += turn.count;
                 if turns.push(turn).is_err() {
                     return Err(TextFault::NoMemory);
                 }
             }
-            Ok(Told::Crash { keep }) => return crashed(turns, keep, lines),
+            Ok(ScheduleLine::Crash { keep }) => return crashed(turns, keep, lines),
             Err(reason) => return Err(TextFault::Refused {
                 line: number,
                 reason,

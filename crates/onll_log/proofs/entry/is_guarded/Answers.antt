@@ -1,4 +1,4 @@
-use Rattle.std.proofs.Common.{rules, ℕ, List, Bool, ◌≡◌, ◌∙◌, ap, sym, drop, take, true, ◌∷◌, [], slice_index}
+use Rattle.std.proofs.Common.{rules, ℕ, List, Bool, ◌≡◌, ◌∙◌, ap, sym, drop, take, ◌∷◌, [], slice_index}
 use Rattle.std.specs.Prelude.{◌&&◌}
 use Rattle.onll_pmem.specs.Pmem.{words_of}
 use Rattle.onll_log.specs.Encoding.{guard}

@@ -1,4 +1,4 @@
-use Rattle.std.proofs.Common.{rules, ◌≡◌, ◌∙◌, ap, sym, List, map}
+use Rattle.std.proofs.Common.{◌∙◌, ap, sym, List, map}
 use Rattle.onll_model.specs.declared.node.Node.{Node}
 use Rattle.onll_model.specs.Segment.{Segment}
 use Rattle.onll_log.specs.Grammar.{node_of_line}

@@ -1,8 +1,7 @@
-use Rattle.std.proofs.Common.{◌≡◌, ◌∙◌, ap, List, Some, sym, arith}
+use Rattle.std.proofs.Common.{◌∙◌, ap, List, Some, arith}
 use Rattle.onll_model.specs.Segment.{Segment}
 use Rattle.onll_pmem.specs.Pmem.{words_of}
 use Rattle.onll_log.specs.Grammar.{Content, entries_from, lines_in}
-use Rattle.onll_log.specs.Decoded.{segments_in}
 use Rattle.onll_log.proofs.Decoding.{segments_of_read, places_of_read, words_of-rest, used_lines}
 use Rattle.onll_log.proofs.image.log_of.Goals as goal
 

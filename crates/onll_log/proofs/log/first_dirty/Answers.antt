@@ -1,4 +1,4 @@
-use Rattle.std.proofs.Common.{rules, ℕ, ◌≡◌, ◌∙◌, sym, false, arith}
+use Rattle.std.proofs.Common.{rules, ℕ, ◌≡◌, ◌∙◌, sym, arith}
 use borrow.Author.Count.{below_more}
 use Rattle.onll_pmem.specs.Device.{line_at, zero_line}
 use Rattle.onll_log.proofs.Writing.{zero_line-test, zero_lines-each}

@@ -1,4 +1,4 @@
-use Rattle.std.proofs.Common.{rules, ◌≡◌, ℕ, ◌+◌, ◌*◌, ◌<◌, ◌≤◌, ◌^◌, ◌-◌, List, length, drop, arith, subst, sym}
+use Rattle.std.proofs.Common.{rules, ◌≡◌, ℕ, ◌+◌, ◌<◌, ◌≤◌, ◌^◌, ◌-◌, List, length, drop, arith, subst, sym}
 use Rattle.onll_log.specs.Masks.{marks_in, bits_on}
 use Rattle.std.proofs.Math.Nat.{pow-le-pow_right}
 use Rattle.onll_log.proofs.Bits.{marks_lt}

@@ -1,5 +1,4 @@
-use Rattle.std.proofs.Common.{◌≡◌, ℕ, suc, ◌+◌, ◌*◌, ◌<◌, ◌≤◌, ◌^◌, ◌-◌, length, drop, arith, subst, sym, ap, ◌∙◌}
-use Rattle.onll_words.specs.declared.line.Line.{Line}
+use Rattle.std.proofs.Common.{◌≡◌, ℕ, suc, ◌+◌, ◌*◌, ◌<◌, ◌^◌, ◌-◌, length, drop, arith, subst, sym, ap, ◌∙◌}
 use Rattle.onll_pmem.specs.Pmem.{words_of}
 use Rattle.onll_log.specs.Masks.{bits_on, marks_in, marks}
 use Rattle.onll_log.proofs.Bits.{marks-line, bits_on-none, lines_lt}

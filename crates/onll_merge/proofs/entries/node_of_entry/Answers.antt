@@ -1,4 +1,4 @@
-use Rattle.std.proofs.Common.{◌≡◌, ◌+◌, ◌-◌, ◌≤◌, length, get_or, sym, ap, ◌∙◌, arith, Some, []}
+use Rattle.std.proofs.Common.{◌-◌, length, get_or, sym, ap, ◌∙◌, arith, Some, []}
 use Rattle.onll_model.specs.declared.node.Node.{Node}
 use Rattle.onll_merge.proofs.Places.{node_among-at, node_among-below}
 use Rattle.onll_merge.proofs.entries.node_of_entry.Goals as goal

@@ -1,8 +1,8 @@
-use Rattle.std.proofs.Common.{rules, ℕ, ◌≡◌, ◌+◌, ◌≤◌, ◌∙◌, length, refl, ap, arith}
+use Rattle.std.proofs.Common.{ℕ, ◌+◌, ◌∙◌, refl, ap, arith}
 use Rattle.std.proofs.lemmas.Result.{on_ok_weaker, on_err_weaker}
 use Rattle.onll_model.specs.Segment.{Segment}
 use Rattle.onll_log.specs.Log.{entries_read}
-use Rattle.onll_log.proofs.Kept.{few_fences, Appended, Appended-entry, FitsEntry-held}
+use Rattle.onll_log.proofs.Kept.{few_fences, Appended-entry, FitsEntry-held}
 use Rattle.onll_log.proofs.log.ThreadLog.append.Goals as goal
 
 pub overflow_add-self-inside : goal.overflow_add-self-inside

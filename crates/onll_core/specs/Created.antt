@@ -1,0 +1,24 @@
+use Rattle.std.specs.Prelude.{ℕ, zero, suc, ◌≡◌, ◌≤◌, List, [], ◌∷◌, length, Some, slice_get}
+use Rattle.std.specs.List.{AllByRecursion}
+use Rattle.onll_model.specs.declared.call.Call.{Call}
+use Rattle.onll_log.specs.declared.head.LogHead.{LogHead}
+use Rattle.onll_log.specs.Head.{head_for}
+use Rattle.onll_core.specs.Core.{CoreState}
+use Rattle.onll_core.specs.Tie.{updates_in}
+use Rattle.onll_core.specs.First.{first_core}
+
+-- The core that is made of an object, the bytes of its initial state and scripts.
+
+-- the heads of this many logs, of threads t and above among `count`
+abbrev pub heads_from : ℕ → ℕ → List ℕ → ℕ → ℕ → List LogHead
+heads_from count object init t zero = []
+heads_from count object init t (suc n) = head_for 2 t count object init ∷ heads_from count object init (suc t) n
+
+abbrev pub created_core : {State Op Query Reply : Type 0} → State → ℕ → List ℕ → List (List (Call State Op Query Reply)) → CoreState State Op Query Reply
+created_core initial object init scripts = first_core initial (heads_from (length scripts) object init 0 (length scripts)) scripts
+
+-- an object's code and scripts within the limits
+pub record IsWithinLimits {State Op Query Reply : Type 0} (object : ℕ) (scripts : List (List (Call State Op Query Reply))) : Type 0 where
+  pub code : (1 ≤ object) × (object ≤ 4)
+  pub few : length scripts ≤ 16
+  pub updates : AllByRecursion (λ (script : List (Call State Op Query Reply)). updates_in script ≤ 4096) scripts

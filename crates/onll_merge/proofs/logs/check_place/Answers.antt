@@ -1,5 +1,0 @@
-use Rattle.onll_merge.proofs.Asked.{Rises-of}
-use Rattle.onll_merge.proofs.logs.check_place.Goals as goal
-
-pub node_of_log-requires : goal.node_of_log-requires
-node_of_log-requires c = Rises-of c.args.logs.now c.loop-log.log c.index-logs-log.result c.as_slice.result.now c.requires c.loop-log-test.true c.index-logs-log.is c.as_slice.ensures

@@ -1,0 +1,5 @@
+use Rattle.onll_model.proofs.frames.stand_law.Goals as goal
+use Rattle.onll_model.proofs.StandOrder.{stand_order}
+
+pub returns : goal.returns
+returns c = stand_order

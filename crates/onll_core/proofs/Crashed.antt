@@ -1,18 +1,16 @@
-use Rattle.std.proofs.Common.{ℕ, zero, suc, ◌≡◌, ◌+◌, ◌-◌, ◌<◌, ◌≤◌, ◌⊎◌, inl, inr, ⊎_elim, max, List, [], ◌∷◌, ◌++◌, length, map, take, Option, Some, None, Ok, option_to_list, sym, refl, ap, ◌∙◌, subst, arith}
+use Rattle.std.proofs.Common.{ℕ, zero, suc, ◌≡◌, ◌≤◌, ◌⊎◌, inl, inr, ⊎_elim, List, [], ◌∷◌, ◌++◌, length, map, take, Some, Ok, option_to_list, sym, refl, ap, ◌∙◌, subst, arith}
 use Rattle.std.proofs.lemmas.List.{length-take-le}
 use Rattle.std.specs.List.{AllByRecursion, slice_get}
 use Rattle.onll_model.specs.declared.node.Node.{Node}
-use Rattle.onll_model.specs.declared.call.Call.{Call}
 use Rattle.onll_model.specs.Object.{Behaviour}
 use Rattle.onll_model.specs.Segment.{Segment}
-use Rattle.onll_model.specs.Frames.{Thread}
 use Rattle.onll_model.proofs.Lists.{same_some}
 use Rattle.onll_pmem.specs.Device.{IsImage, image_of}
 use Rattle.onll_log.specs.declared.head.LogHead.{LogHead}
 use Rattle.onll_log.specs.Grammar.{Content, content_of}
 use Rattle.onll_log.specs.Torn.{Holds}
 use Rattle.onll_merge.specs.Merge.{merge, top_of}
-use Rattle.onll_merge.specs.FrameLogs.{AreLogsOf, MergeToFront}
+use Rattle.onll_merge.specs.FrameLogs.{AreLogsOf}
 use Rattle.onll_merge.proofs.FrameLogs.{merge_to_front}
 use Rattle.onll_core.specs.declared.returned.Returned.{Returned}
 use Rattle.onll_core.specs.Core.{CoreThread, CoreState}
@@ -21,8 +19,6 @@ use Rattle.onll_core.specs.Consistent.{IsConsistent}
 use Rattle.onll_core.specs.Crash.{AreImages, images_of, heads_of, HasUpTo, Recovers}
 use Rattle.onll_core.proofs.CoreFrames.{part_at}
 use Rattle.onll_core.specs.Step.{steps_of}
-use Rattle.onll_core.specs.First.{first_threads, first_core, AreFirst}
-use Rattle.onll_core.proofs.FirstCore.{first_consistent}
 use Rattle.onll_core.proofs.Kept.{steps_consistent}
 use Rattle.onll_core.proofs.Images.{image_either, picked_image}
 use Rattle.onll_core.proofs.Stays.{steps_stay}

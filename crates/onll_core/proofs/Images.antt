@@ -1,14 +1,13 @@
-use Rattle.std.proofs.Common.{ℕ, zero, suc, ◌≡◌, ◌+◌, ◌-◌, ◌<◌, ◌≤◌, ◌⊎◌, inl, inr, ⊎_elim, List, [], ◌∷◌, ◌++◌, length, take, drop, replicate, Option, Some, None, option_to_list, sym, refl, ap, ◌∙◌, subst, arith, length-append}
+use Rattle.std.proofs.Common.{ℕ, zero, suc, ◌≡◌, ◌+◌, ◌-◌, ◌≤◌, ◌⊎◌, inl, inr, ⊎_elim, List, [], ◌∷◌, ◌++◌, length, take, drop, Option, Some, None, option_to_list, sym, refl, ap, ◌∙◌, subst, arith, length-append}
 use Rattle.std.proofs.lemmas.List.{length-replicate, take_at, drop-replicate}
-use Rattle.std.specs.List.{AllByRecursion, slice_get}
+use Rattle.std.specs.List.{slice_get}
 use Rattle.onll_model.specs.Segment.{Segment}
 use Rattle.onll_model.specs.Events.{window}
 use Rattle.onll_pmem.specs.Device.{IsImage, Mixed, SameShape, zero_line, zero_lines, image_of}
 use Rattle.onll_pmem.proofs.Mixes.{Mixed-same, FillsLines-then}
 use Rattle.onll_pmem.proofs.Images.{Mixed-kept}
-use Rattle.onll_log.specs.declared.head.LogHead.{LogHead}
 use Rattle.onll_log.specs.Encoding.{entry_lines, log_lines, FitsEntry}
-use Rattle.onll_log.specs.Torn.{IsLine, AreLines, Among, log_image, Holds, TornOrWhole}
+use Rattle.onll_log.specs.Torn.{AreLines, Among, log_image, Holds, TornOrWhole}
 use Rattle.onll_log.proofs.Lines.{AreLines-take, AreLines-append, AreLines-zero_lines, AreLines-entry_lines, AreLines-log_lines, AreLines-log_image}
 use Rattle.onll_log.proofs.Encoded.{length-entry_lines, length-log_lines}
 use Rattle.onll_log.proofs.Torn.{Mixed-front, Among-front, Among-mixed, Holds-among, Holds-log_image, TornOrWhole-Among, log_image-more}

@@ -1,6 +1,6 @@
-use Rattle.std.proofs.Common.{ℕ, zero, suc, ◌≡◌, ◌+◌, ◌-◌, ◌<◌, ◌≤◌, List, [], ◌∷◌, ◌++◌, length, map, take, drop, Option, Some, None, sym, refl, ap, ◌∙◌, subst, arith}
+use Rattle.std.proofs.Common.{ℕ, zero, suc, ◌≡◌, ◌-◌, ◌<◌, ◌≤◌, List, [], ◌∷◌, ◌++◌, length, map, take, Some, sym, refl, ap, ◌∙◌, subst, arith}
 use Rattle.std.proofs.lemmas.List.{take_at}
-use Rattle.std.specs.List.{AllByRecursion, slice_get}
+use Rattle.std.specs.List.{slice_get}
 use Rattle.onll_model.specs.declared.node.Node.{Node}
 use Rattle.onll_model.specs.declared.call.Call.{Call}
 use Rattle.onll_model.specs.declared.call.Call.TheVariants.{Update, Ask}
@@ -8,18 +8,18 @@ use Rattle.onll_model.specs.declared.call.CallEnd.{CallEnd}
 use Rattle.onll_model.specs.Object.{Behaviour}
 use Rattle.onll_model.specs.Trace.{node_at, reply_after, answer_after}
 use Rattle.onll_model.specs.Segment.{Segment}
-use Rattle.onll_model.specs.Legal.{placed_updates, HasReply, HasAnswer}
-use Rattle.onll_model.proofs.Lists.{all_at, same_some, some_not_none, at_before, inside}
+use Rattle.onll_model.specs.Legal.{HasReply, HasAnswer}
+use Rattle.onll_model.proofs.Lists.{all_at, at_before, inside}
 use Rattle.onll_model.proofs.Placed.{each_end_at, each_end_call, own_node}
 use Rattle.onll_log.specs.declared.head.LogHead.{LogHead}
 use Rattle.onll_core.specs.declared.returned.Returned.{Returned}
 use Rattle.onll_core.specs.Core.{CoreThread, CoreState}
 use Rattle.onll_core.specs.Step.{steps_of}
-use Rattle.onll_core.specs.First.{first_threads, first_core, AreFirst}
-use Rattle.onll_core.specs.Resumed.{resumed_core_threads, resumed_core, AreResumed}
+use Rattle.onll_core.specs.First.{first_threads, first_core}
+use Rattle.onll_core.specs.Resumed.{resumed_core_threads, resumed_core}
 use Rattle.onll_core.specs.Reached.{IsReached}
 use Rattle.onll_core.specs.Outcomes.{returned_end, current_ends, current_of}
-use Rattle.onll_core.specs.Crash.{AreImages, heads_of, HasUpTo, Recovers, HoldsUpdate, HoldsRead, HoldsCall, HoldAllReturned, RecoversAll}
+use Rattle.onll_core.specs.Crash.{AreImages, heads_of, HasUpTo, HoldsCall, RecoversAll}
 use Rattle.onll_core.specs.CrashLaws.{ReachedCrashLaw, CrashLaw, ResumedCrashLaw}
 use Rattle.onll_core.proofs.Lawful.{IsLawful}
 use Rattle.onll_core.proofs.ReachedCores.{first_reached, resumed_reached, steps_reached, reached_consistent, reached_lawful}

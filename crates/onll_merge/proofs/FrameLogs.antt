@@ -1,18 +1,18 @@
 -- What a crash leaves of a sound frame merges to a front of its trace.
-use Rattle.std.proofs.Common.{◌≡◌, ℕ, zero, suc, ◌+◌, ◌-◌, ◌<◌, ◌≤◌, ◌⊎◌, inl, inr, ⊎_elim, max, List, [], ◌∷◌, ◌++◌, length, take, sym, refl, ap, subst, ◌∙◌, arith, Option, Some, None, option_to_list}
+use Rattle.std.proofs.Common.{◌≡◌, ℕ, zero, suc, ◌-◌, ◌≤◌, inl, inr, ⊎_elim, List, [], ◌∷◌, ◌++◌, length, sym, refl, subst, arith, Option, Some, option_to_list}
 use Rattle.std.specs.Prelude.{IfSome}
 use Rattle.std.specs.List.{AllByRecursion, slice_get}
 use mathlib.Core.Logic.{dite}
 use Rattle.onll_model.specs.declared.node.Node.{Node}
-use Rattle.onll_model.specs.Segment.{Segment, Agrees, Within, LiesIn, Covers, Rises}
+use Rattle.onll_model.specs.Segment.{Segment, Agrees, LiesIn, Covers, Rises}
 use Rattle.onll_model.specs.Frames.{Thread, Frame, Sound, IsAvailable, IsSoundSegment, segments_of, fenced_segments}
 use Rattle.onll_model.proofs.Lists.{all_left, all_map}
 use Rattle.onll_model.proofs.Segments.{lies_left, lies_right, lies_either}
 use Rattle.onll_log.specs.declared.head.LogHead.{LogHead}
 use Rattle.onll_log.specs.Grammar.{Content}
-use Rattle.onll_merge.specs.Merge.{top_in_log, top_of, AllRise}
+use Rattle.onll_merge.specs.Merge.{top_in_log, top_of}
 use Rattle.onll_merge.specs.Laws.{all_segments, EachSegment, HeadsFit, HoldOne}
-use Rattle.onll_merge.specs.FrameLogs.{IsLogOf, AreLogsOf, MergeToFront}
+use Rattle.onll_merge.specs.FrameLogs.{AreLogsOf, MergeToFront}
 use Rattle.onll_merge.proofs.Fronts.{merge-front, top_of-lies}
 
 -- ---- what is left is a thread's
@@ -50,8 +50,8 @@ fenced_left (th ∷ ths) [] cs a q h = absurd a
 fenced_left (th ∷ ths) (x ∷ xs) [] a q h = absurd a
 fenced_left (th ∷ ths) (x ∷ xs) (c ∷ cs) a q h = ⊎_elim
     (λ (k : LiesIn q th.fenced). lies_left q c.entries (all_segments cs) (⊎_elim
-        (λ (e : c.entries ≡ th.fenced). subst (LiesIn q) (sym e) k)
-        (λ (e : c.entries ≡ segments_of th). subst (LiesIn q) (sym e) (lies_left q th.fenced (option_to_list th.pending) k)) a.0.segments))
+    (λ (e : c.entries ≡ th.fenced). subst (LiesIn q) (sym e) k)
+    (λ (e : c.entries ≡ segments_of th). subst (LiesIn q) (sym e) (lies_left q th.fenced (option_to_list th.pending) k)) a.0.segments))
     (λ (k : LiesIn q (fenced_segments ths)). lies_right q c.entries (all_segments cs) (fenced_left ths xs cs a.1 q k))
     (lies_either q th.fenced (fenced_segments ths) h)
 
@@ -64,8 +64,8 @@ covers_log : (all ss : List Segment) → ((q : ℕ) → LiesIn q ss → LiesIn q
 covers_log all [] into below q low high = absurd (omega arith)
 covers_log all (s ∷ ss) into below q low high = dite (native.Mathlib.Decide.dec_le q s.place)
     (λ here. dite (native.Mathlib.Decide.dec_le q (s.place - length s.nodes))
-        (λ under. below.0 q low under)
-        (λ above. into q (inl (here, omega arith))))
+    (λ under. below.0 q low under)
+    (λ above. into q (inl (here, omega arith))))
     (λ there. covers_log all ss (λ p l. into p (inr l)) below.1 q low (omega arith))
 
 covers_logs : (all : List Segment) (logs : List Content) → ((q : ℕ) → LiesIn q (all_segments logs) → LiesIn q all) → EachSegment (HasBelow all) logs → Covers all (top_of logs)

@@ -5,12 +5,15 @@ pub mod LegalReport
 pub mod Timed
 pub mod TimedSteps
 pub mod InTime
+pub mod Replicas
 pub mod Calls
 pub mod CoreFrames
 pub mod Windows
 pub mod Ties
 pub mod StepEvents
 pub mod Kept
+pub mod Owns
+pub mod Closings
 pub mod Fences
 pub mod Begin
 pub mod FirstCore
@@ -22,3 +25,5 @@ pub mod Stays
 pub mod Images
 pub mod Crashed
 pub mod Recovered
+pub mod Rows
+pub mod EntryLines

@@ -5,9 +5,12 @@ pub mod Tie
 pub mod Consistent
 pub mod Outcomes
 pub mod CallTimes
+pub mod First
+pub mod Turns
+pub mod Kept
+pub mod Next
 pub mod StepEvent
 pub mod Begin
-pub mod First
 pub mod Created
 pub mod Resumed
 pub mod Fences

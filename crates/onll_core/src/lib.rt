@@ -4,11 +4,15 @@
 mod crash_laws;
 mod laws;
 mod outcomes;
+mod local;
 mod phase;
 mod returned;
+mod step_core;
+mod worker;
 
 pub use crash_laws::{crash_law, image_law, recovery_law};
 pub use laws::{consistency_law, fence_law, stays_law, step_event_law};
 pub use outcomes::{order_law, reached_law, report_law, return_law};
 pub use phase::Phase;
 pub use returned::{Current, Returned, Stepped};
+pub use step_core::Core;

@@ -1,0 +1,7 @@
+use Rattle.std.proofs.Common.{◌≡◌, drop}
+use Rattle.onll_model.specs.Trace.{state_after}
+use Rattle.onll_core.proofs.local.apply_rows.Given as goal
+
+-- what is left to apply gives the state after all
+abbrev pub invariant-loop-node : goal.invariant-loop-node
+invariant-loop-node g l = state_after g.O.Object.means l.object (drop l.node-index l.nodes) ≡ state_after g.O.Object.means l.fn.object l.nodes

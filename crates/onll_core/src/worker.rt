@@ -1,0 +1,141 @@
+ghost use Rattle.std.specs.Prelude.{◌≡◌, ◌+◌, ◌<◌, ◌≤◌, suc, [], length};
+ghost use Rattle.onll_pmem.specs.Device.{line_at, FillsWords, after_step, Write, WriteBack};
+ghost use Rattle.onll_core.specs.Step.{turned, begun, on_device, logged, returning, next_call};
+
+use crate::phase::Phase;
+use crate::returned::Returned;
+use onll_log::LogHead;
+use onll_model::{Call, Object};
+use onll_pmem::{MemPmem, Pmem};
+use onll_words::Line;
+use std::marker::Model;
+
+/// One thread of a core, and its log's device, whose fences never fail.
+#[derive(Drop)]
+pub struct Worker<O: Object> {
+    head: LogHead,
+    script: Vec<Call<O>>,
+    returned: Vec<Returned<O>>,
+    phase: Phase,
+    began: u64,
+    used: u64,
+    logged: u64,
+    device: MemPmem,
+}
+
+impl<O: Object> Model for Worker<O> {
+    ghost use Rattle.std.specs.Vec.{vec_capacity};
+    ghost use Rattle.onll_core.specs.Core.{CoreThread};
+    ghost use Rattle.onll_core.specs.Kept.{KeepsWorker};
+
+    ghost Value = { CoreThread O O.Op O.Query O.Reply };
+
+    ghost view = { λ w. record { head = w.head; script = w.script.items; returned = w.returned.items; phase = w.phase; began = w.began; used = w.used; logged = w.logged; device = w.device.device } };
+
+    ghost invariant = { λ w. KeepsWorker w.device.failing (vec_capacity w.returned) (record { head = w.head; script = w.script.items; returned = w.returned.items; phase = w.phase; began = w.began; used = w.used; logged = w.logged; device = w.device.device }) };
+}
+
+impl<O: Object> Worker<O> {
+    pub fn head(&self) -> LogHead
+        ensures { result ≡ self.now.head }
+    {
+        self.head
+    }
+
+    pub fn phase(&self) -> Phase
+        ensures { result ≡ self.now.phase }
+    {
+        self.phase
+    }
+
+    pub fn began(&self) -> u64
+        ensures { result ≡ self.now.began }
+    {
+        self.began
+    }
+
+    /// How many entries of its log are fenced. There was one fence more, the header's.
+    pub fn logged(&self) -> u64
+        ensures logged { result ≡ self.now.logged }
+        ensures fences { result + 1 ≡ self.now.device.fences }
+    {
+        self.logged
+    }
+
+    pub fn returned(&self) -> &[Returned<O>]
+        ensures { result.now ≡ self.now.returned }
+    {
+        &self.returned
+    }
+
+    pub fn device(&self) -> &MemPmem
+        ensures { result.now ≡ record { device = self.now.device; failing = [] } }
+    {
+        &self.device
+    }
+
+    /// The next call of the script, the running one or the one to begin.
+    pub fn next_call(&self) -> Option<Call<O>>
+        ensures { result ≡ next_call self.now }
+    {
+        match self.script.get(self.returned.len()) {
+            Some(Call::Update(op)) => Some(Call::Update(*op)),
+            Some(Call::Ask(query)) => Some(Call::Ask(*query)),
+            None => None,
+        }
+    }
+
+    /// The next step is of another kind.
+    pub fn turn(&mut self, phase: Phase)
+        ensures { self.new ≡ turned self.old phase }
+    {
+        self.phase = phase;
+    }
+
+    /// A call begins at this moment.
+    pub fn begin(&mut self, now: u64, phase: Phase)
+        ensures { self.new ≡ begun self.old now phase }
+    {
+        self.phase = phase;
+        self.began = now;
+    }
+
+    /// Writes the line of this number of the entry.
+    pub fn write(&mut self, line: u64, value: Line, phase: Phase)
+        requires within { self.old.used + line < length self.old.device.read }
+        requires fills { FillsWords (line_at self.old.device.read (self.old.used + line)) value.w }
+        ensures { self.new ≡ on_device self.old (after_step self.old.device (Write (self.old.used + line) value.w)) phase }
+    {
+        self.device.write(self.used + line, value);
+        self.phase = phase;
+    }
+
+    /// Writes that line back.
+    pub fn write_back(&mut self, line: u64, phase: Phase)
+        requires { self.old.used + line < length self.old.device.read }
+        ensures { self.new ≡ on_device self.old (after_step self.old.device (WriteBack (self.old.used + line))) phase }
+    {
+        self.device.write_back(self.used + line);
+        self.phase = phase;
+    }
+
+    /// Fences the log, whose last entry has this many nodes.
+    pub fn fence(&mut self, nodes: u64, phase: Phase)
+        requires { self.old.used + suc nodes ≤ length self.old.device.read }
+        ensures { self.new ≡ logged self.old nodes phase }
+    {
+        let _ = self.device.fence();
+        self.used += nodes + 1;
+        self.logged += 1;
+        self.phase = phase;
+    }
+
+    /// The running call returns.
+    pub fn put_returned(&mut self, returned: Returned<O>)
+        requires { length self.old.returned < length self.old.script }
+        ensures { self.new ≡ returning self.old returned.place returned.reply returned.began returned.ended }
+    {
+        self.returned.push_reserved(returned);
+        self.phase = Phase::Idle;
+    }
+}

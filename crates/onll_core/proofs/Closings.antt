@@ -1,9 +1,8 @@
-use Rattle.std.proofs.Common.{ℕ, zero, suc, ◌≡◌, ◌≢◌, ◌+◌, ◌-◌, ◌*◌, ◌<◌, ◌≤◌, ◌⊎◌, inl, inr, ⊎_elim, max, Bool, true, false, List, [], ◌∷◌, ◌++◌, length, take, drop, set, get_or, Option, Some, None, sym, refl, ap, ◌∙◌, subst, arith}
+use Rattle.std.proofs.Common.{ℕ, suc, ◌≡◌, ◌≢◌, ◌+◌, ◌-◌, ◌*◌, ◌<◌, ◌≤◌, ⊎_elim, List, length, set, get_or, Option, Some, sym, refl, ap, ◌∙◌, subst, arith}
 use Rattle.std.specs.Prelude.{IfSome}
 use Rattle.std.specs.List.{slice_get}
 use Rattle.std.proofs.lemmas.List.{length-set}
 use Rattle.std.proofs.lemmas.Option.{slice_get_read}
-use Rattle.onll_model.specs.declared.node.Node.{Node}
 use Rattle.onll_model.specs.Object.{Behaviour}
 use Rattle.onll_model.proofs.Lists.{at_set, same_some}
 use Rattle.onll_core.specs.declared.returned.Returned.{Returned}
@@ -14,13 +13,13 @@ use Rattle.onll_pmem.specs.Device.{Write, WriteBack, after_step}
 use Rattle.onll_core.specs.declared.phase.Phase.{Phase}
 use Rattle.onll_core.specs.declared.phase.Phase.TheVariants as phases
 use Rattle.onll_model.specs.declared.call.Call.{Call}
-use Rattle.onll_model.specs.declared.call.Call.TheVariants.{Update, Ask}
+use Rattle.onll_model.specs.declared.call.Call.TheVariants.{Update}
 use Rattle.onll_core.specs.Step.{put, turned, begun, on_device, logged, line_of_entry, after_back, act, next_call, step_by, step_of}
 use Rattle.onll_core.specs.Next.{IsNext, IsUpdating}
 use Rattle.onll_core.specs.Ready.{FitsLog, MayWrite, MayWriteBack}
-use Rattle.onll_core.proofs.Ready.{line_fits, may_write, may_write_back, back_fits, fence_fits}
+use Rattle.onll_core.proofs.Ready.{line_fits, may_write, may_write_back, fence_fits}
 use Rattle.onll_core.specs.Consistent.{IsConsistent}
-use Rattle.onll_core.specs.Kept.{IsLocal, AreLocal, HoldOwn, KeepsCore}
+use Rattle.onll_core.specs.Kept.{IsLocal, HoldOwn, KeepsCore}
 use Rattle.onll_core.proofs.Kept.{step_consistent}
 use Rattle.onll_core.proofs.Owns.{step_own}
 

@@ -1,5 +1,5 @@
 use Rattle.std.proofs.Common.{ℕ, zero, suc, ◌≡◌, ◌≢◌, ◌+◌, ◌-◌, ◌<◌, ◌≤◌, ◌⊎◌, inl, inr, ⊎_elim, Bool, true, false, List, [], ◌∷◌, ◌++◌, length, take, drop, set, Option, Some, None, sym, refl, ap, ◌∙◌, subst, arith}
-use Rattle.std.specs.Prelude.{◌==◌, nat_le, if◌then◌else◌}
+use Rattle.std.specs.Prelude.{nat_le, if◌then◌else◌}
 use Rattle.std.specs.List.{slice_get}
 use mathlib.Core.Logic.{dite}
 use native.Mathlib.Decide.{ℕ_discrete}
@@ -7,7 +7,7 @@ use Rattle.onll_model.specs.declared.node.Node.{Node}
 use Rattle.onll_model.specs.declared.call.Call.{Call}
 use Rattle.onll_model.specs.declared.call.Call.TheVariants.{Update, Ask}
 use Rattle.onll_model.specs.Object.{Behaviour}
-use Rattle.onll_model.specs.Trace.{node_at, reply_after, answer_after}
+use Rattle.onll_model.specs.Trace.{reply_after, answer_after}
 use Rattle.onll_model.specs.Frames.{is_available}
 use Rattle.onll_model.specs.Events.{next_node}
 use Rattle.onll_model.proofs.Lists.{same_some, some_not_none, inside, at_set, at_before, at_end}
@@ -15,7 +15,7 @@ use Rattle.onll_pmem.specs.Device.{Write, WriteBack, after_step}
 use Rattle.onll_core.specs.declared.phase.Phase.{Phase}
 use Rattle.onll_core.specs.declared.phase.Phase.TheVariants as phases
 use Rattle.onll_core.specs.Core.{CoreThread, CoreState}
-use Rattle.onll_core.specs.Step.{turned, begun, on_device, logged, returning, put, linked, flagged, answered, line_of_entry, after_exchange, after_flag, after_back, act, next_call, step_by, step_of}
+use Rattle.onll_core.specs.Step.{turned, begun, on_device, logged, returning, put, linked, answered, line_of_entry, after_exchange, after_flag, after_back, act, next_call, step_by, step_of}
 use Rattle.onll_core.specs.Kept.{own_place, Holds, HoldOwn}
 
 -- An update that has a place holds its operation there, after every step.
@@ -70,12 +70,12 @@ module _ {State Op Query Reply : Type 0} (b : Behaviour State Op Query Reply) (c
       let long : List Node = c.trace ++ x ∷ [] in
       let w : CoreThread State Op Query Reply = turned th (after_exchange c.base l) in
       set_own long w (λ op' p' call' own'.
-          let same : op ≡ op' = (let e : Some (Update op) ≡ Some (Update op') = sym call ∙ call' in cc) in
-          let place : l + 1 ≡ p' = same_some (l + 1) p' (sym (exchange_place c.base l) ∙ own') in
-          let here : suc (length c.trace) ≡ p' = omega arith in
-          let h : Holds b long (suc (length c.trace)) op = record { node = x; here = at_end c.trace x; row = b.op_of_its_row op } in
-          subst (λ (o : Op). Holds b long p' o) same (subst (λ (q : ℕ). Holds b long q op) here h))
-        (λ u v e op' p' call' own'. holds_more b c.trace (x ∷ []) p' op' (k u v e op' p' call' own'))
+      let same : op ≡ op' = (let e : Some (Update op) ≡ Some (Update op') = sym call ∙ call' in cc) in
+      let place : l + 1 ≡ p' = same_some (l + 1) p' (sym (exchange_place c.base l) ∙ own') in
+      let here : suc (length c.trace) ≡ p' = omega arith in
+      let h : Holds b long (suc (length c.trace)) op = record { node = x; here = at_end c.trace x; row = b.op_of_its_row op } in
+      subst (λ (o : Op). Holds b long p' o) same (subst (λ (q : ℕ). Holds b long q op) here h))
+      (λ u v e op' p' call' own'. holds_more b c.trace (x ∷ []) p' op' (k u v e op' p' call' own'))
 
   update_own : (op : Op) → next_call th ≡ Some (Update op) → (ph : Phase) → th.phase ≡ ph → HoldOwn b (act b c t th (Some (Update op)) ph)
   update_own op call phases.Idle is = rests (begun th c.clock (phases.Exchange (length c.trace))) refl

@@ -1,5 +1,5 @@
-use Rattle.std.proofs.Common.{ℕ, zero, suc, ◌≡◌, ◌≢◌, ◌+◌, ◌-◌, ◌*◌, ◌<◌, ◌≤◌, ◌⊎◌, inl, inr, ⊎_elim, max, Bool, true, false, true≢false, List, [], ◌∷◌, ◌++◌, length, take, drop, set, get_or, Option, Some, None, sym, refl, ap, ◌∙◌, subst, arith, eq-eqb, length-append}
-use Rattle.std.specs.Prelude.{IfSome, ◌==◌, if◌then◌else◌, count_by}
+use Rattle.std.proofs.Common.{ℕ, zero, suc, ◌≡◌, ◌≢◌, ◌+◌, ◌-◌, ◌*◌, ◌<◌, ◌≤◌, Bool, true, false, true≢false, List, [], ◌∷◌, ◌++◌, length, take, drop, set, get_or, Option, Some, sym, refl, ap, ◌∙◌, subst, arith, eq-eqb, length-append}
+use Rattle.std.specs.Prelude.{IfSome, if◌then◌else◌, count_by}
 use Rattle.std.specs.List.{slice_get}
 use Rattle.std.proofs.lemmas.List.{length-set, take-append-drop}
 use mathlib.Core.Logic.{dite}
@@ -10,10 +10,10 @@ use Rattle.onll_model.specs.declared.call.Call.{Call}
 use Rattle.onll_model.specs.declared.call.Call.TheVariants.{Update, Ask}
 use Rattle.onll_model.specs.Object.{Behaviour}
 use Rattle.onll_model.specs.Segment.{nodes_between}
-use Rattle.onll_model.specs.Trace.{node_at, is_of_thread, state_after, after_row, reply_after, answer_after}
-use Rattle.onll_model.specs.Frames.{is_available, Frame, Thread, Follows, open_place}
+use Rattle.onll_model.specs.Trace.{is_of_thread, state_after, after_row, reply_after, answer_after}
+use Rattle.onll_model.specs.Frames.{is_available, Thread, Follows}
 use Rattle.onll_model.specs.Events.{next_node}
-use Rattle.onll_model.proofs.Lists.{at_set, same_some, inside, present, set_here, set_else, take_before, all_append}
+use Rattle.onll_model.proofs.Lists.{same_some, inside, present, set_here, set_else, take_before, all_append}
 use Rattle.onll_model.proofs.States.{state_after-append}
 use Rattle.onll_model.proofs.Traces.{count_own, count_other}
 use Rattle.onll_model.proofs.FrameParts.{in_trace}
@@ -23,11 +23,11 @@ use Rattle.onll_core.specs.declared.returned.Returned.{Returned}
 use Rattle.onll_core.specs.declared.local.Local.{Local}
 use Rattle.onll_core.specs.Core.{CoreThread, CoreState}
 use Rattle.onll_core.specs.CoreFrame.{seen_in, frame_of, frame_thread, thread_at, activity_in}
-use Rattle.onll_core.specs.Step.{put, turned, linked, flagged, returning, answered, after_exchange, act, next_call, step_by, step_of}
+use Rattle.onll_core.specs.Step.{put, turned, linked, flagged, returning, answered, after_exchange, step_of}
 use Rattle.onll_core.specs.Next.{IsNext, IsUpdating}
 use Rattle.onll_core.specs.Consistent.{IsConsistent}
 use Rattle.onll_core.specs.Kept.{IsLocal, AreLocal, HoldOwn, Holds, KeepsCore, moved}
-use Rattle.onll_core.specs.Ready.{MayLink, MaySet, MayLook}
+use Rattle.onll_core.specs.Ready.{MayLink, MaySet}
 use Rattle.onll_core.proofs.CoreFrames.{part_at}
 use Rattle.onll_core.proofs.Windows.{few_in_all, few_of_thread}
 use Rattle.onll_pmem.specs.Device.{line_at, FillsWords}
@@ -127,9 +127,9 @@ module _ {State Op Query Reply : Type 0} (b : Behaviour State Op Query Reply) (n
       let own = count_own t c.trace x refl in
       let low = inside c.threads t n.thread here in
       let all = few_in_all 4096 (length c.threads) (c.trace ++ x ∷ [])
-          (λ u lower. dite (ℕ_discrete u t) (λ same. subst (λ (z : ℕ). count_by (is_of_thread z) (c.trace ++ x ∷ []) ≤ 4096) (sym same) (omega arith))
-              (λ other. let a = few_of_thread (length c.threads) c k.consistent u lower in let m = count_other u c.trace x (λ e. other (sym e)) in omega arith))
-          (all_append (λ (z : Node). z.thread < length c.threads) c.trace (x ∷ []) k.consistent.sound.below (low, tt)) in
+      (λ u lower. dite (ℕ_discrete u t) (λ same. subst (λ (z : ℕ). count_by (is_of_thread z) (c.trace ++ x ∷ []) ≤ 4096) (sym same) (omega arith))
+      (λ other. let a = few_of_thread (length c.threads) c k.consistent u lower in let m = count_other u c.trace x (λ e. other (sym e)) in omega arith))
+      (all_append (λ (z : Node). z.thread < length c.threads) c.trace (x ∷ []) k.consistent.sound.below (low, tt)) in
       omega (arith, length-append c.trace (x ∷ []))
 
   pub nodes_left : (held : ℕ) → held ≡ length c.trace → held < nodes
@@ -172,25 +172,25 @@ module _ {State Op Query Reply : Type 0} (b : Behaviour State Op Query Reply) (n
       let own' : Local State Op Query Reply = record { object = own.object; place = own.place; linked = own.linked + 1 } in
       let size : length c.trace ≡ l = ap (λ (s : CoreState State Op Query Reply). length s.trace) view ∙ same in
       let step : step_of b c t ≡ new = step_is b nodes flags locals c k now view t th there read (Update op) (phases.Exchange l) n ∙
-          ap (λ (q : Bool). if q then linked c t (next_node c.trace t (b.row_of op)) (turned th (after_exchange c.base l)) else put c t (turned th (phases.Tail l))) (eq-eqb (length c.trace) l size) in
+      ap (λ (q : Bool). if q then linked c t (next_node c.trace t (b.row_of op)) (turned th (after_exchange c.base l)) else put c t (turned th (phases.Tail l))) (eq-eqb (length c.trace) l size) in
       let count : own.linked + 1 ≡ count_by (is_of_thread t) c.trace + 1 = (let h = is_local.linked in omega arith) in
       let trace_same : new.trace ≡ trace = sym (trace_is ∙ λ i. c.trace ++ record { thread = t; number = count i; row = b.row_of op } ∷ []) in
       let w_same : w0 ≡ w = sym (w_is ∙ ap (turned th) ph_is) in
       let flags_same : new.flags ≡ fs = sym flags_is in
       let clock : suc c.clock ≡ c.clock + 1 = omega arith in
       let all : new ≡ record { initial = c.initial; base = c.base; trace = trace; flags = fs; clock = c.clock + 1; threads = set c.threads t w } =
-          (λ i. record { initial = c.initial; base = c.base; trace = trace_same i; flags = flags_same i; clock = clock i; threads = set c.threads t (w_same i) }) in
+      (λ i. record { initial = c.initial; base = c.base; trace = trace_same i; flags = flags_same i; clock = clock i; threads = set c.threads t (w_same i) }) in
       let low : (u : ℕ) (v : CoreThread State Op Query Reply) → slice_get c.threads u ≡ Some v → (o : Local State Op Query Reply) → IsLocal b c u v o → o.place ≤ length c.trace
-          = (λ u v e o h. let a = seen_low (length c.threads) c k.consistent u v e in let s = h.seen in omega arith) in
+      = (λ u v e o h. let a = seen_low (length c.threads) c k.consistent u v e in let s = h.seen in omega arith) in
       let kept : KeepsCore b nodes' flags' (set locals t own') new = kept_step b nodes flags locals c k t th at new w0 nodes' flags' (set locals t own') step refl (omega arith) (omega arith) (length-set locals t own')
-          (λ o oe. let is : own' ≡ o = same_some own' o (sym (set_here locals t own' own own_at) ∙ oe) in
-            subst (IsLocal b new t w0) is (record {
-              state = is_local.state ∙ ap (state_after b c.initial) (sym (take_before c.trace (x ∷ []) own.place (low t th at own is_local)));
-              seen = is_local.seen;
-              linked = (let m = count_own t c.trace x refl in let h = is_local.linked in omega arith);
-            }))
-          (λ u v o other e oe. let old = k.replicas u v e o (sym (set_else locals t u own' other) ∙ oe) in
-            grown b c new x u v o refl refl refl (λ q. other (sym q)) (low u v e o old) old) in
+      (λ o oe. let is : own' ≡ o = same_some own' o (sym (set_here locals t own' own own_at) ∙ oe) in
+      subst (IsLocal b new t w0) is (record {
+        state = is_local.state ∙ ap (state_after b c.initial) (sym (take_before c.trace (x ∷ []) own.place (low t th at own is_local)));
+        seen = is_local.seen;
+        linked = (let m = count_own t c.trace x refl in let h = is_local.linked in omega arith);
+      }))
+      (λ u v o other e oe. let old = k.replicas u v e o (sym (set_else locals t u own' other) ∙ oe) in
+      grown b c new x u v o refl refl refl (λ q. other (sym q)) (low u v e o old) old) in
       record { kept = subst (KeepsCore b nodes' flags' (set locals t own')) all kept; done = now_is all step }
 
   -- ---- a call returns
@@ -203,19 +203,19 @@ module _ {State Op Query Reply : Type 0} (b : Behaviour State Op Query Reply) (n
       → Made b nodes flags (set locals t l) (record { initial = c.initial; base = c.base; trace = c.trace; flags = c.flags; clock = c.clock + 1; threads = set c.threads t w }) (step_of b now t)
   answer_made query place began step' ahead reply l w reply_is l_is w_is =
       let state : state_after b own.object (nodes_between c.trace own.place place) ≡ state_after b c.initial (take place c.trace)
-          = ap (λ (s : State). state_after b s (nodes_between c.trace own.place place)) is_local.state ∙ forward b c.initial c.trace own.place place ahead in
+      = ap (λ (s : State). state_after b s (nodes_between c.trace own.place place)) is_local.state ∙ forward b c.initial c.trace own.place place ahead in
       let right : reply ≡ answer_after b c.initial (take place c.trace) query = reply_is ∙ ap (λ (s : State). b.answer s query) state in
       let w_same : returning th place (answer_after b c.initial (take place c.trace) query) began c.clock ≡ w = sym (w_is ∙ ap (λ (r : Reply). returning th place r began c.clock) right) in
       let step : step_of b c t ≡ put c t w = of_thread b nodes flags locals c k now view t th there read (λ s z. step_of b s t ≡ answered b s t z began place query) step' ∙ ap (put c t) w_same in
       let clock = set_clock (put c t w) c.clock refl in
       let kept : KeepsCore b nodes flags (set locals t l) (put c t w) = kept_step b nodes flags locals c k t th at (put c t w) w nodes flags (set locals t l) step refl (omega arith) (omega arith) (length-set locals t l)
-          (λ o oe. let is : l ≡ o = same_some l o (sym (set_here locals t l own own_at) ∙ oe) in
-            subst (IsLocal b (put c t w) t w) (sym l_is ∙ is) (record {
-              state = state;
-              seen = subst (λ (z : CoreThread State Op Query Reply). place ≤ seen_in c.base z.returned) (sym w_is) (seen_last c.base th.returned (record { place = place; reply = reply; began = began; ended = c.clock }));
-              linked = is_local.linked;
-            }))
-          (λ u v o other e oe. let old = k.replicas u v e o (sym (set_else locals t u l other) ∙ oe) in record { state = old.state; seen = old.seen; linked = old.linked }) in
+      (λ o oe. let is : l ≡ o = same_some l o (sym (set_here locals t l own own_at) ∙ oe) in
+      subst (IsLocal b (put c t w) t w) (sym l_is ∙ is) (record {
+        state = state;
+        seen = subst (λ (z : CoreThread State Op Query Reply). place ≤ seen_in c.base z.returned) (sym w_is) (seen_last c.base th.returned (record { place = place; reply = reply; began = began; ended = c.clock }));
+        linked = is_local.linked;
+      }))
+      (λ u v o other e oe. let old = k.replicas u v e o (sym (set_else locals t u l other) ∙ oe) in record { state = old.state; seen = old.seen; linked = old.linked }) in
       record { kept = subst (KeepsCore b nodes flags (set locals t l)) clock kept; done = now_is clock step }
 
   pub set_made : (op : Op) (p d : ℕ) → IsNext now t (Update op) (phases.Set p d) → (reply : Reply) (l : Local State Op Query Reply) (w : CoreThread State Op Query Reply) (began : ℕ)
@@ -229,20 +229,20 @@ module _ {State Op Query Reply : Type 0} (b : Behaviour State Op Query Reply) (n
       let one = (may_set (length c.threads) c k.consistent t th at p d nx.1).from_one in
       let ahead : own.place ≤ p - 1 = (let s = is_local.seen in omega arith) in
       let state : state_after b own.object (nodes_between c.trace own.place (p - 1)) ≡ state_after b c.initial (take (p - 1) c.trace)
-          = ap (λ (s : State). state_after b s (nodes_between c.trace own.place (p - 1))) is_local.state ∙ forward b c.initial c.trace own.place (p - 1) ahead in
+      = ap (λ (s : State). state_after b s (nodes_between c.trace own.place (p - 1))) is_local.state ∙ forward b c.initial c.trace own.place (p - 1) ahead in
       let right : reply ≡ reply_after b c.initial (take (p - 1) c.trace) op = reply_is ∙ ap (λ (s : State). b.reply s op) state in
       let holds : Holds b c.trace p op = k.own t th at op p nx.0 (ap Rattle.onll_core.specs.Kept.own_place nx.1) in
       let w_same : returning th p (reply_after b c.initial (take (p - 1) c.trace) op) th.began c.clock ≡ w = sym (w_is ∙ λ i. returning th p (right i) (began_is i) c.clock) in
       let step : step_of b c t ≡ flagged c t p w = step_is b nodes flags locals c k now view t th there read (Update op) (phases.Set p d) n ∙ ap (flagged c t p) w_same in
       let clock = set_clock (flagged c t p w) c.clock refl in
       let kept : KeepsCore b nodes flags (set locals t l) (flagged c t p w) = kept_step b nodes flags locals c k t th at (flagged c t p w) w nodes flags (set locals t l) step refl (omega arith) (omega arith) (length-set locals t l)
-          (λ o oe. let is : l ≡ o = same_some l o (sym (set_here locals t l own own_at) ∙ oe) in
-            subst (IsLocal b (flagged c t p w) t w) (sym l_is ∙ is) (record {
-              state = ap (λ (s : State). b.next s op) state ∙ after_own b c.initial c.trace p op one holds;
-              seen = subst (λ (z : CoreThread State Op Query Reply). p ≤ seen_in c.base z.returned) (sym w_is) (seen_last c.base th.returned (record { place = p; reply = reply; began = began; ended = c.clock }));
-              linked = is_local.linked;
-            }))
-          (λ u v o other e oe. let old = k.replicas u v e o (sym (set_else locals t u l other) ∙ oe) in record { state = old.state; seen = old.seen; linked = old.linked }) in
+      (λ o oe. let is : l ≡ o = same_some l o (sym (set_here locals t l own own_at) ∙ oe) in
+      subst (IsLocal b (flagged c t p w) t w) (sym l_is ∙ is) (record {
+        state = ap (λ (s : State). b.next s op) state ∙ after_own b c.initial c.trace p op one holds;
+        seen = subst (λ (z : CoreThread State Op Query Reply). p ≤ seen_in c.base z.returned) (sym w_is) (seen_last c.base th.returned (record { place = p; reply = reply; began = began; ended = c.clock }));
+        linked = is_local.linked;
+      }))
+      (λ u v o other e oe. let old = k.replicas u v e o (sym (set_else locals t u l other) ∙ oe) in record { state = old.state; seen = old.seen; linked = old.linked }) in
       record { kept = subst (KeepsCore b nodes flags (set locals t l)) clock kept; done = now_is clock step }
 
 -- ---- what the code finds before a step
@@ -305,7 +305,7 @@ module _ {State Op Query Reply : Type 0} (b : Behaviour State Op Query Reply) (n
       let l = k.replicas t x.0 x.1 own (at_read locals t own (omega arith) mine) in
       let seen = l.seen in
       let unseen : seen_in c.base x.0.returned ≤ place = subst (λ (o : Option (CoreThread State Op Query Reply)). IfSome o (λ z. seen_in c.base z.returned ≤ place)) x.1
-          (subst (λ (s : CoreState State Op Query Reply). IfSome (slice_get s.threads t) (λ z. seen_in s.base z.returned ≤ place)) (sym view) h) in
+      (subst (λ (s : CoreState State Op Query Reply). IfSome (slice_get s.threads t) (λ z. seen_in s.base z.returned ≤ place)) (sym view) h) in
       omega arith
 
   -- the numbers of a write-back
@@ -350,7 +350,7 @@ module _ {State Op Query Reply : Type 0} (b : Behaviour State Op Query Reply) (n
   entry_told line head he before be ns ne e =
       let mine : line ≡ line_of_entry th c.trace p d j = e ∙ λ i. line_at (entry_lines (he i) (be i) (record { place = p; nodes = ne i })) j in
       subst (λ (s : CoreState State Op Query Reply). IfSome (slice_get s.threads t) (λ z. line ≡ line_of_entry z s.trace p d j)) view
-          (subst (λ (o : Option (CoreThread State Op Query Reply)). IfSome o (λ z. line ≡ line_of_entry z c.trace p d j)) (sym thread_at_line) mine)
+      (subst (λ (o : Option (CoreThread State Op Query Reply)). IfSome o (λ z. line ≡ line_of_entry z c.trace p d j)) (sym thread_at_line) mine)
 
   pub write_fills : (line : List ℕ) → IfSome (slice_get now.threads t) (λ z. line ≡ line_of_entry z now.trace p d j) → FillsWords (line_at th.device.read (th.used + j)) line
   write_fills line is = subst (FillsWords (line_at th.device.read (th.used + j)))

@@ -1,7 +1,6 @@
 use Rattle.std.specs.Prelude.{ℕ, ◌≡◌, ◌+◌, ◌*◌, ◌<◌, ◌≤◌, List, [], length, count_by, take, Option, Some, None, slice_get}
 use Rattle.onll_model.specs.declared.node.Node.{Node}
-use Rattle.onll_model.specs.declared.call.Call.{Call}
-use Rattle.onll_model.specs.declared.call.Call.TheVariants.{Update, Ask}
+use Rattle.onll_model.specs.declared.call.Call.TheVariants.{Update}
 use Rattle.onll_model.specs.Object.{Behaviour}
 use Rattle.onll_model.specs.Trace.{node_at, is_of_thread, state_after}
 use Rattle.onll_model.specs.Segment.{nodes_between}

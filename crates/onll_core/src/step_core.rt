@@ -1,4 +1,4 @@
-ghost use Rattle.std.specs.Prelude.{◌≡◌, ℕ, suc, ◌+◌, ◌-◌, ◌*◌, ◌^◌, ◌<◌, ◌≤◌, Bool, true, List, [], length, sum_by, Option, Some, None, slice_get, IfSome, IfOk, ◌↔◌};
+ghost use Rattle.std.specs.Prelude.{◌≡◌, ℕ, suc, ◌+◌, ◌-◌, ◌*◌, ◌^◌, ◌<◌, ◌≤◌, Bool, true, List, [], length, sum_by, Option, Some, None, slice_get, IfSome, IfOk, ◌↔◌, replicate, map};
 ghost use Rattle.std.specs.List.{All};
 ghost use Rattle.onll_model.specs.declared.call.Call.TheVariants.{Update, Ask};
 ghost use Rattle.onll_model.specs.Frames.{is_available};
@@ -9,19 +9,25 @@ ghost use Rattle.onll_log.specs.Encoding.{entry_lines, FitsEntry};
 ghost use Rattle.onll_core.specs.CoreFrame.{seen_in};
 ghost use Rattle.onll_core.specs.Step.{turned, begun, put, answered, line_of_entry, after_exchange, after_flag, after_back, next_call, step_of, steps_of};
 ghost use Rattle.onll_core.specs.Consistent.{IsConsistent};
+ghost use Rattle.onll_core.specs.Tie.{updates_in};
+ghost use Rattle.onll_core.specs.First.{first_threads};
+ghost use Rattle.onll_core.specs.Created.{heads_from, created_core};
 ghost use Rattle.onll_core.specs.Next.{IsNext, IsUpdating};
 ghost use Rattle.onll_core.specs.Turns.{turns_of, current_in};
 
 use crate::local::{Local, window};
 use crate::phase::Phase;
 use crate::returned::{Current, Returned, Stepped};
-use crate::worker::Worker;
+use crate::worker::{Worker, with_room};
 use onll_log::{LogHead, entry_head};
 use onll_model::{Call, Node, Object, Turn, node_line};
 use onll_pmem::MemPmem;
 use onll_words::{Line, NoMemory};
-use std::alloc::{AllocError, Global};
+use std::alloc::Global;
 use std::marker::Model;
+
+/// The most updates of a thread.
+const NAMES: usize = 4096;
 
 /// Whether the flag of the node at a place is set. Place 0 always is available.
 fn is_available(flags: &[bool], place: u64) -> bool
@@ -138,7 +144,75 @@ impl<O: Object + Drop> Model for Core<O> {
     ghost invariant = { λ c. KeepsCore O.means (vec_capacity c.trace) (vec_capacity c.flags) c.locals.items (record { initial = c.initial; base = c.base; trace = c.trace.items; flags = c.flags.items; clock = c.clock; threads = c.workers.items }) };
 }
 
+/// The threads of these scripts, with their logs.
+fn first_workers<O: Object>(
+    alloc: Global,
+    init: &[u8],
+    scripts: Vec<Vec<Call<O>>>,
+) -> Result<Vec<Worker<O>>, NoMemory>
+    requires few { length scripts.items ≤ 16 }
+    requires updates { All (λ script. updates_in script.items ≤ 4096) scripts.items }
+    ensures { IfOk result (λ workers. workers.items ≡ first_threads (heads_from (length scripts.items) O.CODE init.now 0 (length scripts.items)) (map (λ script. script.items) scripts.items)) }
+{
+    let threads = scripts.len();
+    let mut workers = with_room(alloc, threads)?;
+    let mut thread = 0;
+    for script in scripts {
+        let head = LogHead::new(thread, threads as u64, O::CODE, init);
+        workers.push_reserved(Worker::new(alloc, head, script)?);
+        thread += 1;
+    }
+    Ok(workers)
+}
+
+/// As many replicas of the object, before the first node.
+fn first_locals<O: Object + Drop>(
+    alloc: Global,
+    object: &O,
+    threads: usize,
+) -> Result<Vec<Local<O>>, NoMemory>
+    ensures { IfOk result (λ locals. locals.items ≡ replicate threads (record { object = object.now; place = 0; linked = 0 })) }
+{
+    let mut locals = with_room(alloc, threads)?;
+    for _thread in 0..threads {
+        locals.push_reserved(Local {
+            object: object.copy(alloc)?,
+            place: 0,
+            linked: 0,
+        });
+    }
+    Ok(locals)
+}
+
 impl<O: Object + Drop> Core<O> {
+    /// A core of an object and a script for each thread, of at most 4,096 updates each, before any step. The heads of the
+    /// logs carry the digest of these bytes, the text of the object's state.
+    pub fn create(
+        alloc: Global,
+        object: O,
+        init: &[u8],
+        scripts: Vec<Vec<Call<O>>>,
+    ) -> Result<Core<O>, NoMemory>
+        requires few { length scripts.items ≤ 16 }
+        requires updates { All (λ script. updates_in script.items ≤ 4096) scripts.items }
+        ensures { IfOk result (λ c. c ≡ created_core object O.CODE init.now (map (λ script. script.items) scripts.items)) }
+    {
+        let threads = scripts.len();
+        let trace = with_room(alloc, NAMES * threads)?;
+        let flags = with_room(alloc, NAMES * threads)?;
+        let locals = first_locals(alloc, &object, threads)?;
+        let workers = first_workers(alloc, init, scripts)?;
+        Ok(Core {
+            initial: object,
+            base: 0,
+            trace,
+            flags,
+            clock: 0,
+            workers,
+            locals,
+        })
+    }
+
     /// How many steps were made.
     pub fn clock(&self) -> u64
         ensures { result ≡ self.now.clock }
@@ -518,6 +592,8 @@ impl<O: Object + Drop> Core<O> {
         requires there { thread < length self.old.threads }
         requires time { self.old.clock < 2 ^ 64 - 1 }
         ensures step { self.new ≡ step_of O.means self.old thread }
+        ensures clock { self.new.clock ≤ self.old.clock + 1 }
+        ensures threads { length self.new.threads ≡ length self.old.threads }
         ensures done { IfSome (slice_get self.old.threads thread) (λ th. (result ≡ stepped.Done) ↔ (next_call th ≡ None)) }
     {
         let worker = &self.workers[thread as usize];
@@ -528,5 +604,32 @@ impl<O: Object + Drop> Core<O> {
             Some(Call::Ask(query)) => self.ask(thread, query, phase),
         }
         Stepped::Step
+    }
+
+    /// This many steps of a thread. Once its script is at its end the others change nothing.
+    fn run(&mut self, thread: u64, count: u64)
+        requires there { thread < length self.old.threads }
+        requires time { self.old.clock + count < 2 ^ 64 }
+        ensures steps { self.new ≡ steps_of O.means self.old (replicate count thread) }
+        ensures clock { self.new.clock ≤ self.old.clock + count }
+        ensures threads { length self.new.threads ≡ length self.old.threads }
+    {
+        for i in 0..count {
+            match self.step(thread) {
+                Stepped::Step => {}
+                Stepped::Done => return,
+            }
+        }
+    }
+
+    /// The steps of turns, in order.
+    pub fn play(&mut self, turns: &[Turn])
+        requires there { All (λ turn. turn.thread < length self.old.threads) turns.now }
+        requires time { self.old.clock + sum_by (λ turn. turn.count) turns.now < 2 ^ 64 }
+        ensures { self.new ≡ steps_of O.means self.old (turns_of turns.now) }
+    {
+        for turn in turns {
+            self.run(turn.thread, turn.count);
+        }
     }
 }

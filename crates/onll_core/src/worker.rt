@@ -1,5 +1,8 @@
-ghost use Rattle.std.specs.Prelude.{◌≡◌, ◌+◌, ◌<◌, ◌≤◌, suc, [], length};
+ghost use Rattle.std.specs.Prelude.{◌≡◌, ◌+◌, ◌<◌, ◌≤◌, suc, [], length, IfOk};
 ghost use Rattle.onll_pmem.specs.Device.{line_at, FillsWords, after_step, Write, WriteBack};
+ghost use Rattle.std.specs.Vec.{vec_capacity};
+ghost use Rattle.onll_core.specs.Tie.{updates_in};
+ghost use Rattle.onll_core.specs.First.{first_device, first_thread};
 ghost use Rattle.onll_core.specs.Step.{turned, begun, on_device, logged, returning, next_call};
 
 use crate::phase::Phase;
@@ -7,8 +10,43 @@ use crate::returned::Returned;
 use onll_log::LogHead;
 use onll_model::{Call, Object};
 use onll_pmem::{MemPmem, Pmem};
-use onll_words::Line;
+use onll_words::{Line, NoMemory};
+use std::alloc::Global;
 use std::marker::Model;
+
+/// An empty list with room for this many.
+pub fn with_room<T: Drop>(alloc: Global, count: usize) -> Result<Vec<T>, NoMemory>
+    ensures { IfOk result (λ v. (v.items ≡ []) × (vec_capacity v ≡ count)) }
+{
+    Vec::with_capacity(alloc, count).map_err(|_| NoMemory)
+}
+
+/// How many of these calls are updates.
+fn count_updates<O: Object>(calls: &[Call<O>]) -> u64
+    requires { updates_in calls.now ≤ 4096 }
+    ensures { result ≡ updates_in calls.now }
+{
+    let mut updates = 0;
+    for call in calls {
+        if let Call::Update(_) = call {
+            updates += 1;
+        }
+    }
+    updates
+}
+
+/// A device of this many lines that holds the head of a log, made durable.
+fn first_device(alloc: Global, head: &LogHead, lines: u64) -> Result<MemPmem, NoMemory>
+    requires some_line { 1 ≤ lines }
+    requires few { lines ≤ 1000000 }
+    ensures { IfOk result (λ device. device ≡ record { device = first_device head.now lines; failing = [] }) }
+{
+    let mut device = MemPmem::new(alloc, lines, Vec::new(alloc))?;
+    device.write(0, head.line());
+    device.write_back(0);
+    let _ = device.fence();
+    Ok(device)
+}
 
 /// One thread of a core, and its log's device, whose fences never fail.
 #[derive(Drop)]
@@ -36,6 +74,27 @@ impl<O: Object> Model for Worker<O> {
 }
 
 impl<O: Object> Worker<O> {
+    /// A thread that has done nothing, with a log that holds its head and has room for an entry of each update.
+    pub fn new(alloc: Global, head: LogHead, script: Vec<Call<O>>) -> Result<Worker<O>, NoMemory>
+        requires threads { head.threads ≤ 16 }
+        requires updates { updates_in script.items ≤ 4096 }
+        ensures { IfOk result (λ worker. worker ≡ first_thread head script.items) }
+    {
+        let lines = 1 + count_updates(&script) * (head.threads + 1);
+        let returned = with_room(alloc, script.len())?;
+        let device = first_device(alloc, &head, lines)?;
+        Ok(Worker {
+            head,
+            script,
+            returned,
+            phase: Phase::Idle,
+            began: 0,
+            used: 1,
+            logged: 0,
+            device,
+        })
+    }
+
     pub fn head(&self) -> LogHead
         ensures { result ≡ self.now.head }
     {

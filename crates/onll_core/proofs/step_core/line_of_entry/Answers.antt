@@ -1,4 +1,3 @@
-use Rattle.std.proofs.Common.{◌≡◌, ◌<◌}
 use Rattle.onll_core.proofs.EntryLines.{first_line, later_line}
 use Rattle.onll_core.proofs.step_core.line_of_entry.Goals as goal
 

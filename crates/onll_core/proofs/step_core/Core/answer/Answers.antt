@@ -1,4 +1,4 @@
-use Rattle.std.proofs.Common.{◌≡◌, ◌+◌, ◌-◌, ◌<◌, ◌≤◌, ◌∙◌, refl, sym, ap, length, arith}
+use Rattle.std.proofs.Common.{◌<◌, length}
 use Rattle.onll_core.proofs.Rows.{answer_ahead, answer_made}
 use Rattle.onll_core.proofs.Closings.{of_thread}
 use Rattle.onll_core.proofs.step_core.Core.answer.Goals as goal

@@ -1,4 +1,3 @@
-use Rattle.std.proofs.Common.{◌≡◌, ◌+◌, ◌<◌, ◌≤◌, refl, arith}
 use Rattle.onll_core.proofs.Closings.{begin_made}
 use Rattle.onll_core.proofs.step_core.Core.begin.Goals as goal
 

@@ -1,4 +1,4 @@
-use Rattle.std.proofs.Common.{◌≡◌, ◌+◌, ◌<◌, ◌≤◌, ◌∙◌, refl, sym, ap, arith}
+use Rattle.std.proofs.Common.{◌∙◌}
 use Rattle.onll_core.proofs.Rows.{tail_unseen, if_running}
 use Rattle.onll_core.proofs.step_core.Core.begin_read.Goals as goal
 

@@ -1,4 +1,4 @@
-use Rattle.std.proofs.Common.{◌≡◌, ◌+◌, ◌-◌, ◌<◌, ◌≤◌, ◌∙◌, refl, sym, ap, length, arith}
+use Rattle.std.proofs.Common.{◌≡◌, ap, length, arith}
 use Rattle.onll_core.proofs.Rows.{entry_format, entry_threads, entry_fits, entry_before, entry_number, entry_told}
 use Rattle.onll_core.proofs.Closings.{line_fits_here}
 use Rattle.onll_core.proofs.step_core.Core.entry_line.Goals as goal

@@ -1,4 +1,4 @@
-use Rattle.std.proofs.Common.{◌≡◌, ◌+◌, ◌<◌, ◌≤◌, refl, arith}
+use Rattle.std.proofs.Common.{arith}
 use Rattle.onll_core.proofs.Closings.{fence_made, fence_fits_here}
 use Rattle.onll_core.proofs.step_core.Core.fence.Goals as goal
 

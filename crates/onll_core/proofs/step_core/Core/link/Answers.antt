@@ -1,4 +1,4 @@
-use Rattle.std.proofs.Common.{◌≡◌, ◌+◌, ◌-◌, ◌<◌, ◌≤◌, ◌∙◌, refl, sym, ap, length, arith}
+use Rattle.std.proofs.Common.{arith}
 use Rattle.onll_core.proofs.Rows.{linked_few, nodes_left, flags_left, link_made}
 use Rattle.onll_core.proofs.step_core.Core.link.Goals as goal
 

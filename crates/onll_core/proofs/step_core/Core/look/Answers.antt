@@ -1,6 +1,5 @@
-use Rattle.std.proofs.Common.{◌≡◌, ◌+◌, ◌<◌, ◌≤◌, ◌∙◌, refl, sym, ap, arith}
+use Rattle.std.proofs.Common.{◌∙◌, sym}
 use Rattle.onll_core.proofs.Rows.{flag_unseen, flag_low, base_unseen, if_running}
-use Rattle.onll_model.specs.Frames.{is_available}
 use Rattle.onll_core.proofs.step_core.Core.look.Goals as goal
 
 pub answer-requires-clause-unseen : goal.answer-requires-clause-unseen

@@ -1,4 +1,4 @@
-use Rattle.std.proofs.Common.{◌≡◌, ◌+◌, ◌<◌, ◌≤◌, ◌∙◌, refl, sym, ap, arith}
+use Rattle.std.proofs.Common.{arith}
 use Rattle.onll_core.proofs.Rows.{back_small}
 use Rattle.onll_core.proofs.step_core.Core.next_line.Goals as goal
 

@@ -1,4 +1,4 @@
-use Rattle.std.proofs.Common.{◌≡◌, ◌+◌, ◌-◌, ◌<◌, ◌≤◌, ◌∙◌, refl, sym, ap, length, arith}
+use Rattle.std.proofs.Common.{◌≡◌, ap, length, arith}
 use Rattle.onll_core.proofs.Rows.{set_made, own_set, own_unseen, running_here}
 use Rattle.onll_core.proofs.step_core.Core.set_flag.Goals as goal
 

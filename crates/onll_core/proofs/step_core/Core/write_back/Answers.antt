@@ -1,4 +1,3 @@
-use Rattle.std.proofs.Common.{◌≡◌, ◌+◌, ◌<◌, ◌≤◌, refl, arith}
 use Rattle.onll_core.proofs.Closings.{back_made, may_write_back_here}
 use Rattle.onll_core.proofs.step_core.Core.write_back.Goals as goal
 

@@ -1,4 +1,3 @@
-use Rattle.std.proofs.Common.{◌≡◌, ◌+◌, ◌<◌, ◌≤◌, refl, arith}
 use Rattle.onll_core.proofs.Closings.{write_made, may_write_here}
 use Rattle.onll_core.proofs.Rows.{write_fills}
 use Rattle.onll_core.proofs.step_core.Core.write_line.Goals as goal

@@ -1,7 +1,7 @@
 use Rattle.std.proofs.lemmas.List.{take_all, length-take-le}
 use Rattle.std.proofs.lemmas.Bool.{cases_lt}
 use Rattle.std.proofs.lemmas.Bool.Decides.{nat_tests}
-use Rattle.std.proofs.Common.{ℕ, zero, suc, Bool, true, false, List, [], ◌∷◌, ◌≡◌, ◌+◌, ◌≤◌, length, take, arith, inl, inr, Option, Some, None, Result, Ok, Err, nat_lt, cond, ◌<◌, refl, sym, ap, ◌∙◌, subst}
+use Rattle.std.proofs.Common.{ℕ, zero, suc, Bool, true, false, List, [], ◌∷◌, ◌≡◌, ◌+◌, ◌≤◌, length, take, arith, inl, inr, Option, Some, None, Result, Ok, Err, nat_lt, cond, refl, sym, ap, ◌∙◌, subst}
 use Rattle.onll_outside.specs.Views.{StoreView, IsFront, Gives}
 use Rattle.onll_log.specs.ImageFile.{longest_image, whole_lines, image_lines}
 use Rattle.onll_text.specs.Wording.{Wording}

@@ -30,7 +30,7 @@ use Rattle.onll_jobs.specs.ShowJob.{shown}
 use Rattle.onll_jobs.specs.declared.bad_logs.LogsFault.{LogsFault}
 use Rattle.onll_jobs.specs.Images.{reading_images}
 use Rattle.onll_jobs.specs.RecoverJob.{Recovered, recovered, found_says, recover_any}
-use Rattle.onll_jobs.specs.FoldJob.{script_job, script_job_on, fold_job}
+use Rattle.onll_jobs.specs.FoldJob.{script_job, script_job_on}
 use Rattle.onll_jobs.specs.Says.{job_of, PutWhole, OutOfMemory, SinkFailed, ExitSays, NoneRose, SaysThis}
 use Rattle.onll_jobs.proofs.Jobs.{decided, never_says, reading_never, reading_whole_never}
 use Rattle.onll_jobs.proofs.ImageFiles.{reading_images_never}

@@ -1,14 +1,22 @@
-use Rattle.std.proofs.Common.{ℕ, zero, suc, List, [], ◌∷◌, ◌++◌, ◌≡◌, ◌+◌, ◌<◌, length, inl, inr, sym, ◌∙◌, subst, arith}
+use Rattle.std.proofs.Common.{ℕ, zero, suc, List, [], ◌∷◌, ◌++◌, ◌≡◌, ◌+◌, ◌<◌, length, inl, inr, Result, sym, ap, ◌∙◌, subst, arith, length-append}
+use Rattle.std.proofs.lemmas.List.{length-map, map-append}
+use Rattle.std.specs.Result.{IfOk, MatchResult}
+use Rattle.onll_words.specs.declared.NoMemory.{NoMemory}
+use Rattle.onll_words.specs.declared.line.Line.{Line}
+use Rattle.onll_pmem.specs.Pmem.{words_of}
 use Rattle.onll_outside.specs.Views.{StoreView, SameFiles, SameFaults}
 use Rattle.onll_log.specs.ImageFile.{image_lines}
 use Rattle.onll_jobs.specs.declared.ending.Ending.{Ending}
 use Rattle.onll_jobs.specs.declared.ending.Ending.TheVariants.{Usage}
+use Rattle.onll_jobs.specs.declared.answer.Answer.{Answer}
 use Rattle.onll_jobs.specs.declared.answer.Stop.{Stop}
+use Rattle.onll_jobs.specs.declared.answer.Stop.TheVariants as stops
 use Rattle.onll_jobs.specs.Stop.{StopSays}
 use Rattle.onll_jobs.specs.Reading.{HoldsImage, CannotRead}
-use Rattle.onll_jobs.specs.Job.{Job, JobSays, Never}
-use Rattle.onll_jobs.specs.Images.{image_name, reading_images, HoldImages, CannotReadImages}
-use Rattle.onll_jobs.proofs.Jobs.{cannot_from}
+use Rattle.onll_jobs.specs.Job.{Job, JobSays, SaysNow, Never}
+use Rattle.onll_jobs.specs.Images.{image_name, images_in, reading_images, HoldImages, CannotReadImages}
+use Rattle.onll_jobs.proofs.Jobs.{cannot_from, stopped_says}
+use Rattle.onll_jobs.proofs.Shown.{says_now}
 use Rattle.onll_jobs.proofs.Stops.{StopSays-weaker}
 
 -- Reading the images of threads, one after the other.
@@ -33,18 +41,37 @@ hold_next store mid logs thread images image files n h k =
     let e : thread ≡ 0 + length images = omega (arith, n) in
     hold_more store logs 0 images image h (subst (λ m. HoldsImage store (image_name logs m) image) e (holds_from store mid (image_name logs thread) image files k))
 
+-- what a loop over the threads keeps: the images so far, and the store as it was
+pub record ReadSo (store mid : StoreView) (logs : List ℕ) (thread : ℕ) (images : List (List Line)) : Type 0 where
+  pub held : HoldImages store logs 0 (images_in images)
+  pub count : length images ≡ thread
+  pub same : SameFiles store mid
+  pub faults : SameFaults store mid
+
+pub read_next : (store mid now : StoreView) (logs : List ℕ) (thread : ℕ) (images new : List (List Line)) (image : List Line) → ReadSo store mid logs thread images
+    → SameFiles mid now → SameFaults mid now → HoldsImage mid (image_name logs thread) (words_of image) → new ≡ images ++ image ∷ [] → ReadSo store now logs (thread + 1) new
+read_next store mid now logs thread images new image so files faults h e = record {
+  held = subst (λ l. HoldImages store logs 0 (images_in l)) (sym e)
+      (subst (HoldImages store logs 0) (sym (map-append words_of images (image ∷ [])))
+      (hold_next store mid logs thread (images_in images) (words_of image) so.same (length-map images words_of ∙ so.count) so.held h));
+  count = omega (arith, ap length e, length-append images (image ∷ []), so.count);
+  same = record { tells = files.tells ∙ so.same.tells; file = λ name. files.file name ∙ so.same.file name };
+  faults = (faults.0 ∙ so.faults.0, faults.1 ∙ so.faults.1);
+}
+
 -- an image can't be read from the store as it is now
-pub cannot_next : (store mid after : StoreView) (logs : List ℕ) (thread threads : ℕ) (images : List (List (List ℕ))) (s : Stop) → SameFaults store mid → length images ≡ thread → thread < threads
-    → HoldImages store logs 0 images → StopSays s (CannotRead mid after (image_name logs thread)) → StopSays s (CannotReadImages store after logs 0 threads)
-cannot_next store mid after logs thread threads images s faults n more h =
-    let e : thread ≡ 0 + length images = omega (arith, n) in
+pub cannot_next : (store mid after : StoreView) (logs : List ℕ) (thread threads : ℕ) (images : List (List Line)) (s : Stop) → ReadSo store mid logs thread images → thread < threads
+    → StopSays s (CannotRead mid after (image_name logs thread)) → StopSays s (CannotReadImages store after logs 0 threads)
+cannot_next store mid after logs thread threads images s so more h =
+    let n : length (images_in images) ≡ thread = length-map images words_of ∙ so.count in
+    let e : thread ≡ 0 + length (images_in images) = omega (arith, n) in
     StopSays-weaker s (CannotRead mid after (image_name logs thread)) (CannotReadImages store after logs 0 threads)
     (λ ending text k. record {
-      before = images;
-      held = h;
+      before = images_in images;
+      held = so.held;
       more = omega (arith, n, more);
-      unread = subst (λ m. CannotRead store after (image_name logs m) ending text) e (cannot_from store mid after (image_name logs thread) ending text faults k);
-    })
+      unread = subst (λ m. CannotRead store after (image_name logs m) ending text) e (cannot_from store mid after (image_name logs thread) ending text so.faults k);
+    }) h
 
 -- all images were read, and the job goes on with them
 pub images_on : (store after : StoreView) (logs : List ℕ) (i : ℕ) (images : List (List (List ℕ))) (next : List (List (List ℕ)) → Job) (ending : Ending) (text : List ℕ)
@@ -68,6 +95,20 @@ stopped_after store after logs i (suc threads) (x ∷ xs) next ending text h mor
 pub images_stopped : (store after : StoreView) (logs : List ℕ) (threads : ℕ) (next : List (List (List ℕ)) → Job) (ending : Ending) (text : List ℕ)
     → CannotReadImages store after logs 0 threads ending text → JobSays store after (reading_images logs 0 threads next) ending text
 images_stopped store after logs threads next ending text h = stopped_after store after logs 0 threads h.before next ending text h.held h.more h.unread
+
+-- this many images were read, and the job says so of them
+pub images_said : (store after : StoreView) (logs : List ℕ) (threads : ℕ) (images : List (List Line)) (next : List (List (List ℕ)) → Job) (ending : Ending) (text : List ℕ)
+    → HoldImages store logs 0 (images_in images) → length images ≡ threads → SaysNow (next (images_in images)) ending text → JobSays store after (reading_images logs 0 threads next) ending text
+images_said store after logs threads images next ending text h n said =
+    subst (λ m. JobSays store after (reading_images logs 0 m next) ending text) (length-map images words_of ∙ n)
+    (images_on store after logs 0 (images_in images) next ending text h (says_now store after (next (images_in images)) ending text said))
+
+-- what was said in place of the images
+pub images_answered : (store after : StoreView) (logs : List ℕ) (threads : ℕ) (next : List (List (List ℕ)) → Job) (s : Stop) (r : Result Answer NoMemory)
+    → MatchResult r (λ answer. s ≡ stops.Says answer) (λ e. s ≡ stops.NoMemory) → StopSays s (CannotReadImages store after logs 0 threads)
+    → IfOk r (λ answer. JobSays store after (reading_images logs 0 threads next) answer.ending answer.text.items)
+images_answered store after logs threads next s r m h =
+    stopped_says s r (CannotReadImages store after logs 0 threads) (JobSays store after (reading_images logs 0 threads next)) (λ e t. images_stopped store after logs threads next e t) m h
 
 -- a job that reads images and goes on so never says the usage
 pub reading_images_never : (logs : List ℕ) (threads i : ℕ) (next : List (List (List ℕ)) → Job) → ((images : List (List (List ℕ))) → Never Usage (next images)) → Never Usage (reading_images logs i threads next)

@@ -1,4 +1,4 @@
-use Rattle.std.proofs.Common.{ℕ, List, ◌≡◌, ◌⊎◌, inl, inr, Some, Result, Ok, Err, refl, sym, ap, ◌∙◌, subst}
+use Rattle.std.proofs.Common.{ℕ, List, ◌≡◌, inl, inr, Result, Ok, Err, refl, sym, ◌∙◌, subst}
 use Rattle.std.specs.Result.{IfOk, MatchResult}
 use Rattle.onll_words.specs.declared.NoMemory.{NoMemory}
 use Rattle.onll_outside.specs.Views.{StoreView, SameFiles, SameFaults, Rose}
@@ -9,8 +9,7 @@ use Rattle.onll_jobs.specs.declared.answer.Answer.{Answer}
 use Rattle.onll_jobs.specs.declared.answer.Stop.{Stop}
 use Rattle.onll_jobs.specs.declared.answer.Stop.TheVariants as stops
 use Rattle.onll_jobs.specs.Stop.{StopSays}
-use Rattle.onll_jobs.specs.Printed.{refusal_text}
-use Rattle.onll_jobs.specs.Reading.{Holds, IsTold, ReadsWhole, Unread, CannotRead, Stops}
+use Rattle.onll_jobs.specs.Reading.{Holds, IsTold, ReadsWhole, CannotRead, Stops}
 use Rattle.onll_jobs.specs.Job.{Job, Say, Read, JobSays, Decides, Never, on_value, reading, reading_whole}
 
 -- a told file holds its bytes alone

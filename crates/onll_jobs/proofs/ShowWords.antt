@@ -8,7 +8,7 @@ use Rattle.onll_log.specs.declared.head.LogHead.{LogHead}
 use Rattle.onll_log.specs.declared.decoded.Entry.{Entry}
 use Rattle.onll_log.specs.Decoded.{segment_in, segments_in}
 use Rattle.onll_text.specs.Bytes.{begins_line, with_word, with_words, with_lines}
-use Rattle.onll_text.proofs.Appending.{with_words-append, with_words-line, with_lines-one, with_lines-append}
+use Rattle.onll_text.proofs.Appending.{with_words-line, with_lines-one, with_lines-append}
 use Rattle.onll_jobs.specs.ShowJob.{object_name, head_words, row_line, row_lines, entry_words, entry_lines, entries_lines, count_words, content_lines}
 
 -- The lines that `show` prints, as their words are put.

@@ -1,19 +1,16 @@
-use Rattle.std.proofs.Common.{ℕ, zero, suc, ◌≡◌, ◌≤◌, Bool, true, false, List, [], ◌∷◌, ◌⊎◌, inl, inr, ⊎_elim, Option, Some, None, Ok, Err, Result, cond, length, map, take, refl, sym, ap, ◌∙◌, subst, arith}
+use Rattle.std.proofs.Common.{ℕ, zero, suc, ◌≡◌, Bool, true, false, List, [], ◌∷◌, inr, ⊎_elim, Option, Some, None, cond, take, sym, subst, arith}
 use Rattle.std.proofs.lemmas.Bool.{cases_Bool}
 use Rattle.std.proofs.lemmas.List.{length-map, length-take}
 use Rattle.std.specs.List.{AllByRecursion}
-use Rattle.std.specs.Result.{IfOk}
-use Rattle.onll_words.specs.declared.NoMemory.{NoMemory}
 use Rattle.onll_model.specs.Segment.{Segment}
-use Rattle.onll_outside.specs.Views.{StoreView, SameFiles, SameFaults}
+use Rattle.onll_outside.specs.Views.{StoreView}
 use Rattle.onll_log.specs.declared.head.LogHead.{LogHead}
 use Rattle.onll_log.specs.Head.{word, is_head, head_of}
 use Rattle.onll_log.specs.Grammar.{Content, content_of, entries_from, is_entry, segment_of, node_of_line, are_zero_lines}
 use Rattle.onll_log.specs.ImageFile.{image_lines}
 use Rattle.onll_log.proofs.Accepted.{Accepted-if, entries_from-entry, entries_from-none}
 use Rattle.onll_jobs.specs.declared.ending.Ending.{Ending}
-use Rattle.onll_jobs.specs.declared.answer.Answer.{Answer}
-use Rattle.onll_jobs.specs.Reading.{Holds, HoldsImage}
+use Rattle.onll_jobs.specs.Reading.{HoldsImage}
 use Rattle.onll_jobs.specs.Job.{Job, Say, Read, SaysNow, JobSays}
 use Rattle.onll_jobs.specs.ShowJob.{IsPlaced, shown, show_job}
 

@@ -11,7 +11,7 @@ use Rattle.onll_queue.specs.Object.{queue}
 use Rattle.onll_lease.specs.Object.{lease}
 use Rattle.onll_log.specs.declared.head.LogHead.{LogHead}
 use Rattle.onll_log.specs.Head.{head_for}
-use Rattle.onll_log.specs.Grammar.{Content, content_of, format_in, used_by, used_with}
+use Rattle.onll_log.specs.Grammar.{Content, content_of, format_in, used_with}
 use Rattle.onll_model.specs.Segment.{Segment}
 use Rattle.onll_merge.specs.declared.fault.RecoverFault.{RecoverFault}
 use Rattle.onll_merge.specs.declared.fault.RecoverFault.TheVariants as merging

@@ -87,9 +87,13 @@ pub(crate) fn read_images<S: Store>(
 {
     let mut images = Vec::new(alloc);
     for thread in 0..threads {
-        let image = read_image(alloc, logs, thread, store)?;
-        if images.push(image).is_err() {
-            return Err(Stop::NoMemory);
+        match read_image(alloc, logs, thread, store) {
+            Ok(image) => {
+                if images.push(image).is_err() {
+                    return Err(Stop::NoMemory);
+                }
+            }
+            Err(stop) => return Err(stop),
         }
     }
     Ok(images)

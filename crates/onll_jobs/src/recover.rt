@@ -3,7 +3,9 @@ ghost use Rattle.std.specs.List.{AllByRecursion, flat_map};
 ghost use Rattle.onll_words.specs.Texts.{line_text};
 ghost use Rattle.onll_model.specs.Trace.{state_after};
 ghost use Rattle.onll_model.specs.Recovered.{operations_front};
-ghost use Rattle.onll_log.specs.Grammar.{used_by};
+ghost use Rattle.onll_pmem.specs.Pmem.{words_of};
+ghost use Rattle.onll_log.specs.Head.{head_for};
+ghost use Rattle.onll_log.specs.Grammar.{format_in, used_by};
 ghost use Rattle.onll_log.specs.Decoded.{content_in, segments_in};
 ghost use Rattle.onll_merge.specs.Merge.{contents_in, merge};
 ghost use Rattle.onll_text.specs.Bytes.{begins_line, with_lines};
@@ -50,6 +52,22 @@ fn decode_images(alloc: Global, images: &[Image]) -> Result<Vec<Decoded>, LogsFa
     Ok(logs)
 }
 
+/// The head of this thread's log in the format of its image.
+fn head_of(
+    object: u64,
+    init: &[u8],
+    thread: u64,
+    threads: u64,
+    image: &Image,
+) -> LogHead
+    requires object { (1 ≤ object) × (object ≤ 4) }
+    requires thread { thread < threads }
+    requires threads { threads ≤ 16 }
+    ensures { result ≡ head_for (format_in (words_of image.now)) thread threads object init.now }
+{
+    LogHead::of_format(format_of(image.as_slice()), thread, threads, object, init)
+}
+
 /// The heads that the logs of these images have where they are of a run of the object from these bytes of an initial
 /// state: each in the format of its image.
 fn heads_of(
@@ -65,9 +83,7 @@ fn heads_of(
 {
     let mut heads = Vec::new(alloc);
     for (thread, image) in images.iter().enumerate() {
-        let format = format_of(image.as_slice());
-        let head =
-            LogHead::of_format(format, thread as u64, images.len() as u64, object, init);
+        let head = head_of(object, init, thread as u64, images.len() as u64, image);
         if heads.push(head).is_err() {
             return Err(LogsFault::NoMemory);
         }

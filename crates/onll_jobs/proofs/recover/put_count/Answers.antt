@@ -1,4 +1,3 @@
-use Rattle.std.proofs.Common.{◌≡◌, true}
 use Rattle.std.proofs.lemmas.Result.{on_ok_weaker}
 use Rattle.onll_jobs.specs.RecoverJob.{recovered_line}
 use Rattle.onll_jobs.proofs.FoldSteps.{begins_after}

@@ -3,7 +3,6 @@ use Rattle.std.specs.Result.{IfOk}
 use Rattle.std.proofs.lemmas.Result.{IfOk-weaker}
 use Rattle.onll_log.specs.Grammar.{content_of}
 use Rattle.onll_pmem.specs.Pmem.{words_of}
-use Rattle.onll_jobs.specs.Reading.{HoldsImage}
 use Rattle.onll_jobs.specs.Job.{SaysNow, JobSays}
 use Rattle.onll_jobs.specs.ShowJob.{shown, show_job}
 use Rattle.onll_jobs.proofs.Shown.{image_shown}

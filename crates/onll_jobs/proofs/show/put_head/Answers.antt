@@ -1,4 +1,4 @@
-use Rattle.std.proofs.Common.{◌∷◌, subst, sym}
+use Rattle.std.proofs.Common.{subst, sym}
 use Rattle.onll_words.specs.Texts.{IsWord}
 use Rattle.onll_jobs.proofs.ShowWords.{head_in_words, IsWord-object_name}
 use Rattle.onll_jobs.proofs.show.put_head.Goals as goal

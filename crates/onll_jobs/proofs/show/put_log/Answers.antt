@@ -1,7 +1,6 @@
 use Rattle.std.proofs.Common.{◌++◌, ◌∙◌, ap, length}
 use Rattle.std.proofs.lemmas.Result.{on_ok_weaker}
 use Rattle.onll_words.specs.Texts.{line_text}
-use Rattle.onll_log.specs.declared.decoded.Entry.{Entry}
 use Rattle.onll_log.specs.Grammar.{used_by}
 use Rattle.onll_log.specs.Decoded.{segments_in, content_in}
 use Rattle.onll_text.specs.Bytes.{with_lines}

@@ -27,7 +27,5 @@ pub mod Crashed
 pub mod Recovered
 pub mod Rows
 pub mod EntryLines
-pub mod Crash
-pub mod Choices
 pub mod Plays
 pub mod Firsts

@@ -12,3 +12,4 @@ pub mod Says
 pub mod Seen
 pub mod ShowJob
 pub mod Stop
+pub mod Writing

@@ -94,7 +94,7 @@ read_on store mid after name grammar next bytes value ending text r files faults
     read_whole_on store mid after name grammar (λ _. next) bytes value ending text r files faults h
 
 -- the reading of a text ended the call
-read_stopped : {A : Type 0} (store after : StoreView) (name : List ℕ) (grammar : List ℕ → Result A Refusal) (next : List ℕ → A → Job) (ending : Ending) (text : List ℕ)
+pub read_stopped : {A : Type 0} (store after : StoreView) (name : List ℕ) (grammar : List ℕ → Result A Refusal) (next : List ℕ → A → Job) (ending : Ending) (text : List ℕ)
     → Stops store after grammar name ending text → JobSays store after (reading_whole name grammar next) ending text
 read_stopped store after name grammar next Done text h = absurd h
 read_stopped store after name grammar next Usage text h = absurd h

@@ -22,6 +22,10 @@ JobEnds store after (Read name next) ending text =
     (CannotRead store after name ending text × FilesStay store after) ⊎ ((bytes : List ℕ) × (Holds store name bytes × JobEnds store after (next bytes) ending text))
 JobEnds store after (Write name bytes next) ending text = CannotWrite store after name ending text ⊎ JobEnds (written store name bytes) after next ending text
 
+-- whatever the other job does from this store, the job may do from the store before
+abbrev pub GoesOn : StoreView → StoreView → Job → Job → Type 0
+GoesOn store mid job next = (after : StoreView) (ending : Ending) (text : List ℕ) → JobEnds mid after next ending text → JobEnds store after job ending text
+
 -- a job that writes nothing may end so over this store: each file that it reads holds some bytes, which it goes on with, or can't be read
 abbrev pub JobSays : StoreView → StoreView → Job → Ending → List ℕ → Type 0
 JobSays store after (Say e t) ending text = (ending ≡ e) × (text ≡ t)

@@ -8,6 +8,7 @@ pub mod Job
 pub mod Printed
 pub mod Reading
 pub mod RecoverJob
+pub mod ReplayJob
 pub mod Says
 pub mod Seen
 pub mod ShowJob

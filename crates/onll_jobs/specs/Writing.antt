@@ -1,7 +1,7 @@
 use Rattle.std.specs.Prelude.{ℕ, List, ◌≡◌, true, Some, if◌then◌else◌}
 use Rattle.std.specs.List.{AllByRecursion}
 use Rattle.std.specs.Str.{bytes_eq}
-use Rattle.onll_outside.specs.Views.{StoreView, Rose, SameOthers}
+use Rattle.onll_outside.specs.Views.{StoreView, SameFaults, Rose}
 use Rattle.onll_outside.specs.declared.store.FaultKind.TheVariants as kinds
 use Rattle.onll_jobs.specs.declared.ending.Ending.{Ending}
 use Rattle.onll_jobs.specs.declared.ending.Ending.TheVariants.{WriteFault}
@@ -18,10 +18,20 @@ pub record FilesStay (old new : StoreView) : Type 0 where
   pub tells : new.tells ≡ old.tells
   pub file : old.tells ≡ true → (name : List ℕ) → new.file name ≡ old.file name
 
+-- where the store tells its files, none changed but perhaps that of this name
+pub record OthersStay (name : List ℕ) (old new : StoreView) : Type 0 where
+  pub tells : new.tells ≡ old.tells
+  pub file : old.tells ≡ true → (other : List ℕ) → (other ≡ name → ⊥) → new.file other ≡ old.file other
+
 -- no file changed but perhaps those of these names
 pub record SameBut (names : List (List ℕ)) (old new : StoreView) : Type 0 where
   pub tells : new.tells ≡ old.tells
   pub file : (other : List ℕ) → AllByRecursion (λ name. other ≡ name → ⊥) names → new.file other ≡ old.file other
+
+-- these bytes were made the file of this name
+pub record HasWritten (old new : StoreView) (name bytes : List ℕ) : Type 0 where
+  pub files : FilesStay (written old name bytes) new
+  pub faults : SameFaults old new
 
 -- the file can't be written: the store's count rose and this write is its last fault; this line says so, and no other file
 -- changed
@@ -29,7 +39,7 @@ pub record Unwritten (store after : StoreView) (name text : List ℕ) : Type 0 w
   pub rose : Rose store.faults after.faults
   pub last : after.last ≡ Some (record { kind = kinds.Write; name = name })
   pub line : text ≡ write_fault_text name
-  pub others : SameOthers name store after
+  pub others : OthersStay name store after
 
 -- a write of the file fails, and the call ends so
 abbrev pub CannotWrite : StoreView → StoreView → List ℕ → Ending → List ℕ → Type 0

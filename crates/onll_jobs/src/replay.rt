@@ -1,0 +1,74 @@
+ghost use Rattle.std.specs.Prelude.{◌≡◌, ◌++◌, length, slice_get, true, IsSome, OnOk, map};
+ghost use Rattle.std.specs.List.{AllByRecursion};
+ghost use Rattle.onll_words.specs.Texts.{line_text};
+ghost use Rattle.onll_text.specs.Bytes.{begins_line, with_lines};
+ghost use Rattle.onll_text.specs.Lines.{call_lines};
+ghost use Rattle.onll_core.specs.Outcomes.{returned_end, current_ends};
+ghost use Rattle.onll_jobs.specs.ReplayJob.{flagged_lines, crash_line};
+
+use onll_core::{Current, Returned};
+use onll_model::{Call, CallEnd, Node};
+use onll_text::{Piece, Report, Texted};
+use onll_words::NoMemory;
+
+/// What became of the call of this number, from 0, of a thread: nothing, where it has taken no step.
+fn end_at<O: Texted>(returned: &[Returned<O>], current: Current, index: usize) -> Option<CallEnd<O>>
+    ensures { result ≡ slice_get (map returned_end returned.now ++ current_ends current) index }
+{
+    match returned.get(index) {
+        Some(call) => Some(CallEnd::Answered {
+            reply: call.reply,
+            place: call.place,
+        }),
+        None if index == returned.len() => match current {
+            Current::Idle => None,
+            Current::Running => Some(CallEnd::Running),
+            Current::Ordered { place } => Some(CallEnd::Ordered { place }),
+        },
+        None => None,
+    }
+}
+
+/// Appends the line of each call of a thread that has begun.
+fn put_thread<O: Texted>(
+    thread: u64,
+    script: &[Call<O>],
+    returned: &[Returned<O>],
+    current: Current,
+    out: &mut Report,
+) -> Result<(), NoMemory>
+    requires { begins_line out.old ≡ true }
+    ensures lines { OnOk result (out.new ≡ with_lines out.old (call_lines O.wording thread 0 script.now (map returned_end returned.now ++ current_ends current))) }
+    ensures begins { OnOk result (begins_line out.new ≡ true) }
+{
+    for (index, call) in script.iter().enumerate() {
+        let Some(end) = end_at(returned, current, index) else {
+            return Ok(());
+        };
+        out.call_line(thread, index as u64 + 1, call, &end)?;
+    }
+    Ok(())
+}
+
+/// Appends the line of each node, with its flag.
+fn put_flagged<O: Texted>(trace: &[Node], flags: &[bool], out: &mut Report) -> Result<(), NoMemory>
+    requires operations { AllByRecursion (λ n. IsSome (O.means.op_at n.row)) trace.now }
+    requires flags { length flags.now ≡ length trace.now }
+    requires begins { begins_line out.old ≡ true }
+    ensures lines { OnOk result (out.new ≡ with_lines out.old (flagged_lines O.means O.wording 0 trace.now flags.now)) }
+    ensures begins { OnOk result (begins_line out.new ≡ true) }
+{
+    for (index, node) in trace.iter().enumerate() {
+        out.node_line::<O>(index as u64 + 1, *node, Some(flags[index]))?;
+    }
+    Ok(())
+}
+
+/// The line of the schedule's crash.
+fn put_crash(keep: u64, out: &mut Report) -> Result<(), NoMemory>
+    requires { begins_line out.old ≡ true }
+    ensures lines { OnOk result (out.new ≡ out.old ++ line_text (crash_line keep)) }
+    ensures begins { OnOk result (begins_line out.new ≡ true) }
+{
+    out.line(&[Piece::Text(b"crash"), Piece::Number(keep)])
+}

@@ -22,14 +22,12 @@ crash_in_words keep = (record { some = refl; bytes = refl }, (IsWord-decimal kee
 
 -- one node's line with its flag before those of the rest
 pub flagged_more : {State Op Query Reply : Type 0} (b : Behaviour State Op Query Reply) (w : Wording State Op Query Reply) (out text : List ℕ) (i : ℕ) (nodes : List Node) (flags : List Bool) (n : Node) (flag : Bool)
-    → i < length nodes → i < length flags → n ≡ get_or nodes i n → flag ≡ get_or flags i flag → text ≡ out ++ line_text (node_line b w (i + 1) n (Some flag))
+    → i < length nodes → i < length flags → text ≡ out ++ line_text (node_line b w (i + 1) (get_or nodes i n) (Some (get_or flags i flag)))
     → with_lines text (flagged_lines b w (i + 1) (drop (i + 1) nodes) (drop (i + 1) flags)) ≡ with_lines out (flagged_lines b w i (drop i nodes) (drop i flags))
-flagged_more b w out text i nodes flags n flag h k same flag_is e =
+flagged_more b w out text i nodes flags n flag h k e =
     let rest = flagged_lines b w (i + 1) (drop (i + 1) nodes) (drop (i + 1) flags) in
     ap (λ t. with_lines t rest) e
-    ∙ sym (with_lines-one out (node_line b w (i + 1) n (Some flag)) rest)
-    ∙ ap (λ (x : Node). with_lines out (flagged_lines b w i (x ∷ drop (i + 1) nodes) (flag ∷ drop (i + 1) flags))) same
-    ∙ ap (λ (f : Bool). with_lines out (flagged_lines b w i (get_or nodes i n ∷ drop (i + 1) nodes) (f ∷ drop (i + 1) flags))) flag_is
+    ∙ sym (with_lines-one out (node_line b w (i + 1) (get_or nodes i n) (Some (get_or flags i flag))) rest)
     ∙ sym (ap (λ (l : List Node). with_lines out (flagged_lines b w i l (get_or flags i flag ∷ drop (i + 1) flags))) (drop_more nodes i n h))
     ∙ sym (ap (λ (l : List Bool). with_lines out (flagged_lines b w i (drop i nodes) l)) (drop_more flags i flag k))
 

@@ -1,12 +1,26 @@
-use Rattle.std.proofs.Common.{rules, ◌≡◌, ◌++◌, length, slice_get, true, IsSome, OnOk, map, ℕ, ◌+◌, ◌-◌, ◌*◌, ◌<◌, ◌≤◌, ◌/◌, ◌%◌, Bool, false, nat_eq, nat_lt, List, [], ◌∷◌, slice_index_or, slice_set, bit_and, bit_or, Fits, w8, w32, w64, Bor, MutBor}
+use Rattle.std.proofs.Common.{◌+◌, Bool, false, [], Some, get_or, arith, ◌∙◌, subst}
+use Rattle.std.proofs.lemmas.List.{drop_more}
 use Rattle.std.specs.List.{AllByRecursion}
-use Rattle.onll_words.specs.Texts.{line_text}
-use Rattle.onll_text.specs.Bytes.{begins_line, with_lines}
-use Rattle.onll_text.specs.Lines.{call_lines}
-use Rattle.onll_core.specs.Outcomes.{returned_end, current_ends}
-use Rattle.onll_jobs.specs.ReplayJob.{flagged_lines, crash_line}
+use Rattle.std.specs.Option.{IsSome}
+use Rattle.onll_model.specs.declared.node.Node.{Node}
+use Rattle.onll_text.specs.Lines.{node_line}
+use Rattle.onll_jobs.proofs.FoldSteps.{begins_after}
+use Rattle.onll_jobs.proofs.ReplaySteps.{flagged_more}
 use Rattle.onll_jobs.proofs.replay.put_flagged.Goals as goal
 
--- src/replay.rt:61:5
 pub loop-index-preserved : goal.loop-index-preserved
-loop-index-preserved g c = ?
+loop-index-preserved g c =
+    let b = g.O.Object.means in
+    let w = g.O.Texted.wording in
+    let i = c.loop-index.index in
+    let nodes = c.args.trace.now in
+    let flags = c.args.flags.now in
+    let d : Node = record { thread = 0; number = 0; row = record { w = [] } } in
+    let f : Bool = false in
+    let line = c.in_ok-node_line.ensures.ok in
+    let rest = subst (AllByRecursion (λ (n : Node). IsSome (b.op_at n.row))) (drop_more nodes i d (omega arith)) c.loop-index.invariant.operations in
+    record {
+      lines = flagged_more b w c.loop-index.out c.node_line.new.self i nodes flags d f (omega arith) (omega arith) line ∙ c.loop-index.invariant.lines;
+      operations = rest.1;
+      begins = begins_after c.loop-index.out c.node_line.new.self (node_line b w (i + 1) (get_or nodes i d) (Some (get_or flags i f))) line;
+    }

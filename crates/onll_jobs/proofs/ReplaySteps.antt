@@ -1,4 +1,4 @@
-use Rattle.std.proofs.Common.{ℕ, zero, suc, ◌≡◌, ◌+◌, ◌<◌, ◌≤◌, Bool, true, List, [], ◌∷◌, ◌++◌, Some, None, length, drop, get_or, map, refl, sym, ap, ◌∙◌, arith}
+use Rattle.std.proofs.Common.{ℕ, zero, suc, ◌≡◌, ◌+◌, ◌<◌, ◌≤◌, Bool, true, List, [], ◌∷◌, ◌++◌, Option, Some, None, length, drop, get_or, map, refl, sym, ap, ◌∙◌, subst, arith}
 use Rattle.std.specs.List.{slice_get}
 use Rattle.std.proofs.lemmas.List.{drop_more, append-nil}
 use Rattle.onll_words.specs.Texts.{AreWords, line_text}
@@ -8,12 +8,18 @@ use Rattle.onll_model.specs.declared.call.Call.{Call}
 use Rattle.onll_model.specs.declared.call.CallEnd.{CallEnd}
 use Rattle.onll_model.specs.Object.{Behaviour}
 use Rattle.onll_core.specs.declared.returned.Returned.{Returned}
-use Rattle.onll_core.specs.Outcomes.{returned_end}
+use Rattle.std.specs.Option.{IfSome}
+use Rattle.onll_core.specs.declared.phase.Phase.{Phase}
+use Rattle.onll_core.specs.declared.phase.Phase.TheVariants as phases
+use Rattle.onll_core.specs.declared.returned.Current.{Current}
+use Rattle.onll_core.specs.Core.{CoreThread, CoreState}
+use Rattle.onll_core.specs.Turns as turns
+use Rattle.onll_core.specs.Outcomes.{returned_end, current_ends, current_in, ends_of}
 use Rattle.onll_text.specs.Wording.{Wording}
 use Rattle.onll_text.specs.Bytes.{begins_line, with_lines}
-use Rattle.onll_text.specs.Lines.{call_line, call_lines, node_line}
-use Rattle.onll_text.proofs.Appending.{with_lines-one}
-use Rattle.onll_jobs.specs.ReplayJob.{flagged_lines, crash_line}
+use Rattle.onll_text.specs.Lines.{call_line, call_lines, trace_line, node_line}
+use Rattle.onll_text.proofs.Appending.{with_lines-one, with_lines-append}
+use Rattle.onll_jobs.specs.ReplayJob.{begun_lines, flagged_lines, crash_line, run_lines}
 
 -- The parts of a replay's report, as they are appended one after the other.
 
@@ -94,3 +100,61 @@ module _ {State Op Query Reply : Type 0} where
       → out ≡ with_lines out (call_lines w thread i (drop i calls) ends)
   script_done w out thread i calls ends e =
       sym (append-nil out) ∙ sym (ap (with_lines out) (no_calls w thread i ends)) ∙ sym (ap (λ (l : List (Call State Op Query Reply)). with_lines out (call_lines w thread i l ends)) e)
+
+-- ---- the threads
+same_current : (ph : Phase) → turns.current_in ph ≡ current_in ph
+same_current phases.Idle = refl
+same_current (phases.Tail l) = refl
+same_current (phases.Exchange l) = refl
+same_current (phases.Flag p d) = refl
+same_current (phases.Line p d k) = refl
+same_current (phases.Back p d k) = refl
+same_current (phases.Fence p d) = refl
+same_current (phases.Set p d) = refl
+same_current (phases.Ask f d) = refl
+
+module _ {State Op Query Reply : Type 0} where
+  if_at : (P : CoreThread State Op Query Reply → Type 0) (ths : List (CoreThread State Op Query Reply)) (t : ℕ) (th : CoreThread State Op Query Reply) → slice_get ths t ≡ Some th → IfSome (slice_get ths t) P → P th
+  if_at P ths t th e h = subst (λ (o : Option (CoreThread State Op Query Reply)). IfSome o P) e h
+
+  thread_at : (ths : List (CoreThread State Op Query Reply)) (t : ℕ) → t < length ths → (th : CoreThread State Op Query Reply) × (slice_get ths t ≡ Some th) × (drop t ths ≡ th ∷ drop (suc t) ths)
+  thread_at [] t h = absurd (omega arith)
+  thread_at (th ∷ ths) zero h = (th, refl, refl)
+  thread_at (x ∷ ths) (suc t) h = thread_at ths t (omega arith)
+
+  -- one thread's lines before those of the rest
+  pub thread_more : (w : Wording State Op Query Reply) (out text : List ℕ) (t : ℕ) (ths : List (CoreThread State Op Query Reply)) (script : List (Call State Op Query Reply)) (rs : List (Returned State Op Query Reply)) (current : Current)
+      → t < length ths → IfSome (slice_get ths t) (λ th. script ≡ th.script) → IfSome (slice_get ths t) (λ th. rs ≡ th.returned) → IfSome (slice_get ths t) (λ th. current ≡ turns.current_in th.phase)
+      → text ≡ with_lines out (call_lines w t 0 script (map returned_end rs ++ current_ends current))
+      → with_lines text (begun_lines w (t + 1) (drop (t + 1) ths)) ≡ with_lines out (begun_lines w t (drop t ths))
+  thread_more w out text t ths script rs current h hs hr hc e =
+      let x = thread_at ths t h in
+      let th = x.0 in
+      let s : t + 1 ≡ suc t = omega arith in
+      let rest = begun_lines w (t + 1) (drop (t + 1) ths) in
+      let es : script ≡ th.script = if_at (λ z. script ≡ z.script) ths t th x.1 hs in
+      let er : rs ≡ th.returned = if_at (λ z. rs ≡ z.returned) ths t th x.1 hr in
+      let ec : current ≡ current_in th.phase = if_at (λ z. current ≡ turns.current_in z.phase) ths t th x.1 hc ∙ same_current th.phase in
+      ap (λ z. with_lines z rest) e
+      ∙ ap (λ (l : List (Call State Op Query Reply)). with_lines (with_lines out (call_lines w t 0 l (map returned_end rs ++ current_ends current))) rest) es
+      ∙ ap (λ (l : List (Returned State Op Query Reply)). with_lines (with_lines out (call_lines w t 0 th.script (map returned_end l ++ current_ends current))) rest) er
+      ∙ ap (λ (k : Current). with_lines (with_lines out (call_lines w t 0 th.script (map returned_end th.returned ++ current_ends k))) rest) ec
+      ∙ sym (with_lines-append out (call_lines w t 0 th.script (ends_of th)) rest)
+      ∙ ap (λ j. with_lines out (call_lines w t 0 th.script (ends_of th) ++ begun_lines w (t + 1) (drop j ths))) s
+      ∙ sym (ap (λ (l : List (CoreThread State Op Query Reply)). with_lines out (begun_lines w t l)) x.2)
+
+  -- no thread is left
+  pub threads_done : (w : Wording State Op Query Reply) (out : List ℕ) (t : ℕ) (ths : List (CoreThread State Op Query Reply)) → drop t ths ≡ [] → out ≡ with_lines out (begun_lines w t (drop t ths))
+  threads_done w out t ths e = sym (append-nil out) ∙ sym (ap (λ (l : List (CoreThread State Op Query Reply)). with_lines out (begun_lines w t l)) e)
+
+  -- the lines of the calls, the count of the nodes, and their lines
+  pub run_parts : (b : Behaviour State Op Query Reply) (w : Wording State Op Query Reply) (c : CoreState State Op Query Reply) (old calls counted new : List ℕ) (nodes : List Node) (flags : List Bool) → nodes ≡ c.trace → flags ≡ c.flags
+      → calls ≡ with_lines old (begun_lines w 0 c.threads) → counted ≡ calls ++ line_text (trace_line (length nodes)) → new ≡ with_lines counted (flagged_lines b w 0 nodes flags) → new ≡ with_lines old (run_lines b w c)
+  run_parts b w c old calls counted new nodes flags en ef ec et e =
+      let flagged = flagged_lines b w 0 nodes flags in
+      e ∙ ap (λ z. with_lines z flagged) et
+      ∙ sym (with_lines-one calls (trace_line (length nodes)) flagged)
+      ∙ ap (λ z. with_lines z (trace_line (length nodes) ∷ flagged)) ec
+      ∙ sym (with_lines-append old (begun_lines w 0 c.threads) (trace_line (length nodes) ∷ flagged))
+      ∙ ap (λ (l : List Node). with_lines old (begun_lines w 0 c.threads ++ trace_line (length l) ∷ flagged_lines b w 0 l flags)) en
+      ∙ ap (λ (l : List Bool). with_lines old (begun_lines w 0 c.threads ++ trace_line (length c.trace) ∷ flagged_lines b w 0 c.trace l)) ef

@@ -4,9 +4,9 @@ ghost use Rattle.onll_words.specs.Texts.{line_text};
 ghost use Rattle.onll_text.specs.Bytes.{begins_line, with_lines};
 ghost use Rattle.onll_text.specs.Lines.{call_lines};
 ghost use Rattle.onll_core.specs.Outcomes.{returned_end, current_ends};
-ghost use Rattle.onll_jobs.specs.ReplayJob.{flagged_lines, crash_line};
+ghost use Rattle.onll_jobs.specs.ReplayJob.{begun_lines, flagged_lines, crash_line, run_lines};
 
-use onll_core::{Current, Returned};
+use onll_core::{Core, Current, Returned};
 use onll_model::{Call, CallEnd, Node};
 use onll_text::{Piece, Report, Texted};
 use onll_words::NoMemory;
@@ -50,6 +50,24 @@ fn put_thread<O: Texted>(
     Ok(())
 }
 
+/// Appends the lines of the calls of each thread that have begun.
+fn put_calls<O: Texted + Drop>(core: &Core<O>, out: &mut Report) -> Result<(), NoMemory>
+    requires { begins_line out.old ≡ true }
+    ensures lines { OnOk result (out.new ≡ with_lines out.old (begun_lines O.wording 0 core.now.threads)) }
+    ensures begins { OnOk result (begins_line out.new ≡ true) }
+{
+    for thread in 0..core.threads() {
+        put_thread(
+            thread,
+            core.script(thread),
+            core.returned(thread),
+            core.current(thread),
+            out,
+        )?;
+    }
+    Ok(())
+}
+
 /// Appends the line of each node, with its flag.
 fn put_flagged<O: Texted>(trace: &[Node], flags: &[bool], out: &mut Report) -> Result<(), NoMemory>
     requires operations { AllByRecursion (λ n. IsSome (O.means.op_at n.row)) trace.now }
@@ -62,6 +80,20 @@ fn put_flagged<O: Texted>(trace: &[Node], flags: &[bool], out: &mut Report) -> R
         out.node_line::<O>(index as u64 + 1, *node, Some(flags[index]))?;
     }
     Ok(())
+}
+
+/// Appends the lines of the core's calls and of its trace.
+fn put_run<O: Texted + Drop>(core: &Core<O>, out: &mut Report) -> Result<(), NoMemory>
+    requires operations { AllByRecursion (λ n. IsSome (O.means.op_at n.row)) core.now.trace }
+    requires begins { begins_line out.old ≡ true }
+    ensures lines { OnOk result (out.new ≡ with_lines out.old (run_lines O.means O.wording core.now)) }
+    ensures begins { OnOk result (begins_line out.new ≡ true) }
+{
+    core.consistent();
+    put_calls(core, out)?;
+    let trace = core.trace();
+    out.trace_line(trace.len() as u64)?;
+    put_flagged::<O>(trace, core.flags(), out)
 }
 
 /// The line of the schedule's crash.

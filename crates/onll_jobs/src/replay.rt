@@ -1,12 +1,16 @@
-ghost use Rattle.std.specs.Prelude.{◌≡◌, ◌++◌, length, slice_get, true, IsSome, OnOk, map};
+ghost use Rattle.std.specs.Prelude.{◌≡◌, ◌++◌, ◌<◌, ◌^◌, length, slice_get, true, IsSome, OnOk, map};
 ghost use Rattle.std.specs.List.{AllByRecursion};
 ghost use Rattle.onll_words.specs.Texts.{line_text};
+ghost use Rattle.onll_log.specs.Grammar.{used_by};
+ghost use Rattle.onll_log.specs.Decoded.{content_in};
+ghost use Rattle.onll_merge.specs.Merge.{contents_in};
 ghost use Rattle.onll_text.specs.Bytes.{begins_line, with_lines};
 ghost use Rattle.onll_text.specs.Lines.{call_lines};
 ghost use Rattle.onll_core.specs.Outcomes.{returned_end, current_ends};
-ghost use Rattle.onll_jobs.specs.ReplayJob.{begun_lines, flagged_lines, crash_line, run_lines};
+ghost use Rattle.onll_jobs.specs.ReplayJob.{begun_lines, flagged_lines, crash_line, fenced_lines, run_lines};
 
 use onll_core::{Core, Current, Returned};
+use onll_log::Decoded;
 use onll_model::{Call, CallEnd, Node};
 use onll_text::{Piece, Report, Texted};
 use onll_words::NoMemory;
@@ -103,4 +107,25 @@ fn put_crash(keep: u64, out: &mut Report) -> Result<(), NoMemory>
     ensures begins { OnOk result (begins_line out.new ≡ true) }
 {
     out.line(&[Piece::Text(b"crash"), Piece::Number(keep)])
+}
+
+/// Appends the line of each thread's log: what its image holds, and the fences after the header's.
+fn put_fenced<O: Texted + Drop>(
+    core: &Core<O>,
+    logs: &[Decoded],
+    out: &mut Report,
+) -> Result<(), NoMemory>
+    requires threads { length logs.now ≡ length core.now.threads }
+    requires used { AllByRecursion (λ d. used_by (content_in d) < 2 ^ 64) logs.now }
+    requires begins { begins_line out.old ≡ true }
+    ensures lines { OnOk result (out.new ≡ with_lines out.old (fenced_lines 0 (contents_in logs.now) core.now.threads)) }
+    ensures begins { OnOk result (begins_line out.new ≡ true) }
+{
+    let mut thread = 0;
+    for decoded in logs {
+        let entries = decoded.entries.as_slice().len() as u64;
+        out.log_line(thread, entries, decoded.used(), Some(core.fences(thread)))?;
+        thread += 1;
+    }
+    Ok(())
 }

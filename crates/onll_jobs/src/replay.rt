@@ -7,8 +7,10 @@ ghost use Rattle.onll_merge.specs.Merge.{contents_in};
 ghost use Rattle.onll_text.specs.Bytes.{begins_line, with_lines};
 ghost use Rattle.onll_text.specs.Lines.{call_lines};
 ghost use Rattle.onll_core.specs.Outcomes.{returned_end, current_ends};
-ghost use Rattle.onll_jobs.specs.ReplayJob.{begun_lines, flagged_lines, crash_line, fenced_lines, run_lines};
+ghost use Rattle.onll_jobs.specs.Found.{found_in};
+ghost use Rattle.onll_jobs.specs.ReplayJob.{begun_lines, flagged_lines, crash_line, fenced_lines, run_lines, crash_lines};
 
+use crate::recover::{Found, put_count};
 use onll_core::{Core, Current, Returned};
 use onll_log::Decoded;
 use onll_model::{Call, CallEnd, Node};
@@ -128,4 +130,23 @@ fn put_fenced<O: Texted + Drop>(
         thread += 1;
     }
     Ok(())
+}
+
+/// Appends the lines of the crash, of the logs, and of the object, which is recovered.
+fn put_crashed<O: Texted + Drop>(
+    core: &Core<O>,
+    keep: u64,
+    found: &Found,
+    object: &O,
+    out: &mut Report,
+) -> Result<(), NoMemory>
+    requires threads { length found.now.logs.items ≡ length core.now.threads }
+    requires used { AllByRecursion (λ d. used_by (content_in d) < 2 ^ 64) found.now.logs.items }
+    requires begins { begins_line out.old ≡ true }
+    ensures { OnOk result (out.new ≡ with_lines out.old (crash_lines O.wording core.now keep (found_in found.now) object.now)) }
+{
+    put_crash(keep, out)?;
+    put_fenced(core, &found.logs, out)?;
+    put_count(found.nodes.len() as u64, out)?;
+    out.state_lines(object)
 }

@@ -78,8 +78,14 @@ pub images_on : (store after : StoreView) (logs : List ℕ) (i : ℕ) (images : 
     → HoldImages store logs i images → JobSays store after (next images) ending text → JobSays store after (reading_images logs i (length images) next) ending text
 images_on store after logs i [] next ending text h said = said
 images_on store after logs i (x ∷ xs) next ending text h said =
-    inr (h.0.bytes, (h.0.held, images_on store after logs (suc i) xs (λ rest. next (image_lines h.0.bytes ∷ rest)) ending text h.1
-    (subst (λ lines. JobSays store after (next (lines ∷ xs)) ending text) h.0.image said)))
+    inr (
+      h.0.bytes,
+      (
+        h.0.held,
+        images_on store after logs (suc i) xs (λ rest. next (image_lines h.0.bytes ∷ rest)) ending text h.1
+            (subst (λ lines. JobSays store after (next (lines ∷ xs)) ending text) h.0.image said),
+      ),
+    )
 
 stopped_after : (store after : StoreView) (logs : List ℕ) (i threads : ℕ) (before : List (List (List ℕ))) (next : List (List (List ℕ)) → Job) (ending : Ending) (text : List ℕ)
     → HoldImages store logs i before → length before < threads → CannotRead store after (image_name logs (i + length before)) ending text → JobSays store after (reading_images logs i threads next) ending text
@@ -88,8 +94,14 @@ stopped_after store after logs i (suc threads) [] next ending text h more u =
     let e : i + 0 ≡ i = omega arith in inl (subst (λ n. CannotRead store after (image_name logs n) ending text) e u)
 stopped_after store after logs i (suc threads) (x ∷ xs) next ending text h more u =
     let e : i + suc (length xs) ≡ suc i + length xs = omega arith in
-    inr (h.0.bytes, (h.0.held, stopped_after store after logs (suc i) threads xs (λ rest. next (image_lines h.0.bytes ∷ rest)) ending text h.1 (omega (arith, more))
-    (subst (λ n. CannotRead store after (image_name logs n) ending text) e u)))
+    inr (
+      h.0.bytes,
+      (
+        h.0.held,
+        stopped_after store after logs (suc i) threads xs (λ rest. next (image_lines h.0.bytes ∷ rest)) ending text h.1 (omega (arith, more))
+            (subst (λ n. CannotRead store after (image_name logs n) ending text) e u),
+      ),
+    )
 
 -- one could not be read, and the call ends so
 pub images_stopped : (store after : StoreView) (logs : List ℕ) (threads : ℕ) (next : List (List (List ℕ)) → Job) (ending : Ending) (text : List ℕ)

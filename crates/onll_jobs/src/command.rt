@@ -7,9 +7,18 @@ use onll_words::whole_number;
 /// A command and its names, as the program's words say it.
 #[derive(Clone, Copy, Debug)]
 pub(crate) enum Command<'a> {
-    Fold { init: &'a str, script: &'a str },
-    Show { image: &'a str },
-    Recover { init: &'a str, logs: &'a str, threads: u64 },
+    Fold {
+        init: &'a str,
+        script: &'a str,
+    },
+    Show {
+        image: &'a str,
+    },
+    Recover {
+        init: &'a str,
+        logs: &'a str,
+        threads: u64,
+    },
 }
 
 /// The recovery from the logs of so many threads, as the last word says; nothing where it is no number from 1 to 16.

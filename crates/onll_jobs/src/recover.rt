@@ -53,13 +53,7 @@ fn decode_images(alloc: Global, images: &[Image]) -> Result<Vec<Decoded>, LogsFa
 }
 
 /// The head of this thread's log in the format of its image.
-fn head_of(
-    object: u64,
-    init: &[u8],
-    thread: u64,
-    threads: u64,
-    image: &Image,
-) -> LogHead
+fn head_of(object: u64, init: &[u8], thread: u64, threads: u64, image: &Image) -> LogHead
     requires object { (1 ≤ object) × (object ≤ 4) }
     requires thread { thread < threads }
     requires threads { threads ≤ 16 }

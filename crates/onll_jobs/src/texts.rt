@@ -13,7 +13,9 @@ use crate::answer::Stop;
 use onll_log::{LONGEST_IMAGE, image_lines};
 use onll_model::Call;
 use onll_outside::{OutsideFault, Store};
-use onll_text::{AnyObject, LONGEST_TEXT, Schedule, TextFault, Texted, read_init, read_schedule, read_script};
+use onll_text::{
+    AnyObject, LONGEST_TEXT, Schedule, TextFault, Texted, read_init, read_schedule, read_script,
+};
 use onll_words::{Line, NoMemory};
 use std::alloc::Global;
 

@@ -20,8 +20,8 @@ loop-decoded-preserved g c =
     let fences = c.fences.result in
     let count = ap length c.as_slice.ensures ∙ sym (length-map d.entries segment_in) in
     let line = c.in_ok-log_line.ensures.ok
-      ∙ ap (λ n. out ++ line_text (log_line t n c.used.result (Some fences))) count
-      ∙ ap (λ u. out ++ line_text (log_line t (length (segments_in d.entries)) u (Some fences))) c.used.ensures in
+    ∙ ap (λ n. out ++ line_text (log_line t n c.used.result (Some fences))) count
+    ∙ ap (λ u. out ++ line_text (log_line t (length (segments_in d.entries)) u (Some fences))) c.used.ensures in
     let rest = subst (AllByRecursion FewUsed) (drop_more logs i d (omega arith)) c.loop-decoded.invariant.used in
     record {
       lines = fenced_next out c.log_line.new.self t i logs c.args.core.now.threads d fences c.loop-decoded.invariant.thread (omega arith) (omega arith) c.fences.ensures.fences c.decoded-item.is line ∙ c.loop-decoded.invariant.lines;

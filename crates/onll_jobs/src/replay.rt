@@ -1,6 +1,7 @@
-ghost use Rattle.std.specs.Prelude.{◌≡◌, ◌++◌, ◌<◌, ◌^◌, length, slice_get, true, IsSome, OnOk, map};
+ghost use Rattle.std.specs.Prelude.{IfOk, ◌≡◌, ◌++◌, ◌<◌, ◌^◌, length, slice_get, true, IsSome, OnOk, map};
 ghost use Rattle.std.specs.List.{AllByRecursion};
 ghost use Rattle.onll_words.specs.Texts.{line_text};
+ghost use Rattle.onll_model.specs.Trace.{state_after};
 ghost use Rattle.onll_log.specs.Grammar.{used_by};
 ghost use Rattle.onll_log.specs.Decoded.{content_in};
 ghost use Rattle.onll_merge.specs.Merge.{contents_in};
@@ -8,7 +9,7 @@ ghost use Rattle.onll_text.specs.Bytes.{begins_line, with_lines};
 ghost use Rattle.onll_text.specs.Lines.{call_lines};
 ghost use Rattle.onll_core.specs.Outcomes.{returned_end, current_ends};
 ghost use Rattle.onll_jobs.specs.Found.{found_in};
-ghost use Rattle.onll_jobs.specs.ReplayJob.{begun_lines, flagged_lines, crash_line, fenced_lines, run_lines, crash_lines};
+ghost use Rattle.onll_jobs.specs.ReplayJob.{begun_lines, flagged_lines, crash_line, fenced_lines, run_lines, crash_lines, replay_report};
 
 use crate::recover::{Found, put_count};
 use onll_core::{Core, Current, Returned};
@@ -16,6 +17,7 @@ use onll_log::Decoded;
 use onll_model::{Call, CallEnd, Node};
 use onll_text::{Piece, Report, Texted};
 use onll_words::NoMemory;
+use std::alloc::Global;
 
 /// What became of the call of this number, from 0, of a thread: nothing, where it has taken no step.
 fn end_at<O: Texted>(returned: &[Returned<O>], current: Current, index: usize) -> Option<CallEnd<O>>
@@ -149,4 +151,25 @@ fn put_crashed<O: Texted + Drop>(
     put_fenced(core, &found.logs, out)?;
     put_count(found.nodes.len() as u64, out)?;
     out.state_lines(object)
+}
+
+/// The report of a core that crashed, of what was found then, and of the object after the nodes that were found.
+#[tactic(auto, using(onll_text::proofs::Appending::beginning))]
+fn report<O: Texted + Drop>(
+    alloc: Global,
+    core: &Core<O>,
+    keep: u64,
+    found: &Found,
+    object: &O,
+) -> Result<Vec<u8>, NoMemory>
+    requires operations { AllByRecursion (λ n. IsSome (O.means.op_at n.row)) core.now.trace }
+    requires threads { length found.now.logs.items ≡ length core.now.threads }
+    requires used { AllByRecursion (λ d. used_by (content_in d) < 2 ^ 64) found.now.logs.items }
+    requires state { object.now ≡ state_after O.means core.now.initial found.now.nodes.items }
+    ensures { IfOk result (λ bytes. bytes.items ≡ replay_report O.means O.wording core.now keep (found_in found.now)) }
+{
+    let mut out = Report::new(alloc);
+    put_run(core, &mut out)?;
+    put_crashed(core, keep, found, object, &mut out)?;
+    Ok(out.into_bytes())
 }

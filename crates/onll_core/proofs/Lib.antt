@@ -12,6 +12,7 @@ pub mod Windows
 pub mod Ties
 pub mod StepEvents
 pub mod Kept
+pub mod Operations
 pub mod Owns
 pub mod Closings
 pub mod Fences

@@ -301,6 +301,14 @@ impl<O: Object + Drop> Core<O> {
         }
     }
 
+    /// The calls of a thread.
+    pub fn script(&self, thread: u64) -> &[Call<O>]
+        requires { thread < length self.now.threads }
+        ensures { IfSome (slice_get self.now.threads thread) (λ th. result.now ≡ th.script) }
+    {
+        self.workers[thread as usize].script()
+    }
+
     /// What a thread's calls have returned, in the script's order.
     pub fn returned(&self, thread: u64) -> &[Returned<O>]
         requires { thread < length self.now.threads }

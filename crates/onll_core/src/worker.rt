@@ -133,6 +133,12 @@ impl<O: Object> Worker<O> {
         &self.device
     }
 
+    pub fn script(&self) -> &[Call<O>]
+        ensures { result.now ≡ self.now.script }
+    {
+        &self.script
+    }
+
     /// The next call of the script, the running one or the one to begin.
     pub fn next_call(&self) -> Option<Call<O>>
         ensures { result ≡ next_call self.now }

@@ -7,7 +7,8 @@ use Rattle.onll_log.specs.ImageFile.{longest_image, whole_lines, image_lines}
 use Rattle.onll_text.specs.Wording.{Wording}
 use Rattle.onll_text.specs.Script.{longest_text, script_of}
 use Rattle.onll_text.specs.Init.{init_of, init_of_lines}
-use Rattle.onll_text.proofs.Whole.{init_of-take, script_of-take}
+use Rattle.onll_text.specs.Schedule.{schedule_of}
+use Rattle.onll_text.proofs.Whole.{init_of-take, script_of-take, schedule_of-take}
 use Rattle.onll_words.specs.Texts.{meaningful_lines}
 use Rattle.onll_text.specs.declared.any_object.AnyObject.{AnyObject}
 use Rattle.onll_text.specs.declared.reason.Reason.TheVariants.{TooLong}
@@ -85,3 +86,9 @@ image_by_telling false s name text e h = record { bytes = text; held = λ tells.
 -- what a store gives of an image's file has the lines of that file
 pub image_of : (s : StoreView) (name text : List ℕ) → Gives s name longest_image text → HoldsImage s name (image_lines text)
 image_of s name text h = image_by_telling s.tells s name text refl h
+
+pub schedule_of-cut : (threads : ℕ) (s : StoreView) (name text : List ℕ) (c : IsCut s name text) → schedule_of threads c.bytes ≡ schedule_of threads text
+schedule_of-cut threads s name text c = elim c.cut [
+  | inl whole ↦ ap (schedule_of threads) (sym whole)
+  | inr front ↦ sym (schedule_of-take threads c.bytes) ∙ ap (schedule_of threads) (sym front)
+]

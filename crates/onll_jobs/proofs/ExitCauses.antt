@@ -17,13 +17,13 @@ use Rattle.onll_text.specs.Script.{script_of}
 use Rattle.onll_text.specs.Init.{init_of}
 use Rattle.onll_jobs.specs.Fold.{fold_report}
 use Rattle.onll_jobs.specs.declared.ending.Ending.{Ending}
-use Rattle.onll_jobs.specs.declared.ending.Ending.TheVariants.{Done, Usage, Refused, BadLog, ReadFault}
+use Rattle.onll_jobs.specs.declared.ending.Ending.TheVariants.{Done, Usage, Refused, BadLog, ReadFault, WriteFault}
 use Rattle.onll_jobs.specs.declared.ending.Exit.{Exit}
 use Rattle.onll_jobs.specs.declared.ending.Exit.TheVariants.{Said, SinkFault, NoMemory}
 use Rattle.onll_jobs.specs.Seen.{Seen}
 use Rattle.onll_jobs.specs.Command.{Form, Fold, Show, Recover, form_of}
 use Rattle.onll_jobs.specs.Printed.{usage_text, status_of, exit_status}
-use Rattle.onll_jobs.specs.Job.{Say, JobSays, Never, Decides}
+use Rattle.onll_jobs.specs.Job.{Say, JobEnds, Never, Decides}
 use Rattle.onll_log.specs.Grammar.{Content, content_of}
 use Rattle.onll_log.specs.ImageFile.{image_lines}
 use Rattle.onll_jobs.specs.ShowJob.{shown}
@@ -41,7 +41,8 @@ ending_at zero = Done
 ending_at (suc (suc zero)) = Usage
 ending_at (suc (suc (suc zero))) = Refused
 ending_at (suc (suc (suc (suc zero)))) = BadLog
-ending_at _ = ReadFault
+ending_at (suc (suc (suc (suc (suc zero))))) = ReadFault
+ending_at _ = WriteFault
 
 ending_at_status : (e : Ending) → ending_at (status_of e) ≡ e
 unfolding ending_at
@@ -50,16 +51,10 @@ ending_at_status Usage = refl
 ending_at_status Refused = refl
 ending_at_status BadLog = refl
 ending_at_status ReadFault = refl
+ending_at_status WriteFault = refl
 
 same_ending : (d e : Ending) → status_of d ≡ status_of e → d ≡ e
 same_ending d e h = sym (ending_at_status d) ∙ (ap ending_at h ∙ ending_at_status e)
-
-not_six : (e : Ending) → status_of e ≡ 6 → ⊥
-not_six Done h = omega arith
-not_six Usage h = omega arith
-not_six Refused h = omega arith
-not_six BadLog h = omega arith
-not_six ReadFault h = omega arith
 
 not_nine : (e : Ending) → status_of e ≡ 9 → ⊥
 not_nine Done h = omega arith
@@ -67,17 +62,19 @@ not_nine Usage h = omega arith
 not_nine Refused h = omega arith
 not_nine BadLog h = omega arith
 not_nine ReadFault h = omega arith
+not_nine WriteFault h = omega arith
 
--- the status of an ending says that its text was put
-pub said_of : (w : Seen) (x : Exit) (e : Ending) → exit_status x ≡ status_of e → ExitSays w x → PutWhole w e
-said_of w (Said d) e h s = subst (PutWhole w) (same_ending d e h) s
-said_of w SinkFault e h s = absurd (not_six e (sym h))
-said_of w NoMemory e h s = absurd (not_nine e (sym h))
+-- the status of an ending says that its text was put, but for the status that a sink's fault has as well
+pub said_of : (w : Seen) (x : Exit) (e : Ending) → (status_of e ≡ 6 → ⊥) → exit_status x ≡ status_of e → ExitSays w x → PutWhole w e
+said_of w (Said d) e own h s = subst (PutWhole w) (same_ending d e h) s
+said_of w SinkFault e own h s = absurd (own (sym h))
+said_of w NoMemory e own h s = absurd (not_nine e (sym h))
 
-pub sink_failed_of : (w : Seen) (x : Exit) → exit_status x ≡ 6 → ExitSays w x → SinkFailed w
-sink_failed_of w (Said e) h s = absurd (not_six e h)
-sink_failed_of w SinkFault h s = s
-sink_failed_of w NoMemory h s = absurd (omega arith)
+-- it says that the sink failed, or that a file could not be written
+pub failed_of : (w : Seen) (x : Exit) → exit_status x ≡ 6 → ExitSays w x → SinkFailed w ⊎ PutWhole w WriteFault
+failed_of w (Said e) h s = inr (subst (PutWhole w) (same_ending e WriteFault h) s)
+failed_of w SinkFault h s = inl s
+failed_of w NoMemory h s = absurd (omega arith)
 
 pub no_memory_of : (w : Seen) (x : Exit) → exit_status x ≡ 9 → ExitSays w x → OutOfMemory w
 no_memory_of w (Said e) h s = absurd (not_nine e h)
@@ -118,11 +115,11 @@ form_never (Recover init logs threads) =
     (λ bytes object. reading_images_never logs threads 0 (recover_any bytes object) (recover_never bytes object))
 
 usage_put : (w : Seen) (form : Option Form) → form_of w.words ≡ form → PutWhole w Usage → (form ≡ None) × Puts w.sink w.sink_after usage_text
-usage_put w None e h = (refl, subst (Puts w.sink w.sink_after) (subst (λ f. JobSays w.store w.store_after (job_of f) Usage h.text) e h.allowed).1 h.put)
-usage_put w (Some form) e h = absurd (never_says w.store w.store_after (job_of (Some form)) h.text (form_never form) (subst (λ f. JobSays w.store w.store_after (job_of f) Usage h.text) e h.allowed))
+usage_put w None e h = (refl, subst (Puts w.sink w.sink_after) (subst (λ f. JobEnds w.store w.store_after (job_of f) Usage h.text) e h.allowed).1 h.put)
+usage_put w (Some form) e h = absurd (never_says w.store w.store_after (job_of (Some form)) h.text (form_never form) (subst (λ f. JobEnds w.store w.store_after (job_of f) Usage h.text) e h.allowed))
 
 pub usage_of : (w : Seen) (x : Exit) → exit_status x ≡ 2 → ExitSays w x → (form_of w.words ≡ None) × Puts w.sink w.sink_after usage_text
-usage_of w x h s = usage_put w (form_of w.words) refl (said_of w x Usage h s)
+usage_of w x h s = usage_put w (form_of w.words) refl (said_of w x Usage (λ e. omega arith) h s)
 
 -- the sink's count stays but where the status says that the sink failed
 pub count_of : (w : Seen) (x : Exit) → ExitSays w x → (exit_status x ≡ 6) ⊎ (w.sink_after.faults ≡ w.sink.faults)

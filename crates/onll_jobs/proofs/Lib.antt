@@ -2,7 +2,9 @@ mod Cuts
 mod ExitCauses
 mod FoldSteps
 mod ImageFiles
+mod Onwards
 mod RecoverSteps
+mod ReplaySteps
 mod Stops
 pub mod Jobs
 pub mod ShowWords

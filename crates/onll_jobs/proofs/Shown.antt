@@ -11,7 +11,7 @@ use Rattle.onll_log.specs.ImageFile.{image_lines}
 use Rattle.onll_log.proofs.Accepted.{Accepted-if, entries_from-entry, entries_from-none}
 use Rattle.onll_jobs.specs.declared.ending.Ending.{Ending}
 use Rattle.onll_jobs.specs.Reading.{HoldsImage}
-use Rattle.onll_jobs.specs.Job.{Job, Say, Read, SaysNow, JobSays}
+use Rattle.onll_jobs.specs.Job.{Job, Say, Read, Write, SaysNow, JobSays}
 use Rattle.onll_jobs.specs.ShowJob.{IsPlaced, shown, show_job}
 
 -- What an image holds, as `show` needs it.
@@ -50,6 +50,7 @@ content_placed lines c e = subst (λ o. AllByRecursion IsPlaced (entries_in o)) 
 pub says_now : (store after : StoreView) (job : Job) (ending : Ending) (text : List ℕ) → SaysNow job ending text → JobSays store after job ending text
 says_now store after (Say e t) ending text h = h
 says_now store after (Read name next) ending text h = absurd h
+says_now store after (Write name bytes next) ending text h = absurd h
 
 -- an image was read, and its content is said
 pub image_shown : (store after : StoreView) (name : List ℕ) (lines : List (List ℕ)) (ending : Ending) (text : List ℕ) → HoldsImage store name lines

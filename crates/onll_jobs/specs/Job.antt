@@ -5,32 +5,51 @@ use Rattle.onll_jobs.specs.declared.ending.Ending.{Ending}
 use Rattle.onll_jobs.specs.declared.ending.Ending.TheVariants.{Refused}
 use Rattle.onll_jobs.specs.Printed.{refusal_text}
 use Rattle.onll_jobs.specs.Reading.{Holds, CannotRead, IsTold}
+use Rattle.onll_jobs.specs.Writing.{CannotWrite, FilesStay, written}
 
--- What a call does, up to the text that it puts: it reads files by their names, each after what the ones before it held, and then says a text.
+-- What a call does, up to the text that it puts: it reads files by their names, each after what the ones before it held, makes
+-- bytes the files of names, and then says a text.
 pub data Job : Type 0 where
   Say : Ending → List ℕ → Job
   Read : List ℕ → (List ℕ → Job) → Job
+  Write : (name bytes : List ℕ) → Job → Job
 
--- the job may end so over this store: each file that it reads holds some bytes, which it goes on with, or can't be read
+-- The job may end so, and leave the store so: each file that it reads holds some bytes, which it goes on with, or can't be
+-- read; each that it writes is written, or can't be. No other file changes.
+abbrev pub JobEnds : StoreView → StoreView → Job → Ending → List ℕ → Type 0
+JobEnds store after (Say e t) ending text = (ending ≡ e) × (text ≡ t) × FilesStay store after
+JobEnds store after (Read name next) ending text =
+    (CannotRead store after name ending text × FilesStay store after) ⊎ ((bytes : List ℕ) × (Holds store name bytes × JobEnds store after (next bytes) ending text))
+JobEnds store after (Write name bytes next) ending text = CannotWrite store after name ending text ⊎ JobEnds (written store name bytes) after next ending text
+
+-- whatever the other job does from this store, the job may do from the store before
+abbrev pub GoesOn : StoreView → StoreView → Job → Job → Type 0
+GoesOn store mid job next = (after : StoreView) (ending : Ending) (text : List ℕ) → JobEnds mid after next ending text → JobEnds store after job ending text
+
+-- a job that writes nothing may end so over this store: each file that it reads holds some bytes, which it goes on with, or can't be read
 abbrev pub JobSays : StoreView → StoreView → Job → Ending → List ℕ → Type 0
 JobSays store after (Say e t) ending text = (ending ≡ e) × (text ≡ t)
 JobSays store after (Read name next) ending text =
     CannotRead store after name ending text ⊎ ((bytes : List ℕ) × (Holds store name bytes × JobSays store after (next bytes) ending text))
+JobSays store after (Write name bytes next) ending text = ⊥
 
 -- the job says this without reading any file
 abbrev pub SaysNow : Job → Ending → List ℕ → Type 0
 SaysNow (Say e t) ending text = (ending ≡ e) × (text ≡ t)
 SaysNow (Read name next) ending text = ⊥
+SaysNow (Write name bytes next) ending text = ⊥
 
--- the files that are told decide that it ends so
+-- the files that are told decide that it ends so, unless a write fails
 abbrev pub Decides : StoreView → Job → Ending → List ℕ → Type 0
 Decides store (Say e t) ending text = (e ≡ ending) × (t ≡ text)
 Decides store (Read name next) ending text = (bytes : List ℕ) × (IsTold store name bytes × Decides store (next bytes) ending text)
+Decides store (Write name bytes next) ending text = Decides (written store name bytes) next ending text
 
 -- the job never ends so
 abbrev pub Never : Ending → Job → Type 0
 Never ending (Say e t) = e ≡ ending → ⊥
 Never ending (Read name next) = (bytes : List ℕ) → Never ending (next bytes)
+Never ending (Write name bytes next) = Never ending next
 
 -- goes on with a value, or says why a text is refused
 abbrev pub on_value : {A : Type 0} → List ℕ → (A → Job) → Result A Refusal → Job

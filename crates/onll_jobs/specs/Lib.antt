@@ -8,7 +8,9 @@ pub mod Job
 pub mod Printed
 pub mod Reading
 pub mod RecoverJob
+pub mod ReplayJob
 pub mod Says
 pub mod Seen
 pub mod ShowJob
 pub mod Stop
+pub mod Writing

@@ -1,6 +1,6 @@
 use Rattle.std.specs.Prelude.{ℕ, List, ◌++◌, codes, decimal}
 use Rattle.onll_jobs.specs.declared.ending.Ending.{Ending}
-use Rattle.onll_jobs.specs.declared.ending.Ending.TheVariants.{Done, Usage, Refused, BadLog, ReadFault}
+use Rattle.onll_jobs.specs.declared.ending.Ending.TheVariants.{Done, Usage, Refused, BadLog, ReadFault, WriteFault}
 use Rattle.onll_jobs.specs.declared.ending.Exit.{Exit}
 use Rattle.onll_jobs.specs.declared.ending.Exit.TheVariants.{Said, SinkFault, NoMemory}
 use Rattle.onll_text.specs.Refusal.{Refusal, reason_text}
@@ -19,6 +19,10 @@ refusal_text name refusal =
 abbrev pub read_fault_text : List ℕ → List ℕ
 read_fault_text name = codes "read fault " ++ name ++ codes "\n"
 
+-- the line of a write that failed
+abbrev pub write_fault_text : List ℕ → List ℕ
+write_fault_text name = codes "write fault " ++ name ++ codes "\n"
+
 -- the exit status of an ending
 abbrev pub status_of : Ending → ℕ
 status_of Done = 0
@@ -26,6 +30,7 @@ status_of Usage = 2
 status_of Refused = 3
 status_of BadLog = 4
 status_of ReadFault = 5
+status_of WriteFault = 6
 
 -- the exit status of a call
 abbrev pub exit_status : Exit → ℕ

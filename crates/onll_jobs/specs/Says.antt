@@ -1,4 +1,4 @@
-use Rattle.std.specs.Prelude.{ℕ, List, ◌≡◌, ◌⊎◌, Option, Some, None}
+use Rattle.std.specs.Prelude.{ℕ, List, [], ◌≡◌, ◌⊎◌, Option, Some, None}
 use Rattle.onll_outside.specs.Views.{StoreView, Puts, PutsFront, Rose}
 use Rattle.onll_jobs.specs.declared.ending.Ending.{Ending}
 use Rattle.onll_jobs.specs.declared.ending.Ending.TheVariants.{Usage}
@@ -7,7 +7,7 @@ use Rattle.onll_jobs.specs.declared.ending.Exit.TheVariants.{Said, SinkFault, No
 use Rattle.onll_jobs.specs.Seen.{Seen}
 use Rattle.onll_jobs.specs.Command.{Form, Fold, Show, Recover, form_of}
 use Rattle.onll_jobs.specs.Printed.{usage_text, status_of, exit_status}
-use Rattle.onll_jobs.specs.Job.{Job, Say, JobSays}
+use Rattle.onll_jobs.specs.Job.{Job, Say, JobEnds}
 use Rattle.onll_jobs.specs.FoldJob.{fold_job}
 use Rattle.onll_jobs.specs.ShowJob.{show_job}
 use Rattle.onll_jobs.specs.RecoverJob.{recover_job}
@@ -19,9 +19,13 @@ job_of (Some (Fold init script)) = fold_job init script
 job_of (Some (Show image)) = show_job image
 job_of (Some (Recover init logs threads)) = recover_job init logs threads
 
--- how words may end the call, and with which text
+-- how words may end the call, with which text, and what they leave in the files
 abbrev pub FormSays : Option Form → StoreView → StoreView → Ending → List ℕ → Type 0
-FormSays form store after ending text = JobSays store after (job_of form) ending text
+FormSays form store after ending text = JobEnds store after (job_of form) ending text
+
+-- the files that a form writes
+abbrev pub writes_of : Option Form → List (List ℕ)
+writes_of form = []
 
 -- the words and the files allow this ending with this text
 abbrev pub Allows : Seen → Ending → List ℕ → Type 0

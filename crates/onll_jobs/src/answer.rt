@@ -1,6 +1,6 @@
 ghost use Rattle.std.specs.Prelude.{◌≡◌, IfOk, MatchResult};
 ghost use Rattle.onll_text.specs.Refusal.{refused};
-ghost use Rattle.onll_jobs.specs.Printed.{usage_text, refusal_text, read_fault_text};
+ghost use Rattle.onll_jobs.specs.Printed.{usage_text, refusal_text, read_fault_text, write_fault_text};
 ghost use Rattle.onll_jobs.specs.Stop.{StopSays};
 
 use crate::ending::Ending;
@@ -64,6 +64,19 @@ impl Stop {
             Err(_) => Stop::NoMemory,
         }
     }
+
+    /// The line of a write that failed.
+    pub(crate) fn unwritten(alloc: Global, name: &str) -> Stop
+        ensures { StopSays result (λ end said. (end ≡ Ending.WriteFault) × (said ≡ write_fault_text name.now)) }
+    {
+        match write_fault_text(alloc, name) {
+            Ok(text) => Stop::Says(Answer {
+                ending: Ending::WriteFault,
+                text,
+            }),
+            Err(_) => Stop::NoMemory,
+        }
+    }
 }
 
 fn refusal_text(alloc: Global, name: &str, line: u64, reason: Reason) -> Result<Vec<u8>, AllocError>
@@ -84,6 +97,15 @@ fn read_fault_text(alloc: Global, name: &str) -> Result<Vec<u8>, AllocError>
     ensures { IfOk result (λ v. v.items ≡ read_fault_text name.now) }
 {
     let mut text = Vec::from_slice(alloc, b"read fault ")?;
+    text.extend_from_slice(name.as_bytes())?;
+    text.extend_from_slice(b"\n")?;
+    Ok(text)
+}
+
+fn write_fault_text(alloc: Global, name: &str) -> Result<Vec<u8>, AllocError>
+    ensures { IfOk result (λ v. v.items ≡ write_fault_text name.now) }
+{
+    let mut text = Vec::from_slice(alloc, b"write fault ")?;
     text.extend_from_slice(name.as_bytes())?;
     text.extend_from_slice(b"\n")?;
     Ok(text)

@@ -14,6 +14,8 @@ pub enum Ending {
     BadLog,
     /// A file could not be read.
     ReadFault,
+    /// A file could not be written.
+    WriteFault,
 }
 
 impl Ending {
@@ -27,6 +29,7 @@ impl Ending {
             Ending::Refused => 3,
             Ending::BadLog => 4,
             Ending::ReadFault => 5,
+            Ending::WriteFault => 6,
         }
     }
 }

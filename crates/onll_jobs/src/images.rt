@@ -1,15 +1,16 @@
 ghost use Rattle.std.specs.Prelude.{◌≡◌, length, string_bytes, IfOk, IfErr, OnOk};
-ghost use Rattle.onll_outside.specs.Views.{SameFiles, SameFaults};
+ghost use Rattle.onll_outside.specs.Views.{SameFiles, SameOthers, SameFaults};
 ghost use Rattle.onll_pmem.specs.Pmem.{words_of};
 ghost use Rattle.onll_jobs.specs.Reading.{HoldsImage, CannotRead};
-ghost use Rattle.onll_jobs.specs.Images.{image_name, images_in, HoldImages, CannotReadImages};
+ghost use Rattle.onll_jobs.specs.Images.{image_name, images_in, HoldImages, CannotReadImages, image_bytes, image_names, AreWritten, ImagesStop};
+ghost use Rattle.onll_jobs.specs.Writing.{SameBut, HasWritten, CannotWrite};
 ghost use Rattle.onll_jobs.specs.Stop.{StopSays};
 
 use crate::answer::Stop;
-use crate::texts::image_file;
+use crate::texts::{image_file, write_file};
 use itoa::Buffer;
 use onll_outside::Store;
-use onll_words::Line;
+use onll_words::{Line, line_bytes};
 use std::alloc::{AllocError, Global};
 use std::marker::Model;
 
@@ -97,4 +98,53 @@ pub(crate) fn read_images<S: Store>(
         }
     }
     Ok(images)
+}
+
+/// The bytes of an image's file.
+fn image_bytes(alloc: Global, lines: &[Line]) -> Result<Vec<u8>, AllocError>
+    ensures { IfOk result (λ bytes. bytes.items ≡ image_bytes (words_of lines.now)) }
+{
+    let mut bytes = Vec::new(alloc);
+    for line in lines {
+        bytes.extend_from_slice(&line_bytes(*line))?;
+    }
+    Ok(bytes)
+}
+
+/// Writes the image of a thread's log, or gives what is said in its place.
+fn write_image<S: Store>(
+    alloc: Global,
+    logs: &str,
+    thread: u64,
+    image: &Image,
+    store: &mut S,
+) -> Result<(), Stop>
+    ensures written { OnOk result (HasWritten (S.seen store.old) (S.seen store.new) (image_name logs.now thread) (image_bytes (words_of image.now))) }
+    ensures stop { IfErr result (λ stop. StopSays stop (CannotWrite (S.seen store.old) (S.seen store.new) (image_name logs.now thread))) }
+    ensures others { SameOthers (image_name logs.now thread) (S.seen store.old) (S.seen store.new) }
+{
+    let Ok(name) = image_name(alloc, logs, thread) else {
+        return Err(Stop::NoMemory);
+    };
+    match image_bytes(alloc, image.as_slice()) {
+        Ok(bytes) => write_file(alloc, &name, &bytes, store),
+        Err(_) => Err(Stop::NoMemory),
+    }
+}
+
+/// Writes the images of the threads' logs, in thread order, or gives what is said in their place.
+pub(crate) fn write_images<S: Store>(
+    alloc: Global,
+    logs: &str,
+    images: &[Image],
+    store: &mut S,
+) -> Result<(), Stop>
+    ensures written { OnOk result (AreWritten (S.seen store.old) (S.seen store.new) logs.now (images_in images.now)) }
+    ensures stop { IfErr result (λ stop. StopSays stop (ImagesStop (S.seen store.old) (S.seen store.new) logs.now (images_in images.now))) }
+    ensures others { SameBut (image_names logs.now 0 (length images.now)) (S.seen store.old) (S.seen store.new) }
+{
+    for (thread, image) in images.iter().enumerate() {
+        write_image(alloc, logs, thread as u64, image, store)?;
+    }
+    Ok(())
 }

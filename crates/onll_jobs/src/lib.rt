@@ -9,6 +9,7 @@ mod fold;
 mod images;
 mod program;
 mod recover;
+mod replay;
 mod show;
 mod texts;
 

@@ -1,10 +1,11 @@
 ghost use Rattle.std.specs.Prelude.{◌≡◌, ◌⊎◌, ℕ, List, map, string_bytes, Some, None, IfOk};
-ghost use Rattle.onll_outside.specs.Views.{Puts, SameFiles};
+ghost use Rattle.onll_outside.specs.Views.{Puts};
 ghost use Rattle.onll_jobs.specs.declared.ending.Ending.{Ending};
 ghost use Rattle.onll_jobs.specs.Command.{form_of, form_in, IsCommand};
 ghost use Rattle.onll_jobs.specs.Exits.{PutExits};
 ghost use Rattle.onll_jobs.specs.Seen.{seen_by};
-ghost use Rattle.onll_jobs.specs.Says.{job_of, FormSays, ExitSays, Ended, PutWhole, OutOfMemory, SinkFailed, NoneRose, SaysThis};
+ghost use Rattle.onll_jobs.specs.Writing.{SameBut};
+ghost use Rattle.onll_jobs.specs.Says.{job_of, writes_of, FormSays, ExitSays, Ended, PutWhole, OutOfMemory, SinkFailed, NoneRose, SaysThis};
 ghost use Rattle.onll_jobs.specs.Job.{Decides};
 ghost use Rattle.onll_jobs.specs.Printed.{usage_text};
 
@@ -25,7 +26,7 @@ fn command_answer<S: Store>(
     requires { IsCommand command }
     ensures says { let form = form_in command.entry in
         IfOk result (λ answer. FormSays (Some form) (S.seen store.old) (S.seen store.new) answer.ending answer.text.items) }
-    ensures same { SameFiles (S.seen store.old) (S.seen store.new) }
+    ensures files { SameBut (writes_of (Some (form_in command.entry))) (S.seen store.old) (S.seen store.new) }
 {
     match command {
         Command::Fold { init, script } => fold::answer(alloc, init, script, store),
@@ -42,7 +43,7 @@ fn command_answer<S: Store>(
 fn answer_to<S: Store>(alloc: Global, words: &[String], store: &mut S) -> Result<Answer, NoMemory>
     ensures says { let form = form_of (map string_bytes words.now) in
         IfOk result (λ answer. FormSays form (S.seen store.old) (S.seen store.new) answer.ending answer.text.items) }
-    ensures same { SameFiles (S.seen store.old) (S.seen store.new) }
+    ensures files { SameBut (writes_of (form_of (map string_bytes words.now))) (S.seen store.old) (S.seen store.new) }
 {
     match Command::read(words) {
         Some(command) => command_answer(alloc, command, store),
@@ -65,7 +66,7 @@ fn put<K: Sink>(out: &mut K, answer: &Answer) -> Exit
 fn run<S: Store, K: Sink>(alloc: Global, words: &[String], store: &mut S, out: &mut K) -> Exit
     ensures says { let seen = seen_by (map string_bytes words.now) (S.seen store.old) (S.seen store.new) (K.held out.old) (K.held out.new) in
         ExitSays seen result }
-    ensures same { SameFiles (S.seen store.old) (S.seen store.new) }
+    ensures files { SameBut (writes_of (form_of (map string_bytes words.now))) (S.seen store.old) (S.seen store.new) }
 {
     match answer_to(alloc, words, store) {
         Ok(answer) => put(out, &answer),
@@ -92,8 +93,8 @@ pub fn onll<S: Store, K: Sink>(alloc: Global, words: &[String], store: &mut S, o
         result ≡ 4 → PutWhole seen Ending.BadLog }
     ensures unread { let seen = seen_by (map string_bytes words.now) (S.seen store.old) (S.seen store.new) (K.held out.old) (K.held out.new) in
         result ≡ 5 → PutWhole seen Ending.ReadFault }
-    ensures sink_failed { let seen = seen_by (map string_bytes words.now) (S.seen store.old) (S.seen store.new) (K.held out.old) (K.held out.new) in
-        result ≡ 6 → SinkFailed seen }
+    ensures failed { let seen = seen_by (map string_bytes words.now) (S.seen store.old) (S.seen store.new) (K.held out.old) (K.held out.new) in
+        result ≡ 6 → SinkFailed seen ⊎ PutWhole seen Ending.WriteFault }
     ensures no_memory { let seen = seen_by (map string_bytes words.now) (S.seen store.old) (S.seen store.new) (K.held out.old) (K.held out.new) in
         result ≡ 9 → OutOfMemory seen }
 
@@ -105,8 +106,8 @@ pub fn onll<S: Store, K: Sink>(alloc: Global, words: &[String], store: &mut S, o
         (ending : Ending) (text : List ℕ) → Decides seen.store (job_of (form_of seen.words)) ending text →
         NoneRose seen → SaysThis seen result ending text }
 
-    // No file changes.
-    ensures files { SameFiles (S.seen store.old) (S.seen store.new) }
+    // No file changes but those that the words write.
+    ensures files { SameBut (writes_of (form_of (map string_bytes words.now))) (S.seen store.old) (S.seen store.new) }
 {
     run(alloc, words, store, out).status()
 }

@@ -131,9 +131,9 @@ fn trace_of<O: Object>(
 
 /// What logs give: what each holds, and the nodes of their trace.
 #[derive(Drop)]
-struct Found {
-    logs: Vec<Decoded>,
-    nodes: Vec<Node>,
+pub(crate) struct Found {
+    pub(crate) logs: Vec<Decoded>,
+    pub(crate) nodes: Vec<Node>,
 }
 
 /// What the logs of these images give, over the object from these bytes of an initial state.
@@ -191,7 +191,7 @@ fn put_logs(logs: &[Decoded], out: &mut Report) -> Result<(), NoMemory>
 }
 
 /// How many nodes the trace has.
-fn put_count(nodes: u64, out: &mut Report) -> Result<(), NoMemory>
+pub(crate) fn put_count(nodes: u64, out: &mut Report) -> Result<(), NoMemory>
     requires { begins_line out.old ≡ true }
     ensures lines { OnOk result (out.new ≡ out.old ++ line_text (recovered_line nodes)) }
     ensures begins { OnOk result (begins_line out.new ≡ true) }

@@ -1,17 +1,21 @@
 ghost use Rattle.std.specs.Prelude.{◌≡◌, IfOk, IfErr, OnOk};
-ghost use Rattle.onll_outside.specs.Views.{SameFiles, SameFaults, FaultsOf};
+ghost use Rattle.onll_outside.specs.Views.{SameFiles, SameOthers, SameFaults, FaultsOf};
 ghost use Rattle.onll_outside.specs.declared.store.FaultKind.TheVariants.{Read};
 ghost use Rattle.onll_pmem.specs.Pmem.{words_of};
 ghost use Rattle.onll_text.specs.Init.{init_of};
 ghost use Rattle.onll_text.specs.Script.{script_of};
 ghost use Rattle.onll_jobs.specs.Reading.{IsCut, Reads, ReadsWhole, HoldsImage, CannotRead, Stops};
+ghost use Rattle.onll_text.specs.Schedule.{schedule_of, IsPlayable};
+ghost use Rattle.onll_jobs.specs.Writing.{HasWritten, CannotWrite};
 ghost use Rattle.onll_jobs.specs.Stop.{StopSays};
 
 use crate::answer::Stop;
 use onll_log::{LONGEST_IMAGE, image_lines};
 use onll_model::Call;
 use onll_outside::{OutsideFault, Store};
-use onll_text::{AnyObject, LONGEST_TEXT, TextFault, Texted, read_init, read_script};
+use onll_text::{
+    AnyObject, LONGEST_TEXT, Schedule, TextFault, Texted, read_init, read_schedule, read_script,
+};
 use onll_words::{Line, NoMemory};
 use std::alloc::Global;
 
@@ -96,5 +100,48 @@ pub(crate) fn image_file<S: Store>(
     match image_lines(alloc, &bytes) {
         Ok(lines) => Ok(lines),
         Err(NoMemory) => Err(Stop::NoMemory),
+    }
+}
+
+/// The schedule that a file holds for so many threads, or what is said in its place.
+pub(crate) fn schedule_file<S: Store>(
+    alloc: Global,
+    name: &str,
+    threads: u64,
+    store: &mut S,
+) -> Result<Schedule, Stop>
+    ensures schedule { IfOk result (λ schedule. Reads (S.seen store.old) (schedule_of threads) name.now schedule) }
+    ensures playable { IfOk result (λ schedule. IsPlayable threads schedule) }
+    ensures stop { IfErr result (λ stop. StopSays stop (Stops (S.seen store.old) (S.seen store.new) (schedule_of threads) name.now)) }
+    ensures same { SameFiles (S.seen store.old) (S.seen store.new) }
+    ensures count { OnOk result (SameFaults (S.seen store.old) (S.seen store.new)) }
+{
+    let text = match read_text(alloc, name, store) {
+        Ok(text) => text,
+        Err(OutsideFault::Failed) => return Err(Stop::unread(alloc, name)),
+        Err(OutsideFault::NoMemory) => return Err(Stop::NoMemory),
+    };
+    match read_schedule(alloc, &text, threads) {
+        Ok(schedule) => Ok(schedule),
+        Err(TextFault::Refused { line, reason }) => Err(Stop::refused(alloc, name, line, reason)),
+        Err(TextFault::NoMemory) => Err(Stop::NoMemory),
+    }
+}
+
+/// Makes these bytes the file of a name, or gives what is said in its place.
+pub(crate) fn write_file<S: Store>(
+    alloc: Global,
+    name: &str,
+    bytes: &[u8],
+    store: &mut S,
+) -> Result<(), Stop>
+    ensures written { OnOk result (HasWritten (S.seen store.old) (S.seen store.new) name.now bytes.now) }
+    ensures stop { IfErr result (λ stop. StopSays stop (CannotWrite (S.seen store.old) (S.seen store.new) name.now)) }
+    ensures others { SameOthers name.now (S.seen store.old) (S.seen store.new) }
+{
+    match store.write(alloc, name, bytes) {
+        Ok(()) => Ok(()),
+        Err(OutsideFault::Failed) => Err(Stop::unwritten(alloc, name)),
+        Err(OutsideFault::NoMemory) => Err(Stop::NoMemory),
     }
 }

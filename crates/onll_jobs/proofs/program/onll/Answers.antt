@@ -1,26 +1,26 @@
-use Rattle.std.proofs.Common.{map, string_bytes, sym, ◌∙◌}
+use Rattle.std.proofs.Common.{map, string_bytes, sym, arith, ◌∙◌}
 use Rattle.onll_jobs.specs.declared.ending.Ending.TheVariants.{Done, Refused, BadLog, ReadFault}
 use Rattle.onll_jobs.specs.Seen.{seen_by}
-use Rattle.onll_jobs.proofs.ExitCauses.{said_of, usage_of, sink_failed_of, no_memory_of, count_of, decided_exactly}
+use Rattle.onll_jobs.proofs.ExitCauses.{said_of, usage_of, failed_of, no_memory_of, count_of, decided_exactly}
 use Rattle.onll_jobs.proofs.program.onll.Goals as goal
 
 pub returns-clause-done : goal.returns-clause-done
-returns-clause-done g c e = said_of (seen_by (map string_bytes c.args.words.now) (g.S.Store.seen c.args.store.now) (g.S.Store.seen c.run.new.store) (g.K.Sink.held c.args.out.now) (g.K.Sink.held c.run.new.out)) c.run.result Done (sym c.status.ensures ∙ e) c.run.ensures.says
+returns-clause-done g c e = said_of (seen_by (map string_bytes c.args.words.now) (g.S.Store.seen c.args.store.now) (g.S.Store.seen c.run.new.store) (g.K.Sink.held c.args.out.now) (g.K.Sink.held c.run.new.out)) c.run.result Done (λ e. omega arith) (sym c.status.ensures ∙ e) c.run.ensures.says
 
 pub returns-clause-refused : goal.returns-clause-refused
-returns-clause-refused g c e = said_of (seen_by (map string_bytes c.args.words.now) (g.S.Store.seen c.args.store.now) (g.S.Store.seen c.run.new.store) (g.K.Sink.held c.args.out.now) (g.K.Sink.held c.run.new.out)) c.run.result Refused (sym c.status.ensures ∙ e) c.run.ensures.says
+returns-clause-refused g c e = said_of (seen_by (map string_bytes c.args.words.now) (g.S.Store.seen c.args.store.now) (g.S.Store.seen c.run.new.store) (g.K.Sink.held c.args.out.now) (g.K.Sink.held c.run.new.out)) c.run.result Refused (λ e. omega arith) (sym c.status.ensures ∙ e) c.run.ensures.says
 
 pub returns-clause-bad_log : goal.returns-clause-bad_log
-returns-clause-bad_log g c e = said_of (seen_by (map string_bytes c.args.words.now) (g.S.Store.seen c.args.store.now) (g.S.Store.seen c.run.new.store) (g.K.Sink.held c.args.out.now) (g.K.Sink.held c.run.new.out)) c.run.result BadLog (sym c.status.ensures ∙ e) c.run.ensures.says
+returns-clause-bad_log g c e = said_of (seen_by (map string_bytes c.args.words.now) (g.S.Store.seen c.args.store.now) (g.S.Store.seen c.run.new.store) (g.K.Sink.held c.args.out.now) (g.K.Sink.held c.run.new.out)) c.run.result BadLog (λ e. omega arith) (sym c.status.ensures ∙ e) c.run.ensures.says
 
 pub returns-clause-unread : goal.returns-clause-unread
-returns-clause-unread g c e = said_of (seen_by (map string_bytes c.args.words.now) (g.S.Store.seen c.args.store.now) (g.S.Store.seen c.run.new.store) (g.K.Sink.held c.args.out.now) (g.K.Sink.held c.run.new.out)) c.run.result ReadFault (sym c.status.ensures ∙ e) c.run.ensures.says
+returns-clause-unread g c e = said_of (seen_by (map string_bytes c.args.words.now) (g.S.Store.seen c.args.store.now) (g.S.Store.seen c.run.new.store) (g.K.Sink.held c.args.out.now) (g.K.Sink.held c.run.new.out)) c.run.result ReadFault (λ e. omega arith) (sym c.status.ensures ∙ e) c.run.ensures.says
 
 pub returns-clause-usage : goal.returns-clause-usage
 returns-clause-usage g c e = usage_of (seen_by (map string_bytes c.args.words.now) (g.S.Store.seen c.args.store.now) (g.S.Store.seen c.run.new.store) (g.K.Sink.held c.args.out.now) (g.K.Sink.held c.run.new.out)) c.run.result (sym c.status.ensures ∙ e) c.run.ensures.says
 
-pub returns-clause-sink_failed : goal.returns-clause-sink_failed
-returns-clause-sink_failed g c e = sink_failed_of (seen_by (map string_bytes c.args.words.now) (g.S.Store.seen c.args.store.now) (g.S.Store.seen c.run.new.store) (g.K.Sink.held c.args.out.now) (g.K.Sink.held c.run.new.out)) c.run.result (sym c.status.ensures ∙ e) c.run.ensures.says
+pub returns-clause-failed : goal.returns-clause-failed
+returns-clause-failed g c e = failed_of (seen_by (map string_bytes c.args.words.now) (g.S.Store.seen c.args.store.now) (g.S.Store.seen c.run.new.store) (g.K.Sink.held c.args.out.now) (g.K.Sink.held c.run.new.out)) c.run.result (sym c.status.ensures ∙ e) c.run.ensures.says
 
 pub returns-clause-no_memory : goal.returns-clause-no_memory
 returns-clause-no_memory g c e = no_memory_of (seen_by (map string_bytes c.args.words.now) (g.S.Store.seen c.args.store.now) (g.S.Store.seen c.run.new.store) (g.K.Sink.held c.args.out.now) (g.K.Sink.held c.run.new.out)) c.run.result (sym c.status.ensures ∙ e) c.run.ensures.says

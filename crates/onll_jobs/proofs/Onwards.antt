@@ -1,0 +1,117 @@
+use Rattle.std.proofs.Common.{ℕ, zero, suc, Bool, true, false, List, [], ◌∷◌, ◌≡◌, ◌⊎◌, inl, inr, ⊎_elim, Option, Some, cond, ◌+◌, ◌<◌, length, drop, get_or, true≢false, Result, Ok, Err, refl, sym, ap, ◌∙◌, subst, arith}
+use Rattle.std.proofs.lemmas.List.{drop_more}
+use Rattle.std.proofs.lemmas.Bool.{cases_Bool}
+use Rattle.std.proofs.lemmas.Slice.Eq.{bytes_eq-Decides}
+use Rattle.std.specs.List.{AllByRecursion}
+use Rattle.std.specs.Str.{bytes_eq}
+use Rattle.onll_words.specs.declared.line.Line.{Line}
+use Rattle.onll_pmem.specs.Pmem.{words_of}
+use Rattle.onll_outside.specs.Views.{StoreView, SameFiles, SameOthers, SameFaults, Rose, Holds}
+use Rattle.onll_text.specs.Refusal.{Refusal}
+use Rattle.onll_jobs.specs.declared.ending.Ending.{Ending}
+use Rattle.onll_jobs.specs.declared.ending.Ending.TheVariants.{Done, Usage, Refused, BadLog, ReadFault, WriteFault}
+use Rattle.onll_jobs.specs.declared.answer.Stop.{Stop}
+use Rattle.onll_jobs.specs.Stop.{StopSays}
+use Rattle.onll_jobs.specs.Reading.{Reads, ReadsWhole, Stops}
+use Rattle.onll_jobs.specs.Images.{image_name, images_in, image_bytes, image_names, writing_images, ImagesStop}
+use Rattle.onll_jobs.specs.Writing.{FilesStay, OthersStay, SameBut, HasWritten, CannotWrite, written}
+use Rattle.onll_jobs.specs.Job.{Job, Say, Read, Write, JobEnds, GoesOn, on_value, reading, reading_whole}
+use Rattle.onll_jobs.proofs.Jobs.{cannot_from, says_ends, read_stopped}
+use Rattle.onll_jobs.proofs.Stops.{StopSays-weaker}
+
+-- How jobs that read and write go on.
+
+stay_more : (store mid after : StoreView) → FilesStay store mid → FilesStay mid after → FilesStay store after
+stay_more store mid after first then_ = record { tells = then_.tells ∙ first.tells; file = λ tells name. then_.file (first.tells ∙ tells) name ∙ first.file tells name }
+
+others_more : (store mid after : StoreView) (name : List ℕ) → FilesStay store mid → OthersStay name mid after → OthersStay name store after
+others_more store mid after name first then_ = record { tells = then_.tells ∙ first.tells; file = λ tells other differs. then_.file (first.tells ∙ tells) other differs ∙ first.file tells other }
+
+written_stays : (store mid : StoreView) (name bytes : List ℕ) → FilesStay store mid → FilesStay (written store name bytes) (written mid name bytes)
+written_stays store mid name bytes h = record { tells = h.tells; file = λ tells other. ap (λ o. cond {A = Option (List ℕ)} (bytes_eq other name) (Some bytes) o) (h.file tells other) }
+
+cannot_write_from : (store mid after : StoreView) (name : List ℕ) (ending : Ending) (text : List ℕ) → FilesStay store mid → SameFaults store mid → CannotWrite mid after name ending text → CannotWrite store after name ending text
+cannot_write_from store mid after name Done text files same h = absurd h
+cannot_write_from store mid after name Usage text files same h = absurd h
+cannot_write_from store mid after name Refused text files same h = absurd h
+cannot_write_from store mid after name BadLog text files same h = absurd h
+cannot_write_from store mid after name ReadFault text files same h = absurd h
+cannot_write_from store mid after name WriteFault text files same h =
+    record { rose = subst (λ n. Rose n after.faults) same.0 h.rose; last = h.last; line = h.line; others = others_more store mid after name files h.others }
+
+-- what a job does from a store it does from the store before, where neither files nor faults changed
+pub ends_from : (store mid after : StoreView) (job : Job) (ending : Ending) (text : List ℕ) → FilesStay store mid → SameFaults store mid → JobEnds mid after job ending text → JobEnds store after job ending text
+ends_from store mid after (Say e t) ending text files faults h = (h.0, h.1, stay_more store mid after files h.2)
+ends_from store mid after (Read name next) ending text files faults (inl h) = inl (cannot_from store mid after name ending text faults h.0, stay_more store mid after files h.1)
+ends_from store mid after (Read name next) ending text files faults (inr h) =
+    inr (h.0, ((λ tells. sym (files.file tells name) ∙ h.1.0 (files.tells ∙ tells)), ends_from store mid after (next h.0) ending text files faults h.1.1))
+ends_from store mid after (Write name bytes next) ending text files faults (inl h) = inl (cannot_write_from store mid after name ending text files faults h)
+ends_from store mid after (Write name bytes next) ending text files faults (inr h) =
+    inr (ends_from (written store name bytes) (written mid name bytes) after next ending text (written_stays store mid name bytes files) faults h)
+
+-- ---- reading
+pub on_whole : {A : Type 0} (store mid : StoreView) (name : List ℕ) (grammar : List ℕ → Result A Refusal) (next : List ℕ → A → Job) (bytes : List ℕ) (value : A)
+    → ReadsWhole store grammar name bytes value → FilesStay store mid → SameFaults store mid → GoesOn store mid (reading_whole name grammar next) (next bytes value)
+on_whole store mid name grammar next bytes value r files faults after ending text h =
+    inr (bytes, (r.held, subst (λ v. JobEnds store after (on_value name (next bytes) v) ending text) (sym r.accepted) (ends_from store mid after (next bytes value) ending text files faults h)))
+
+pub on_text : {A : Type 0} (store mid : StoreView) (name : List ℕ) (grammar : List ℕ → Result A Refusal) (next : A → Job) (value : A)
+    → Reads store grammar name value → FilesStay store mid → SameFaults store mid → GoesOn store mid (reading name grammar next) (next value)
+on_text store mid name grammar next value r files faults = on_whole store mid name grammar (λ _. next) r.bytes value (record { held = r.held; accepted = r.accepted }) files faults
+
+pub stopped_ends : {A : Type 0} (store after : StoreView) (name : List ℕ) (grammar : List ℕ → Result A Refusal) (next : List ℕ → A → Job) (ending : Ending) (text : List ℕ)
+    → FilesStay store after → Stops store after grammar name ending text → JobEnds store after (reading_whole name grammar next) ending text
+stopped_ends store after name grammar next ending text files h =
+    says_ends store after (reading_whole name grammar next) ending text files (read_stopped store after name grammar next ending text h)
+
+-- ---- writing
+-- what a store's write leaves
+pub write_leaves : (old new : StoreView) (name bytes : List ℕ) → Holds new name bytes → SameOthers name old new → FilesStay (written old name bytes) new
+write_leaves old new name bytes held others = record { tells = others.tells; file = each }
+  where
+    each : old.tells ≡ true → (other : List ℕ) → new.file other ≡ cond {A = Option (List ℕ)} (bytes_eq other name) (Some bytes) (old.file other)
+    each tells other = ⊎_elim
+        (λ (t : bytes_eq other name ≡ true). ap new.file ((bytes_eq-Decides other name).0 t) ∙ held (others.tells ∙ tells) ∙ sym (ap (λ b. cond {A = Option (List ℕ)} b (Some bytes) (old.file other)) t))
+        (λ (t : bytes_eq other name ≡ false). others.file other (λ e. true≢false (sym ((bytes_eq-Decides other name).1 e) ∙ t)) ∙ sym (ap (λ b. cond {A = Option (List ℕ)} b (Some bytes) (old.file other)) t))
+        (cases_Bool (bytes_eq other name))
+
+pub on_write : (store mid : StoreView) (name bytes : List ℕ) (next : Job) → HasWritten store mid name bytes → GoesOn store mid (Write name bytes next) next
+on_write store mid name bytes next h after ending text k = inr (ends_from (written store name bytes) mid after next ending text h.files h.faults k)
+
+pub others_stay : (name : List ℕ) (old new : StoreView) → SameOthers name old new → OthersStay name old new
+others_stay name old new h = record { tells = h.tells; file = λ tells. h.file }
+
+-- ---- images
+-- so many images were written, and the rest is left
+pub record WroteSo (store mid : StoreView) (logs : List ℕ) (images : List (List Line)) (i : ℕ) : Type 0 where
+  pub on : (next : Job) → GoesOn store mid (writing_images logs 0 (images_in images) next) (writing_images logs i (images_in (drop i images)) next)
+  pub others : SameBut (image_names logs 0 (length images)) store mid
+
+names_at : (P : List ℕ → Type 0) (logs : List ℕ) (i n k : ℕ) → k < n → AllByRecursion P (image_names logs i n) → P (image_name logs (i + k))
+names_at P logs i zero k h a = absurd (omega arith)
+names_at P logs i (suc n) zero h a = let e : i ≡ i + 0 = omega arith in subst (λ m. P (image_name logs m)) e a.0
+names_at P logs i (suc n) (suc k) h a = let e : suc i + k ≡ i + suc k = omega arith in subst (λ m. P (image_name logs m)) e (names_at P logs (suc i) n k (omega arith) a.1)
+
+pub others_on : (store mid new : StoreView) (logs : List ℕ) (n i : ℕ) → i < n → SameBut (image_names logs 0 n) store mid → SameOthers (image_name logs i) mid new → SameBut (image_names logs 0 n) store new
+others_on store mid new logs n i h before after =
+    record { tells = after.tells ∙ before.tells; file = λ other differs. after.file other (let e : 0 + i ≡ i = omega arith in subst (λ m. other ≡ image_name logs m → ⊥) e (names_at (λ name. other ≡ name → ⊥) logs 0 n i h differs)) ∙ before.file other differs }
+
+-- one image more
+pub wrote_next : (store mid new : StoreView) (logs : List ℕ) (images : List (List Line)) (image : List Line) (i : ℕ) → i < length images → image ≡ get_or images i image
+    → WroteSo store mid logs images i → HasWritten mid new (image_name logs i) (image_bytes (words_of image)) → SameOthers (image_name logs i) mid new → WroteSo store new logs images (i + 1)
+wrote_next store mid new logs images image i h same so w others = record {
+  on = λ next after ending text k. so.on next after ending text
+      (subst (λ l. JobEnds mid after (writing_images logs i (images_in l) next) ending text) (sym (drop_more images i image h))
+      (subst (λ (x : List Line). JobEnds mid after (Write (image_name logs i) (image_bytes (words_of x)) (writing_images logs (suc i) (images_in (drop (i + 1) images)) next)) ending text) same
+      (on_write mid new (image_name logs i) (image_bytes (words_of image)) (writing_images logs (suc i) (images_in (drop (i + 1) images)) next) w after ending text
+      (let e : i + 1 ≡ suc i = omega arith in subst (λ j. JobEnds new after (writing_images logs j (images_in (drop (i + 1) images)) next) ending text) e k))));
+  others = others_on store mid new logs (length images) i h so.others others;
+}
+
+-- the next image can't be written
+pub wrote_stopped : (store mid after : StoreView) (logs : List ℕ) (images : List (List Line)) (image : List Line) (i : ℕ) (s : Stop) → i < length images → image ≡ get_or images i image
+    → WroteSo store mid logs images i → StopSays s (CannotWrite mid after (image_name logs i)) → StopSays s (ImagesStop store after logs (images_in images))
+wrote_stopped store mid after logs images image i s h same so stop =
+    StopSays-weaker s (CannotWrite mid after (image_name logs i)) (ImagesStop store after logs (images_in images))
+    (λ ending text k next. so.on next after ending text
+    (subst (λ l. JobEnds mid after (writing_images logs i (images_in l) next) ending text) (sym (drop_more images i image h)) (inl k))) stop

@@ -1,4 +1,4 @@
-use Rattle.std.proofs.Common.{ℕ, zero, suc, ◌≡◌, ◌+◌, ◌<◌, ◌≤◌, List, length, Some, sym, refl, ap, subst, arith}
+use Rattle.std.proofs.Common.{ℕ, zero, suc, ◌≡◌, ◌+◌, ◌<◌, ◌≤◌, List, length, Some, sym, refl, ap, ◌∙◌, subst, arith}
 use Rattle.std.specs.List.{slice_get}
 use Rattle.onll_model.specs.declared.call.Call.{Call}
 use Rattle.onll_model.proofs.Lists.{same_some, some_not_none, all_at}
@@ -11,7 +11,7 @@ use Rattle.onll_core.specs.Begin.{IsHeadOf}
 use Rattle.onll_core.specs.First.{AreFirst}
 use Rattle.onll_core.specs.Created.{heads_from, created_core, IsWithinLimits}
 use Rattle.onll_core.specs.Fences.{CountsFences}
-use Rattle.onll_core.proofs.FirstCore.{first_consistent, first_counts}
+use Rattle.onll_core.proofs.FirstCore.{first_consistent, first_counts, length-first_threads}
 
 -- A core that is made of scripts within the limits.
 
@@ -32,6 +32,11 @@ heads_are count object init t zero few code low i head e = some_not_none head (s
 heads_are count object init t (suc n) few code low zero head e = let z : t ≡ t + 0 = omega arith in
     subst (λ (m : ℕ). IsHeadOf count m head) z (subst (IsHeadOf count t) (same_some (head_for 2 t count object init) head e) (head_for_is count object init t few code (omega arith)))
 heads_are count object init t (suc n) few code low (suc i) head e = let z : suc t + i ≡ t + suc i = omega arith in subst (λ (m : ℕ). IsHeadOf count m head) z (heads_are count object init (suc t) n few code (omega arith) i head e)
+
+pub created_threads : {State Op Query Reply : Type 0} (initial : State) (object : ℕ) (init : List ℕ) (scripts : List (List (Call State Op Query Reply))) → length (created_core initial object init scripts).threads ≡ length scripts
+created_threads initial object init scripts =
+    let long = length-heads_from (length scripts) object init 0 (length scripts) in
+    length-first_threads (heads_from (length scripts) object init 0 (length scripts)) scripts long ∙ long
 
 module _ {State Op Query Reply : Type 0} (initial : State) (object : ℕ) (init : List ℕ) (scripts : List (List (Call State Op Query Reply))) (l : IsWithinLimits object scripts) where
   are_first : AreFirst (length scripts) (heads_from (length scripts) object init 0 (length scripts)) scripts

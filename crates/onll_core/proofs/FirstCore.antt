@@ -59,7 +59,7 @@ module _ {State Op Query Reply : Type 0} where
   first_at (head ∷ heads) (script ∷ scripts) zero th e = (head, script, refl, refl, same_some (first_thread head script) th e)
   first_at (head ∷ heads) (script ∷ scripts) (suc t) th e = first_at heads scripts t th e
 
-  length-first_threads : (heads : List LogHead) (scripts : List (List (Call State Op Query Reply))) → length heads ≡ length scripts → length (first_threads heads scripts) ≡ length heads
+  pub length-first_threads : (heads : List LogHead) (scripts : List (List (Call State Op Query Reply))) → length heads ≡ length scripts → length (first_threads heads scripts) ≡ length heads
   length-first_threads [] scripts e = refl
   length-first_threads (head ∷ heads) [] e = absurd (omega arith)
   length-first_threads (head ∷ heads) (script ∷ scripts) e = ap suc (length-first_threads heads scripts (omega arith))

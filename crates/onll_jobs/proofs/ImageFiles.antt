@@ -1,4 +1,4 @@
-use Rattle.std.proofs.Common.{ℕ, zero, suc, List, [], ◌∷◌, ◌++◌, ◌≡◌, ◌+◌, ◌<◌, length, inl, inr, Result, sym, ap, ◌∙◌, subst, arith, length-append}
+use Rattle.std.proofs.Common.{ℕ, zero, suc, List, [], ◌∷◌, ◌++◌, ◌≡◌, ◌+◌, ◌<◌, length, inl, inr, Result, map, sym, ap, ◌∙◌, subst, arith, length-append, append_assoc}
 use Rattle.std.proofs.lemmas.List.{length-map, map-append}
 use Rattle.std.specs.Result.{IfOk, MatchResult}
 use Rattle.onll_words.specs.declared.NoMemory.{NoMemory}
@@ -20,6 +20,11 @@ use Rattle.onll_jobs.proofs.Shown.{says_now}
 use Rattle.onll_jobs.proofs.Stops.{StopSays-weaker}
 
 -- Reading the images of threads, one after the other.
+
+-- a list that is made of another, one element further
+pub made_more : {A B : Type 0} (f : A → B) (all made more : List B) (x : A) (before left : List A) → before ≡ x ∷ left → more ≡ made ++ f x ∷ [] → made ++ map f before ≡ all → more ++ map f left ≡ all
+made_more f all made more x before left split e h =
+    ap (λ l. l ++ map f left) e ∙ append_assoc made (f x ∷ []) (map f left) ∙ ap (λ l. made ++ map f l) (sym split) ∙ h
 
 -- what a store's file holds was held by the store before
 holds_from : (store mid : StoreView) (name : List ℕ) (lines : List (List ℕ)) → SameFiles store mid → HoldsImage mid name lines → HoldsImage store name lines

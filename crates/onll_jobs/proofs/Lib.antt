@@ -9,3 +9,8 @@ mod Stops
 pub mod Jobs
 pub mod ShowWords
 pub mod Shown
+pub mod ScriptUpdates
+pub mod Replays
+pub mod Crashes
+pub mod ReplayNever
+pub mod NeverEnds

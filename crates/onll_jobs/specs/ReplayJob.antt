@@ -32,7 +32,9 @@ use Rattle.onll_text.specs.Script.{script_of}
 use Rattle.onll_text.specs.Schedule.{schedule_of}
 use Rattle.onll_jobs.specs.declared.ending.Ending.TheVariants.{Done, BadLog}
 use Rattle.onll_jobs.specs.declared.bad_logs.LogsFault.{LogsFault}
-use Rattle.onll_jobs.specs.Job.{Job, Say, reading, reading_whole}
+use Rattle.onll_outside.specs.Views.{StoreView}
+use Rattle.onll_jobs.specs.declared.ending.Ending.{Ending}
+use Rattle.onll_jobs.specs.Job.{Job, Say, reading, reading_whole, JobEnds, GoesOn}
 use Rattle.onll_jobs.specs.Images.{writing_images}
 use Rattle.onll_jobs.specs.RecoverJob.{Recovered, recovered, fault_words, recovered_line}
 
@@ -87,6 +89,14 @@ crash_job b w code init logs c keep =
 abbrev pub reading_scripts : {State Op Query Reply : Type 0} → Wording State Op Query Reply → List (List ℕ) → (List (List (Call State Op Query Reply)) → Job) → Job
 reading_scripts w [] next = next []
 reading_scripts w (name ∷ names) next = reading name (script_of w) (λ calls. reading_scripts w names (λ scripts. next (calls ∷ scripts)))
+
+-- these scripts were read, and a job that reads them goes on
+abbrev pub AreRead : {State Op Query Reply : Type 0} → Wording State Op Query Reply → StoreView → StoreView → List (List ℕ) → List (List (Call State Op Query Reply)) → Type 0
+AreRead {State} {Op} {Query} {Reply} w store after names scripts = (next : List (List (Call State Op Query Reply)) → Job) → GoesOn store after (reading_scripts w names next) (next scripts)
+
+-- one of these scripts gives no calls, and every job that reads them ends so
+abbrev pub ScriptsStop : {State Op Query Reply : Type 0} → Wording State Op Query Reply → StoreView → StoreView → List (List ℕ) → Ending → List ℕ → Type 0
+ScriptsStop {State} {Op} {Query} {Reply} w store after names ending text = (next : List (List (Call State Op Query Reply)) → Job) → JobEnds store after (reading_scripts w names next) ending text
 
 -- the schedule of these scripts is read and played, and the core crashes
 abbrev pub schedule_job : {State Op Query Reply : Type 0} → Behaviour State Op Query Reply → Wording State Op Query Reply → ℕ → List ℕ → State → (schedule logs : List ℕ) → List (List (Call State Op Query Reply)) → Job

@@ -1,4 +1,4 @@
-ghost use Rattle.std.specs.Prelude.{◌≡◌, length, string_bytes, IfOk, IfErr, OnOk};
+ghost use Rattle.std.specs.Prelude.{◌≡◌, length, map, string_bytes, IfOk, IfErr, OnOk};
 ghost use Rattle.onll_outside.specs.Views.{SameFiles, SameOthers, SameFaults};
 ghost use Rattle.onll_pmem.specs.Pmem.{words_of};
 ghost use Rattle.onll_jobs.specs.Reading.{HoldsImage, CannotRead};
@@ -10,7 +10,7 @@ use crate::answer::Stop;
 use crate::texts::{image_file, write_file};
 use itoa::Buffer;
 use onll_outside::Store;
-use onll_words::{Line, line_bytes};
+use onll_words::{Line, NoMemory, line_bytes};
 use std::alloc::{AllocError, Global};
 use std::marker::Model;
 
@@ -40,6 +40,19 @@ impl Image {
         ensures { result.now ≡ self.now }
     {
         &self.lines
+    }
+
+    /// The images of these lines, one for each thread.
+    pub(crate) fn of_all(alloc: Global, logs: Vec<Vec<Line>>) -> Result<Vec<Image>, NoMemory>
+        ensures { IfOk result (λ images. images.items ≡ map (λ lines. lines.items) logs.items) }
+    {
+        let mut images = Vec::new(alloc);
+        for lines in logs {
+            if images.push(Image::of_vec(lines)).is_err() {
+                return Err(NoMemory);
+            }
+        }
+        Ok(images)
     }
 }
 

@@ -137,7 +137,7 @@ pub(crate) struct Found {
 }
 
 /// What the logs of these images give, over the object from these bytes of an initial state.
-fn find<O: Object>(
+pub(crate) fn find<O: Object>(
     alloc: Global,
     object: &mut O,
     init: &[u8],
@@ -146,6 +146,7 @@ fn find<O: Object>(
     requires { (1 ≤ length images.now) × (length images.now ≤ 16) }
     ensures found { let found = recovered O.means O.CODE init.now (images_in images.now) in
         MatchResult result (λ f. found ≡ Ok (found_in f)) (λ fault. (fault ≡ LogsFault.NoMemory) ⊎ (found ≡ Err fault)) }
+    ensures count { IfOk result (λ f. length f.logs.items ≡ length images.now) }
     ensures used { IfOk result (λ f. AllByRecursion (λ d. used_by (content_in d) < 2 ^ 64) f.logs.items) }
     ensures rows { IfOk result (λ f. operations_front O.means f.nodes.items ≡ f.nodes.items) }
     ensures state { IfOk result (λ f. object.new ≡ state_after O.means object.old f.nodes.items) }

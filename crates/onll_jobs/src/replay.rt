@@ -1,4 +1,4 @@
-ghost use Rattle.std.specs.Prelude.{IfOk, ◌≡◌, ◌++◌, ◌<◌, ◌^◌, length, slice_get, true, IsSome, OnOk, map};
+ghost use Rattle.std.specs.Prelude.{IfOk, IfErr, ◌≡◌, ◌++◌, ◌≤◌, ◌<◌, ◌^◌, length, slice_get, true, IsSome, OnOk, All, map, string_bytes};
 ghost use Rattle.std.specs.List.{AllByRecursion};
 ghost use Rattle.onll_words.specs.Texts.{line_text};
 ghost use Rattle.onll_model.specs.Trace.{state_after};
@@ -8,14 +8,29 @@ ghost use Rattle.onll_merge.specs.Merge.{contents_in};
 ghost use Rattle.onll_text.specs.Bytes.{begins_line, with_lines};
 ghost use Rattle.onll_text.specs.Lines.{call_lines};
 ghost use Rattle.onll_core.specs.Outcomes.{returned_end, current_ends};
+ghost use Rattle.onll_core.specs.Crash.{images_of};
+ghost use Rattle.onll_core.specs.Tie.{updates_in};
+ghost use Rattle.onll_text.specs.Schedule.{IsPlayable};
+ghost use Rattle.onll_outside.specs.Views.{SameFiles};
 ghost use Rattle.onll_jobs.specs.Found.{found_in};
-ghost use Rattle.onll_jobs.specs.ReplayJob.{begun_lines, flagged_lines, crash_line, fenced_lines, run_lines, crash_lines, replay_report};
+ghost use Rattle.onll_jobs.specs.Images.{images_in, image_names};
+ghost use Rattle.onll_jobs.specs.Job.{JobEnds, SaysNow};
+ghost use Rattle.onll_jobs.specs.RecoverJob.{recovered};
+ghost use Rattle.onll_jobs.specs.Stop.{StopSays};
+ghost use Rattle.onll_jobs.specs.Writing.{SameBut};
+ghost use Rattle.onll_jobs.specs.ReplayJob.{begun_lines, flagged_lines, crash_line, fenced_lines, run_lines, crash_lines, replay_report, crash_says, crash_job, played, AreRead, ScriptsStop, schedule_job, replay_on, replay_any, replay_job};
 
-use crate::recover::{Found, put_count};
+use crate::answer::{Answer, Stop};
+use crate::bad_logs::{LogsFault, bad_logs};
+use crate::ending::Ending;
+use crate::images::{Image, write_images};
+use crate::recover::{Found, find, put_count};
+use crate::texts::{init_file, schedule_file, script_file};
 use onll_core::{Core, Current, Returned};
 use onll_log::Decoded;
 use onll_model::{Call, CallEnd, Node};
-use onll_text::{Piece, Report, Texted};
+use onll_outside::Store;
+use onll_text::{AnyObject, Piece, Report, Schedule, Texted};
 use onll_words::NoMemory;
 use std::alloc::Global;
 
@@ -172,4 +187,202 @@ fn report<O: Texted + Drop>(
     put_run(core, &mut out)?;
     put_crashed(core, keep, found, object, &mut out)?;
     Ok(out.into_bytes())
+}
+
+/// The images of the core's logs that this number picks.
+fn crash_images<O: Texted + Drop>(
+    alloc: Global,
+    core: &Core<O>,
+    keep: u64,
+) -> Result<Vec<Image>, NoMemory>
+    ensures { IfOk result (λ images. images_in images.items ≡ images_of keep core.now.threads) }
+{
+    Image::of_all(alloc, core.crash(alloc, keep)?)
+}
+
+/// What is said of a core that crashed, whose images these are.
+fn crash_answer<O: Texted + Drop>(
+    alloc: Global,
+    core: &Core<O>,
+    keep: u64,
+    init: &[u8],
+    images: &[Image],
+) -> Result<Answer, NoMemory>
+    requires operations { AllByRecursion (λ n. IsSome (O.means.op_at n.row)) core.now.trace }
+    requires threads { (1 ≤ length images.now) × (length images.now ≤ 16) }
+    requires images { length images.now ≡ length core.now.threads }
+    ensures { let job = crash_says O.means O.wording core.now keep (recovered O.means O.CODE init.now (images_in images.now)) in
+        IfOk result (λ answer. SaysNow job answer.ending answer.text.items) }
+{
+    let Ok(mut object) = core.initial().copy(alloc) else {
+        return Err(NoMemory);
+    };
+    match find(alloc, &mut object, init, images) {
+        Ok(found) => {
+            let text = report(alloc, core, keep, &found, &object)?;
+            Ok(Answer {
+                ending: Ending::Done,
+                text,
+            })
+        }
+        Err(LogsFault::NoMemory) => Err(NoMemory),
+        Err(fault) => bad_logs(alloc, fault),
+    }
+}
+
+/// Crashes a core: writes the images that this number picks, and says the run and what they give.
+fn crash<O: Texted + Drop, S: Store>(
+    alloc: Global,
+    core: &Core<O>,
+    keep: u64,
+    init: &[u8],
+    logs: &str,
+    store: &mut S,
+) -> Result<Answer, NoMemory>
+    requires operations { AllByRecursion (λ n. IsSome (O.means.op_at n.row)) core.now.trace }
+    requires threads { (1 ≤ length core.now.threads) × (length core.now.threads ≤ 16) }
+    ensures says { let job = crash_job O.means O.wording O.CODE init.now logs.now core.now keep in
+        IfOk result (λ answer. JobEnds (S.seen store.old) (S.seen store.new) job answer.ending answer.text.items) }
+    ensures others { SameBut (image_names logs.now 0 (length core.now.threads)) (S.seen store.old) (S.seen store.new) }
+{
+    let images = crash_images(alloc, core, keep)?;
+    match write_images(alloc, logs, &images, store) {
+        Ok(()) => crash_answer(alloc, core, keep, init, &images),
+        Err(stop) => stop.answer(),
+    }
+}
+
+/// The core that is made of an object and scripts, after the turns of a schedule.
+fn played<O: Texted + Drop>(
+    alloc: Global,
+    object: O,
+    init: &[u8],
+    scripts: Vec<Vec<Call<O>>>,
+    schedule: &Schedule,
+) -> Result<Core<O>, NoMemory>
+    requires few { length scripts.items ≤ 16 }
+    requires updates { All (λ script. updates_in script.items ≤ 4096) scripts.items }
+    requires playable { IsPlayable (length scripts.items) schedule.now }
+    ensures core { IfOk result (λ core. core ≡ played O.means O.CODE init.now object (map (λ script. script.items) scripts.items) schedule.now.turns) }
+    ensures threads { IfOk result (λ core. length core.threads ≡ length scripts.items) }
+    ensures operations { IfOk result (λ core. AllByRecursion (λ n. IsSome (O.means.op_at n.row)) core.trace) }
+{
+    let mut core = Core::create(alloc, object, init, scripts)?;
+    core.play(schedule.turns.as_slice());
+    Ok(core)
+}
+
+/// The calls of each script, or what is said in their place.
+fn script_files<O: Texted, S: Store>(
+    alloc: Global,
+    names: &[String],
+    store: &mut S,
+) -> Result<Vec<Vec<Call<O>>>, Stop>
+    ensures read { IfOk result (λ scripts. AreRead O.wording (S.seen store.old) (S.seen store.new) (map string_bytes names.now) (map (λ script. script.items) scripts.items)) }
+    ensures count { IfOk result (λ scripts. length scripts.items ≡ length names.now) }
+    ensures updates { IfOk result (λ scripts. All (λ script. updates_in script.items ≤ 4096) scripts.items) }
+    ensures stop { IfErr result (λ stop. StopSays stop (ScriptsStop O.wording (S.seen store.old) (S.seen store.new) (map string_bytes names.now))) }
+    ensures same { SameFiles (S.seen store.old) (S.seen store.new) }
+{
+    let mut scripts = Vec::new(alloc);
+    for name in names {
+        match script_file::<O, S>(alloc, name, store) {
+            Ok(script) => {
+                if scripts.push(script).is_err() {
+                    return Err(Stop::NoMemory);
+                }
+            }
+            Err(stop) => return Err(stop),
+        }
+    }
+    Ok(scripts)
+}
+
+/// Reads the schedule of these scripts, plays it on the object, and crashes.
+fn replay_scripts<O: Texted + Drop, S: Store>(
+    alloc: Global,
+    object: O,
+    init: &[u8],
+    schedule: &str,
+    logs: &str,
+    scripts: Vec<Vec<Call<O>>>,
+    store: &mut S,
+) -> Result<Answer, NoMemory>
+    requires few { (1 ≤ length scripts.items) × (length scripts.items ≤ 16) }
+    requires updates { All (λ script. updates_in script.items ≤ 4096) scripts.items }
+    ensures says { let job = schedule_job O.means O.wording O.CODE init.now object schedule.now logs.now (map (λ script. script.items) scripts.items) in
+        IfOk result (λ answer. JobEnds (S.seen store.old) (S.seen store.new) job answer.ending answer.text.items) }
+    ensures others { SameBut (image_names logs.now 0 (length scripts.items)) (S.seen store.old) (S.seen store.new) }
+{
+    match schedule_file(alloc, schedule, scripts.len() as u64, store) {
+        Ok(plan) => {
+            let core = played(alloc, object, init, scripts, &plan)?;
+            crash(alloc, &core, plan.keep, init, logs, store)
+        }
+        Err(stop) => stop.answer(),
+    }
+}
+
+/// Replays the schedule of a file on an object, whose initial state these bytes say.
+fn replay_on<O: Texted + Drop, S: Store>(
+    alloc: Global,
+    object: O,
+    init: &[u8],
+    schedule: &str,
+    logs: &str,
+    scripts: &[String],
+    store: &mut S,
+) -> Result<Answer, NoMemory>
+    requires { (1 ≤ length scripts.now) × (length scripts.now ≤ 16) }
+    ensures says { let job = replay_on O.means O.wording O.CODE init.now schedule.now logs.now (map string_bytes scripts.now) object in
+        IfOk result (λ answer. JobEnds (S.seen store.old) (S.seen store.new) job answer.ending answer.text.items) }
+    ensures others { SameBut (image_names logs.now 0 (length scripts.now)) (S.seen store.old) (S.seen store.new) }
+{
+    match script_files::<O, S>(alloc, scripts, store) {
+        Ok(calls) => replay_scripts(alloc, object, init, schedule, logs, calls, store),
+        Err(stop) => stop.answer(),
+    }
+}
+
+/// The same for an object of any kind.
+fn replay_any<S: Store>(
+    alloc: Global,
+    object: AnyObject,
+    init: &[u8],
+    schedule: &str,
+    logs: &str,
+    scripts: &[String],
+    store: &mut S,
+) -> Result<Answer, NoMemory>
+    requires { (1 ≤ length scripts.now) × (length scripts.now ≤ 16) }
+    ensures says { let job = replay_any init.now schedule.now logs.now (map string_bytes scripts.now) object in
+        IfOk result (λ answer. JobEnds (S.seen store.old) (S.seen store.new) job answer.ending answer.text.items) }
+    ensures others { SameBut (image_names logs.now 0 (length scripts.now)) (S.seen store.old) (S.seen store.new) }
+{
+    match object {
+        AnyObject::Bank(bank) => replay_on(alloc, bank, init, schedule, logs, scripts, store),
+        AnyObject::Map(map) => replay_on(alloc, map, init, schedule, logs, scripts, store),
+        AnyObject::Queue(queue) => replay_on(alloc, queue, init, schedule, logs, scripts, store),
+        AnyObject::Lease(lease) => replay_on(alloc, lease, init, schedule, logs, scripts, store),
+    }
+}
+
+/// Plays a schedule of scripts on an initial state, crashes, writes the images of the logs, and recovers from them.
+pub(crate) fn answer<S: Store>(
+    alloc: Global,
+    init: &str,
+    schedule: &str,
+    logs: &str,
+    scripts: &[String],
+    store: &mut S,
+) -> Result<Answer, NoMemory>
+    requires { (1 ≤ length scripts.now) × (length scripts.now ≤ 16) }
+    ensures says { let job = replay_job init.now schedule.now logs.now (map string_bytes scripts.now) in
+        IfOk result (λ answer. JobEnds (S.seen store.old) (S.seen store.new) job answer.ending answer.text.items) }
+    ensures others { SameBut (image_names logs.now 0 (length scripts.now)) (S.seen store.old) (S.seen store.new) }
+{
+    match init_file(alloc, init, store) {
+        Ok(read) => replay_any(alloc, read.object, &read.text, schedule, logs, scripts, store),
+        Err(stop) => stop.answer(),
+    }
 }

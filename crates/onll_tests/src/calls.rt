@@ -31,29 +31,58 @@ fn words_of(alloc: Global, texts: &[&str]) -> Result<Vec<String>, AllocError> {
     Ok(words)
 }
 
+/// A file of this name.
+pub(crate) fn named(alloc: Global, name: &str, bytes: &[u8]) -> Result<Named, AllocError> {
+    Ok(Named {
+        name: String::from_str(alloc, name)?,
+        bytes: Vec::from_slice(alloc, bytes)?,
+    })
+}
+
 fn files_of(alloc: Global, texts: &[(&str, &[u8])]) -> Result<Vec<Named>, AllocError> {
     let mut files = Vec::new(alloc);
     for (name, bytes) in texts {
-        files.push(Named {
-            name: String::from_str(alloc, name)?,
-            bytes: Vec::from_slice(alloc, bytes)?,
-        })?;
+        files.push(named(alloc, name, bytes)?)?;
     }
     Ok(files)
 }
 
-impl Program<'_> {
-    /// Runs the program over a store and a sink of its own.
-    pub(crate) fn run(&self, alloc: Global) -> Result<Outcome, AllocError> {
-        let words = words_of(alloc, self.words)?;
+impl<'a> Program<'a> {
+    /// A call of which nothing fails.
+    pub(crate) fn new(words: &'a [&'a str], files: &'a [(&'a str, &'a [u8])]) -> Program<'a> {
+        Program {
+            words,
+            files,
+            failing_calls: &[],
+            failing_puts: &[],
+        }
+    }
+
+    /// A store of the files.
+    pub(crate) fn store(&self, alloc: Global) -> Result<MemStore, AllocError> {
         let files = files_of(alloc, self.files)?;
         let failing_calls = Vec::from_slice(alloc, self.failing_calls)?;
+        Ok(MemStore::new(files, failing_calls, Vec::new(alloc)))
+    }
+
+    /// Runs the program over this store and a sink of its own.
+    pub(crate) fn run_over(
+        &self,
+        alloc: Global,
+        store: &mut MemStore,
+    ) -> Result<Outcome, AllocError> {
+        let words = words_of(alloc, self.words)?;
         let failing_puts = Vec::from_slice(alloc, self.failing_puts)?;
-        let mut store = MemStore::new(files, failing_calls, Vec::new(alloc));
         let mut sink = MemSink::new(alloc, failing_puts);
-        let status = onll_jobs::onll(alloc, &words, &mut store, &mut sink);
+        let status = onll_jobs::onll(alloc, &words, store, &mut sink);
         let taken = Vec::from_slice(alloc, sink.taken())?;
         Ok(Outcome { status, taken })
+    }
+
+    /// Runs the program over a store and a sink of its own.
+    pub(crate) fn run(&self, alloc: Global) -> Result<Outcome, AllocError> {
+        let mut store = self.store(alloc)?;
+        self.run_over(alloc, &mut store)
     }
 }
 
@@ -69,6 +98,13 @@ pub(crate) fn fold(alloc: Global, init: &[u8], script: &[u8]) -> Result<Outcome,
 }
 
 impl Outcome {
+    /// Asserts the status, and that the output has this line.
+    pub(crate) fn expect_line(&self, rt: &impl Abort, case: &str, status: u8, line: &str) {
+        assert_eq!(rt; self.status, status, "{case}");
+        let taken = str::from_utf8(&self.taken).unwrap_or("no text");
+        assert!(rt; taken.lines().any(|said| said == line), "{case}: not said: {line}");
+    }
+
     /// Asserts the status and the whole text of a case. A failure shows the first line that differs.
     pub(crate) fn expect(&self, rt: &impl Abort, case: &str, status: u8, text: &str) {
         assert_eq!(rt; self.status, status, "{case}");

@@ -25,6 +25,8 @@ mod queues;
 #[cfg(test)]
 mod recovers;
 #[cfg(test)]
+mod replays;
+#[cfg(test)]
 mod shows;
 #[cfg(test)]
 mod worked;

@@ -1,4 +1,4 @@
-use crate::calls::{Outcome, Program};
+use crate::calls::{Outcome, Program, named};
 use crate::images::{
     BOTH_AT_2, CODE_9, CODE_9_AT_1, COUNT_0_ENTRY, COUNT_2_ENTRY, DEPOSIT_0, DEPOSIT_4, DEPOSIT_5,
     DEPOSIT_7, FIRST_AT_1, FIRST_AT_3, FORMAT_9_HEAD, FULL, GRANT, GRANT_AT_1, HEAD_0, HEAD_1,
@@ -9,6 +9,7 @@ use crate::images::{
     PUSH_AT_1, PUT, PUT_AT_1, QUEUE_HEAD, SECOND, SECOND_AT_2, THREAD_1_ENTRY, THREADS_2_HEAD,
     THREADS_17_HEAD, ZERO,
 };
+use onll_outside::MemStore;
 use std::alloc::{AllocError, Global};
 use std::test::Fail;
 
@@ -22,36 +23,17 @@ struct Recovery<'a> {
     output: &'a str,
 }
 
-/// The files of a recovery from two logs at most, and its outcome.
+/// The outcome of a recovery.
 fn recover(alloc: Global, case: &Recovery<'_>) -> Result<Outcome, AllocError> {
-    let words = ["recover", "i", "out", case.threads];
-    match case.images {
-        [] => run(alloc, &words, &[("i", case.init)]),
-        [one] => run(
-            alloc,
-            &words,
-            &[("i", case.init), (one.name, &one.bytes(alloc)?)],
-        ),
-        [one, two, ..] => run(
-            alloc,
-            &words,
-            &[
-                ("i", case.init),
-                (one.name, &one.bytes(alloc)?),
-                (two.name, &two.bytes(alloc)?),
-            ],
-        ),
+    let mut files = Vec::new(alloc);
+    files.push(named(alloc, "i", case.init)?)?;
+    for image in case.images {
+        let bytes = image.bytes(alloc)?;
+        files.push(named(alloc, image.name, &bytes)?)?;
     }
-}
-
-fn run(alloc: Global, words: &[&str], files: &[(&str, &[u8])]) -> Result<Outcome, AllocError> {
-    let program = Program {
-        words,
-        files,
-        failing_calls: &[],
-        failing_puts: &[],
-    };
-    program.run(alloc)
+    let mut store = MemStore::new(files, Vec::new(alloc), Vec::new(alloc));
+    let words: &[&str] = &["recover", "i", "out", case.threads];
+    Program::new(words, &[]).run_over(alloc, &mut store)
 }
 
 /// Recoveries from the logs of one or two threads.
@@ -719,7 +701,7 @@ fn hostile_images(rt: HostRuntime) -> Result<(), Fail> {
     Ok(())
 }
 
-const USAGE: &str =
+pub(crate) const USAGE: &str =
     "usage: onll fold INIT SCRIPT\n       onll show IMAGE\n       onll recover INIT LOGS T\n       onll replay INIT SCHEDULE LOGS SCRIPT..\n       onll run INIT LOGS SCRIPT..\n       onll make T N SEED\n";
 
 /// Words that are no recovery.
@@ -739,7 +721,9 @@ const NO_FORMS: &[&[&str]] = &[
 #[test]
 fn words_of_no_form(rt: HostRuntime) -> Result<(), Fail> {
     for words in NO_FORMS {
-        run(rt.alloc(), words, &[("i", b"bank 1\n")])?.expect(&rt, "no form", 2, USAGE);
+        Program::new(words, &[("i", b"bank 1\n")])
+            .run(rt.alloc())?
+            .expect(&rt, "no form", 2, USAGE);
     }
     Ok(())
 }

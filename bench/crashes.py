@@ -1,0 +1,107 @@
+#!/usr/bin/env python3
+"""Crashes random schedules, and checks what is recovered of the logs that they leave.
+Usage: bench/crashes.py [RUNS [SEED]]
+Build the program first, by `rt run` in crates/onll_main.
+
+Of each run `replay` prints the calls and the trace and writes the images, and `recover` reads the images. Checked is that both
+recover the same, that it is a front of the trace, and that it has each call that returned: for an update its own place, for a
+read the place at which it was answered."""
+import os
+import random
+import subprocess
+import sys
+import tempfile
+
+TOP = os.path.dirname(os.path.dirname(os.path.abspath(__file__)))
+PROGRAM = os.path.join(TOP, "crates", "onll_main", "out", "onll_main")
+ALL = 2**64 - 1
+
+
+def word(rng):
+    return rng.choice("abc") * rng.randint(1, 3)
+
+
+def bank(rng):
+    account, amount = rng.randint(0, 3), rng.randint(0, 9)
+    return rng.choice(
+        [f"deposit {account} {amount}", f"withdraw {account} {amount}", f"transfer {account} {rng.randint(0, 3)} {amount}",
+         f"balance {account}", "total"])
+
+
+def map_(rng):
+    return rng.choice([f"put {word(rng)} {word(rng)}", f"del {word(rng)}", f"get {word(rng)}", f"next {word(rng)}", "count"])
+
+
+def queue(rng):
+    return rng.choice([f"push {rng.randint(0, 9)}", "pop", "front", "length"])
+
+
+def lease(rng):
+    resource, now = rng.randint(0, 2), rng.randint(0, 20)
+    return rng.choice(
+        [f"grant {resource} {rng.randint(0, 9)} {now} {rng.randint(0, 9)}", f"renew {resource} {rng.randint(0, 3)} {now} 5",
+         f"release {resource} {rng.randint(0, 3)}", f"holder {resource} {now}"])
+
+
+OBJECTS = [("bank 3\naccount 0 9\n", bank), ("map 3\npair a b\n", map_), ("queue 2\nitem 7\n", queue), ("lease 2\n", lease)]
+
+
+def run(*words):
+    done = subprocess.run([PROGRAM, *words], capture_output=True)
+    return done.returncode, done.stdout.decode()
+
+
+def names(report, flags):
+    """The nodes of a report, without their flags."""
+    nodes = [line.split() for line in report.splitlines() if line.startswith("node ")]
+    return [node[:4] + node[5:] if flags else node for node in nodes]
+
+
+def recovered(report):
+    return next(int(line.split()[1]) for line in report.splitlines() if line.startswith("recovered "))
+
+
+def returned_places(report):
+    calls = [line for line in report.splitlines() if line.startswith("call ")]
+    ends = [call.split(" -> ")[1].split() for call in calls]
+    return [int(end[-1]) for end in ends if end[0] not in ("running", "ordered")]
+
+
+def crash_once(rng):
+    init, call = rng.choice(OBJECTS)
+    threads = rng.choice([1, 2, 3, 4, 16])
+    with open("init", "w") as file:
+        file.write(init)
+    for thread in range(threads):
+        with open(f"script{thread}", "w") as file:
+            file.writelines(call(rng) + "\n" for _ in range(rng.randint(0, 8)))
+    with open("plan", "w") as file:
+        for _ in range(rng.randint(0, 40 * threads)):
+            file.write(f"{rng.randrange(threads)} {rng.choice([1, 1, 2, 3, 9])}\n")
+        file.write(f"crash {rng.choice([0, ALL, rng.getrandbits(64), ALL ^ 1 << rng.randrange(64)])}\n")
+
+    status, report = run("replay", "init", "plan", "out", *(f"script{thread}" for thread in range(threads)))
+    assert status == 0, report
+    again, recovery = run("recover", "init", "out", str(threads))
+    assert again == 0, recovery
+    kept, trace = recovered(report), names(report, True)
+    assert recovered(recovery) == kept
+    assert names(recovery, False) == trace[:kept]
+    places = returned_places(report)
+    assert all(place <= kept for place in places), report
+    assert report.split("\nstate\n")[1] == recovery.split("\nstate\n")[1]
+    return len(places), len(trace), kept
+
+
+def main():
+    runs, seed = int(sys.argv[1]) if len(sys.argv) > 1 else 1000, int(sys.argv[2]) if len(sys.argv) > 2 else 1
+    rng = random.Random(seed)
+    totals = [0, 0, 0]
+    with tempfile.TemporaryDirectory() as folder:
+        os.chdir(folder)
+        for _ in range(runs):
+            totals = [total + part for total, part in zip(totals, crash_once(rng))]
+    print(f"{runs} runs, none failing: {totals[0]} calls returned, {totals[1]} updates in a trace, {totals[2]} of them recovered")
+
+
+main()

@@ -1,0 +1,165 @@
+use Rattle.std.proofs.Common.{ℕ, zero, suc, Bool, true, false, List, [], ◌∷◌, ◌≡◌, ◌+◌, ◌==◌, cond, length, map, take, Option, Some, None, IsSome, refl, ap, ◌∙◌, sym, subst, arith, Result, Ok, Err}
+use Rattle.std.proofs.lemmas.Bool.Decides.{nat_tests}
+use Rattle.std.specs.List.{AllByRecursion}
+use Rattle.onll_model.specs.declared.node.Node.{Node}
+use Rattle.onll_model.specs.declared.call.Call.{Call}
+use Rattle.onll_model.specs.declared.turn.Turn.{Turn}
+use Rattle.onll_model.specs.Object.{Behaviour}
+use Rattle.onll_model.specs.Recovered.{operations_front, where_some}
+use Rattle.onll_model.specs.Frames.{Thread}
+use Rattle.onll_model.proofs.Lists.{same_some, some_not_none}
+use Rattle.onll_log.specs.declared.head.LogHead.{LogHead}
+use Rattle.onll_log.specs.Head.{word, is_head, head_of, head_for}
+use Rattle.onll_log.specs.Grammar.{Content, content_of, entries_from, are_zero_lines, format_in}
+use Rattle.onll_merge.specs.Merge.{merge, top_of}
+use Rattle.onll_merge.specs.FrameLogs.{AreLogsOf}
+use Rattle.onll_core.specs.Core.{CoreThread, CoreState}
+use Rattle.onll_core.specs.CoreFrame.{frame_thread}
+use Rattle.onll_core.specs.Step.{steps_of}
+use Rattle.onll_core.specs.Turns.{turns_of}
+use Rattle.onll_core.specs.First.{first_threads}
+use Rattle.onll_core.specs.Created.{heads_from, created_core, IsWithinLimits}
+use Rattle.onll_core.specs.Consistent.{IsConsistent}
+use Rattle.onll_core.specs.Crash.{AreImages, images_of, heads_of}
+use Rattle.onll_core.proofs.Created.{created_consistent}
+use Rattle.onll_core.proofs.Kept.{steps_consistent}
+use Rattle.onll_core.proofs.Images.{image_either}
+use Rattle.onll_core.proofs.Crashed.{picked_images, are_held, recovers, steps_heads}
+use Rattle.onll_core.proofs.Operations.{AllOperations, steps_operations}
+use Rattle.onll_jobs.specs.declared.bad_logs.LogsFault.{LogsFault}
+use Rattle.onll_jobs.specs.declared.bad_logs.LogsFault.TheVariants.{NotOperation}
+use Rattle.onll_jobs.specs.RecoverJob.{Recovered, content_before, contents_from, expected_heads, operations, operations_of, with_logs, merged, recovered}
+use Rattle.onll_jobs.specs.ReplayJob.{played}
+
+-- The images of a core that was made of scripts and played give logs that recover.
+
+-- ---- the format of an image
+-- a log's image is read by the format of its head
+abbrev format_by : ℕ → ℕ
+format_by n = cond (n == 2) 2 1
+
+two : (n : ℕ) → n ≡ 2 → format_by n ≡ 2
+two n e = ap format_by e
+
+head_is : (is zeros : Bool) (l : List ℕ) (ls : List (List ℕ)) (log : Content) (head : LogHead)
+    → cond is (Some (record { head = Some (head_of l); entries = entries_from (head_of l) 0 0 ls })) (cond zeros (Some (record { head = None; entries = [] })) None) ≡ Some log
+    → log.head ≡ Some head → head_of l ≡ head
+head_is true zeros l ls log head e h = same_some (head_of l) head (ap (λ (c : Content). c.head) (same_some (record { head = Some (head_of l); entries = entries_from (head_of l) 0 0 ls }) log e) ∙ h)
+head_is false true l ls log head e h = some_not_none head (sym h ∙ sym (ap (λ (c : Content). c.head) (same_some (record { head = None; entries = [] }) log e)))
+head_is false false l ls log head e h = some_not_none log (sym e)
+
+format_is : (image : List (List ℕ)) (log : Content) (head : LogHead) → content_of image ≡ Some log → log.head ≡ Some head → head.format ≡ 2 → format_in image ≡ 2
+format_is [] log head e h f = some_not_none log (sym e)
+format_is (l ∷ ls) log head e h f =
+    let same = head_is (is_head l) (are_zero_lines (l ∷ ls)) l ls log head e h in
+    two (word l 1) (ap (λ (x : LogHead). x.format) same ∙ f)
+
+abbrev HaveFormat2 : List LogHead → Type 0
+HaveFormat2 heads = AllByRecursion (λ (head : LogHead). head.format ≡ 2) heads
+
+abbrev AreFormat2 : List (List (List ℕ)) → Type 0
+AreFormat2 images = AllByRecursion (λ (image : List (List ℕ)). format_in image ≡ 2) images
+
+formats_are : (ths : List Thread) (heads : List LogHead) (logs : List Content) (images : List (List (List ℕ))) → AreLogsOf ths heads logs → map content_of images ≡ map Some logs → HaveFormat2 heads → AreFormat2 images
+formats_are ths heads logs [] left e f = tt
+formats_are ths heads [] (image ∷ images) left e f = absurd (cc)
+formats_are [] [] (log ∷ logs) (image ∷ images) left e f = absurd left
+formats_are [] (head ∷ heads) (log ∷ logs) (image ∷ images) left e f = absurd left
+formats_are (th ∷ ths) [] (log ∷ logs) (image ∷ images) left e f = absurd left
+formats_are (th ∷ ths) (head ∷ heads) (log ∷ logs) (image ∷ images) left e f =
+    let here : content_of image ≡ Some log = (cc) in
+    let rest : map content_of images ≡ map Some logs = (cc) in
+    (format_is image log head here left.0.head_kept f.0, formats_are ths heads logs images left.1 rest f.1)
+
+heads_have_format : (count code : ℕ) (init : List ℕ) (t n : ℕ) → HaveFormat2 (heads_from count code init t n)
+heads_have_format count code init t zero = tt
+heads_have_format count code init t (suc n) = (refl, heads_have_format count code init (suc t) n)
+
+-- ---- the heads
+length-heads : (count code : ℕ) (init : List ℕ) (t n : ℕ) → length (heads_from count code init t n) ≡ n
+length-heads count code init t zero = refl
+length-heads count code init t (suc n) = ap suc (length-heads count code init (suc t) n)
+
+heads_expected : (count code : ℕ) (init : List ℕ) (i : ℕ) (images : List (List (List ℕ))) → AreFormat2 images → expected_heads code init count i images ≡ heads_from count code init i (length images)
+heads_expected count code init i [] f = refl
+heads_expected count code init i (image ∷ images) f =
+    let next : i + 1 ≡ suc i = omega arith in
+    let here = f.0 in
+    let rest = heads_expected count code init (i + 1) images f.1 ∙ ap (λ (n : ℕ). heads_from count code init n (length images)) next in
+    λ j. head_for (here j) i count code init ∷ rest j
+
+heads_of_first : {State Op Query Reply : Type 0} (heads : List LogHead) (scripts : List (List (Call State Op Query Reply))) → length heads ≡ length scripts → heads_of (first_threads heads scripts) ≡ heads
+heads_of_first [] scripts e = refl
+heads_of_first (head ∷ heads) [] e = absurd (omega arith)
+heads_of_first (head ∷ heads) (script ∷ scripts) e = ap (λ (hs : List LogHead). head ∷ hs) (heads_of_first heads scripts (omega arith))
+
+images_many : {State Op Query Reply : Type 0} (ths : List (CoreThread State Op Query Reply)) (images : List (List (List ℕ))) → AreImages ths images → length images ≡ length (heads_of ths)
+images_many [] [] a = refl
+images_many [] (image ∷ images) a = absurd a
+images_many (th ∷ ths) [] a = absurd a
+images_many (th ∷ ths) (image ∷ images) a = ap suc (images_many ths images a.1)
+
+-- ---- the contents
+contents_are : (i : ℕ) (images : List (List (List ℕ))) (logs : List Content) → map content_of images ≡ map Some logs → contents_from i images ≡ Ok logs
+contents_are i [] [] e = refl
+contents_are i [] (log ∷ logs) e = absurd (cc)
+contents_are i (image ∷ images) [] e = absurd (cc)
+contents_are i (image ∷ images) (log ∷ logs) e =
+    let here : content_of image ≡ Some log = (cc) in
+    let rest : map content_of images ≡ map Some logs = (cc) in
+    let after = contents_are (i + 1) images logs rest in
+    λ j. content_before i (here j) (after j)
+
+-- ---- the rows
+where_is : {A : Type 0} (o : Option A) (nodes : List Node) → IsSome o → where_some o nodes ≡ nodes
+where_is None nodes h = absurd (cc)
+where_is (Some x) nodes h = refl
+
+equal : {A : Type 0} (n : ℕ) (x y : A) → cond (n == n) x y ≡ x
+equal {A} n x y = let e : (n == n) ≡ true = grind (arith, nat_tests) in ap (λ (t : Bool). cond t x y) e
+
+module _ {State Op Query Reply : Type 0} (b : Behaviour State Op Query Reply) where
+  front_is : (nodes : List Node) → AllOperations b nodes → operations_front b nodes ≡ nodes
+  front_is [] h = refl
+  front_is (n ∷ nodes) h = where_is (b.op_at n.row) (n ∷ operations_front b nodes) h.0 ∙ ap (λ (l : List Node). n ∷ l) (front_is nodes h.1)
+
+  take_operations : (k : ℕ) (nodes : List Node) → AllOperations b nodes → AllOperations b (take k nodes)
+  take_operations zero nodes h = tt
+  take_operations (suc k) [] h = tt
+  take_operations (suc k) (n ∷ nodes) h = (h.0, take_operations k nodes h.1)
+
+  abbrev rows_by : List Node → List Node → Result (List Node) LogsFault
+  rows_by nodes front = cond (length front == length nodes) (Ok nodes) (Err (NotOperation (length front + 1)))
+
+  operations_are : (nodes : List Node) → AllOperations b nodes → operations b nodes ≡ Ok nodes
+  operations_are nodes h = ap (rows_by nodes) (front_is nodes h) ∙ equal (length nodes) (Ok nodes) (Err (NotOperation (length nodes + 1)))
+
+  -- ---- what is recovered
+  recovered_is : (code : ℕ) (init : List ℕ) (images : List (List (List ℕ))) (heads : List LogHead) (logs : List Content) (nodes : List Node) → expected_heads code init (length images) 0 images ≡ heads
+      → contents_from 0 images ≡ Ok logs → merge heads logs ≡ Ok nodes → operations b nodes ≡ Ok nodes → recovered b code init images ≡ Ok (record { logs = logs; nodes = nodes })
+  recovered_is code init images heads logs nodes h c m o =
+      ap (λ (hs : List LogHead). merged b hs (contents_from 0 images)) h ∙ ap (merged b heads) c ∙ ap (λ r. with_logs logs (operations_of b r)) m ∙ ap (with_logs logs) o
+
+  -- images of a consistent core whose heads are those of its number of threads
+  core_recovers : (count code : ℕ) (init : List ℕ) (c : CoreState State Op Query Reply) (images : List (List (List ℕ))) → IsConsistent count c → AllOperations b c.trace
+      → heads_of c.threads ≡ heads_from count code init 0 count → AreImages c.threads images → (r : Recovered) × (recovered b code init images ≡ Ok r)
+  core_recovers count code init c images k rows same a =
+      let r = recovers count c images k a in
+      let held = are_held c.base c.trace c.threads images a (λ t th at image i. image_either count c k t th at image i) in
+      let formats = formats_are (map (frame_thread c.base c.trace) c.threads) (heads_of c.threads) held.logs images held.left held.contents (subst HaveFormat2 (sym same) (heads_have_format count code init 0 count)) in
+      let many : length images ≡ count = images_many c.threads images a ∙ ap length same ∙ length-heads count code init 0 count in
+      let heads : expected_heads code init (length images) 0 images ≡ heads_of c.threads =
+      heads_expected (length images) code init 0 images formats ∙ ap (λ (n : ℕ). heads_from n code init 0 n) many ∙ sym same in
+      let ops = subst (λ (nodes : List Node). operations b nodes ≡ Ok nodes) (sym r.front) (operations_are (take (top_of r.logs) c.trace) (take_operations (top_of r.logs) c.trace rows)) in
+      (record { logs = r.logs; nodes = r.nodes }, recovered_is code init images (heads_of c.threads) r.logs r.nodes heads (contents_are 0 images r.logs r.contents) r.recovered ops)
+
+  -- a crash of a played core recovers, whatever it leaves of each device
+  pub crash_recovers : (code : ℕ) (init : List ℕ) (s : State) (scripts : List (List (Call State Op Query Reply))) (turns : List Turn) (keep : ℕ) → IsWithinLimits code scripts
+      → (r : Recovered) × (recovered b code init (images_of keep (played b code init s scripts turns).threads) ≡ Ok r)
+  crash_recovers code init s scripts turns keep l =
+      let count = length scripts in
+      let c = created_core s code init scripts in
+      let ts = turns_of turns in
+      let k = steps_consistent b count c ts (created_consistent s code init scripts l) in
+      let heads = steps_heads b c ts ∙ heads_of_first (heads_from count code init 0 count) scripts (length-heads count code init 0 count) in
+      core_recovers count code init (steps_of b c ts) (images_of keep (steps_of b c ts).threads) k (steps_operations b c ts tt) heads (picked_images count (steps_of b c ts) keep k)

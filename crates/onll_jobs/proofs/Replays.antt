@@ -1,0 +1,137 @@
+use Rattle.std.proofs.Common.{ℕ, ◌≡◌, ◌+◌, ◌<◌, ◌≤◌, List, [], ◌∷◌, ◌++◌, true, IsSome, length, drop, get_or, map, refl, sym, ap, ◌∙◌, subst, append_assoc, append-nil}
+use Rattle.std.proofs.lemmas.List.{drop_more, length-map}
+use Rattle.std.specs.List.{AllByRecursion}
+use Rattle.onll_words.specs.declared.line.Line.{Line}
+use Rattle.onll_pmem.specs.Pmem.{words_of}
+use Rattle.onll_model.specs.declared.node.Node.{Node}
+use Rattle.onll_model.specs.declared.call.Call.{Call}
+use Rattle.onll_model.specs.declared.turn.Turn.{Turn}
+use Rattle.onll_model.specs.Object.{Behaviour}
+use Rattle.onll_core.specs.Core.{CoreState}
+use Rattle.onll_core.specs.Step.{steps_of}
+use Rattle.onll_core.specs.Turns.{turns_of}
+use Rattle.onll_core.specs.Created.{created_core}
+use Rattle.onll_core.specs.Crash.{images_of}
+use Rattle.onll_core.proofs.Operations.{steps_operations}
+use Rattle.onll_outside.specs.Views.{StoreView, SameFiles, SameFaults}
+use Rattle.onll_text.specs.declared.schedule.Schedule.{Schedule}
+use Rattle.onll_text.specs.Wording.{Wording}
+use Rattle.onll_text.specs.Script.{script_of}
+use Rattle.onll_text.specs.Schedule.{schedule_of}
+use Rattle.onll_jobs.specs.declared.ending.Ending.{Ending}
+use Rattle.onll_jobs.specs.declared.answer.Stop.{Stop}
+use Rattle.onll_jobs.specs.Stop.{StopSays}
+use Rattle.onll_jobs.specs.Reading.{Reads, Stops}
+use Rattle.onll_jobs.specs.Writing.{SameBut}
+use Rattle.onll_jobs.specs.Images.{images_in, writing_images, AreWritten, ImagesStop}
+use Rattle.onll_jobs.specs.RecoverJob.{recovered}
+use Rattle.onll_jobs.specs.Job.{Job, Say, Read, Write, JobEnds, GoesOn, SaysNow}
+use Rattle.onll_jobs.specs.ReplayJob.{reading_scripts, AreRead, ScriptsStop, played, crash_says, crash_job, schedule_job}
+use Rattle.onll_jobs.proofs.Jobs.{files_stay}
+use Rattle.onll_jobs.proofs.Onwards.{on_text, stopped_ends}
+use Rattle.onll_jobs.proofs.Stops.{StopSays-weaker}
+
+-- The parts of a replay, one after the other.
+
+-- ---- where no file changes
+pub same_more : (store mid after : StoreView) → SameFiles store mid → SameFiles mid after → SameFiles store after
+same_more store mid after first then_ = record { tells = then_.tells ∙ first.tells; file = λ name. then_.file name ∙ first.file name }
+
+pub same_but : (names : List (List ℕ)) (store mid after : StoreView) → SameFiles store mid → SameBut names mid after → SameBut names store after
+same_but names store mid after first then_ = record { tells = then_.tells ∙ first.tells; file = λ other differs. then_.file other differs ∙ first.file other }
+
+pub same_all : (names : List (List ℕ)) (store after : StoreView) → SameFiles store after → SameBut names store after
+same_all names store after same = record { tells = same.tells; file = λ other differs. same.file other }
+
+-- ---- scripts
+pub name_next : {X : Type 0} (f : X → List ℕ) (names : List X) (i : ℕ) (name : X) → i < length names → name ≡ get_or names i name → map f (drop i names) ≡ f name ∷ map f (drop (i + 1) names)
+name_next f names i name h same = ap (map f) (drop_more names i name h) ∙ ap (λ x. f x ∷ map f (drop (i + 1) names)) (sym same)
+
+module _ {State Op Query Reply : Type 0} (w : Wording State Op Query Reply) where
+  -- Some scripts were read and no file changed: a job that reads all goes on to those that are left, and has the others before them.
+  pub record ScriptsSo (store mid : StoreView) (names left : List (List ℕ)) (scripts : List (List (Call State Op Query Reply))) : Type 0 where
+    pub on : (next : List (List (Call State Op Query Reply)) → Job)
+        → (rest_next : List (List (Call State Op Query Reply)) → Job) × ((rest : List (List (Call State Op Query Reply))) → rest_next rest ≡ next (scripts ++ rest)) × GoesOn store mid (reading_scripts w names next) (reading_scripts w left rest_next)
+    pub same : SameFiles store mid
+
+  pub none_read : (store : StoreView) (names : List (List ℕ)) (scripts : List (List (Call State Op Query Reply))) → scripts ≡ [] → ScriptsSo store store names names scripts
+  none_read store names scripts e = subst (ScriptsSo store store names names) (sym e) (record { on = λ next. (next, (λ rest. refl), λ after ending text h. h); same = record { tells = refl; file = λ name. refl } })
+
+  -- one script more
+  pub script_next : (store mid new : StoreView) (names left before : List (List ℕ)) (name : List ℕ) (scripts all : List (List (Call State Op Query Reply))) (calls : List (Call State Op Query Reply))
+      → before ≡ name ∷ left → ScriptsSo store mid names before scripts → SameFiles mid new → SameFaults mid new → Reads mid (script_of w) name calls → all ≡ scripts ++ calls ∷ []
+      → ScriptsSo store new names left all
+  script_next store mid new names left before name scripts all calls split so files faults r e = record {
+    on = λ next. let o = so.on next in
+        (λ rest. o.0 (calls ∷ rest),
+        (λ rest. o.1 (calls ∷ rest) ∙ ap next (sym (append_assoc scripts (calls ∷ []) rest)) ∙ ap (λ l. next (l ++ rest)) (sym e)),
+        λ after ending text h. o.2 after ending text (subst (λ l. JobEnds mid after (reading_scripts w l o.0) ending text) (sym split)
+            (on_text mid new name (script_of w) (λ c. reading_scripts w left (λ rest. o.0 (c ∷ rest))) calls r (files_stay mid new files) faults after ending text h)));
+    same = same_more store mid new so.same files;
+  }
+
+  -- the next script gives no calls
+  pub script_stopped : (store mid after : StoreView) (names left before : List (List ℕ)) (name : List ℕ) (scripts : List (List (Call State Op Query Reply))) (s : Stop)
+      → before ≡ name ∷ left → ScriptsSo store mid names before scripts → SameFiles mid after → StopSays s (Stops mid after (script_of w) name) → StopSays s (ScriptsStop w store after names)
+  script_stopped store mid after names left before name scripts s split so files stop =
+      StopSays-weaker s (Stops mid after (script_of w) name) (ScriptsStop w store after names)
+      (λ ending text k next. let o = so.on next in o.2 after ending text (subst (λ l. JobEnds mid after (reading_scripts w l o.0) ending text) (sym split)
+          (stopped_ends mid after name (script_of w) (λ bytes c. reading_scripts w left (λ rest. o.0 (c ∷ rest))) ending text (files_stay mid after files) k))) stop
+
+  -- all were read
+  pub scripts_read : (store new : StoreView) (names left : List (List ℕ)) (scripts : List (List (Call State Op Query Reply))) → left ≡ [] → ScriptsSo store new names left scripts → AreRead w store new names scripts
+  scripts_read store new names left scripts e so next after ending text h =
+      let o = so.on next in
+      o.2 after ending text (subst (λ l. JobEnds new after (reading_scripts w l o.0) ending text) (sym e) (subst (λ j. JobEnds new after j ending text) (sym (o.1 [] ∙ ap next (append-nil scripts))) h))
+
+-- ---- the crash
+-- the images of lines are those that the lines are
+words_in : {V : Type 0} (items : V → List Line) (made : List V) → images_in (map items made) ≡ map (λ (image : V). words_of (items image)) made
+words_in items [] = refl
+words_in items (x ∷ made) = ap (λ l. words_of (items x) ∷ l) (words_in items made)
+
+pub images_are : {V : Type 0} (items : V → List Line) (all : List (List Line)) (made : List V) (images : List (List (List ℕ))) → all ≡ map items made → map (λ (image : V). words_of (items image)) made ≡ images → images_in all ≡ images
+images_are items all made images e h = ap images_in e ∙ words_in items made ∙ h
+
+now_ends : (store : StoreView) (job : Job) (ending : Ending) (text : List ℕ) → SaysNow job ending text → JobEnds store store job ending text
+now_ends store (Say e t) ending text h = (h.0, h.1, record { tells = refl; file = λ tells name. refl })
+now_ends store (Read name next) ending text h = absurd h
+now_ends store (Write name bytes next) ending text h = absurd h
+
+module _ {State Op Query Reply : Type 0} (b : Behaviour State Op Query Reply) (w : Wording State Op Query Reply) (code : ℕ) (init logs : List ℕ) where
+  -- the images were written, and this is said of what they give
+  pub crash_ends : (c : CoreState State Op Query Reply) (keep : ℕ) (store mid : StoreView) (images : List (List (List ℕ))) (ending : Ending) (text : List ℕ) → images ≡ images_of keep c.threads
+      → AreWritten store mid logs images → SaysNow (crash_says b w c keep (recovered b code init images)) ending text → JobEnds store mid (crash_job b w code init logs c keep) ending text
+  crash_ends c keep store mid images ending text e written h =
+      subst (λ l. JobEnds store mid (writing_images logs 0 l (crash_says b w c keep (recovered b code init l))) ending text) e
+      (written (crash_says b w c keep (recovered b code init images)) mid ending text (now_ends mid (crash_says b w c keep (recovered b code init images)) ending text h))
+
+  -- one of the images could not be written
+  pub crash_stopped : (c : CoreState State Op Query Reply) (keep : ℕ) (store after : StoreView) (images : List (List (List ℕ))) (ending : Ending) (text : List ℕ) → images ≡ images_of keep c.threads
+      → ImagesStop store after logs images ending text → JobEnds store after (crash_job b w code init logs c keep) ending text
+  crash_stopped c keep store after images ending text e h =
+      subst (λ l. JobEnds store after (writing_images logs 0 l (crash_says b w c keep (recovered b code init l))) ending text) e (h (crash_says b w c keep (recovered b code init images)))
+
+  -- the schedule was read, and its core crashes
+  pub schedule_ends : (s : State) (schedule : List ℕ) (scripts : List (List (Call State Op Query Reply))) (threads : ℕ) (plan : Schedule) (c : CoreState State Op Query Reply) (store mid after : StoreView) (ending : Ending) (text : List ℕ)
+      → threads ≡ length scripts → Reads store (schedule_of threads) schedule plan → SameFiles store mid → SameFaults store mid → c ≡ played b code init s scripts plan.turns
+      → JobEnds mid after (crash_job b w code init logs c plan.keep) ending text → JobEnds store after (schedule_job b w code init s schedule logs scripts) ending text
+  schedule_ends s schedule scripts threads plan c store mid after ending text n r files faults e h =
+      let r' = subst (λ m. Reads store (schedule_of m) schedule plan) n r in
+      on_text store mid schedule (schedule_of (length scripts)) (λ (p : Schedule). crash_job b w code init logs (played b code init s scripts p.turns) p.keep) plan r' (files_stay store mid files) faults after ending text
+      (subst (λ (k : CoreState State Op Query Reply). JobEnds mid after (crash_job b w code init logs k plan.keep) ending text) e h)
+
+  -- the schedule gives no turns
+  pub schedule_stopped : (s : State) (schedule : List ℕ) (scripts : List (List (Call State Op Query Reply))) (threads : ℕ) (store after : StoreView) (ending : Ending) (text : List ℕ)
+      → threads ≡ length scripts → SameFiles store after → Stops store after (schedule_of threads) schedule ending text → JobEnds store after (schedule_job b w code init s schedule logs scripts) ending text
+  schedule_stopped s schedule scripts threads store after ending text n files h =
+      stopped_ends store after schedule (schedule_of (length scripts)) (λ bytes (p : Schedule). crash_job b w code init logs (played b code init s scripts p.turns) p.keep) ending text (files_stay store after files)
+      (subst (λ m. Stops store after (schedule_of m) schedule ending text) n h)
+
+-- ---- the core
+-- each row of a core that was made and took steps is an operation's
+pub played_operations : {State Op Query Reply : Type 0} (b : Behaviour State Op Query Reply) (code : ℕ) (init : List ℕ) (s : State) (scripts : List (List (Call State Op Query Reply))) (turns : List Turn) (made c : CoreState State Op Query Reply)
+    → made ≡ created_core s code init scripts → c ≡ steps_of b made (turns_of turns) → AllByRecursion (λ (n : Node). IsSome (b.op_at n.row)) c.trace
+played_operations {State} {Op} {Query} {Reply} b code init s scripts turns made c e steps =
+    subst (λ (k : CoreState State Op Query Reply). AllByRecursion (λ (n : Node). IsSome (b.op_at n.row)) k.trace) (sym (steps ∙ ap (λ k. steps_of b k (turns_of turns)) e))
+    (steps_operations b (created_core s code init scripts) (turns_of turns) tt)

@@ -1,9 +1,11 @@
 mod Cuts
 mod ExitCauses
 mod FoldSteps
+mod Forms
 mod ImageFiles
 mod Onwards
 mod RecoverSteps
+mod ReplayNever
 mod ReplaySteps
 mod Stops
 pub mod Jobs

@@ -34,7 +34,7 @@ use Rattle.onll_jobs.specs.FoldJob.{script_job, script_job_on}
 use Rattle.onll_jobs.specs.Says.{job_of, PutWhole, OutOfMemory, SinkFailed, ExitSays, NoneRose, SaysThis}
 use Rattle.onll_jobs.proofs.Jobs.{decided, never_says, reading_never, reading_whole_never}
 use Rattle.onll_jobs.proofs.ImageFiles.{reading_images_never}
-use Rattle.onll_jobs.proofs.ReplayNever.{replay_never}
+use Rattle.onll_jobs.proofs.ReplayUsage.{replay_never}
 
 -- the ending of a status
 ending_at : ℕ → Ending

@@ -5,8 +5,8 @@ mod Forms
 mod ImageFiles
 mod Onwards
 mod RecoverSteps
-mod ReplayNever
 mod ReplaySteps
+mod ReplayUsage
 mod Stops
 pub mod Jobs
 pub mod ShowWords

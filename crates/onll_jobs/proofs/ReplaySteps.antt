@@ -13,7 +13,6 @@ use Rattle.onll_core.specs.declared.phase.Phase.{Phase}
 use Rattle.onll_core.specs.declared.phase.Phase.TheVariants as phases
 use Rattle.onll_core.specs.declared.returned.Current.{Current}
 use Rattle.onll_core.specs.Core.{CoreThread, CoreState}
-use Rattle.onll_core.specs.Turns as turns
 use Rattle.onll_core.specs.Outcomes.{returned_end, current_ends, current_in, ends_of}
 use Rattle.onll_log.specs.declared.decoded.Decoded.{Decoded}
 use Rattle.onll_log.specs.Grammar.{used_by}
@@ -106,17 +105,6 @@ module _ {State Op Query Reply : Type 0} where
       sym (append-nil out) ∙ sym (ap (with_lines out) (no_calls w thread i ends)) ∙ sym (ap (λ (l : List (Call State Op Query Reply)). with_lines out (call_lines w thread i l ends)) e)
 
 -- ---- the threads
-same_current : (ph : Phase) → turns.current_in ph ≡ current_in ph
-same_current phases.Idle = refl
-same_current (phases.Tail l) = refl
-same_current (phases.Exchange l) = refl
-same_current (phases.Flag p d) = refl
-same_current (phases.Line p d k) = refl
-same_current (phases.Back p d k) = refl
-same_current (phases.Fence p d) = refl
-same_current (phases.Set p d) = refl
-same_current (phases.Ask f d) = refl
-
 module _ {State Op Query Reply : Type 0} where
   if_at : (P : CoreThread State Op Query Reply → Type 0) (ths : List (CoreThread State Op Query Reply)) (t : ℕ) (th : CoreThread State Op Query Reply) → slice_get ths t ≡ Some th → IfSome (slice_get ths t) P → P th
   if_at P ths t th e h = subst (λ (o : Option (CoreThread State Op Query Reply)). IfSome o P) e h
@@ -128,7 +116,7 @@ module _ {State Op Query Reply : Type 0} where
 
   -- one thread's lines before those of the rest
   pub thread_more : (w : Wording State Op Query Reply) (out text : List ℕ) (t : ℕ) (ths : List (CoreThread State Op Query Reply)) (script : List (Call State Op Query Reply)) (rs : List (Returned State Op Query Reply)) (current : Current)
-      → t < length ths → IfSome (slice_get ths t) (λ th. script ≡ th.script) → IfSome (slice_get ths t) (λ th. rs ≡ th.returned) → IfSome (slice_get ths t) (λ th. current ≡ turns.current_in th.phase)
+      → t < length ths → IfSome (slice_get ths t) (λ th. script ≡ th.script) → IfSome (slice_get ths t) (λ th. rs ≡ th.returned) → IfSome (slice_get ths t) (λ th. current ≡ current_in th.phase)
       → text ≡ with_lines out (call_lines w t 0 script (map returned_end rs ++ current_ends current))
       → with_lines text (begun_lines w (t + 1) (drop (t + 1) ths)) ≡ with_lines out (begun_lines w t (drop t ths))
   thread_more w out text t ths script rs current h hs hr hc e =
@@ -138,7 +126,7 @@ module _ {State Op Query Reply : Type 0} where
       let rest = begun_lines w (t + 1) (drop (t + 1) ths) in
       let es : script ≡ th.script = if_at (λ z. script ≡ z.script) ths t th x.1 hs in
       let er : rs ≡ th.returned = if_at (λ z. rs ≡ z.returned) ths t th x.1 hr in
-      let ec : current ≡ current_in th.phase = if_at (λ z. current ≡ turns.current_in z.phase) ths t th x.1 hc ∙ same_current th.phase in
+      let ec : current ≡ current_in th.phase = if_at (λ z. current ≡ current_in z.phase) ths t th x.1 hc in
       ap (λ z. with_lines z rest) e
       ∙ ap (λ (l : List (Call State Op Query Reply)). with_lines (with_lines out (call_lines w t 0 l (map returned_end rs ++ current_ends current))) rest) es
       ∙ ap (λ (l : List (Returned State Op Query Reply)). with_lines (with_lines out (call_lines w t 0 th.script (map returned_end l ++ current_ends current))) rest) er

@@ -17,11 +17,11 @@ returns-in-len4-up-clause-form c =
 
 pub returns-in_default-clause-form : goal.returns-in_default-clause-form
 returns-in_default-clause-form c = elim c.in_default.branch [
-  in_default-via-then-words-lt2 w ↦ form-few string_bytes c.args.words.now (search rules)
+  | in_default-via-then-words-lt2 w ↦ form-few string_bytes c.args.words.now (search rules)
   | in_default-via-in-len2+else-eq w ↦ form-two string_bytes c.args.words.now w.command-item.result (search rules) w.command-item.is (search rules)
   | in_default-via-in-len3+else-eq-2 w ↦ form-three string_bytes c.args.words.now w.command-item-then-words-lt4.result (search rules) w.command-item-then-words-lt4.is (search rules)
   | in_default-via-else-words-lt2+else-words-lt3+else-words-lt4+in-len4-up+else-eq-4 w ↦ elim w.in-len4-up-1.branch [
-    in-len4+else-eq-3 w' ↦ form-four string_bytes c.args.words.now w.command-item-2.result (search rules) w.command-item-2.is (search rules)
+    | in-len4+else-eq-3 w' ↦ form-four string_bytes c.args.words.now w.command-item-2.result (search rules) w.command-item-2.is (search rules)
     | else-words-lt5 w' ↦ form-many string_bytes c.args.words.now w.command-item-2.result (search rules) w.command-item-2.is (search rules)
   ]
 ]

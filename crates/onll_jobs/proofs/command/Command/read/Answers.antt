@@ -1,4 +1,4 @@
-use Rattle.std.proofs.Common.{rules, ◌≡◌, map, string_bytes, Some, None, MatchOption, subst, refl, sym, length, take, drop, ◌-◌, ◌∙◌, Global, arith}
+use Rattle.std.proofs.Common.{rules, ◌≡◌, map, string_bytes, Some, None, MatchOption, subst, refl, sym, length, take, drop, ◌-◌, ◌∙◌, Global}
 use Rattle.onll_jobs.specs.Command.{form_in, replay_form}
 use Rattle.onll_jobs.proofs.Forms.{form-replay, form-few, form-two, form-three, form-many, form-four}
 use Rattle.onll_jobs.proofs.command.Command.read.Goals as goal

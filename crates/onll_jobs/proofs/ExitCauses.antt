@@ -21,7 +21,7 @@ use Rattle.onll_jobs.specs.declared.ending.Ending.TheVariants.{Done, Usage, Refu
 use Rattle.onll_jobs.specs.declared.ending.Exit.{Exit}
 use Rattle.onll_jobs.specs.declared.ending.Exit.TheVariants.{Said, SinkFault, NoMemory}
 use Rattle.onll_jobs.specs.Seen.{Seen}
-use Rattle.onll_jobs.specs.Command.{Form, Fold, Show, Recover, form_of}
+use Rattle.onll_jobs.specs.Command.{Form, Fold, Show, Recover, Replay, form_of}
 use Rattle.onll_jobs.specs.Printed.{usage_text, status_of, exit_status}
 use Rattle.onll_jobs.specs.Job.{Say, JobEnds, Never, Decides}
 use Rattle.onll_log.specs.Grammar.{Content, content_of}
@@ -34,6 +34,7 @@ use Rattle.onll_jobs.specs.FoldJob.{script_job, script_job_on}
 use Rattle.onll_jobs.specs.Says.{job_of, PutWhole, OutOfMemory, SinkFailed, ExitSays, NoneRose, SaysThis}
 use Rattle.onll_jobs.proofs.Jobs.{decided, never_says, reading_never, reading_whole_never}
 use Rattle.onll_jobs.proofs.ImageFiles.{reading_images_never}
+use Rattle.onll_jobs.proofs.ReplayUsage.{replay_never}
 
 -- the ending of a status
 ending_at : ℕ → Ending
@@ -113,6 +114,7 @@ form_never (Show image) = λ bytes. content_never (content_of (image_lines bytes
 form_never (Recover init logs threads) =
     reading_whole_never init init_of (λ bytes object. reading_images logs 0 threads (recover_any bytes object))
     (λ bytes object. reading_images_never logs threads 0 (recover_any bytes object) (recover_never bytes object))
+form_never (Replay init schedule logs scripts) = replay_never init schedule logs scripts
 
 usage_put : (w : Seen) (form : Option Form) → form_of w.words ≡ form → PutWhole w Usage → (form ≡ None) × Puts w.sink w.sink_after usage_text
 usage_put w None e h = (refl, subst (Puts w.sink w.sink_after) (subst (λ f. JobEnds w.store w.store_after (job_of f) Usage h.text) e h.allowed).1 h.put)

@@ -1,10 +1,12 @@
 mod Cuts
 mod ExitCauses
 mod FoldSteps
+mod Forms
 mod ImageFiles
 mod Onwards
 mod RecoverSteps
 mod ReplaySteps
+mod ReplayUsage
 mod Stops
 pub mod Jobs
 pub mod ShowWords

@@ -1,16 +1,18 @@
-use Rattle.std.specs.Prelude.{ℕ, List, [], ◌≡◌, ◌⊎◌, Option, Some, None}
+use Rattle.std.specs.Prelude.{ℕ, List, [], length, ◌≡◌, ◌⊎◌, Option, Some, None}
 use Rattle.onll_outside.specs.Views.{StoreView, Puts, PutsFront, Rose}
 use Rattle.onll_jobs.specs.declared.ending.Ending.{Ending}
 use Rattle.onll_jobs.specs.declared.ending.Ending.TheVariants.{Usage}
 use Rattle.onll_jobs.specs.declared.ending.Exit.{Exit}
 use Rattle.onll_jobs.specs.declared.ending.Exit.TheVariants.{Said, SinkFault, NoMemory}
 use Rattle.onll_jobs.specs.Seen.{Seen}
-use Rattle.onll_jobs.specs.Command.{Form, Fold, Show, Recover, form_of}
+use Rattle.onll_jobs.specs.Command.{Form, Fold, Show, Recover, Replay, form_of}
 use Rattle.onll_jobs.specs.Printed.{usage_text, status_of, exit_status}
 use Rattle.onll_jobs.specs.Job.{Job, Say, JobEnds}
 use Rattle.onll_jobs.specs.FoldJob.{fold_job}
 use Rattle.onll_jobs.specs.ShowJob.{show_job}
 use Rattle.onll_jobs.specs.RecoverJob.{recover_job}
+use Rattle.onll_jobs.specs.ReplayJob.{replay_job}
+use Rattle.onll_jobs.specs.Images.{image_names}
 
 -- what a call does by its words: those of no form get the usage text
 abbrev pub job_of : Option Form → Job
@@ -18,6 +20,7 @@ job_of None = Say Usage usage_text
 job_of (Some (Fold init script)) = fold_job init script
 job_of (Some (Show image)) = show_job image
 job_of (Some (Recover init logs threads)) = recover_job init logs threads
+job_of (Some (Replay init schedule logs scripts)) = replay_job init schedule logs scripts
 
 -- how words may end the call, with which text, and what they leave in the files
 abbrev pub FormSays : Option Form → StoreView → StoreView → Ending → List ℕ → Type 0
@@ -25,6 +28,7 @@ FormSays form store after ending text = JobEnds store after (job_of form) ending
 
 -- the files that a form writes
 abbrev pub writes_of : Option Form → List (List ℕ)
+writes_of (Some (Replay init schedule logs scripts)) = image_names logs 0 (length scripts)
 writes_of form = []
 
 -- the words and the files allow this ending with this text

@@ -1,5 +1,5 @@
 ghost use Rattle.std.specs.Prelude.{◌≡◌, map, string_bytes, Some, None, MatchOption, IfSome};
-ghost use Rattle.onll_jobs.specs.Command.{form_of, form_in, recover_form, IsCommand};
+ghost use Rattle.onll_jobs.specs.Command.{form_of, form_in, recover_form, replay_form, IsCommand};
 ghost use Rattle.onll_words.specs.Numbers.{number_of};
 
 use onll_words::whole_number;
@@ -19,6 +19,12 @@ pub(crate) enum Command<'a> {
         logs: &'a str,
         threads: u64,
     },
+    Replay {
+        init: &'a str,
+        schedule: &'a str,
+        logs: &'a str,
+        scripts: &'a [String],
+    },
 }
 
 /// The recovery from the logs of so many threads, as the last word says; nothing where it is no number from 1 to 16.
@@ -37,6 +43,28 @@ fn recover<'a>(init: &'a str, logs: &'a str, threads: &str) -> Option<Command<'a
     }
 }
 
+/// The replay of these scripts; nothing where they are not 1 to 16.
+fn replay<'a>(
+    init: &'a str,
+    schedule: &'a str,
+    logs: &'a str,
+    scripts: &'a [String],
+) -> Option<Command<'a>>
+    ensures form { let form = replay_form init.now schedule.now logs.now (map string_bytes scripts.now) in
+        MatchOption result (form ≡ None) (λ command. form ≡ Some (form_in command)) }
+    ensures command { IfSome result IsCommand }
+{
+    if scripts.is_empty() || scripts.len() > 16 {
+        return None;
+    }
+    Some(Command::Replay {
+        init,
+        schedule,
+        logs,
+        scripts,
+    })
+}
+
 impl<'a> Command<'a> {
     /// The command of the words; nothing where they are of no form.
     pub(crate) fn read(words: &'a [String]) -> Option<Command<'a>>
@@ -53,6 +81,9 @@ impl<'a> Command<'a> {
             }),
             [command, init, logs, threads] if command.as_str() == "recover" => {
                 recover(init.as_str(), logs.as_str(), threads.as_str())
+            }
+            [command, init, schedule, logs, scripts @ ..] if command.as_str() == "replay" => {
+                replay(init.as_str(), schedule.as_str(), logs.as_str(), scripts)
             }
             _ => None,
         }

@@ -36,6 +36,7 @@ fn command_answer<S: Store>(
             logs,
             threads,
         } => recover::answer(alloc, init, logs, threads, store),
+        Command::Replay { .. } => Err(NoMemory),
     }
 }
 

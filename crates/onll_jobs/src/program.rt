@@ -1,7 +1,7 @@
 ghost use Rattle.std.specs.Prelude.{◌≡◌, ◌⊎◌, ℕ, List, map, string_bytes, Some, None, IfOk};
 ghost use Rattle.onll_outside.specs.Views.{Puts};
 ghost use Rattle.onll_jobs.specs.declared.ending.Ending.{Ending};
-ghost use Rattle.onll_jobs.specs.Command.{form_of, form_in, IsCommand};
+ghost use Rattle.onll_jobs.specs.Command.{form_of, form_in, Replay, IsCommand};
 ghost use Rattle.onll_jobs.specs.Exits.{PutExits};
 ghost use Rattle.onll_jobs.specs.Seen.{seen_by};
 ghost use Rattle.onll_jobs.specs.Writing.{SameBut};
@@ -12,7 +12,7 @@ ghost use Rattle.onll_jobs.specs.Printed.{usage_text};
 use crate::answer::{Answer, usage};
 use crate::command::Command;
 use crate::ending::Exit;
-use crate::{fold, recover, show};
+use crate::{fold, recover, replay, show};
 use onll_outside::{OutsideFault, Sink, Store};
 use onll_words::NoMemory;
 use std::alloc::Global;
@@ -36,7 +36,12 @@ fn command_answer<S: Store>(
             logs,
             threads,
         } => recover::answer(alloc, init, logs, threads, store),
-        Command::Replay { .. } => Err(NoMemory),
+        Command::Replay {
+            init,
+            schedule,
+            logs,
+            scripts,
+        } => replay::answer(alloc, init, schedule, logs, scripts, store),
     }
 }
 
@@ -106,6 +111,10 @@ pub fn onll<S: Store, K: Sink>(alloc: Global, words: &[String], store: &mut S, o
     ensures decided { let seen = seen_by (map string_bytes words.now) (S.seen store.old) (S.seen store.new) (K.held out.old) (K.held out.new) in
         (ending : Ending) (text : List ℕ) → Decides seen.store (job_of (form_of seen.words)) ending text →
         NoneRose seen → SaysThis seen result ending text }
+
+    // What a crash leaves of a replay always recovers.
+    ensures recovers { (init schedule logs : List ℕ) (scripts : List (List ℕ)) →
+        form_of (map string_bytes words.now) ≡ Some (Replay init schedule logs scripts) → result ≡ 4 → ⊥ }
 
     // No file changes but those that the words write.
     ensures files { SameBut (writes_of (form_of (map string_bytes words.now))) (S.seen store.old) (S.seen store.new) }

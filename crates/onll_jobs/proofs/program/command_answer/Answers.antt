@@ -1,7 +1,9 @@
-use Rattle.std.proofs.Common.{Some, subst, sym}
+use Rattle.std.proofs.Common.{Some, subst, sym, string_bytes}
 use Rattle.std.specs.Result.{IfOk}
 use Rattle.onll_jobs.specs.Command.{form_in}
-use Rattle.onll_jobs.specs.Says.{FormSays}
+use Rattle.onll_jobs.specs.Says.{FormSays, writes_of}
+use Rattle.onll_jobs.specs.Writing.{SameBut}
+use Rattle.onll_jobs.proofs.Forms.{same-images}
 use Rattle.onll_jobs.specs.FoldJob.{fold_job}
 use Rattle.onll_jobs.specs.ShowJob.{show_job}
 use Rattle.onll_jobs.specs.RecoverJob.{recover_job}
@@ -28,3 +30,17 @@ returns-in-Recover-clause-says g c =
     let after = g.S.Store.seen c.answer-in-Recover.new.store in
     subst (λ command. IfOk c.answer-in-Recover.result (λ answer. FormSays (Some (form_in command)) store after answer.ending answer.text.items)) (sym c.in-Recover.is)
     (answer_ends store after (recover_job c.in-Recover.init.now c.in-Recover.logs.now c.in-Recover.threads) c.answer-in-Recover.result c.answer-in-Recover.ensures.same c.answer-in-Recover.ensures.says)
+
+pub returns-in-Replay-clause-says : goal.returns-in-Replay-clause-says
+returns-in-Replay-clause-says g c =
+    let store = g.S.Store.seen c.args.store.now in
+    let after = g.S.Store.seen c.answer-in-Replay.new.store in
+    subst (λ command. IfOk c.answer-in-Replay.result (λ answer. FormSays (Some (form_in command)) store after answer.ending answer.text.items)) (sym c.in-Replay.is)
+    c.answer-in-Replay.ensures.says
+
+pub returns-in-Replay-clause-files : goal.returns-in-Replay-clause-files
+returns-in-Replay-clause-files g c =
+    let store = g.S.Store.seen c.args.store.now in
+    let after = g.S.Store.seen c.answer-in-Replay.new.store in
+    subst (λ command. SameBut (writes_of (Some (form_in command))) store after) (sym c.in-Replay.is)
+    (same-images string_bytes store after c.in-Replay.logs.now c.in-Replay.scripts.now c.answer-in-Replay.ensures.others)

@@ -2,6 +2,7 @@ use Rattle.std.proofs.Common.{map, string_bytes, sym, arith, ◌∙◌}
 use Rattle.onll_jobs.specs.declared.ending.Ending.TheVariants.{Done, Refused, BadLog, ReadFault}
 use Rattle.onll_jobs.specs.Seen.{seen_by}
 use Rattle.onll_jobs.proofs.ExitCauses.{said_of, usage_of, failed_of, no_memory_of, count_of, decided_exactly}
+use Rattle.onll_jobs.proofs.NeverEnds.{never_bad}
 use Rattle.onll_jobs.proofs.program.onll.Goals as goal
 
 pub returns-clause-done : goal.returns-clause-done
@@ -30,3 +31,8 @@ returns-clause-decided g c ending text d none = rw c.status.ensures (decided_exa
 
 pub returns-clause-sink_count : goal.returns-clause-sink_count
 returns-clause-sink_count g c = rw c.status.ensures (count_of (seen_by (map string_bytes c.args.words.now) (g.S.Store.seen c.args.store.now) (g.S.Store.seen c.run.new.store) (g.K.Sink.held c.args.out.now) (g.K.Sink.held c.run.new.out)) c.run.result c.run.ensures.says)
+
+pub returns-clause-recovers : goal.returns-clause-recovers
+returns-clause-recovers g c init schedule logs scripts form e =
+    let seen = seen_by (map string_bytes c.args.words.now) (g.S.Store.seen c.args.store.now) (g.S.Store.seen c.run.new.store) (g.K.Sink.held c.args.out.now) (g.K.Sink.held c.run.new.out) in
+    never_bad seen init schedule logs scripts form (said_of seen c.run.result BadLog (λ e. omega arith) (sym c.status.ensures ∙ e) c.run.ensures.says)

@@ -1,4 +1,4 @@
-use Rattle.std.proofs.Common.{ℕ, zero, suc, ◌≡◌, ◌+◌, ◌-◌, ◌<◌, ◌≤◌, Bool, true, List, [], ◌∷◌, ◌++◌, Option, Some, None, length, drop, get_or, map, refl, sym, ap, ◌∙◌, subst, arith}
+use Rattle.std.proofs.Common.{ℕ, zero, suc, ◌≡◌, ◌+◌, ◌-◌, ◌<◌, ◌≤◌, Bool, List, [], ◌∷◌, ◌++◌, Option, Some, None, length, drop, get_or, map, refl, sym, ap, ◌∙◌, subst, arith}
 use Rattle.std.specs.List.{slice_get}
 use Rattle.std.proofs.lemmas.List.{drop_more, append-nil}
 use Rattle.onll_words.specs.Texts.{AreWords, line_text}
@@ -9,8 +9,6 @@ use Rattle.onll_model.specs.declared.call.CallEnd.{CallEnd}
 use Rattle.onll_model.specs.Object.{Behaviour}
 use Rattle.onll_core.specs.declared.returned.Returned.{Returned}
 use Rattle.std.specs.Option.{IfSome}
-use Rattle.onll_core.specs.declared.phase.Phase.{Phase}
-use Rattle.onll_core.specs.declared.phase.Phase.TheVariants as phases
 use Rattle.onll_core.specs.declared.returned.Current.{Current}
 use Rattle.onll_core.specs.Core.{CoreThread, CoreState}
 use Rattle.onll_core.specs.Outcomes.{returned_end, current_ends, current_in, ends_of}
@@ -19,7 +17,7 @@ use Rattle.onll_log.specs.Grammar.{used_by}
 use Rattle.onll_log.specs.Decoded.{content_in}
 use Rattle.onll_merge.specs.Merge.{contents_in}
 use Rattle.onll_text.specs.Wording.{Wording}
-use Rattle.onll_text.specs.Bytes.{begins_line, with_lines}
+use Rattle.onll_text.specs.Bytes.{with_lines}
 use Rattle.onll_text.specs.Lines.{call_line, call_lines, trace_line, node_line, log_line}
 use Rattle.onll_text.proofs.Appending.{with_lines-one, with_lines-append}
 use Rattle.onll_jobs.specs.ReplayJob.{begun_lines, flagged_lines, crash_line, fenced_lines, run_lines}

@@ -1,5 +1,5 @@
-use Rattle.std.proofs.Common.{ℕ, ◌≡◌, ◌+◌, ◌<◌, ◌≤◌, List, [], ◌∷◌, ◌++◌, true, IsSome, length, drop, get_or, map, refl, sym, ap, ◌∙◌, subst, append_assoc, append-nil}
-use Rattle.std.proofs.lemmas.List.{drop_more, length-map}
+use Rattle.std.proofs.Common.{ℕ, ◌≡◌, ◌+◌, ◌<◌, List, [], ◌∷◌, ◌++◌, IsSome, length, drop, get_or, map, refl, sym, ap, ◌∙◌, subst, append_assoc, append-nil}
+use Rattle.std.proofs.lemmas.List.{drop_more}
 use Rattle.std.specs.List.{AllByRecursion}
 use Rattle.onll_words.specs.declared.line.Line.{Line}
 use Rattle.onll_pmem.specs.Pmem.{words_of}
@@ -62,11 +62,12 @@ module _ {State Op Query Reply : Type 0} (w : Wording State Op Query Reply) wher
       → before ≡ name ∷ left → ScriptsSo store mid names before scripts → SameFiles mid new → SameFaults mid new → Reads mid (script_of w) name calls → all ≡ scripts ++ calls ∷ []
       → ScriptsSo store new names left all
   script_next store mid new names left before name scripts all calls split so files faults r e = record {
-    on = λ next. let o = so.on next in
-        (λ rest. o.0 (calls ∷ rest),
-        (λ rest. o.1 (calls ∷ rest) ∙ ap next (sym (append_assoc scripts (calls ∷ []) rest)) ∙ ap (λ l. next (l ++ rest)) (sym e)),
-        λ after ending text h. o.2 after ending text (subst (λ l. JobEnds mid after (reading_scripts w l o.0) ending text) (sym split)
-            (on_text mid new name (script_of w) (λ c. reading_scripts w left (λ rest. o.0 (c ∷ rest))) calls r (files_stay mid new files) faults after ending text h)));
+    on = λ next. let o = so.on next in (
+      λ rest. o.0 (calls ∷ rest),
+      (λ rest. o.1 (calls ∷ rest) ∙ ap next (sym (append_assoc scripts (calls ∷ []) rest)) ∙ ap (λ l. next (l ++ rest)) (sym e)),
+      λ after ending text h. o.2 after ending text (subst (λ l. JobEnds mid after (reading_scripts w l o.0) ending text) (sym split)
+          (on_text mid new name (script_of w) (λ c. reading_scripts w left (λ rest. o.0 (c ∷ rest))) calls r (files_stay mid new files) faults after ending text h)),
+    );
     same = same_more store mid new so.same files;
   }
 
@@ -76,7 +77,7 @@ module _ {State Op Query Reply : Type 0} (w : Wording State Op Query Reply) wher
   script_stopped store mid after names left before name scripts s split so files stop =
       StopSays-weaker s (Stops mid after (script_of w) name) (ScriptsStop w store after names)
       (λ ending text k next. let o = so.on next in o.2 after ending text (subst (λ l. JobEnds mid after (reading_scripts w l o.0) ending text) (sym split)
-          (stopped_ends mid after name (script_of w) (λ bytes c. reading_scripts w left (λ rest. o.0 (c ∷ rest))) ending text (files_stay mid after files) k))) stop
+      (stopped_ends mid after name (script_of w) (λ bytes c. reading_scripts w left (λ rest. o.0 (c ∷ rest))) ending text (files_stay mid after files) k))) stop
 
   -- all were read
   pub scripts_read : (store new : StoreView) (names left : List (List ℕ)) (scripts : List (List (Call State Op Query Reply))) → left ≡ [] → ScriptsSo store new names left scripts → AreRead w store new names scripts

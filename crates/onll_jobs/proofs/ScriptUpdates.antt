@@ -1,11 +1,11 @@
-use Rattle.std.proofs.Common.{ℕ, suc, Bool, true, false, List, [], ◌∷◌, ◌≡◌, ◌+◌, ◌≤◌, nat_lt, cond, refl, ap, ◌∙◌, sym, subst, arith, Result, Ok, Err}
+use Rattle.std.proofs.Common.{ℕ, Bool, true, false, List, [], ◌∷◌, ◌≡◌, ◌+◌, ◌≤◌, nat_lt, cond, refl, ap, ◌∙◌, subst, arith, Result, Ok, Err}
 use Rattle.std.proofs.lemmas.Bool.Decides.{nat_tests}
 use Rattle.onll_words.specs.Texts.{Numbered, words_of, meaningful_lines}
 use Rattle.onll_model.specs.declared.call.Call.{Call}
 use Rattle.onll_model.specs.declared.call.Call.TheVariants.{Update, Ask}
 use Rattle.onll_text.specs.declared.reason.Reason.{Reason}
 use Rattle.onll_text.specs.declared.reason.Reason.TheVariants.{TooLong, TooMany}
-use Rattle.onll_text.specs.Refusal.{Refusal, refused, ◌>>=◌, only_if, at_line}
+use Rattle.onll_text.specs.Refusal.{refused, ◌>>=◌, only_if, at_line}
 use Rattle.onll_text.specs.Wording.{Wording}
 use Rattle.onll_text.specs.Script.{most_calls, is_too_long, counted, call_after, calls_in, no_calls, script_of}
 use Rattle.onll_core.specs.Tie.{updates_in}

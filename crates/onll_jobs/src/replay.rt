@@ -382,7 +382,15 @@ pub(crate) fn answer<S: Store>(
     ensures others { SameBut (image_names logs.now 0 (length scripts.now)) (S.seen store.old) (S.seen store.new) }
 {
     match init_file(alloc, init, store) {
-        Ok(read) => replay_any(alloc, read.object, &read.text, schedule, logs, scripts, store),
+        Ok(read) => replay_any(
+            alloc,
+            read.object,
+            &read.text,
+            schedule,
+            logs,
+            scripts,
+            store,
+        ),
         Err(stop) => stop.answer(),
     }
 }

@@ -102,7 +102,10 @@ impl Outcome {
     pub(crate) fn expect_line(&self, rt: &impl Abort, case: &str, status: u8, line: &str) {
         assert_eq!(rt; self.status, status, "{case}");
         let taken = str::from_utf8(&self.taken).unwrap_or("no text");
-        assert!(rt; taken.lines().any(|said| said == line), "{case}: not said: {line}");
+        assert!(rt;
+            taken.lines().any(|said| said == line),
+            "{case}: not said: {line}"
+        );
     }
 
     /// Asserts the status and the whole text of a case. A failure shows the first line that differs.

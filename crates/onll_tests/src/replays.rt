@@ -21,9 +21,13 @@ impl<'a> Replay<'a> {
 }
 
 const ONE: &[&str] = &["replay", "i", "c", "out", "s0"];
+
 const TWO: &[&str] = &["replay", "i", "c", "out", "s0", "s1"];
+
 const THREE: &[&str] = &["replay", "i", "c", "out", "s0", "s1", "s2"];
+
 const FOUR: &[&str] = &["replay", "i", "c", "out", "s0", "s1", "s2", "s3"];
+
 const SIXTEEN: &[&str] = &[
     "replay", "i", "c", "out", "s0", "s0", "s0", "s0", "s0", "s0", "s0", "s0", "s0", "s0", "s0",
     "s0", "s0", "s0", "s0", "s0",
@@ -44,56 +48,88 @@ const REPLAYS: &[Replay<'static>] = &[
     Replay {
         name: "no step",
         words: ONE,
-        files: &[("i", b"bank 1\n"), ("c", b"crash 0\n"), ("s0", b"deposit 0 5\n")],
+        files: &[
+            ("i", b"bank 1\n"),
+            ("c", b"crash 0\n"),
+            ("s0", b"deposit 0 5\n"),
+        ],
         status: 0,
         output: "trace 0\ncrash 0\nlog 0 entries 0 lines 1 fences 0\nrecovered 0\nstate\nbank 1\naccount 0 0\n",
     },
     Replay {
         name: "one step",
         words: ONE,
-        files: &[("i", b"bank 1\n"), ("c", b"0 1\ncrash 0\n"), ("s0", b"deposit 0 5\n")],
+        files: &[
+            ("i", b"bank 1\n"),
+            ("c", b"0 1\ncrash 0\n"),
+            ("s0", b"deposit 0 5\n"),
+        ],
         status: 0,
         output: "call 0 1 deposit 0 5 -> running\ntrace 0\ncrash 0\nlog 0 entries 0 lines 1 fences 0\nrecovered 0\nstate\nbank 1\naccount 0 0\n",
     },
     Replay {
         name: "written back and not fenced, and no word is kept",
         words: ONE,
-        files: &[("i", b"bank 1\n"), ("c", b"0 6\ncrash 0\n"), ("s0", b"deposit 0 5\n")],
+        files: &[
+            ("i", b"bank 1\n"),
+            ("c", b"0 6\ncrash 0\n"),
+            ("s0", b"deposit 0 5\n"),
+        ],
         status: 0,
         output: "call 0 1 deposit 0 5 -> ordered at 1\ntrace 1\nnode 1 0 1 unset deposit 0 5\ncrash 0\nlog 0 entries 0 lines 1 fences 0\nrecovered 0\nstate\nbank 1\naccount 0 0\n",
     },
     Replay {
         name: "the same, and each word is kept",
         words: ONE,
-        files: &[("i", b"bank 1\n"), ("c", b"0 6\ncrash 18446744073709551615\n"), ("s0", b"deposit 0 5\n")],
+        files: &[
+            ("i", b"bank 1\n"),
+            ("c", b"0 6\ncrash 18446744073709551615\n"),
+            ("s0", b"deposit 0 5\n"),
+        ],
         status: 0,
         output: "call 0 1 deposit 0 5 -> ordered at 1\ntrace 1\nnode 1 0 1 unset deposit 0 5\ncrash 18446744073709551615\nlog 0 entries 1 lines 3 fences 0\nrecovered 1\nstate\nbank 1\naccount 0 5\n",
     },
     Replay {
         name: "the same, and the entry's magic is kept",
         words: ONE,
-        files: &[("i", b"bank 1\n"), ("c", b"0 6\ncrash 1\n"), ("s0", b"deposit 0 5\n")],
+        files: &[
+            ("i", b"bank 1\n"),
+            ("c", b"0 6\ncrash 1\n"),
+            ("s0", b"deposit 0 5\n"),
+        ],
         status: 0,
         output: "call 0 1 deposit 0 5 -> ordered at 1\ntrace 1\nnode 1 0 1 unset deposit 0 5\ncrash 1\nlog 0 entries 0 lines 1 fences 0\nrecovered 0\nstate\nbank 1\naccount 0 0\n",
     },
     Replay {
         name: "fenced, and not yet flagged",
         words: ONE,
-        files: &[("i", b"bank 1\n"), ("c", b"0 7\ncrash 0\n"), ("s0", b"deposit 0 5\n")],
+        files: &[
+            ("i", b"bank 1\n"),
+            ("c", b"0 7\ncrash 0\n"),
+            ("s0", b"deposit 0 5\n"),
+        ],
         status: 0,
         output: "call 0 1 deposit 0 5 -> ordered at 1\ntrace 1\nnode 1 0 1 unset deposit 0 5\ncrash 0\nlog 0 entries 1 lines 3 fences 1\nrecovered 1\nstate\nbank 1\naccount 0 5\n",
     },
     Replay {
         name: "returned",
         words: ONE,
-        files: &[("i", b"bank 1\n"), ("c", b"0 8\ncrash 0\n"), ("s0", b"deposit 0 5\n")],
+        files: &[
+            ("i", b"bank 1\n"),
+            ("c", b"0 8\ncrash 0\n"),
+            ("s0", b"deposit 0 5\n"),
+        ],
         status: 0,
         output: "call 0 1 deposit 0 5 -> ok at 1\ntrace 1\nnode 1 0 1 set deposit 0 5\ncrash 0\nlog 0 entries 1 lines 3 fences 1\nrecovered 1\nstate\nbank 1\naccount 0 5\n",
     },
     Replay {
         name: "more steps than the script takes",
         words: ONE,
-        files: &[("i", b"bank 1\n"), ("c", b"0 100\ncrash 0\n"), ("s0", b"deposit 0 5\n")],
+        files: &[
+            ("i", b"bank 1\n"),
+            ("c", b"0 100\ncrash 0\n"),
+            ("s0", b"deposit 0 5\n"),
+        ],
         status: 0,
         output: "call 0 1 deposit 0 5 -> ok at 1\ntrace 1\nnode 1 0 1 set deposit 0 5\ncrash 0\nlog 0 entries 1 lines 3 fences 1\nrecovered 1\nstate\nbank 1\naccount 0 5\n",
     },
@@ -107,54 +143,87 @@ const REPLAYS: &[Replay<'static>] = &[
     Replay {
         name: "a lost exchange",
         words: TWO,
-        files: &[("i", b"bank 2\n"), ("c", b"0 1\n1 2\n0 1\n0 2\ncrash 0\n"), ("s0", b"deposit 0 5\n"), ("s1", b"deposit 1 7\n")],
+        files: &[
+            ("i", b"bank 2\n"),
+            ("c", b"0 1\n1 2\n0 1\n0 2\ncrash 0\n"),
+            ("s0", b"deposit 0 5\n"),
+            ("s1", b"deposit 1 7\n"),
+        ],
         status: 0,
         output: "call 0 1 deposit 0 5 -> ordered at 2\ncall 1 1 deposit 1 7 -> ordered at 1\ntrace 2\nnode 1 1 1 unset deposit 1 7\nnode 2 0 1 unset deposit 0 5\ncrash 0\nlog 0 entries 0 lines 1 fences 0\nlog 1 entries 0 lines 1 fences 0\nrecovered 0\nstate\nbank 2\naccount 0 0\naccount 1 0\n",
     },
     Replay {
         name: "a read beside unset flags",
         words: THREE,
-        files: &[("i", b"bank 1\n"), ("c", b"0 2\n1 2\n2 3\n0 6\n1 7\n2 2\ncrash 0\n"), ("s0", b"deposit 0 5\n"),
+        files: &[
+            ("i", b"bank 1\n"),
+            ("c", b"0 2\n1 2\n2 3\n0 6\n1 7\n2 2\ncrash 0\n"),
+            ("s0", b"deposit 0 5\n"),
             ("s1", b"deposit 0 7\n"),
-            ("s2", b"balance 0\nbalance 0\n")],
+            ("s2", b"balance 0\nbalance 0\n"),
+        ],
         status: 0,
         output: "call 0 1 deposit 0 5 -> ok at 1\ncall 1 1 deposit 0 7 -> ok at 2\ncall 2 1 balance 0 -> 0 at 0\ncall 2 2 balance 0 -> 12 at 2\ntrace 2\nnode 1 0 1 set deposit 0 5\nnode 2 1 1 set deposit 0 7\ncrash 0\nlog 0 entries 1 lines 3 fences 1\nlog 1 entries 1 lines 3 fences 1\nlog 2 entries 0 lines 1 fences 0\nrecovered 2\nstate\nbank 1\naccount 0 12\n",
     },
     Replay {
         name: "a read that answers below a newer available place",
         words: FOUR,
-        files: &[("i", b"bank 1\n"), ("c", b"0 2\n1 2\n2 2\n3 3\n2 12\n0 6\n3 1\ncrash 0\n"), ("s0", b"deposit 0 1\n"),
+        files: &[
+            ("i", b"bank 1\n"),
+            ("c", b"0 2\n1 2\n2 2\n3 3\n2 12\n0 6\n3 1\ncrash 0\n"),
+            ("s0", b"deposit 0 1\n"),
             ("s1", b"deposit 0 2\n"),
             ("s2", b"deposit 0 4\n"),
-            ("s3", b"balance 0\n")],
+            ("s3", b"balance 0\n"),
+        ],
         status: 0,
         output: "call 0 1 deposit 0 1 -> ok at 1\ncall 1 1 deposit 0 2 -> ordered at 2\ncall 2 1 deposit 0 4 -> ok at 3\ncall 3 1 balance 0 -> 1 at 1\ntrace 3\nnode 1 0 1 set deposit 0 1\nnode 2 1 1 unset deposit 0 2\nnode 3 2 1 set deposit 0 4\ncrash 0\nlog 0 entries 1 lines 3 fences 1\nlog 1 entries 0 lines 1 fences 0\nlog 2 entries 1 lines 5 fences 1\nlog 3 entries 0 lines 1 fences 0\nrecovered 3\nstate\nbank 1\naccount 0 7\n",
     },
     Replay {
         name: "the greatest window",
         words: SIXTEEN,
-        files: &[("i", b"bank 1\n"), ("c", b"0 2\n1 2\n2 2\n3 2\n4 2\n5 2\n6 2\n7 2\n8 2\n9 2\n10 2\n11 2\n12 2\n13 2\n14 2\n15 53\ncrash 0\n"), ("s0", b"deposit 0 1\n")],
+        files: &[
+            ("i", b"bank 1\n"),
+            (
+                "c",
+                b"0 2\n1 2\n2 2\n3 2\n4 2\n5 2\n6 2\n7 2\n8 2\n9 2\n10 2\n11 2\n12 2\n13 2\n14 2\n15 53\ncrash 0\n",
+            ),
+            ("s0", b"deposit 0 1\n"),
+        ],
         status: 0,
         output: "call 0 1 deposit 0 1 -> ordered at 1\ncall 1 1 deposit 0 1 -> ordered at 2\ncall 2 1 deposit 0 1 -> ordered at 3\ncall 3 1 deposit 0 1 -> ordered at 4\ncall 4 1 deposit 0 1 -> ordered at 5\ncall 5 1 deposit 0 1 -> ordered at 6\ncall 6 1 deposit 0 1 -> ordered at 7\ncall 7 1 deposit 0 1 -> ordered at 8\ncall 8 1 deposit 0 1 -> ordered at 9\ncall 9 1 deposit 0 1 -> ordered at 10\ncall 10 1 deposit 0 1 -> ordered at 11\ncall 11 1 deposit 0 1 -> ordered at 12\ncall 12 1 deposit 0 1 -> ordered at 13\ncall 13 1 deposit 0 1 -> ordered at 14\ncall 14 1 deposit 0 1 -> ordered at 15\ncall 15 1 deposit 0 1 -> ok at 16\ntrace 16\nnode 1 0 1 unset deposit 0 1\nnode 2 1 1 unset deposit 0 1\nnode 3 2 1 unset deposit 0 1\nnode 4 3 1 unset deposit 0 1\nnode 5 4 1 unset deposit 0 1\nnode 6 5 1 unset deposit 0 1\nnode 7 6 1 unset deposit 0 1\nnode 8 7 1 unset deposit 0 1\nnode 9 8 1 unset deposit 0 1\nnode 10 9 1 unset deposit 0 1\nnode 11 10 1 unset deposit 0 1\nnode 12 11 1 unset deposit 0 1\nnode 13 12 1 unset deposit 0 1\nnode 14 13 1 unset deposit 0 1\nnode 15 14 1 unset deposit 0 1\nnode 16 15 1 set deposit 0 1\ncrash 0\nlog 0 entries 0 lines 1 fences 0\nlog 1 entries 0 lines 1 fences 0\nlog 2 entries 0 lines 1 fences 0\nlog 3 entries 0 lines 1 fences 0\nlog 4 entries 0 lines 1 fences 0\nlog 5 entries 0 lines 1 fences 0\nlog 6 entries 0 lines 1 fences 0\nlog 7 entries 0 lines 1 fences 0\nlog 8 entries 0 lines 1 fences 0\nlog 9 entries 0 lines 1 fences 0\nlog 10 entries 0 lines 1 fences 0\nlog 11 entries 0 lines 1 fences 0\nlog 12 entries 0 lines 1 fences 0\nlog 13 entries 0 lines 1 fences 0\nlog 14 entries 0 lines 1 fences 0\nlog 15 entries 1 lines 18 fences 1\nrecovered 16\nstate\nbank 1\naccount 0 16\n",
     },
     Replay {
         name: "a map",
         words: TWO,
-        files: &[("i", b"map 2\npair a 1\n"), ("c", b"0 8\n1 3\ncrash 0\n"), ("s0", b"put b 2\n"), ("s1", b"next b\ndel a\n")],
+        files: &[
+            ("i", b"map 2\npair a 1\n"),
+            ("c", b"0 8\n1 3\ncrash 0\n"),
+            ("s0", b"put b 2\n"),
+            ("s1", b"next b\ndel a\n"),
+        ],
         status: 0,
         output: "call 0 1 put b 2 -> new at 1\ncall 1 1 next b -> key b at 1\ncall 1 2 del a -> running\ntrace 1\nnode 1 0 1 set put b 2\ncrash 0\nlog 0 entries 1 lines 3 fences 1\nlog 1 entries 0 lines 1 fences 0\nrecovered 1\nstate\nmap 2\npair a 1\npair b 2\n",
     },
     Replay {
         name: "a queue",
         words: ONE,
-        files: &[("i", b"queue 2\nitem 4\n"), ("c", b"0 17\ncrash 0\n"), ("s0", b"pop\npush 5\n")],
+        files: &[
+            ("i", b"queue 2\nitem 4\n"),
+            ("c", b"0 17\ncrash 0\n"),
+            ("s0", b"pop\npush 5\n"),
+        ],
         status: 0,
         output: "call 0 1 pop -> item 4 at 1\ncall 0 2 push 5 -> ok at 2\ntrace 2\nnode 1 0 1 set pop\nnode 2 0 2 set push 5\ncrash 0\nlog 0 entries 2 lines 5 fences 2\nrecovered 2\nstate\nqueue 2\nitem 5\n",
     },
     Replay {
         name: "a lease table",
         words: ONE,
-        files: &[("i", b"lease 1\n"), ("c", b"0 8\ncrash 0\n"), ("s0", b"grant 0 7 10 5\n")],
+        files: &[
+            ("i", b"lease 1\n"),
+            ("c", b"0 8\ncrash 0\n"),
+            ("s0", b"grant 0 7 10 5\n"),
+        ],
         status: 0,
         output: "call 0 1 grant 0 7 10 5 -> granted 1 at 1\ntrace 1\nnode 1 0 1 set grant 0 7 10 5\ncrash 0\nlog 0 entries 1 lines 3 fences 1\nrecovered 1\nstate\nlease 1\nheld 0 1 7 15\n",
     },
@@ -174,7 +243,11 @@ fn schedules_that_crash(rt: HostRuntime) -> Result<(), Fail> {
 const REFUSED: &[(&str, &[u8], &str)] = &[
     ("no crash", b"0 1\n", "refused c 0 missing\n"),
     ("nothing", b"", "refused c 0 missing\n"),
-    ("no such thread", b"2\ncrash 0\n", "refused c 1 out of range\n"),
+    (
+        "no such thread",
+        b"2\ncrash 0\n",
+        "refused c 1 out of range\n",
+    ),
     ("no step", b"0 0\ncrash 0\n", "refused c 1 out of range\n"),
     (
         "a step too many in one turn",
@@ -186,11 +259,31 @@ const REFUSED: &[(&str, &[u8], &str)] = &[
         b"0 8000000\n0 1\ncrash 0\n",
         "refused c 2 too many\n",
     ),
-    ("a turn after the crash", b"crash 0\n0\n", "refused c 2 after crash\n"),
-    ("a second crash", b"crash 0\ncrash 0\n", "refused c 2 after crash\n"),
-    ("a crash of no number", b"crash\n", "refused c 1 wrong count\n"),
-    ("three numbers", b"0 1 2\ncrash 0\n", "refused c 1 wrong count\n"),
-    ("a thread of no number", b"x\ncrash 0\n", "refused c 1 bad number\n"),
+    (
+        "a turn after the crash",
+        b"crash 0\n0\n",
+        "refused c 2 after crash\n",
+    ),
+    (
+        "a second crash",
+        b"crash 0\ncrash 0\n",
+        "refused c 2 after crash\n",
+    ),
+    (
+        "a crash of no number",
+        b"crash\n",
+        "refused c 1 wrong count\n",
+    ),
+    (
+        "three numbers",
+        b"0 1 2\ncrash 0\n",
+        "refused c 1 wrong count\n",
+    ),
+    (
+        "a thread of no number",
+        b"x\ncrash 0\n",
+        "refused c 1 bad number\n",
+    ),
     (
         "a crash of a number too large",
         b"crash 18446744073709551616\n",
@@ -329,7 +422,9 @@ fn crashes<R: Abort>(
         ("s1", b"deposit 1 7\n"),
     ];
     let program = Program::new(TWO, files);
-    program.run(alloc)?.expect_line(rt, "a cut schedule", 0, line);
+    program
+        .run(alloc)?
+        .expect_line(rt, "a cut schedule", 0, line);
     Ok(())
 }
 

@@ -28,7 +28,7 @@ returns-in_ok-core-in-Ok-clause-says g c =
     (λ answer. JobEnds mid after (crash_job b w g.O.Object.CODE init logs core plan.keep) answer.ending answer.text.items)
     (λ answer. JobEnds store after (schedule_job b w g.O.Object.CODE init c.args.object c.args.schedule.now logs scripts) answer.ending answer.text.items)
     (λ answer h. schedule_ends b w g.O.Object.CODE init logs c.args.object c.args.schedule.now scripts c.len.result plan core store mid after answer.ending answer.text.items
-        (count ∙ sym (length-map c.args.scripts.items (λ script. script.items))) c.in-Ok.ensures.schedule c.in-Ok.ensures.same c.in-Ok.ensures.count c.in_ok-core-in-Ok.ensures.core h)
+    (count ∙ sym (length-map c.args.scripts.items (λ script. script.items))) c.in-Ok.ensures.schedule c.in-Ok.ensures.same c.in-Ok.ensures.count c.in_ok-core-in-Ok.ensures.core h)
     c.crash.ensures.says
 
 pub returns-in_ok-core-in-Ok-clause-others : goal.returns-in_ok-core-in-Ok-clause-others
@@ -49,5 +49,5 @@ returns-in-Err-clause-says g c =
     stopped_says c.in-Err.stop c.answer.result (Stops store after (schedule_of c.len.result) c.args.schedule.now)
     (JobEnds store after (schedule_job b w g.O.Object.CODE c.args.init.now c.args.object c.args.schedule.now c.args.logs.now scripts))
     (λ ending text h. schedule_stopped b w g.O.Object.CODE c.args.init.now c.args.logs.now c.args.object c.args.schedule.now scripts c.len.result store after ending text
-        (count ∙ sym (length-map c.args.scripts.items (λ script. script.items))) c.in-Err.ensures.same h)
+    (count ∙ sym (length-map c.args.scripts.items (λ script. script.items))) c.in-Err.ensures.same h)
     c.answer.ensures c.in-Err.ensures.stop

@@ -5,15 +5,7 @@
 set -eu
 
 runs=${1:-10}
-top=$(cd "$(dirname "$0")/.." && pwd)
-program=$top/crates/onll_main/out/onll_main
-if [ ! -x "$program" ]; then
-    echo "no $program: build it by 'rt run' in crates/onll_main" >&2
-    exit 1
-fi
-
-folder=$(mktemp -d)
-trap 'rm -r "$folder"' EXIT
+. "$(dirname "$0")/times.sh"
 python3 "$top/bench/logs.py" "$folder"
 cd "$folder"
 
@@ -23,20 +15,4 @@ if [ "$(tail -n 1 report)" != "account 63 2024" ] || ! grep -q '^recovered 65536
     echo "the report is wrong" >&2
     exit 1
 fi
-
-run=0
-while [ "$run" -lt "$runs" ]; do
-    start=$(date +%s%N)
-    "$program" recover bank log 16 > report
-    end=$(date +%s%N)
-    echo $(((end - start) / 1000))
-    run=$((run + 1))
-done | sort -n > times
-
-awk -v bytes="$(wc -c < report)" '
-    { time[NR] = $1 }
-    END {
-        middle = int((NR + 1) / 2)
-        printf "%d runs, a report of %d bytes: median %d, least %d, greatest %d microseconds\n", \
-            NR, bytes, time[middle], time[1], time[NR]
-    }' times
+time_runs recover bank log 16

@@ -5,15 +5,7 @@
 set -eu
 
 runs=${1:-10}
-top=$(cd "$(dirname "$0")/.." && pwd)
-program=$top/crates/onll_main/out/onll_main
-if [ ! -x "$program" ]; then
-    echo "no $program: build it by 'rt run' in crates/onll_main" >&2
-    exit 1
-fi
-
-folder=$(mktemp -d)
-trap 'rm -r "$folder"' EXIT
+. "$(dirname "$0")/times.sh"
 python3 "$top/bench/schedule.py" "$folder"
 cd "$folder"
 scripts="script script script script script script script script"
@@ -26,20 +18,4 @@ if [ "$(grep -c ' -> ok at ' report)" != 63504 ] || ! grep -q '^recovered 63504$
     echo "the report is wrong" >&2
     exit 1
 fi
-
-run=0
-while [ "$run" -lt "$runs" ]; do
-    start=$(date +%s%N)
-    "$program" replay bank plan log $scripts > report
-    end=$(date +%s%N)
-    echo $(((end - start) / 1000))
-    run=$((run + 1))
-done | sort -n > times
-
-awk -v bytes="$(wc -c < report)" -v images="$(cat log.* | wc -c)" '
-    { time[NR] = $1 }
-    END {
-        middle = int((NR + 1) / 2)
-        printf "%d runs, a report of %d bytes and images of %d: median %d, least %d, greatest %d microseconds\n", \
-            NR, bytes, images, time[middle], time[1], time[NR]
-    }' times
+time_runs replay bank plan log $scripts

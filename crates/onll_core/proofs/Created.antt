@@ -39,7 +39,7 @@ created_threads initial object init scripts =
     length-first_threads (heads_from (length scripts) object init 0 (length scripts)) scripts long ∙ long
 
 module _ {State Op Query Reply : Type 0} (initial : State) (object : ℕ) (init : List ℕ) (scripts : List (List (Call State Op Query Reply))) (l : IsWithinLimits object scripts) where
-  are_first : AreFirst (length scripts) (heads_from (length scripts) object init 0 (length scripts)) scripts
+  pub are_first : AreFirst (length scripts) (heads_from (length scripts) object init 0 (length scripts)) scripts
   are_first = record {
     few = l.few;
     all_heads = length-heads_from (length scripts) object init 0 (length scripts);

@@ -31,3 +31,4 @@ pub mod Rows
 pub mod EntryLines
 pub mod Plays
 pub mod Firsts
+pub mod Durable

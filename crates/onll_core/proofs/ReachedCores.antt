@@ -120,6 +120,6 @@ module _ {State Op Query Reply : Type 0} (b : Behaviour State Op Query Reply) wh
   reached_order count c h = timed_order count c (reached_consistent count c h) (reached_timed count c h) (all_counted b c (reached_lawful count c h))
 
   pub reached_returns : ReturnLaw b
-  reached_returns count c t place th ts h at now enough =
+  reached_returns count c h t place th ts at now enough =
       let call = ordered_update place (current_of th) (next_call th) now ((reached_lawful count c h).each t th at).suits in
       returns_in_time b count c (reached_consistent count c h) t place th at call.0 call.1 now ts enough

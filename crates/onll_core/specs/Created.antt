@@ -14,8 +14,12 @@ abbrev pub heads_from : ℕ → ℕ → List ℕ → ℕ → ℕ → List LogHea
 heads_from count object init t zero = []
 heads_from count object init t (suc n) = head_for 2 t count object init ∷ heads_from count object init (suc t) n
 
+-- the heads of the logs of a core that is made of scripts
+abbrev pub created_heads : {State Op Query Reply : Type 0} → ℕ → List ℕ → List (List (Call State Op Query Reply)) → List LogHead
+created_heads object init scripts = heads_from (length scripts) object init 0 (length scripts)
+
 abbrev pub created_core : {State Op Query Reply : Type 0} → State → ℕ → List ℕ → List (List (Call State Op Query Reply)) → CoreState State Op Query Reply
-created_core initial object init scripts = first_core initial (heads_from (length scripts) object init 0 (length scripts)) scripts
+created_core initial object init scripts = first_core initial (created_heads object init scripts) scripts
 
 -- an object's code and scripts within the limits
 pub record IsWithinLimits {State Op Query Reply : Type 0} (object : ℕ) (scripts : List (List (Call State Op Query Reply))) : Type 0 where

@@ -23,3 +23,4 @@ pub mod OutcomeLaws
 pub mod Stays
 pub mod Crash
 pub mod CrashLaws
+pub mod Durable

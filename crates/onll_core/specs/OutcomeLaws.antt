@@ -13,7 +13,7 @@ use Rattle.onll_core.specs.Resumed.{resumed_core, AreResumed}
 use Rattle.onll_core.specs.Consistent.{IsConsistent}
 use Rattle.onll_core.specs.Outcomes.{current_of, IsLegalCore, IsFresh}
 use Rattle.onll_core.specs.CallTimes.{AreInTime}
-use Rattle.onll_core.specs.Returns.{own_steps, HasReturned}
+use Rattle.onll_core.specs.Returns.{OrderedReturn}
 use Rattle.onll_core.specs.Reached.{IsReached}
 
 -- Laws of the calls of a step core, whatever the object and whatever threads take steps.
@@ -55,7 +55,6 @@ module _ {State Op Query Reply : Type 0} (b : Behaviour State Op Query Reply) wh
   abbrev pub OrderLaw : Type 0
   OrderLaw = (count : ℕ) (c : CoreState State Op Query Reply) → IsReached b count c → AreInTime c
 
-  -- an ordered call has returned, at its place, after 3 * count + 4 steps of its thread, whatever steps others take between
+  -- its ordered calls return
   abbrev pub ReturnLaw : Type 0
-  ReturnLaw = (count : ℕ) (c : CoreState State Op Query Reply) (t place : ℕ) (th : CoreThread State Op Query Reply) (ts : List ℕ) → IsReached b count c → slice_get c.threads t ≡ Some th
-      → current_of th ≡ currents.Ordered place → 3 * count + 4 ≤ own_steps t ts → HasReturned (steps_of b c ts) t (length th.returned) place
+  ReturnLaw = (count : ℕ) (c : CoreState State Op Query Reply) → IsReached b count c → OrderedReturn b count c

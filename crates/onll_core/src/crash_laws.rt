@@ -1,5 +1,6 @@
 //! What a crash of a core leaves and what is recovered from it, for every object, whatever threads take steps.
 
+ghost use Rattle.onll_core.specs.Durable.{DurableLaw};
 ghost use Rattle.onll_core.specs.CrashLaws.{ImageLaw, RestLaw, PickedLaw, RecoveryLaw, HeadsLaw, LaterCrashLaw, CrashLaw, ResumedCrashLaw, ReachedCrashLaw, GoOnLaw, MoreNodesLaw, NextCrashLaw};
 
 use onll_model::Object;
@@ -34,4 +35,11 @@ pub fn next_crash_law<O: Object>()
     ensures on { GoOnLaw O O.Op O.Query O.Reply }
     ensures more { MoreNodesLaw O.means }
     ensures next { NextCrashLaw O.means }
+{}
+
+/// What ONLL promises, in one place: in every interleaving of any scripts, at every step, the trace is one legal history in
+/// real time, an update has fenced its log once and a read never, and whatever a crash leaves recovers to a prefix of the
+/// trace that holds every returned update and all that returned reads saw.
+pub fn durable_law<O: Object>()
+    ensures { DurableLaw O.means }
 {}

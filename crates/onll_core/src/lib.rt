@@ -11,7 +11,7 @@ mod returned;
 mod step_core;
 mod worker;
 
-pub use crash_laws::{crash_law, image_law, next_crash_law, recovery_law};
+pub use crash_laws::{crash_law, durable_law, image_law, next_crash_law, recovery_law};
 pub use laws::{consistency_law, fence_law, stays_law, step_event_law};
 pub use outcomes::{order_law, reached_law, report_law, return_law};
 pub use phase::Phase;

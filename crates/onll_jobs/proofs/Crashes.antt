@@ -3,7 +3,6 @@ use Rattle.std.proofs.lemmas.Bool.Decides.{nat_tests}
 use Rattle.std.specs.List.{AllByRecursion}
 use Rattle.onll_model.specs.declared.node.Node.{Node}
 use Rattle.onll_model.specs.declared.call.Call.{Call}
-use Rattle.onll_model.specs.declared.turn.Turn.{Turn}
 use Rattle.onll_model.specs.Object.{Behaviour}
 use Rattle.onll_model.specs.Recovered.{operations_front, where_some}
 use Rattle.onll_model.specs.Frames.{Thread}
@@ -16,22 +15,20 @@ use Rattle.onll_merge.specs.FrameLogs.{AreLogsOf}
 use Rattle.onll_core.specs.Core.{CoreThread, CoreState}
 use Rattle.onll_core.specs.CoreFrame.{frame_thread}
 use Rattle.onll_core.specs.Step.{steps_of}
-use Rattle.onll_core.specs.Turns.{turns_of}
 use Rattle.onll_core.specs.First.{first_threads}
-use Rattle.onll_core.specs.Created.{heads_from, created_core, IsWithinLimits}
+use Rattle.onll_core.specs.Created.{heads_from, created_heads, created_core, IsWithinLimits}
 use Rattle.onll_core.specs.Consistent.{IsConsistent}
-use Rattle.onll_core.specs.Crash.{AreImages, images_of, heads_of}
+use Rattle.onll_core.specs.Crash.{AreImages, heads_of, Recovers}
 use Rattle.onll_core.proofs.Created.{created_consistent}
 use Rattle.onll_core.proofs.Kept.{steps_consistent}
 use Rattle.onll_core.proofs.Images.{image_either}
-use Rattle.onll_core.proofs.Crashed.{picked_images, are_held, recovers, steps_heads}
+use Rattle.onll_core.proofs.Crashed.{are_held, steps_heads}
 use Rattle.onll_core.proofs.Operations.{AllOperations, steps_operations}
 use Rattle.onll_jobs.specs.declared.bad_logs.LogsFault.{LogsFault}
 use Rattle.onll_jobs.specs.declared.bad_logs.LogsFault.TheVariants.{NotOperation}
 use Rattle.onll_jobs.specs.RecoverJob.{Recovered, content_before, contents_from, expected_heads, operations, operations_of, with_logs, merged, recovered}
-use Rattle.onll_jobs.specs.ReplayJob.{played}
 
--- The images of a core that was made of scripts and played give logs that recover.
+-- The images of a core that was made of scripts are logs of this run, and what is recovered from them are operations.
 
 -- ---- the format of an image
 -- a log's image is read by the format of its head
@@ -142,24 +139,24 @@ module _ {State Op Query Reply : Type 0} (b : Behaviour State Op Query Reply) wh
 
   -- images of a consistent core whose heads are those of its number of threads
   core_recovers : (count code : ℕ) (init : List ℕ) (c : CoreState State Op Query Reply) (images : List (List (List ℕ))) → IsConsistent count c → AllOperations b c.trace
-      → heads_of c.threads ≡ heads_from count code init 0 count → AreImages c.threads images → (r : Recovered) × (recovered b code init images ≡ Ok r)
-  core_recovers count code init c images k rows same a =
-      let r = recovers count c images k a in
+      → heads_of c.threads ≡ heads_from count code init 0 count → AreImages c.threads images → (r : Recovers (heads_from count code init 0 count) c images)
+      → recovered b code init images ≡ Ok (record { logs = r.logs; nodes = r.nodes })
+  core_recovers count code init c images k rows same a r =
       let held = are_held c.base c.trace c.threads images a (λ t th at image i. image_either count c k t th at image i) in
       let formats = formats_are (map (frame_thread c.base c.trace) c.threads) (heads_of c.threads) held.logs images held.left held.contents (subst HaveFormat2 (sym same) (heads_have_format count code init 0 count)) in
       let many : length images ≡ count = images_many c.threads images a ∙ ap length same ∙ length-heads count code init 0 count in
-      let heads : expected_heads code init (length images) 0 images ≡ heads_of c.threads =
-      heads_expected (length images) code init 0 images formats ∙ ap (λ (n : ℕ). heads_from n code init 0 n) many ∙ sym same in
+      let heads : expected_heads code init (length images) 0 images ≡ heads_from count code init 0 count =
+      heads_expected (length images) code init 0 images formats ∙ ap (λ (n : ℕ). heads_from n code init 0 n) many in
       let ops = subst (λ (nodes : List Node). operations b nodes ≡ Ok nodes) (sym r.front) (operations_are (take (top_of r.logs) c.trace) (take_operations (top_of r.logs) c.trace rows)) in
-      (record { logs = r.logs; nodes = r.nodes }, recovered_is code init images (heads_of c.threads) r.logs r.nodes heads (contents_are 0 images r.logs r.contents) r.recovered ops)
+      recovered_is code init images (heads_from count code init 0 count) r.logs r.nodes heads (contents_are 0 images r.logs r.contents) r.recovered ops
 
-  -- a crash of a played core recovers, whatever it leaves of each device
-  pub crash_recovers : (code : ℕ) (init : List ℕ) (s : State) (scripts : List (List (Call State Op Query Reply))) (turns : List Turn) (keep : ℕ) → IsWithinLimits code scripts
-      → (r : Recovered) × (recovered b code init (images_of keep (played b code init s scripts turns).threads) ≡ Ok r)
-  crash_recovers code init s scripts turns keep l =
+  -- a crash of a core that was made of scripts is recovered, after any steps, whatever it leaves of each device
+  pub crash_recovered : (code : ℕ) (init : List ℕ) (s : State) (scripts : List (List (Call State Op Query Reply))) (ts : List ℕ) (images : List (List (List ℕ))) → IsWithinLimits code scripts
+      → AreImages (steps_of b (created_core s code init scripts) ts).threads images → (r : Recovers (created_heads code init scripts) (steps_of b (created_core s code init scripts) ts) images)
+      → recovered b code init images ≡ Ok (record { logs = r.logs; nodes = r.nodes })
+  crash_recovered code init s scripts ts images l a r =
       let count = length scripts in
       let c = created_core s code init scripts in
-      let ts = turns_of turns in
       let k = steps_consistent b count c ts (created_consistent s code init scripts l) in
-      let heads = steps_heads b c ts ∙ heads_of_first (heads_from count code init 0 count) scripts (length-heads count code init 0 count) in
-      core_recovers count code init (steps_of b c ts) (images_of keep (steps_of b c ts).threads) k (steps_operations b c ts tt) heads (picked_images count (steps_of b c ts) keep k)
+      let heads = steps_heads b c ts ∙ heads_of_first (created_heads code init scripts) scripts (length-heads count code init 0 count) in
+      core_recovers count code init (steps_of b c ts) images k (steps_operations b c ts tt) heads a r

@@ -34,7 +34,7 @@ use Rattle.onll_jobs.specs.FoldJob.{script_job, script_job_on}
 use Rattle.onll_jobs.specs.Says.{job_of, PutWhole, OutOfMemory, SinkFailed, ExitSays, NoneRose, SaysThis}
 use Rattle.onll_jobs.proofs.Jobs.{decided, never_says, reading_never, reading_whole_never}
 use Rattle.onll_jobs.proofs.ImageFiles.{reading_images_never}
-use Rattle.onll_jobs.proofs.ReplayUsage.{replay_never}
+use Rattle.onll_jobs.proofs.ReplayEnds.{replay_not_usage}
 
 -- the ending of a status
 ending_at : ℕ → Ending
@@ -108,17 +108,21 @@ recover_never init (objects.Queue s) images = found_never queue queue_wording s 
 recover_never init (objects.Lease s) images = found_never lease lease_wording s (recovered lease 4 init images)
 
 -- words of a form never get the usage text
-form_never : (form : Form) → Never Usage (job_of (Some form))
-form_never (Fold init script) = reading_never init init_of (script_job_on script) (script_never script)
-form_never (Show image) = λ bytes. content_never (content_of (image_lines bytes))
-form_never (Recover init logs threads) =
-    reading_whole_never init init_of (λ bytes object. reading_images logs 0 threads (recover_any bytes object))
-    (λ bytes object. reading_images_never logs threads 0 (recover_any bytes object) (recover_never bytes object))
-form_never (Replay init schedule logs scripts) = replay_never init schedule logs scripts
+not_usage : (w : Seen) (form : Form) → form_of w.words ≡ Some form → Never Usage (job_of (Some form)) → PutWhole w Usage → ⊥
+not_usage w form e never h = never_says w.store w.store_after (job_of (Some form)) h.text never (subst (λ f. JobEnds w.store w.store_after (job_of f) Usage h.text) e h.allowed)
+
+form_not_usage : (w : Seen) (form : Form) → form_of w.words ≡ Some form → PutWhole w Usage → ⊥
+form_not_usage w (Fold init script) e h = not_usage w (Fold init script) e (reading_never init init_of (script_job_on script) (script_never script)) h
+form_not_usage w (Show image) e h = not_usage w (Show image) e (λ bytes. content_never (content_of (image_lines bytes))) h
+form_not_usage w (Recover init logs threads) e h =
+    not_usage w (Recover init logs threads) e
+    (reading_whole_never init init_of (λ bytes object. reading_images logs 0 threads (recover_any bytes object))
+    (λ bytes object. reading_images_never logs threads 0 (recover_any bytes object) (recover_never bytes object))) h
+form_not_usage w (Replay init schedule logs scripts) e h = replay_not_usage w init schedule logs scripts e h
 
 usage_put : (w : Seen) (form : Option Form) → form_of w.words ≡ form → PutWhole w Usage → (form ≡ None) × Puts w.sink w.sink_after usage_text
 usage_put w None e h = (refl, subst (Puts w.sink w.sink_after) (subst (λ f. JobEnds w.store w.store_after (job_of f) Usage h.text) e h.allowed).1 h.put)
-usage_put w (Some form) e h = absurd (never_says w.store w.store_after (job_of (Some form)) h.text (form_never form) (subst (λ f. JobEnds w.store w.store_after (job_of f) Usage h.text) e h.allowed))
+usage_put w (Some form) e h = absurd (form_not_usage w form e h)
 
 pub usage_of : (w : Seen) (x : Exit) → exit_status x ≡ 2 → ExitSays w x → (form_of w.words ≡ None) × Puts w.sink w.sink_after usage_text
 usage_of w x h s = usage_put w (form_of w.words) refl (said_of w x Usage (λ e. omega arith) h s)

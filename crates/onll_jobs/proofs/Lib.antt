@@ -6,7 +6,6 @@ mod ImageFiles
 mod Onwards
 mod RecoverSteps
 mod ReplaySteps
-mod ReplayUsage
 mod Stops
 pub mod Jobs
 pub mod ShowWords
@@ -14,5 +13,5 @@ pub mod Shown
 pub mod ScriptUpdates
 pub mod Replays
 pub mod Crashes
-pub mod ReplayNever
-pub mod NeverEnds
+pub mod ReplayEnds
+pub mod RecoverCrashes

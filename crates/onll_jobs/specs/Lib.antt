@@ -14,3 +14,4 @@ pub mod Seen
 pub mod ShowJob
 pub mod Stop
 pub mod Writing
+pub mod Durable

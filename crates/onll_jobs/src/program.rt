@@ -7,6 +7,7 @@ ghost use Rattle.onll_jobs.specs.Seen.{seen_by};
 ghost use Rattle.onll_jobs.specs.Writing.{SameBut};
 ghost use Rattle.onll_jobs.specs.Says.{job_of, writes_of, FormSays, ExitSays, Ended, PutWhole, OutOfMemory, SinkFailed, NoneRose, SaysThis};
 ghost use Rattle.onll_jobs.specs.Job.{Decides};
+ghost use Rattle.onll_jobs.specs.Durable.{ReplayIsDurable, RecoversCrashes};
 ghost use Rattle.onll_jobs.specs.Printed.{usage_text};
 
 use crate::answer::{Answer, usage};
@@ -112,6 +113,14 @@ pub fn onll<S: Store, K: Sink>(alloc: Global, words: &[String], store: &mut S, o
         (ending : Ending) (text : List ℕ) → Decides seen.store (job_of (form_of seen.words)) ending text →
         NoneRose seen → SaysThis seen result ending text }
 
+    // What a replay prints is one run of scripts every run of which is durable at each step: one legal history in real time, an
+    // update that fences once, a read that never does, and, whatever a crash leaves, logs that recover to a prefix which holds
+    // every returned update and all that returned reads saw. The images that this run's crash leaves are in the files.
+    ensures durable { let seen = seen_by (map string_bytes words.now) (S.seen store.old) (S.seen store.new) (K.held out.old) (K.held out.new) in
+        ReplayIsDurable seen result }
+    // From such files, whatever crash of whatever run left them, recovery prints that prefix, or the status is 9.
+    ensures crashes { let seen = seen_by (map string_bytes words.now) (S.seen store.old) (S.seen store.new) (K.held out.old) (K.held out.new) in
+        RecoversCrashes seen result }
     // What a crash leaves of a replay always recovers.
     ensures recovers { (init schedule logs : List ℕ) (scripts : List (List ℕ)) →
         form_of (map string_bytes words.now) ≡ Some (Replay init schedule logs scripts) → result ≡ 4 → ⊥ }

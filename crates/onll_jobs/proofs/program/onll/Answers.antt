@@ -1,8 +1,10 @@
-use Rattle.std.proofs.Common.{map, string_bytes, sym, arith, ◌∙◌}
+use Rattle.std.proofs.Common.{map, string_bytes, sym, arith, subst, ◌∙◌}
 use Rattle.onll_jobs.specs.declared.ending.Ending.TheVariants.{Done, Refused, BadLog, ReadFault}
 use Rattle.onll_jobs.specs.Seen.{seen_by}
+use Rattle.onll_jobs.specs.Durable.{RecoversCrashes}
 use Rattle.onll_jobs.proofs.ExitCauses.{said_of, usage_of, failed_of, no_memory_of, count_of, decided_exactly}
-use Rattle.onll_jobs.proofs.NeverEnds.{never_bad}
+use Rattle.onll_jobs.proofs.ReplayEnds.{replay_not_bad, replay_durable}
+use Rattle.onll_jobs.proofs.RecoverCrashes.{recovers_crashes}
 use Rattle.onll_jobs.proofs.program.onll.Goals as goal
 
 pub returns-clause-done : goal.returns-clause-done
@@ -32,7 +34,17 @@ returns-clause-decided g c ending text d none = rw c.status.ensures (decided_exa
 pub returns-clause-sink_count : goal.returns-clause-sink_count
 returns-clause-sink_count g c = rw c.status.ensures (count_of (seen_by (map string_bytes c.args.words.now) (g.S.Store.seen c.args.store.now) (g.S.Store.seen c.run.new.store) (g.K.Sink.held c.args.out.now) (g.K.Sink.held c.run.new.out)) c.run.result c.run.ensures.says)
 
+pub returns-clause-durable : goal.returns-clause-durable
+returns-clause-durable g c init schedule logs names form e =
+    let seen = seen_by (map string_bytes c.args.words.now) (g.S.Store.seen c.args.store.now) (g.S.Store.seen c.run.new.store) (g.K.Sink.held c.args.out.now) (g.K.Sink.held c.run.new.out) in
+    replay_durable seen init schedule logs names form (said_of seen c.run.result Done (λ e. omega arith) (sym c.status.ensures ∙ e) c.run.ensures.says)
+
+pub returns-clause-crashes : goal.returns-clause-crashes
+returns-clause-crashes g c =
+    let seen = seen_by (map string_bytes c.args.words.now) (g.S.Store.seen c.args.store.now) (g.S.Store.seen c.run.new.store) (g.K.Sink.held c.args.out.now) (g.K.Sink.held c.run.new.out) in
+    subst (RecoversCrashes seen) (sym c.status.ensures) (recovers_crashes seen c.run.result c.run.ensures.says)
+
 pub returns-clause-recovers : goal.returns-clause-recovers
 returns-clause-recovers g c init schedule logs scripts form e =
     let seen = seen_by (map string_bytes c.args.words.now) (g.S.Store.seen c.args.store.now) (g.S.Store.seen c.run.new.store) (g.K.Sink.held c.args.out.now) (g.K.Sink.held c.run.new.out) in
-    never_bad seen init schedule logs scripts form (said_of seen c.run.result BadLog (λ e. omega arith) (sym c.status.ensures ∙ e) c.run.ensures.says)
+    replay_not_bad seen init schedule logs scripts form (said_of seen c.run.result BadLog (λ e. omega arith) (sym c.status.ensures ∙ e) c.run.ensures.says)

@@ -1,0 +1,99 @@
+use Rattle.std.proofs.Common.{ℕ, suc, List, [], ◌∷◌, ◌≡◌, length, Result, Ok, Err, refl, sym, ap, ◌∙◌, subst, Some}
+use Rattle.onll_model.specs.declared.call.Call.{Call}
+use Rattle.onll_model.specs.Object.{Behaviour}
+use Rattle.onll_log.specs.ImageFile.{image_lines}
+use Rattle.onll_core.specs.Step.{steps_of}
+use Rattle.onll_core.specs.Created.{created_core}
+use Rattle.onll_core.specs.Crash.{AreImages}
+use Rattle.onll_core.proofs.Created.{created_threads}
+use Rattle.onll_core.proofs.Durable.{always_durable}
+use Rattle.onll_core.proofs.Stays.{steps_stay}
+use Rattle.onll_core.specs.Core.{CoreThread}
+use Rattle.onll_bank.specs.Object.{bank}
+use Rattle.onll_map.specs.Object.{map_object}
+use Rattle.onll_queue.specs.Object.{queue}
+use Rattle.onll_lease.specs.Object.{lease}
+use Rattle.onll_text.specs.declared.any_object.AnyObject.{AnyObject}
+use Rattle.onll_text.specs.declared.any_object.AnyObject.TheVariants as objects
+use Rattle.onll_text.specs.Refusal.{Refusal}
+use Rattle.onll_text.specs.Wording.{Wording}
+use Rattle.onll_text.specs.BankWording.{bank_wording}
+use Rattle.onll_text.specs.MapWording.{map_wording}
+use Rattle.onll_text.specs.QueueWording.{queue_wording}
+use Rattle.onll_text.specs.LeaseWording.{lease_wording}
+use Rattle.onll_text.specs.Init.{init_of}
+use Rattle.onll_outside.specs.Views.{StoreView}
+use Rattle.onll_jobs.specs.declared.ending.Ending.{Ending}
+use Rattle.onll_jobs.specs.declared.ending.Ending.TheVariants.{Done}
+use Rattle.onll_jobs.specs.declared.ending.Exit.{Exit}
+use Rattle.onll_jobs.specs.declared.bad_logs.LogsFault.{LogsFault}
+use Rattle.onll_jobs.specs.Reading.{IsTold}
+use Rattle.onll_jobs.specs.Job.{Job, Decides, on_value}
+use Rattle.onll_jobs.specs.Images.{image_name, reading_images}
+use Rattle.onll_jobs.specs.Seen.{Seen}
+use Rattle.onll_jobs.specs.Command.{form_of, Recover}
+use Rattle.onll_jobs.specs.Printed.{exit_status}
+use Rattle.onll_jobs.specs.Says.{job_of, ExitSays, NoneRose, SaysThis}
+use Rattle.onll_jobs.specs.RecoverJob.{Recovered, recovered, recover_report, found_says, recover_on, recover_any, recover_job}
+use Rattle.onll_jobs.specs.Durable.{TellImages, IsLeft, RecoversLeft, RecoversLeftAny, RecoversCrashes}
+use Rattle.onll_jobs.proofs.Crashes.{crash_recovered}
+use Rattle.onll_jobs.proofs.ExitCauses.{decided_exactly}
+
+-- What a crash left in told files is recovered.
+
+decides_images : (store : StoreView) (logs : List ℕ) (i : ℕ) (images : List (List (List ℕ))) (next : List (List (List ℕ)) → Job) (ending : Ending) (text : List ℕ)
+    → TellImages store logs i images → Decides store (next images) ending text → Decides store (reading_images logs i (length images) next) ending text
+decides_images store logs i [] next ending text told d = d
+decides_images store logs i (image ∷ images) next ending text told d =
+    let here = told.0 in
+    (here.bytes, (here.told, decides_images store logs (suc i) images (λ more. next (image_lines here.bytes ∷ more)) ending text told.1
+      (subst (λ lines. Decides store (next (lines ∷ images)) ending text) here.image d)))
+
+many_images : {State Op Query Reply : Type 0} (ths : List (CoreThread State Op Query Reply)) (images : List (List (List ℕ))) → AreImages ths images → length images ≡ length ths
+many_images [] [] a = refl
+many_images [] (image ∷ images) a = absurd a
+many_images (th ∷ ths) [] a = absurd a
+many_images (th ∷ ths) (image ∷ images) a = ap suc (many_images ths images a.1)
+
+found_decides : {State Op Query Reply : Type 0} (b : Behaviour State Op Query Reply) (w : Wording State Op Query Reply) (store : StoreView) (s : State) (found : Result Recovered LogsFault) (r : Recovered) → found ≡ Ok r
+    → Decides store (found_says b w s found) Done (recover_report b w s r)
+found_decides b w store s found r e = subst (λ (x : Result Recovered LogsFault). Decides store (found_says b w s x) Done (recover_report b w s r)) (sym e) (refl, refl)
+
+-- the call says what the told files decide
+module _ (seen : Seen) (x : Exit) (says : ExitSays seen x) (init logs bytes : List ℕ) (threads : ℕ) (object : AnyObject)
+  (form : form_of seen.words ≡ Some (Recover init logs threads)) (told : IsTold seen.store init bytes) (accepted : init_of bytes ≡ Ok object) (none : NoneRose seen) where
+  object_says : (text : List ℕ) → Decides seen.store (reading_images logs 0 threads (recover_any bytes object)) Done text → SaysThis seen (exit_status x) Done text
+  object_says text d =
+      let on : Result AnyObject Refusal → Job = λ r. on_value init (λ o. reading_images logs 0 threads (recover_any bytes o)) r in
+      let job : Decides seen.store (recover_job init logs threads) Done text = (bytes, (told, subst (λ (r : Result AnyObject Refusal). Decides seen.store (on r) Done text) (sym accepted) d)) in
+      decided_exactly seen x Done text (subst (λ f. Decides seen.store (job_of f) Done text) (sym form) job) none says
+
+  left_recovers : {State Op Query Reply : Type 0} (b : Behaviour State Op Query Reply) (w : Wording State Op Query Reply) (code : ℕ) (s : State)
+      → ((text : List ℕ) → Decides seen.store (reading_images logs 0 threads (recover_on b w code bytes s)) Done text → SaysThis seen (exit_status x) Done text)
+      → (left : IsLeft b code bytes s seen.store logs threads) → RecoversLeft b w code bytes s seen (exit_status x) logs threads left
+  left_recovers b w code s say left =
+      let first = created_core s code bytes left.scripts in
+      let core = steps_of b first left.steps in
+      let crash = (always_durable b code bytes s left.scripts left.within left.steps).crash left.images left.left in
+      let r : Recovered = record { logs = crash.recovers.logs; nodes = crash.recovers.nodes } in
+      let found = found_decides b w seen.store s (recovered b code bytes left.images) r (crash_recovered b code bytes s left.scripts left.steps left.images left.within left.left crash.recovers) in
+      let many : length left.images ≡ threads = many_images core.threads left.images left.left ∙ ((steps_stay b first left.steps).all_threads ∙ (created_threads s code bytes left.scripts ∙ left.many)) in
+      record {
+        crash = crash;
+        says = say (recover_report b w s r) (subst (λ (n : ℕ). Decides seen.store (reading_images logs 0 n (recover_on b w code bytes s)) Done (recover_report b w s r)) many
+          (decides_images seen.store logs 0 left.images (recover_on b w code bytes s) Done (recover_report b w s r) left.files found));
+      }
+
+pub recovers_crashes : (seen : Seen) (x : Exit) → ExitSays seen x → RecoversCrashes seen (exit_status x)
+recovers_crashes seen x says init logs bytes threads (objects.Bank s) form told accepted none =
+    let object = objects.Bank s in
+    λ left. left_recovers seen x says init logs bytes threads object form told accepted none bank bank_wording 1 s (object_says seen x says init logs bytes threads object form told accepted none) left
+recovers_crashes seen x says init logs bytes threads (objects.Map s) form told accepted none =
+    let object = objects.Map s in
+    λ left. left_recovers seen x says init logs bytes threads object form told accepted none map_object map_wording 2 s (object_says seen x says init logs bytes threads object form told accepted none) left
+recovers_crashes seen x says init logs bytes threads (objects.Queue s) form told accepted none =
+    let object = objects.Queue s in
+    λ left. left_recovers seen x says init logs bytes threads object form told accepted none queue queue_wording 3 s (object_says seen x says init logs bytes threads object form told accepted none) left
+recovers_crashes seen x says init logs bytes threads (objects.Lease s) form told accepted none =
+    let object = objects.Lease s in
+    λ left. left_recovers seen x says init logs bytes threads object form told accepted none lease lease_wording 4 s (object_says seen x says init logs bytes threads object form told accepted none) left

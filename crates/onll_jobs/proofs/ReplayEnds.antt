@@ -1,0 +1,200 @@
+use Rattle.std.proofs.Common.{ℕ, suc, List, [], ◌∷◌, ◌≡◌, ◌≤◌, inl, inr, length, Result, Ok, Err, refl, sym, ap, ◌∙◌, subst, arith}
+use Rattle.std.specs.List.{AllByRecursion}
+use Rattle.onll_model.specs.declared.call.Call.{Call}
+use Rattle.onll_model.specs.Object.{Behaviour}
+use Rattle.onll_core.specs.Core.{CoreState}
+use Rattle.onll_core.specs.Tie.{updates_in}
+use Rattle.onll_core.specs.Step.{steps_of}
+use Rattle.onll_core.specs.Turns.{turns_of}
+use Rattle.onll_core.specs.Created.{created_heads, created_core, IsWithinLimits}
+use Rattle.onll_core.specs.Crash.{AreImages, images_of, RecoversAll}
+use Rattle.onll_core.specs.Durable.{IsDurable}
+use Rattle.onll_core.proofs.Created.{created_consistent}
+use Rattle.onll_core.proofs.Kept.{steps_consistent}
+use Rattle.onll_core.proofs.Crashed.{picked_images}
+use Rattle.onll_core.proofs.Durable.{always_durable}
+use Rattle.onll_bank.specs.Object.{bank}
+use Rattle.onll_map.specs.Object.{map_object}
+use Rattle.onll_queue.specs.Object.{queue}
+use Rattle.onll_lease.specs.Object.{lease}
+use Rattle.onll_text.specs.declared.any_object.AnyObject.{AnyObject}
+use Rattle.onll_text.specs.declared.any_object.AnyObject.TheVariants as objects
+use Rattle.onll_text.specs.declared.schedule.Schedule.{Schedule}
+use Rattle.onll_text.specs.Refusal.{Refusal}
+use Rattle.onll_text.specs.Wording.{Wording}
+use Rattle.onll_text.specs.BankWording.{bank_wording}
+use Rattle.onll_text.specs.MapWording.{map_wording}
+use Rattle.onll_text.specs.QueueWording.{queue_wording}
+use Rattle.onll_text.specs.LeaseWording.{lease_wording}
+use Rattle.onll_text.specs.Init.{init_of}
+use Rattle.onll_text.specs.Script.{script_of}
+use Rattle.onll_text.specs.Schedule.{schedule_of}
+use Rattle.onll_outside.specs.Views.{StoreView}
+use Rattle.onll_jobs.specs.declared.ending.Ending.{Ending}
+use Rattle.onll_jobs.specs.declared.ending.Ending.TheVariants.{Done, Usage, Refused, BadLog, ReadFault, WriteFault}
+use Rattle.onll_jobs.specs.declared.bad_logs.LogsFault.{LogsFault}
+use Rattle.onll_jobs.specs.Reading.{Reads, ReadsWhole, CannotRead}
+use Rattle.onll_jobs.specs.Writing.{FilesStay, CannotWrite, written}
+use Rattle.onll_jobs.specs.Job.{Job, JobEnds, on_value, reading, reading_whole}
+use Rattle.onll_jobs.specs.Images.{image_name, image_bytes, writing_images}
+use Rattle.onll_jobs.specs.Seen.{Seen}
+use Rattle.onll_jobs.specs.Command.{form_of, Replay}
+use Rattle.onll_jobs.specs.Says.{job_of, PutWhole}
+use Rattle.onll_jobs.specs.RecoverJob.{Recovered, recovered}
+use Rattle.onll_jobs.specs.ReplayJob.{played, replay_report, crash_says, crash_job, reading_scripts, schedule_job, replay_on, replay_any, replay_job}
+use Rattle.onll_jobs.specs.Durable.{ReadScripts, with_images, HasReplayed, HasReplayedAny, ReplayPut}
+use Rattle.onll_jobs.proofs.ScriptUpdates.{script_updates}
+use Rattle.onll_jobs.proofs.Crashes.{crash_recovered}
+use Rattle.onll_jobs.proofs.Forms.{few-scripts}
+
+-- How a replay ends where each file is read and written and no text is refused: it is done, and its run is durable.
+
+-- ---- endings that neither a file nor a text gives
+abbrev pub IsSaid : Ending → Type 0
+IsSaid Done = Unit {0}
+IsSaid Usage = Unit {0}
+IsSaid BadLog = Unit {0}
+IsSaid Refused = ⊥
+IsSaid ReadFault = ⊥
+IsSaid WriteFault = ⊥
+
+can_read : (store after : StoreView) (name : List ℕ) (ending : Ending) (text : List ℕ) → IsSaid ending → CannotRead store after name ending text → ⊥
+can_read store after name Done text said h = h
+can_read store after name Usage text said h = h
+can_read store after name BadLog text said h = h
+can_read store after name Refused text said h = said
+can_read store after name ReadFault text said h = said
+can_read store after name WriteFault text said h = said
+
+can_write : (store after : StoreView) (name : List ℕ) (ending : Ending) (text : List ℕ) → IsSaid ending → CannotWrite store after name ending text → ⊥
+can_write store after name Done text said h = h
+can_write store after name Usage text said h = h
+can_write store after name BadLog text said h = h
+can_write store after name Refused text said h = said
+can_write store after name ReadFault text said h = said
+can_write store after name WriteFault text said h = said
+
+not_refused : (ending : Ending) → IsSaid ending → ending ≡ Refused → ⊥
+not_refused ending said e = subst IsSaid e said
+
+-- a text was read, and the job went on
+record WholeEnds {A : Type 0} (store after : StoreView) (name : List ℕ) (grammar : List ℕ → Result A Refusal) (next : List ℕ → A → Job) (ending : Ending) (text : List ℕ) : Type 0 where
+  pub bytes : List ℕ
+  pub value : A
+  pub read : ReadsWhole store grammar name bytes value
+  pub ends : JobEnds store after (next bytes value) ending text
+
+-- so were scripts
+record ScriptsEnd {State Op Query Reply : Type 0} (w : Wording State Op Query Reply) (store after : StoreView) (names : List (List ℕ)) (next : List (List (Call State Op Query Reply)) → Job) (ending : Ending) (text : List ℕ) : Type 0 where
+  pub scripts : List (List (Call State Op Query Reply))
+  pub read : ReadScripts w store names scripts
+  pub ends : JobEnds store after (next scripts) ending text
+
+-- how a replay ended
+record ReplayEnds (store after : StoreView) (init schedule logs : List ℕ) (names : List (List ℕ)) (ending : Ending) (text : List ℕ) : Type 0 where
+  pub done : ending ≡ Done
+  pub bytes : List ℕ
+  pub object : AnyObject
+  pub read : ReadsWhole store init_of init bytes object
+  pub replayed : HasReplayedAny bytes store after schedule logs names text object
+
+module _ (after : StoreView) (ending : Ending) (text : List ℕ) (said : IsSaid ending) where
+  -- ---- what was read
+  whole_ends : {A : Type 0} (store : StoreView) (name : List ℕ) (grammar : List ℕ → Result A Refusal) (next : List ℕ → A → Job) → JobEnds store after (reading_whole name grammar next) ending text → WholeEnds store after name grammar next ending text
+  whole_ends store name grammar next (inl h) = absurd (can_read store after name ending text said h.0)
+  whole_ends {A = A} store name grammar next (inr h) = by (grammar h.0) refl h.1.1
+    where
+      by : (r : Result A Refusal) → grammar h.0 ≡ r → JobEnds store after (on_value name (next h.0) r) ending text → WholeEnds store after name grammar next ending text
+      by (Ok value) e k = record { bytes = h.0; value = value; read = record { held = h.1.0; accepted = e }; ends = k }
+      by (Err refusal) e k = absurd (not_refused ending said k.0)
+
+  images_end : (store : StoreView) (logs : List ℕ) (i : ℕ) (images : List (List (List ℕ))) (next : Job) → JobEnds store after (writing_images logs i images next) ending text → JobEnds (with_images store logs i images) after next ending text
+  images_end store logs i [] next h = h
+  images_end store logs i (image ∷ images) next (inl h) = absurd (can_write store after (image_name logs i) ending text said h)
+  images_end store logs i (image ∷ images) next (inr h) = images_end (written store (image_name logs i) (image_bytes image)) logs (suc i) images next h
+
+  module _ {State Op Query Reply : Type 0} (b : Behaviour State Op Query Reply) (w : Wording State Op Query Reply) (store : StoreView) where
+    scripts_end : (names : List (List ℕ)) (next : List (List (Call State Op Query Reply)) → Job) → JobEnds store after (reading_scripts w names next) ending text → ScriptsEnd w store after names next ending text
+    scripts_end [] next h = record { scripts = []; read = tt; ends = h }
+    scripts_end (name ∷ names) next h =
+        let first = whole_ends store name (script_of w) (λ bytes calls. reading_scripts w names (λ scripts. next (calls ∷ scripts))) h in
+        let rest = scripts_end names (λ scripts. next (first.value ∷ scripts)) first.ends in
+        record { scripts = first.value ∷ rest.scripts; read = (record { bytes = first.bytes; held = first.read.held; accepted = first.read.accepted }, rest.read); ends = rest.ends }
+
+    many_scripts : (names : List (List ℕ)) (scripts : List (List (Call State Op Query Reply))) → ReadScripts w store names scripts → length scripts ≡ length names
+    many_scripts [] [] h = refl
+    many_scripts [] (script ∷ scripts) h = absurd h
+    many_scripts (name ∷ names) [] h = absurd h
+    many_scripts (name ∷ names) (script ∷ scripts) h = ap suc (many_scripts names scripts h.1)
+
+    few_updates : (names : List (List ℕ)) (scripts : List (List (Call State Op Query Reply))) → ReadScripts w store names scripts → AllByRecursion (λ (script : List (Call State Op Query Reply)). updates_in script ≤ 4096) scripts
+    few_updates [] [] h = tt
+    few_updates [] (script ∷ scripts) h = absurd h
+    few_updates (name ∷ names) [] h = absurd h
+    few_updates (name ∷ names) (script ∷ scripts) h = (script_updates w h.0.bytes script h.0.accepted, few_updates names scripts h.1)
+
+    -- ---- what was replayed
+    module _ (code : ℕ) (is : (1 ≤ code) × (code ≤ 4)) (init : List ℕ) (s : State) (schedule logs : List ℕ) (names : List (List ℕ)) (few : length names ≤ 16) where
+      -- what a crash says of a core that was played
+      crash_ends : (c : CoreState State Op Query Reply) (keep : ℕ) (store' : StoreView) (found : Result Recovered LogsFault) (r : Recovered) → found ≡ Ok r → JobEnds store' after (crash_says b w c keep found) ending text
+          → (ending ≡ Done) × (text ≡ replay_report b w c keep r) × FilesStay store' after
+      crash_ends c keep store' found r e h = subst (λ (x : Result Recovered LogsFault). JobEnds store' after (crash_says b w c keep x) ending text) e h
+
+      on_ends : JobEnds store after (replay_on b w code init schedule logs names s) ending text → (ending ≡ Done) × HasReplayed b w code init s store after schedule logs names text
+      on_ends h =
+          let read = scripts_end names (schedule_job b w code init s schedule logs) h in
+          let scripts = read.scripts in
+          let count = length scripts in
+          let planned = whole_ends store schedule (schedule_of count) (λ bytes (plan : Schedule). crash_job b w code init logs (played b code init s scripts plan.turns) plan.keep) read.ends in
+          let plan = planned.value in
+          let core = played b code init s scripts plan.turns in
+          let images = images_of plan.keep core.threads in
+          let found = recovered b code init images in
+          let within : IsWithinLimits code scripts = record { code = is; few = subst (λ (n : ℕ). n ≤ 16) (sym (many_scripts names scripts read.read)) few; updates = few_updates names scripts read.read } in
+          let durable = always_durable b code init s scripts within in
+          let left = picked_images count core plan.keep (steps_consistent b count (created_core s code init scripts) (turns_of plan.turns) (created_consistent s code init scripts within)) in
+          let crash = (durable (turns_of plan.turns)).crash images left in
+          let is_found = crash_recovered b code init s scripts (turns_of plan.turns) images within left crash.recovers in
+          let end = crash_ends core plan.keep (with_images store logs 0 images) found (record { logs = crash.recovers.logs; nodes = crash.recovers.nodes }) is_found (images_end store logs 0 images (crash_says b w core plan.keep found) planned.ends) in
+          (end.0, record {
+            scripts = scripts;
+            plan = plan;
+            read = read.read;
+            planned = record { bytes = planned.bytes; held = planned.read.held; accepted = planned.read.accepted };
+            durable = durable;
+            core = core;
+            run = refl;
+            crash = crash;
+            printed = end.1;
+            files = end.2;
+          })
+
+  any_ends : (store : StoreView) (init schedule logs : List ℕ) (names : List (List ℕ)) (object : AnyObject) → length names ≤ 16 → JobEnds store after (replay_any init schedule logs names object) ending text
+      → (ending ≡ Done) × HasReplayedAny init store after schedule logs names text object
+  any_ends store init schedule logs names (objects.Bank s) few h = on_ends bank bank_wording store 1 (omega arith, omega arith) init s schedule logs names few h
+  any_ends store init schedule logs names (objects.Map s) few h = on_ends map_object map_wording store 2 (omega arith, omega arith) init s schedule logs names few h
+  any_ends store init schedule logs names (objects.Queue s) few h = on_ends queue queue_wording store 3 (omega arith, omega arith) init s schedule logs names few h
+  any_ends store init schedule logs names (objects.Lease s) few h = on_ends lease lease_wording store 4 (omega arith, omega arith) init s schedule logs names few h
+
+  job_ends : (store : StoreView) (init schedule logs : List ℕ) (names : List (List ℕ)) → length names ≤ 16 → JobEnds store after (replay_job init schedule logs names) ending text → ReplayEnds store after init schedule logs names ending text
+  job_ends store init schedule logs names few h =
+      let read = whole_ends store init init_of (λ bytes object. replay_any bytes schedule logs names object) h in
+      let end = any_ends store read.bytes schedule logs names read.value few read.ends in
+      record { done = end.0; bytes = read.bytes; object = read.value; read = read.read; replayed = end.1 }
+
+-- ---- the call
+module _ (seen : Seen) (init schedule logs : List ℕ) (names : List (List ℕ)) (form : form_of seen.words ≡ Some (Replay init schedule logs names)) where
+  replay_put : (ending : Ending) → IsSaid ending → (h : PutWhole seen ending) → ReplayEnds seen.store seen.store_after init schedule logs names ending h.text
+  replay_put ending said h = job_ends seen.store_after ending h.text said seen.store init schedule logs names (few-scripts seen.words init schedule logs names form)
+      (subst (λ form. JobEnds seen.store seen.store_after (job_of form) ending h.text) form h.allowed)
+
+  -- a replay never says the usage, nor that a log is bad
+  pub replay_not_usage : PutWhole seen Usage → ⊥
+  replay_not_usage h = let e = (replay_put Usage tt h).done in cc
+
+  pub replay_not_bad : PutWhole seen BadLog → ⊥
+  replay_not_bad h = let e = (replay_put BadLog tt h).done in cc
+
+  -- one that is done is durable
+  pub replay_durable : PutWhole seen Done → ReplayPut seen init schedule logs names
+  replay_durable h = let r = replay_put Done tt h in record { bytes = r.bytes; object = r.object; read = r.read; text = h.text; replayed = r.replayed; put = h.put }

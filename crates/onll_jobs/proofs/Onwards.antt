@@ -1,8 +1,9 @@
-use Rattle.std.proofs.Common.{ℕ, zero, suc, true, false, List, ◌≡◌, inl, inr, ⊎_elim, Option, Some, cond, ◌+◌, ◌<◌, length, drop, get_or, true≢false, Result, sym, ap, ◌∙◌, subst, arith}
+use Rattle.std.proofs.Common.{ℕ, zero, suc, true, false, List, ◌≡◌, inl, inr, ⊎_elim, Option, Some, cond, ◌+◌, ◌<◌, length, drop, get_or, true≢false, Result, Ok, Err, sym, ap, ◌∙◌, subst, arith}
 use Rattle.std.proofs.lemmas.List.{drop_more}
 use Rattle.std.proofs.lemmas.Bool.{cases_Bool}
 use Rattle.std.proofs.lemmas.Slice.Eq.{bytes_eq-Decides}
 use Rattle.std.specs.List.{AllByRecursion}
+use Rattle.std.specs.Result.{IfErr}
 use Rattle.std.specs.Str.{bytes_eq}
 use Rattle.onll_words.specs.declared.line.Line.{Line}
 use Rattle.onll_pmem.specs.Pmem.{words_of}
@@ -13,9 +14,9 @@ use Rattle.onll_jobs.specs.declared.ending.Ending.TheVariants.{Done, Usage, Refu
 use Rattle.onll_jobs.specs.declared.answer.Stop.{Stop}
 use Rattle.onll_jobs.specs.Stop.{StopSays}
 use Rattle.onll_jobs.specs.Reading.{Reads, ReadsWhole, Stops}
-use Rattle.onll_jobs.specs.Images.{image_name, images_in, image_bytes, image_names, writing_images, ImagesStop}
+use Rattle.onll_jobs.specs.Images.{image_name, images_in, image_bytes, image_names, writing_images, ImagesStop, ImagesCut}
 use Rattle.onll_jobs.specs.Writing.{FilesStay, OthersStay, SameBut, HasWritten, CannotWrite, written}
-use Rattle.onll_jobs.specs.Job.{Job, Say, Read, Write, JobEnds, GoesOn, on_value, reading, reading_whole}
+use Rattle.onll_jobs.specs.Job.{Job, Say, Read, Write, JobEnds, JobCut, GoesOn, on_value, reading, reading_whole}
 use Rattle.onll_jobs.proofs.Jobs.{cannot_from, says_ends, read_stopped}
 use Rattle.onll_jobs.proofs.Stops.{StopSays-weaker}
 
@@ -49,11 +50,57 @@ ends_from store mid after (Write name bytes next) ending text files faults (inl 
 ends_from store mid after (Write name bytes next) ending text files faults (inr h) =
     inr (ends_from (written store name bytes) (written mid name bytes) after next ending text (written_stays store mid name bytes files) faults h)
 
+-- ---- jobs that stop early
+pub stay_cut : (store after : StoreView) (job : Job) → FilesStay store after → JobCut store after job
+stay_cut store after (Say e t) h = h
+stay_cut store after (Read name next) h = inl h
+stay_cut store after (Write name bytes next) h = inl (record { tells = h.tells; file = λ tells other differs. h.file tells other })
+
+cut_from : (store mid after : StoreView) (job : Job) → FilesStay store mid → JobCut mid after job → JobCut store after job
+cut_from store mid after (Say e t) files h = stay_more store mid after files h
+cut_from store mid after (Read name next) files (inl h) = inl (stay_more store mid after files h)
+cut_from store mid after (Read name next) files (inr h) = inr (h.0, ((λ tells. sym (files.file tells name) ∙ h.1.0 (files.tells ∙ tells)), cut_from store mid after (next h.0) files h.1.1))
+cut_from store mid after (Write name bytes next) files (inl h) = inl (others_more store mid after name files h)
+cut_from store mid after (Write name bytes next) files (inr h) = inr (cut_from (written store name bytes) (written mid name bytes) after next (written_stays store mid name bytes files) h)
+
+cannot_write_others : (store after : StoreView) (name : List ℕ) (ending : Ending) (text : List ℕ) → CannotWrite store after name ending text → OthersStay name store after
+cannot_write_others store after name Done text h = absurd h
+cannot_write_others store after name Usage text h = absurd h
+cannot_write_others store after name Refused text h = absurd h
+cannot_write_others store after name BadLog text h = absurd h
+cannot_write_others store after name ReadFault text h = absurd h
+cannot_write_others store after name WriteFault text h = h.others
+
+-- a job that ended may have stopped there
+pub ends_cut : (store after : StoreView) (job : Job) (ending : Ending) (text : List ℕ) → JobEnds store after job ending text → JobCut store after job
+ends_cut store after (Say e t) ending text h = h.2
+ends_cut store after (Read name next) ending text (inl h) = inl h.1
+ends_cut store after (Read name next) ending text (inr h) = inr (h.0, (h.1.0, ends_cut store after (next h.0) ending text h.1.1))
+ends_cut store after (Write name bytes next) ending text (inl h) = inl (cannot_write_others store after name ending text h)
+ends_cut store after (Write name bytes next) ending text (inr h) = inr (ends_cut (written store name bytes) after next ending text h)
+
+-- whatever the error
+pub on_any_error : {A E P : Type 0} (r : Result A E) → P → IfErr r (λ e. P)
+on_any_error (Ok x) h = tt
+on_any_error (Err e) h = h
+
+-- ---- jobs one after the other
+pub goes_same : (store : StoreView) (job : Job) → GoesOn store store job job
+goes_same store job = record { ends = λ after ending text h. h; cut = λ after h. h }
+
+pub goes_after : (store mid new : StoreView) (job next last : Job) → GoesOn store mid job next → GoesOn mid new next last → GoesOn store new job last
+goes_after store mid new job next last first then_ = record {
+  ends = λ after ending text h. first.ends after ending text (then_.ends after ending text h);
+  cut = λ after h. first.cut after (then_.cut after h);
+}
+
 -- ---- reading
 pub on_whole : {A : Type 0} (store mid : StoreView) (name : List ℕ) (grammar : List ℕ → Result A Refusal) (next : List ℕ → A → Job) (bytes : List ℕ) (value : A)
     → ReadsWhole store grammar name bytes value → FilesStay store mid → SameFaults store mid → GoesOn store mid (reading_whole name grammar next) (next bytes value)
-on_whole store mid name grammar next bytes value r files faults after ending text h =
-    inr (bytes, (r.held, subst (λ v. JobEnds store after (on_value name (next bytes) v) ending text) (sym r.accepted) (ends_from store mid after (next bytes value) ending text files faults h)))
+on_whole store mid name grammar next bytes value r files faults = record {
+  ends = λ after ending text h. inr (bytes, (r.held, subst (λ v. JobEnds store after (on_value name (next bytes) v) ending text) (sym r.accepted) (ends_from store mid after (next bytes value) ending text files faults h)));
+  cut = λ after h. inr (bytes, (r.held, subst (λ v. JobCut store after (on_value name (next bytes) v)) (sym r.accepted) (cut_from store mid after (next bytes value) files h)));
+}
 
 pub on_text : {A : Type 0} (store mid : StoreView) (name : List ℕ) (grammar : List ℕ → Result A Refusal) (next : A → Job) (value : A)
     → Reads store grammar name value → FilesStay store mid → SameFaults store mid → GoesOn store mid (reading name grammar next) (next value)
@@ -76,7 +123,10 @@ write_leaves old new name bytes held others = record { tells = others.tells; fil
         (cases_Bool (bytes_eq other name))
 
 pub on_write : (store mid : StoreView) (name bytes : List ℕ) (next : Job) → HasWritten store mid name bytes → GoesOn store mid (Write name bytes next) next
-on_write store mid name bytes next h after ending text k = inr (ends_from (written store name bytes) mid after next ending text h.files h.faults k)
+on_write store mid name bytes next h = record {
+  ends = λ after ending text k. inr (ends_from (written store name bytes) mid after next ending text h.files h.faults k);
+  cut = λ after k. inr (cut_from (written store name bytes) mid after next h.files k);
+}
 
 pub others_stay : (name : List ℕ) (old new : StoreView) → SameOthers name old new → OthersStay name old new
 others_stay name old new h = record { tells = h.tells; file = λ tells. h.file }
@@ -100,11 +150,14 @@ others_on store mid new logs n i h before after =
 pub wrote_next : (store mid new : StoreView) (logs : List ℕ) (images : List (List Line)) (image : List Line) (i : ℕ) → i < length images → image ≡ get_or images i image
     → WroteSo store mid logs images i → HasWritten mid new (image_name logs i) (image_bytes (words_of image)) → SameOthers (image_name logs i) mid new → WroteSo store new logs images (i + 1)
 wrote_next store mid new logs images image i h same so w others = record {
-  on = λ next after ending text k. so.on next after ending text
-      (subst (λ l. JobEnds mid after (writing_images logs i (images_in l) next) ending text) (sym (drop_more images i image h))
-      (subst (λ (x : List Line). JobEnds mid after (Write (image_name logs i) (image_bytes (words_of x)) (writing_images logs (suc i) (images_in (drop (i + 1) images)) next)) ending text) same
-      (on_write mid new (image_name logs i) (image_bytes (words_of image)) (writing_images logs (suc i) (images_in (drop (i + 1) images)) next) w after ending text
-      (let e : i + 1 ≡ suc i = omega arith in subst (λ j. JobEnds new after (writing_images logs j (images_in (drop (i + 1) images)) next) ending text) e k))));
+  on = λ next.
+      let rest : Job = writing_images logs (suc i) (images_in (drop (i + 1) images)) next in
+      let e : i + 1 ≡ suc i = omega arith in
+      goes_after store mid new (writing_images logs 0 (images_in images) next) (writing_images logs i (images_in (drop i images)) next) (writing_images logs (i + 1) (images_in (drop (i + 1) images)) next) (so.on next)
+      (subst (λ l. GoesOn mid new (writing_images logs i (images_in l) next) (writing_images logs (i + 1) (images_in (drop (i + 1) images)) next)) (sym (drop_more images i image h))
+      (subst (λ (x : List Line). GoesOn mid new (Write (image_name logs i) (image_bytes (words_of x)) rest) (writing_images logs (i + 1) (images_in (drop (i + 1) images)) next)) same
+      (subst (λ j. GoesOn mid new (Write (image_name logs i) (image_bytes (words_of image)) rest) (writing_images logs j (images_in (drop (i + 1) images)) next)) (sym e)
+      (on_write mid new (image_name logs i) (image_bytes (words_of image)) rest w))));
   others = others_on store mid new logs (length images) i h so.others others;
 }
 
@@ -113,5 +166,11 @@ pub wrote_stopped : (store mid after : StoreView) (logs : List ℕ) (images : Li
     → WroteSo store mid logs images i → StopSays s (CannotWrite mid after (image_name logs i)) → StopSays s (ImagesStop store after logs (images_in images))
 wrote_stopped store mid after logs images image i s h same so stop =
     StopSays-weaker s (CannotWrite mid after (image_name logs i)) (ImagesStop store after logs (images_in images))
-    (λ ending text k next. so.on next after ending text
+    (λ ending text k next. (so.on next).ends after ending text
     (subst (λ l. JobEnds mid after (writing_images logs i (images_in l) next) ending text) (sym (drop_more images i image h)) (inl k))) stop
+
+-- the next image is written in part, if at all
+pub wrote_cut : (store mid new : StoreView) (logs : List ℕ) (images : List (List Line)) (image : List Line) (i : ℕ) → i < length images → image ≡ get_or images i image
+    → WroteSo store mid logs images i → SameOthers (image_name logs i) mid new → ImagesCut store new logs (images_in images)
+wrote_cut store mid new logs images image i h same so others next =
+    (so.on next).cut new (subst (λ l. JobCut mid new (writing_images logs i (images_in l) next)) (sym (drop_more images i image h)) (inl (others_stay (image_name logs i) mid new others)))

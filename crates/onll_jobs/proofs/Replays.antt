@@ -23,12 +23,12 @@ use Rattle.onll_jobs.specs.declared.answer.Stop.{Stop}
 use Rattle.onll_jobs.specs.Stop.{StopSays}
 use Rattle.onll_jobs.specs.Reading.{Reads, Stops}
 use Rattle.onll_jobs.specs.Writing.{SameBut}
-use Rattle.onll_jobs.specs.Images.{images_in, writing_images, AreWritten, ImagesStop}
+use Rattle.onll_jobs.specs.Images.{images_in, writing_images, AreWritten, ImagesStop, ImagesCut}
 use Rattle.onll_jobs.specs.RecoverJob.{recovered}
-use Rattle.onll_jobs.specs.Job.{Job, Say, Read, Write, JobEnds, GoesOn, SaysNow}
+use Rattle.onll_jobs.specs.Job.{Job, Say, Read, Write, JobEnds, JobCut, GoesOn, SaysNow}
 use Rattle.onll_jobs.specs.ReplayJob.{reading_scripts, AreRead, ScriptsStop, played, crash_says, crash_job, schedule_job}
 use Rattle.onll_jobs.proofs.Jobs.{files_stay}
-use Rattle.onll_jobs.proofs.Onwards.{on_text, stopped_ends}
+use Rattle.onll_jobs.proofs.Onwards.{stay_cut, goes_same, goes_after, on_text, stopped_ends}
 use Rattle.onll_jobs.proofs.Stops.{StopSays-weaker}
 
 -- The parts of a replay, one after the other.
@@ -55,7 +55,7 @@ module _ {State Op Query Reply : Type 0} (w : Wording State Op Query Reply) wher
     pub same : SameFiles store mid
 
   pub none_read : (store : StoreView) (names : List (List ℕ)) (scripts : List (List (Call State Op Query Reply))) → scripts ≡ [] → ScriptsSo store store names names scripts
-  none_read store names scripts e = subst (ScriptsSo store store names names) (sym e) (record { on = λ next. (next, (λ rest. refl), λ after ending text h. h); same = record { tells = refl; file = λ name. refl } })
+  none_read store names scripts e = subst (ScriptsSo store store names names) (sym e) (record { on = λ next. (next, (λ rest. refl), goes_same store (reading_scripts w names next)); same = record { tells = refl; file = λ name. refl } })
 
   -- one script more
   pub script_next : (store mid new : StoreView) (names left before : List (List ℕ)) (name : List ℕ) (scripts all : List (List (Call State Op Query Reply))) (calls : List (Call State Op Query Reply))
@@ -65,8 +65,9 @@ module _ {State Op Query Reply : Type 0} (w : Wording State Op Query Reply) wher
     on = λ next. let o = so.on next in (
       λ rest. o.0 (calls ∷ rest),
       (λ rest. o.1 (calls ∷ rest) ∙ ap next (sym (append_assoc scripts (calls ∷ []) rest)) ∙ ap (λ l. next (l ++ rest)) (sym e)),
-      λ after ending text h. o.2 after ending text (subst (λ l. JobEnds mid after (reading_scripts w l o.0) ending text) (sym split)
-          (on_text mid new name (script_of w) (λ c. reading_scripts w left (λ rest. o.0 (c ∷ rest))) calls r (files_stay mid new files) faults after ending text h)),
+      goes_after store mid new (reading_scripts w names next) (reading_scripts w before o.0) (reading_scripts w left (λ rest. o.0 (calls ∷ rest))) o.2
+          (subst (λ l. GoesOn mid new (reading_scripts w l o.0) (reading_scripts w left (λ rest. o.0 (calls ∷ rest)))) (sym split)
+          (on_text mid new name (script_of w) (λ c. reading_scripts w left (λ rest. o.0 (c ∷ rest))) calls r (files_stay mid new files) faults)),
     );
     same = same_more store mid new so.same files;
   }
@@ -76,14 +77,15 @@ module _ {State Op Query Reply : Type 0} (w : Wording State Op Query Reply) wher
       → before ≡ name ∷ left → ScriptsSo store mid names before scripts → SameFiles mid after → StopSays s (Stops mid after (script_of w) name) → StopSays s (ScriptsStop w store after names)
   script_stopped store mid after names left before name scripts s split so files stop =
       StopSays-weaker s (Stops mid after (script_of w) name) (ScriptsStop w store after names)
-      (λ ending text k next. let o = so.on next in o.2 after ending text (subst (λ l. JobEnds mid after (reading_scripts w l o.0) ending text) (sym split)
+      (λ ending text k next. let o = so.on next in o.2.ends after ending text (subst (λ l. JobEnds mid after (reading_scripts w l o.0) ending text) (sym split)
       (stopped_ends mid after name (script_of w) (λ bytes c. reading_scripts w left (λ rest. o.0 (c ∷ rest))) ending text (files_stay mid after files) k))) stop
 
   -- all were read
   pub scripts_read : (store new : StoreView) (names left : List (List ℕ)) (scripts : List (List (Call State Op Query Reply))) → left ≡ [] → ScriptsSo store new names left scripts → AreRead w store new names scripts
-  scripts_read store new names left scripts e so next after ending text h =
+  scripts_read store new names left scripts e so next =
       let o = so.on next in
-      o.2 after ending text (subst (λ l. JobEnds new after (reading_scripts w l o.0) ending text) (sym e) (subst (λ j. JobEnds new after j ending text) (sym (o.1 [] ∙ ap next (append-nil scripts))) h))
+      goes_after store new new (reading_scripts w names next) (reading_scripts w left o.0) (next scripts) o.2
+      (subst (λ l. GoesOn new new (reading_scripts w l o.0) (next scripts)) (sym e) (subst (λ j. GoesOn new new j (next scripts)) (sym (o.1 [] ∙ ap next (append-nil scripts))) (goes_same new (next scripts))))
 
 -- ---- the crash
 -- the images of lines are those that the lines are
@@ -105,7 +107,21 @@ module _ {State Op Query Reply : Type 0} (b : Behaviour State Op Query Reply) (w
       → AreWritten store mid logs images → SaysNow (crash_says b w c keep (recovered b code init images)) ending text → JobEnds store mid (crash_job b w code init logs c keep) ending text
   crash_ends c keep store mid images ending text e written h =
       subst (λ l. JobEnds store mid (writing_images logs 0 l (crash_says b w c keep (recovered b code init l))) ending text) e
-      (written (crash_says b w c keep (recovered b code init images)) mid ending text (now_ends mid (crash_says b w c keep (recovered b code init images)) ending text h))
+      ((written (crash_says b w c keep (recovered b code init images))).ends mid ending text (now_ends mid (crash_says b w c keep (recovered b code init images)) ending text h))
+
+  -- they were written, and then memory could not be had
+  pub crash_cut : (c : CoreState State Op Query Reply) (keep : ℕ) (store mid : StoreView) (images : List (List (List ℕ))) → images ≡ images_of keep c.threads
+      → AreWritten store mid logs images → JobCut store mid (crash_job b w code init logs c keep)
+  crash_cut c keep store mid images e written =
+      let next = crash_says b w c keep (recovered b code init images) in
+      subst (λ l. JobCut store mid (writing_images logs 0 l (crash_says b w c keep (recovered b code init l)))) e
+      ((written next).cut mid (stay_cut mid mid next (record { tells = refl; file = λ tells name. refl })))
+
+  -- one was written in part, if at all
+  pub crash_cut_short : (c : CoreState State Op Query Reply) (keep : ℕ) (store after : StoreView) (images : List (List (List ℕ))) → images ≡ images_of keep c.threads
+      → ImagesCut store after logs images → JobCut store after (crash_job b w code init logs c keep)
+  crash_cut_short c keep store after images e h =
+      subst (λ l. JobCut store after (writing_images logs 0 l (crash_says b w c keep (recovered b code init l)))) e (h (crash_says b w c keep (recovered b code init images)))
 
   -- one of the images could not be written
   pub crash_stopped : (c : CoreState State Op Query Reply) (keep : ℕ) (store after : StoreView) (images : List (List (List ℕ))) (ending : Ending) (text : List ℕ) → images ≡ images_of keep c.threads
@@ -114,13 +130,21 @@ module _ {State Op Query Reply : Type 0} (b : Behaviour State Op Query Reply) (w
       subst (λ l. JobEnds store after (writing_images logs 0 l (crash_says b w c keep (recovered b code init l))) ending text) e (h (crash_says b w c keep (recovered b code init images)))
 
   -- the schedule was read, and its core crashes
+  pub schedule_on : (s : State) (schedule : List ℕ) (scripts : List (List (Call State Op Query Reply))) (threads : ℕ) (plan : Schedule) (c : CoreState State Op Query Reply) (store mid : StoreView)
+      → threads ≡ length scripts → Reads store (schedule_of threads) schedule plan → SameFiles store mid → SameFaults store mid → c ≡ played b code init s scripts plan.turns
+      → GoesOn store mid (schedule_job b w code init s schedule logs scripts) (crash_job b w code init logs c plan.keep)
+  schedule_on s schedule scripts threads plan c store mid n r files faults e =
+      let r' = subst (λ m. Reads store (schedule_of m) schedule plan) n r in
+      let job : Schedule → Job = λ p. crash_job b w code init logs (played b code init s scripts p.turns) p.keep in
+      subst (λ (k : CoreState State Op Query Reply). GoesOn store mid (schedule_job b w code init s schedule logs scripts) (crash_job b w code init logs k plan.keep)) (sym e)
+      (on_text store mid schedule (schedule_of (length scripts)) job plan r' (files_stay store mid files) faults)
+
+  -- and it ends as that core's crash does
   pub schedule_ends : (s : State) (schedule : List ℕ) (scripts : List (List (Call State Op Query Reply))) (threads : ℕ) (plan : Schedule) (c : CoreState State Op Query Reply) (store mid after : StoreView) (ending : Ending) (text : List ℕ)
       → threads ≡ length scripts → Reads store (schedule_of threads) schedule plan → SameFiles store mid → SameFaults store mid → c ≡ played b code init s scripts plan.turns
       → JobEnds mid after (crash_job b w code init logs c plan.keep) ending text → JobEnds store after (schedule_job b w code init s schedule logs scripts) ending text
   schedule_ends s schedule scripts threads plan c store mid after ending text n r files faults e h =
-      let r' = subst (λ m. Reads store (schedule_of m) schedule plan) n r in
-      on_text store mid schedule (schedule_of (length scripts)) (λ (p : Schedule). crash_job b w code init logs (played b code init s scripts p.turns) p.keep) plan r' (files_stay store mid files) faults after ending text
-      (subst (λ (k : CoreState State Op Query Reply). JobEnds mid after (crash_job b w code init logs k plan.keep) ending text) e h)
+      (schedule_on s schedule scripts threads plan c store mid n r files faults e).ends after ending text h
 
   -- the schedule gives no turns
   pub schedule_stopped : (s : State) (schedule : List ℕ) (scripts : List (List (Call State Op Query Reply))) (threads : ℕ) (store after : StoreView) (ending : Ending) (text : List ℕ)

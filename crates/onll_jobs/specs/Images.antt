@@ -7,7 +7,7 @@ use Rattle.onll_log.specs.ImageFile.{image_lines}
 use Rattle.onll_outside.specs.Views.{StoreView}
 use Rattle.onll_jobs.specs.declared.ending.Ending.{Ending}
 use Rattle.onll_jobs.specs.Reading.{HoldsImage, CannotRead}
-use Rattle.onll_jobs.specs.Job.{Job, Read, Write, JobEnds, GoesOn}
+use Rattle.onll_jobs.specs.Job.{Job, Read, Write, JobEnds, JobCut, GoesOn}
 
 -- The images of the logs of one run: one file for each thread.
 
@@ -42,6 +42,10 @@ AreWritten store after logs images = (next : Job) → GoesOn store after (writin
 -- one of these images can't be written, and every job that writes them ends so
 abbrev pub ImagesStop : StoreView → StoreView → List ℕ → List (List (List ℕ)) → Ending → List ℕ → Type 0
 ImagesStop store after logs images ending text = (next : Job) → JobEnds store after (writing_images logs 0 images next) ending text
+
+-- some of these images were written, the last of them perhaps in part, and every job that writes them may stop so
+abbrev pub ImagesCut : StoreView → StoreView → List ℕ → List (List (List ℕ)) → Type 0
+ImagesCut store after logs images = (next : Job) → JobCut store after (writing_images logs 0 images next)
 
 -- the lines of images, as words
 abbrev pub images_in : List (List Line) → List (List (List ℕ))

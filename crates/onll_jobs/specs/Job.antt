@@ -5,7 +5,7 @@ use Rattle.onll_jobs.specs.declared.ending.Ending.{Ending}
 use Rattle.onll_jobs.specs.declared.ending.Ending.TheVariants.{Refused}
 use Rattle.onll_jobs.specs.Printed.{refusal_text}
 use Rattle.onll_jobs.specs.Reading.{Holds, CannotRead, IsTold}
-use Rattle.onll_jobs.specs.Writing.{CannotWrite, FilesStay, written}
+use Rattle.onll_jobs.specs.Writing.{CannotWrite, FilesStay, OthersStay, written}
 
 -- What a call does, up to the text that it puts: it reads files by their names, each after what the ones before it held, makes
 -- bytes the files of names, and then says a text.
@@ -22,9 +22,17 @@ JobEnds store after (Read name next) ending text =
     (CannotRead store after name ending text × FilesStay store after) ⊎ ((bytes : List ℕ) × (Holds store name bytes × JobEnds store after (next bytes) ending text))
 JobEnds store after (Write name bytes next) ending text = CannotWrite store after name ending text ⊎ JobEnds (written store name bytes) after next ending text
 
+-- The job may stop early, and leave the store so: it read files and wrote files up to one that may be written in part. No other file
+-- changes.
+abbrev pub JobCut : StoreView → StoreView → Job → Type 0
+JobCut store after (Say e t) = FilesStay store after
+JobCut store after (Read name next) = FilesStay store after ⊎ ((bytes : List ℕ) × (Holds store name bytes × JobCut store after (next bytes)))
+JobCut store after (Write name bytes next) = OthersStay name store after ⊎ JobCut (written store name bytes) after next
+
 -- whatever the other job does from this store, the job may do from the store before
-abbrev pub GoesOn : StoreView → StoreView → Job → Job → Type 0
-GoesOn store mid job next = (after : StoreView) (ending : Ending) (text : List ℕ) → JobEnds mid after next ending text → JobEnds store after job ending text
+pub record GoesOn (store mid : StoreView) (job next : Job) : Type 0 where
+  pub ends : (after : StoreView) (ending : Ending) (text : List ℕ) → JobEnds mid after next ending text → JobEnds store after job ending text
+  pub cut : (after : StoreView) → JobCut mid after next → JobCut store after job
 
 -- a job that writes nothing may end so over this store: each file that it reads holds some bytes, which it goes on with, or can't be read
 abbrev pub JobSays : StoreView → StoreView → Job → Ending → List ℕ → Type 0

@@ -7,7 +7,7 @@ use Rattle.onll_jobs.specs.declared.ending.Exit.TheVariants.{Said, SinkFault, No
 use Rattle.onll_jobs.specs.Seen.{Seen}
 use Rattle.onll_jobs.specs.Command.{Form, Fold, Show, Recover, Replay, form_of}
 use Rattle.onll_jobs.specs.Printed.{usage_text, status_of, exit_status}
-use Rattle.onll_jobs.specs.Job.{Job, Say, JobEnds}
+use Rattle.onll_jobs.specs.Job.{Job, Say, JobEnds, JobCut}
 use Rattle.onll_jobs.specs.FoldJob.{fold_job}
 use Rattle.onll_jobs.specs.ShowJob.{show_job}
 use Rattle.onll_jobs.specs.RecoverJob.{recover_job}
@@ -53,9 +53,11 @@ pub record PutSome (seen : Seen) : Type 0 where
 abbrev pub PutNothing : Seen → Type 0
 PutNothing seen = seen.sink_after.taken ≡ seen.sink.taken
 
--- memory could not be had: nothing was put, or some of the first of a text that is allowed
+-- memory could not be had: nothing was put, or some of the first of a text that is allowed; and of the files that the words
+-- write the first were written, and perhaps a part of the next
 pub record OutOfMemory (seen : Seen) : Type 0 where
   pub taken : PutSome seen ⊎ PutNothing seen
+  pub files : JobCut seen.store seen.store_after (job_of (form_of seen.words))
   pub count : seen.sink_after.faults ≡ seen.sink.faults
 
 -- the sink failed after some of the first of a text

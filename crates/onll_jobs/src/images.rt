@@ -2,7 +2,7 @@ ghost use Rattle.std.specs.Prelude.{◌≡◌, length, map, string_bytes, IfOk, 
 ghost use Rattle.onll_outside.specs.Views.{SameFiles, SameOthers, SameFaults};
 ghost use Rattle.onll_pmem.specs.Pmem.{words_of};
 ghost use Rattle.onll_jobs.specs.Reading.{HoldsImage, CannotRead};
-ghost use Rattle.onll_jobs.specs.Images.{image_name, images_in, HoldImages, CannotReadImages, image_bytes, image_names, AreWritten, ImagesStop};
+ghost use Rattle.onll_jobs.specs.Images.{image_name, images_in, HoldImages, CannotReadImages, image_bytes, image_names, AreWritten, ImagesStop, ImagesCut};
 ghost use Rattle.onll_jobs.specs.Writing.{SameBut, HasWritten, CannotWrite};
 ghost use Rattle.onll_jobs.specs.Stop.{StopSays};
 
@@ -154,6 +154,7 @@ pub(crate) fn write_images<S: Store>(
 ) -> Result<(), Stop>
     ensures written { OnOk result (AreWritten (S.seen store.old) (S.seen store.new) logs.now (images_in images.now)) }
     ensures stop { IfErr result (λ stop. StopSays stop (ImagesStop (S.seen store.old) (S.seen store.new) logs.now (images_in images.now))) }
+    ensures cut { IfErr result (λ stop. ImagesCut (S.seen store.old) (S.seen store.new) logs.now (images_in images.now)) }
     ensures others { SameBut (image_names logs.now 0 (length images.now)) (S.seen store.old) (S.seen store.new) }
 {
     for (thread, image) in images.iter().enumerate() {

@@ -1,4 +1,4 @@
-ghost use Rattle.std.specs.Prelude.{◌≡◌, ◌⊎◌, ℕ, List, map, string_bytes, Some, None, IfOk};
+ghost use Rattle.std.specs.Prelude.{◌≡◌, ◌⊎◌, ℕ, List, map, string_bytes, Some, None, IfOk, IfErr};
 ghost use Rattle.onll_outside.specs.Views.{Puts};
 ghost use Rattle.onll_jobs.specs.declared.ending.Ending.{Ending};
 ghost use Rattle.onll_jobs.specs.Command.{form_of, form_in, Replay, IsCommand};
@@ -6,7 +6,7 @@ ghost use Rattle.onll_jobs.specs.Exits.{PutExits};
 ghost use Rattle.onll_jobs.specs.Seen.{seen_by};
 ghost use Rattle.onll_jobs.specs.Writing.{SameBut};
 ghost use Rattle.onll_jobs.specs.Says.{job_of, writes_of, FormSays, ExitSays, Ended, PutWhole, OutOfMemory, SinkFailed, NoneRose, SaysThis};
-ghost use Rattle.onll_jobs.specs.Job.{Decides};
+ghost use Rattle.onll_jobs.specs.Job.{JobCut, Decides};
 ghost use Rattle.onll_jobs.specs.Durable.{ReplayIsDurable, RecoversCrashes};
 ghost use Rattle.onll_jobs.specs.Printed.{usage_text};
 
@@ -27,6 +27,7 @@ fn command_answer<S: Store>(
     requires { IsCommand command }
     ensures says { let form = form_in command.entry in
         IfOk result (λ answer. FormSays (Some form) (S.seen store.old) (S.seen store.new) answer.ending answer.text.items) }
+    ensures cut { IfErr result (λ e. JobCut (S.seen store.old) (S.seen store.new) (job_of (Some (form_in command.entry)))) }
     ensures files { SameBut (writes_of (Some (form_in command.entry))) (S.seen store.old) (S.seen store.new) }
 {
     match command {
@@ -50,6 +51,7 @@ fn command_answer<S: Store>(
 fn answer_to<S: Store>(alloc: Global, words: &[String], store: &mut S) -> Result<Answer, NoMemory>
     ensures says { let form = form_of (map string_bytes words.now) in
         IfOk result (λ answer. FormSays form (S.seen store.old) (S.seen store.new) answer.ending answer.text.items) }
+    ensures cut { IfErr result (λ e. JobCut (S.seen store.old) (S.seen store.new) (job_of (form_of (map string_bytes words.now)))) }
     ensures files { SameBut (writes_of (form_of (map string_bytes words.now))) (S.seen store.old) (S.seen store.new) }
 {
     match Command::read(words) {

@@ -14,7 +14,7 @@ ghost use Rattle.onll_text.specs.Schedule.{IsPlayable};
 ghost use Rattle.onll_outside.specs.Views.{SameFiles};
 ghost use Rattle.onll_jobs.specs.Found.{found_in};
 ghost use Rattle.onll_jobs.specs.Images.{images_in, image_names};
-ghost use Rattle.onll_jobs.specs.Job.{JobEnds, SaysNow};
+ghost use Rattle.onll_jobs.specs.Job.{JobCut, JobEnds, SaysNow};
 ghost use Rattle.onll_jobs.specs.RecoverJob.{recovered};
 ghost use Rattle.onll_jobs.specs.Stop.{StopSays};
 ghost use Rattle.onll_jobs.specs.Writing.{SameBut};
@@ -243,6 +243,8 @@ fn crash<O: Texted + Drop, S: Store>(
     requires threads { (1 ≤ length core.now.threads) × (length core.now.threads ≤ 16) }
     ensures says { let job = crash_job O.means O.wording O.CODE init.now logs.now core.now keep in
         IfOk result (λ answer. JobEnds (S.seen store.old) (S.seen store.new) job answer.ending answer.text.items) }
+    ensures cut { let job = crash_job O.means O.wording O.CODE init.now logs.now core.now keep in
+        IfErr result (λ e. JobCut (S.seen store.old) (S.seen store.new) job) }
     ensures others { SameBut (image_names logs.now 0 (length core.now.threads)) (S.seen store.old) (S.seen store.new) }
 {
     let images = crash_images(alloc, core, keep)?;
@@ -312,6 +314,8 @@ fn replay_scripts<O: Texted + Drop, S: Store>(
     requires updates { All (λ script. updates_in script.items ≤ 4096) scripts.items }
     ensures says { let job = schedule_job O.means O.wording O.CODE init.now object schedule.now logs.now (map (λ script. script.items) scripts.items) in
         IfOk result (λ answer. JobEnds (S.seen store.old) (S.seen store.new) job answer.ending answer.text.items) }
+    ensures cut { let job = schedule_job O.means O.wording O.CODE init.now object schedule.now logs.now (map (λ script. script.items) scripts.items) in
+        IfErr result (λ e. JobCut (S.seen store.old) (S.seen store.new) job) }
     ensures others { SameBut (image_names logs.now 0 (length scripts.items)) (S.seen store.old) (S.seen store.new) }
 {
     match schedule_file(alloc, schedule, scripts.len() as u64, store) {
@@ -336,6 +340,8 @@ fn replay_on<O: Texted + Drop, S: Store>(
     requires { (1 ≤ length scripts.now) × (length scripts.now ≤ 16) }
     ensures says { let job = replay_on O.means O.wording O.CODE init.now schedule.now logs.now (map string_bytes scripts.now) object in
         IfOk result (λ answer. JobEnds (S.seen store.old) (S.seen store.new) job answer.ending answer.text.items) }
+    ensures cut { let job = replay_on O.means O.wording O.CODE init.now schedule.now logs.now (map string_bytes scripts.now) object in
+        IfErr result (λ e. JobCut (S.seen store.old) (S.seen store.new) job) }
     ensures others { SameBut (image_names logs.now 0 (length scripts.now)) (S.seen store.old) (S.seen store.new) }
 {
     match script_files::<O, S>(alloc, scripts, store) {
@@ -357,6 +363,8 @@ fn replay_any<S: Store>(
     requires { (1 ≤ length scripts.now) × (length scripts.now ≤ 16) }
     ensures says { let job = replay_any init.now schedule.now logs.now (map string_bytes scripts.now) object in
         IfOk result (λ answer. JobEnds (S.seen store.old) (S.seen store.new) job answer.ending answer.text.items) }
+    ensures cut { let job = replay_any init.now schedule.now logs.now (map string_bytes scripts.now) object in
+        IfErr result (λ e. JobCut (S.seen store.old) (S.seen store.new) job) }
     ensures others { SameBut (image_names logs.now 0 (length scripts.now)) (S.seen store.old) (S.seen store.new) }
 {
     match object {
@@ -379,6 +387,8 @@ pub(crate) fn answer<S: Store>(
     requires { (1 ≤ length scripts.now) × (length scripts.now ≤ 16) }
     ensures says { let job = replay_job init.now schedule.now logs.now (map string_bytes scripts.now) in
         IfOk result (λ answer. JobEnds (S.seen store.old) (S.seen store.new) job answer.ending answer.text.items) }
+    ensures cut { let job = replay_job init.now schedule.now logs.now (map string_bytes scripts.now) in
+        IfErr result (λ e. JobCut (S.seen store.old) (S.seen store.new) job) }
     ensures others { SameBut (image_names logs.now 0 (length scripts.now)) (S.seen store.old) (S.seen store.new) }
 {
     match init_file(alloc, init, store) {

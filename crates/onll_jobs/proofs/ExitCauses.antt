@@ -31,7 +31,9 @@ use Rattle.onll_jobs.specs.declared.bad_logs.LogsFault.{LogsFault}
 use Rattle.onll_jobs.specs.Images.{reading_images}
 use Rattle.onll_jobs.specs.RecoverJob.{Recovered, recovered, found_says, recover_any}
 use Rattle.onll_jobs.specs.FoldJob.{script_job, script_job_on}
-use Rattle.onll_jobs.specs.Says.{job_of, PutWhole, OutOfMemory, SinkFailed, ExitSays, NoneRose, SaysThis}
+use Rattle.onll_jobs.specs.Exits.{PutExits}
+use Rattle.onll_jobs.specs.Says.{job_of, Allows, PutWhole, OutOfMemory, SinkFailed, ExitSays, NoneRose, SaysThis}
+use Rattle.onll_jobs.proofs.Onwards.{ends_cut}
 use Rattle.onll_jobs.proofs.Jobs.{decided, never_says, reading_never, reading_whole_never}
 use Rattle.onll_jobs.proofs.ImageFiles.{reading_images_never}
 use Rattle.onll_jobs.proofs.ReplayEnds.{replay_not_usage}
@@ -64,6 +66,16 @@ not_nine Refused h = omega arith
 not_nine BadLog h = omega arith
 not_nine ReadFault h = omega arith
 not_nine WriteFault h = omega arith
+
+-- what a put of a text that is allowed says by its exit
+pub put_says : (w : Seen) (ending : Ending) (text : List ℕ) (x : Exit) → Allows w ending text → PutExits w.sink w.sink_after ending text x → ExitSays w x
+put_says w ending text (Said said) h p = record { text = text; allowed = subst (λ e. Allows w e text) (sym p.0) h; put = p.1; count = p.2 }
+put_says w ending text SinkFault h p = record { some = record { ending = ending; text = text; allowed = h; put = p.0 }; rose = p.1 }
+put_says w ending text NoMemory h p = record {
+  taken = inl (record { ending = ending; text = text; allowed = h; put = p.0 });
+  files = ends_cut w.store w.store_after (job_of (form_of w.words)) ending text h;
+  count = p.1;
+}
 
 -- the status of an ending says that its text was put, but for the status that a sink's fault has as well
 pub said_of : (w : Seen) (x : Exit) (e : Ending) → (status_of e ≡ 6 → ⊥) → exit_status x ≡ status_of e → ExitSays w x → PutWhole w e

@@ -1,5 +1,5 @@
 use Rattle.std.proofs.Common.{length, arith}
-use Rattle.onll_jobs.proofs.Onwards.{wrote_next, wrote_cut, others_on}
+use Rattle.onll_jobs.proofs.Onwards.{wrote_next, wrote_cut, others_on, on_any_error}
 use Rattle.onll_jobs.proofs.images.write_images.Goals as goal
 
 pub returns-in_err-write_image-clause-others : goal.returns-in_err-write_image-clause-others
@@ -14,5 +14,5 @@ loop-thread-preserved g c =
 
 pub returns-in_err-write_image-clause-cut : goal.returns-in_err-write_image-clause-cut
 returns-in_err-write_image-clause-cut g c =
-    wrote_cut (g.S.Store.seen c.args.store.now) (g.S.Store.seen c.loop-thread.store) (g.S.Store.seen c.write_image.new.store) c.args.logs.now c.args.images.now c.index-images-thread.result c.loop-thread.thread (omega arith)
-    c.index-images-thread.is c.loop-thread.invariant c.write_image.ensures.others
+    on_any_error c.from_residual.result (wrote_cut (g.S.Store.seen c.args.store.now) (g.S.Store.seen c.loop-thread.store) (g.S.Store.seen c.write_image.new.store) c.args.logs.now c.args.images.now c.index-images-thread.result c.loop-thread.thread (omega arith)
+    c.index-images-thread.is c.loop-thread.invariant c.write_image.ensures.others)

@@ -1,7 +1,8 @@
 use Rattle.std.proofs.Common.{Some, subst, sym, string_bytes}
-use Rattle.std.specs.Result.{IfOk}
+use Rattle.std.specs.Result.{IfOk, IfErr}
 use Rattle.onll_jobs.specs.Command.{form_in}
-use Rattle.onll_jobs.specs.Says.{FormSays, writes_of}
+use Rattle.onll_jobs.specs.Job.{JobCut}
+use Rattle.onll_jobs.specs.Says.{FormSays, job_of, writes_of}
 use Rattle.onll_jobs.specs.Writing.{SameBut}
 use Rattle.onll_jobs.proofs.Forms.{same-images}
 use Rattle.onll_jobs.specs.FoldJob.{fold_job}
@@ -44,3 +45,8 @@ returns-in-Replay-clause-files g c =
     let after = g.S.Store.seen c.answer-in-Replay.new.store in
     subst (λ command. SameBut (writes_of (Some (form_in command))) store after) (sym c.in-Replay.is)
     (same-images string_bytes store after c.in-Replay.logs.now c.in-Replay.scripts.now c.answer-in-Replay.ensures.others)
+
+pub returns-in-Replay-clause-cut : goal.returns-in-Replay-clause-cut
+returns-in-Replay-clause-cut g c =
+    subst (λ command. IfErr c.answer-in-Replay.result (λ e. JobCut (g.S.Store.seen c.args.store.now) (g.S.Store.seen c.answer-in-Replay.new.store) (job_of (Some (form_in command))))) (sym c.in-Replay.is)
+    c.answer-in-Replay.ensures.cut

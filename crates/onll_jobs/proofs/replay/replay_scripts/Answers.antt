@@ -76,7 +76,7 @@ returns-in_err-core-in-Ok-clause-cut g c =
     let store = g.S.Store.seen c.args.store.now in
     let after = g.S.Store.seen c.schedule_file.new.store in
     let scripts = map (λ script. script.items) c.args.scripts.items in
-    stay_cut store after (schedule_job g.O.Object.means g.O.Texted.wording g.O.Object.CODE c.args.init.now c.args.object c.args.schedule.now c.args.logs.now scripts) (files_stay store after c.in-Ok.ensures.same)
+    on_any_error c.from_residual.result (stay_cut store after (schedule_job g.O.Object.means g.O.Texted.wording g.O.Object.CODE c.args.init.now c.args.object c.args.schedule.now c.args.logs.now scripts) (files_stay store after c.in-Ok.ensures.same))
 
 pub returns-in-Err-clause-cut : goal.returns-in-Err-clause-cut
 returns-in-Err-clause-cut g c =

@@ -2,7 +2,7 @@ use Rattle.std.proofs.lemmas.List.{take_all, length-take-le}
 use Rattle.std.proofs.lemmas.Bool.{cases_lt}
 use Rattle.std.proofs.lemmas.Bool.Decides.{nat_tests}
 use Rattle.std.proofs.Common.{ℕ, zero, suc, Bool, true, false, List, [], ◌∷◌, ◌≡◌, ◌+◌, ◌≤◌, length, take, arith, inl, inr, Option, Some, None, Result, Ok, Err, nat_lt, cond, refl, sym, ap, ◌∙◌, subst}
-use Rattle.onll_outside.specs.Views.{StoreView, IsFront, Gives}
+use Rattle.onll_outside.specs.Views.{StoreView, IsFront, Gives, Holds}
 use Rattle.onll_log.specs.ImageFile.{longest_image, whole_lines, image_lines}
 use Rattle.onll_text.specs.Wording.{Wording}
 use Rattle.onll_text.specs.Script.{longest_text, script_of}
@@ -13,7 +13,7 @@ use Rattle.onll_words.specs.Texts.{meaningful_lines}
 use Rattle.onll_text.specs.declared.any_object.AnyObject.{AnyObject}
 use Rattle.onll_text.specs.declared.reason.Reason.TheVariants.{TooLong}
 use Rattle.onll_text.specs.Refusal.{Refusal, refused}
-use Rattle.onll_jobs.specs.Reading.{Holds, IsCut, ReadsWhole, HoldsImage}
+use Rattle.onll_jobs.specs.Reading.{IsCut, ReadsWhole, HoldsImage}
 
 -- what a store that tells its files gives
 told : (s : StoreView) (name text : List ℕ) (found : Option (List ℕ)) → s.file name ≡ found → IsFront (longest_text + 1) found text → IsCut s name text

@@ -1,7 +1,7 @@
 use Rattle.std.proofs.Common.{ℕ, List, ◌≡◌, inl, inr, Result, Ok, Err, refl, sym, ◌∙◌, subst}
 use Rattle.std.specs.Result.{IfOk, MatchResult}
 use Rattle.onll_words.specs.declared.NoMemory.{NoMemory}
-use Rattle.onll_outside.specs.Views.{StoreView, SameFiles, SameFaults, Rose}
+use Rattle.onll_outside.specs.Views.{StoreView, SameFiles, SameFaults, Rose, Holds}
 use Rattle.onll_text.specs.Refusal.{Refusal}
 use Rattle.onll_jobs.specs.declared.ending.Ending.{Ending}
 use Rattle.onll_jobs.specs.declared.ending.Ending.TheVariants.{Done, Usage, Refused, BadLog, ReadFault, WriteFault}
@@ -9,7 +9,7 @@ use Rattle.onll_jobs.specs.declared.answer.Answer.{Answer}
 use Rattle.onll_jobs.specs.declared.answer.Stop.{Stop}
 use Rattle.onll_jobs.specs.declared.answer.Stop.TheVariants as stops
 use Rattle.onll_jobs.specs.Stop.{StopSays}
-use Rattle.onll_jobs.specs.Reading.{Holds, IsTold, ReadsWhole, CannotRead, Stops}
+use Rattle.onll_jobs.specs.Reading.{IsTold, ReadsWhole, CannotRead, Stops}
 use Rattle.onll_jobs.specs.Writing.{FilesStay, CannotWrite, written}
 use Rattle.onll_jobs.specs.Job.{Job, Say, Read, Write, JobSays, JobEnds, Decides, Never, on_value, reading, reading_whole}
 

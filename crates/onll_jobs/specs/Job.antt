@@ -1,10 +1,10 @@
 use Rattle.std.specs.Prelude.{ℕ, List, ◌≡◌, ◌⊎◌, Result, Ok, Err}
 use Rattle.onll_text.specs.Refusal.{Refusal}
-use Rattle.onll_outside.specs.Views.{StoreView}
+use Rattle.onll_outside.specs.Views.{StoreView, Holds}
 use Rattle.onll_jobs.specs.declared.ending.Ending.{Ending}
 use Rattle.onll_jobs.specs.declared.ending.Ending.TheVariants.{Refused}
 use Rattle.onll_jobs.specs.Printed.{refusal_text}
-use Rattle.onll_jobs.specs.Reading.{Holds, CannotRead, IsTold}
+use Rattle.onll_jobs.specs.Reading.{CannotRead, IsTold}
 use Rattle.onll_jobs.specs.Writing.{CannotWrite, FilesStay, OthersStay, written}
 
 -- What a call does, up to the text that it puts: it reads files by their names, each after what the ones before it held, makes

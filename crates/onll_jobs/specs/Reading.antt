@@ -2,17 +2,13 @@ use Rattle.std.specs.Prelude.{ℕ, List, ◌≡◌, ◌+◌, ◌⊎◌, true, So
 use Rattle.onll_log.specs.ImageFile.{image_lines}
 use Rattle.onll_text.specs.Refusal.{Refusal}
 use Rattle.onll_text.specs.Script.{longest_text}
-use Rattle.onll_outside.specs.Views.{StoreView, Rose}
+use Rattle.onll_outside.specs.Views.{StoreView, Holds, Rose}
 use Rattle.onll_outside.specs.declared.store.FaultKind.TheVariants as kinds
 use Rattle.onll_jobs.specs.declared.ending.Ending.{Ending}
 use Rattle.onll_jobs.specs.declared.ending.Ending.TheVariants.{Refused, ReadFault}
 use Rattle.onll_jobs.specs.Printed.{refusal_text, read_fault_text}
 
 -- The reading of one text by its grammar, and how it ends a call where it gives no value.
-
--- the named file holds these bytes, where the store tells its files
-abbrev pub Holds : StoreView → List ℕ → List ℕ → Type 0
-Holds store name bytes = store.tells ≡ true → store.file name ≡ Some bytes
 
 -- the named file is told, and has these bytes
 pub record IsTold (store : StoreView) (name bytes : List ℕ) : Type 0 where

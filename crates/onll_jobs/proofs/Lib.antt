@@ -11,7 +11,6 @@ mod Stops
 pub mod Jobs
 pub mod ShowWords
 pub mod Shown
-pub mod ScriptUpdates
 pub mod Replays
 pub mod Crashes
 pub mod ReplayNever

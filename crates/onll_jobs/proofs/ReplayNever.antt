@@ -2,8 +2,8 @@ use Rattle.std.proofs.Common.{ℕ, suc, List, [], ◌∷◌, ◌≡◌, ◌≤�
 use Rattle.std.specs.List.{AllByRecursion}
 use Rattle.onll_model.specs.declared.call.Call.{Call}
 use Rattle.onll_model.specs.Object.{Behaviour}
+use Rattle.onll_model.specs.Calls.{updates_in}
 use Rattle.onll_core.specs.Core.{CoreState}
-use Rattle.onll_core.specs.Tie.{updates_in}
 use Rattle.onll_core.specs.Crash.{images_of}
 use Rattle.onll_bank.specs.Object.{bank}
 use Rattle.onll_map.specs.Object.{map_object}
@@ -21,6 +21,7 @@ use Rattle.onll_text.specs.LeaseWording.{lease_wording}
 use Rattle.onll_text.specs.Init.{init_of}
 use Rattle.onll_text.specs.Script.{script_of}
 use Rattle.onll_text.specs.Schedule.{schedule_of}
+use Rattle.onll_text.proofs.FewCalls.{few_calls}
 use Rattle.onll_core.specs.Created.{IsWithinLimits}
 use Rattle.onll_jobs.specs.declared.ending.Ending.TheVariants.{BadLog}
 use Rattle.onll_jobs.specs.declared.bad_logs.LogsFault.{LogsFault}
@@ -28,7 +29,6 @@ use Rattle.onll_jobs.specs.Job.{Job, Never, on_value, reading, reading_whole}
 use Rattle.onll_jobs.specs.Images.{writing_images}
 use Rattle.onll_jobs.specs.RecoverJob.{Recovered, recovered}
 use Rattle.onll_jobs.specs.ReplayJob.{played, crash_says, crash_job, reading_scripts, schedule_job, replay_on, replay_any, replay_job}
-use Rattle.onll_jobs.proofs.ScriptUpdates.{script_updates}
 use Rattle.onll_jobs.proofs.Crashes.{crash_recovers}
 
 -- A replay never finds a bad log: what its own crash leaves recovers.
@@ -54,7 +54,7 @@ module _ {State Op Query Reply : Type 0} (b : Behaviour State Op Query Reply) (w
       → Never BadLog (reading_scripts w names next)
   scripts_by [] next f = f [] refl tt
   scripts_by (name ∷ names) next f = read_by name (script_of w) (λ calls. reading_scripts w names (λ scripts. next (calls ∷ scripts)))
-      (λ bytes calls e. scripts_by names (λ scripts. next (calls ∷ scripts)) (λ scripts many few. f (calls ∷ scripts) (ap suc many) (script_updates w bytes calls e, few)))
+      (λ bytes calls e. scripts_by names (λ scripts. next (calls ∷ scripts)) (λ scripts many few. f (calls ∷ scripts) (ap suc many) ((few_calls w bytes calls e).0, few)))
 
   says_by : (c : CoreState State Op Query Reply) (keep : ℕ) (found : Result Recovered LogsFault) (r : Recovered) → found ≡ Ok r → Never BadLog (crash_says b w c keep found)
   says_by c keep found r e = subst (λ (x : Result Recovered LogsFault). Never BadLog (crash_says b w c keep x)) (sym e) (λ e. cc)

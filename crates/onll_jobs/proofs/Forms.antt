@@ -1,11 +1,10 @@
-use Rattle.std.proofs.Common.{ℕ, List, [], ◌∷◌, ◌≡◌, ◌≤◌, ◌<◌, ◌-◌, Bool, true, false, ◌&&◌, nat_le, cond, true≢false, Option, Some, None, length, map, take, drop, slice_index_or, refl, sym, ap, ◌∙◌, subst, codes, arith}
+use Rattle.std.proofs.Common.{ℕ, List, [], ◌∷◌, ◌≡◌, ◌≤◌, Bool, true, false, ◌&&◌, nat_le, cond, Option, Some, None, length, map, refl, sym, subst, codes}
 use Rattle.std.specs.Str.{bytes_eq}
 use Rattle.std.proofs.lemmas.Bool.{leb-true}
-use Rattle.std.proofs.lemmas.List.{take_all, length-map}
-use Rattle.std.proofs.lemmas.Slice.Eq.{bytes_eq-Decides}
+use Rattle.std.proofs.lemmas.List.{length-map}
 use Rattle.onll_outside.specs.Views.{StoreView}
 use Rattle.onll_words.specs.Numbers.{number_of}
-use Rattle.onll_jobs.specs.Command.{Form, Fold, Show, Recover, Replay, form_of, recover_form, replay_form, replay_of}
+use Rattle.onll_jobs.specs.Command.{Form, Fold, Show, Recover, Replay, form_of, recover_form, replay_form}
 use Rattle.onll_jobs.specs.Images.{image_names}
 use Rattle.onll_jobs.specs.Writing.{SameBut}
 

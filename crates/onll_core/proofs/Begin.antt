@@ -7,6 +7,7 @@ use Rattle.onll_model.specs.Frames.{resumed_thread, resumed_frame}
 use Rattle.onll_model.specs.FrameLaws.{SoundOver}
 use Rattle.onll_model.proofs.Lists.{inside, present}
 use Rattle.onll_model.proofs.FirstFrames.{resumed_sound}
+use Rattle.onll_model.specs.Calls.{updates_in}
 use Rattle.onll_pmem.specs.Device.{zero_lines, line_at}
 use Rattle.onll_log.specs.Encoding.{log_lines}
 use Rattle.onll_core.specs.declared.phase.Phase.{Phase}
@@ -14,7 +15,7 @@ use Rattle.onll_core.specs.declared.phase.Phase.TheVariants as phases
 use Rattle.onll_core.specs.declared.returned.Returned.{Returned}
 use Rattle.onll_core.specs.Core.{CoreThread, CoreState}
 use Rattle.onll_core.specs.CoreFrame.{seen_in, pending_in, activity_in, fenced_entries, frame_thread, frame_of}
-use Rattle.onll_core.specs.Tie.{updates_in, updates_to_link, IsTied}
+use Rattle.onll_core.specs.Tie.{updates_to_link, IsTied}
 use Rattle.onll_core.specs.Consistent.{IsConsistent}
 use Rattle.onll_core.specs.Begin.{HasBegun, IsBegun}
 use Rattle.onll_core.specs.Fences.{fenced_in, updates_returned, CountsFences}

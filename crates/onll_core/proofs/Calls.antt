@@ -2,7 +2,7 @@ use Rattle.std.proofs.Common.{ℕ, zero, suc, ◌≡◌, List, [], ◌∷◌, �
 use Rattle.std.specs.List.{slice_get}
 use Rattle.onll_model.specs.declared.call.Call.{Call}
 use Rattle.onll_model.specs.declared.call.Call.TheVariants.{Update, Ask}
-use Rattle.onll_core.specs.Tie.{updates_in}
+use Rattle.onll_model.specs.Calls.{updates_in}
 
 -- On the calls of a script.
 

@@ -9,7 +9,7 @@ use Rattle.onll_pmem.specs.Device.{IsImage, image_of}
 use Rattle.onll_log.specs.declared.head.LogHead.{LogHead}
 use Rattle.onll_log.specs.Grammar.{Content, content_of}
 use Rattle.onll_log.specs.Torn.{Holds}
-use Rattle.onll_merge.specs.Merge.{merge, top_of}
+use Rattle.onll_merge.specs.Merge.{top_of}
 use Rattle.onll_merge.specs.FrameLogs.{AreLogsOf}
 use Rattle.onll_merge.specs.declared.fault.RecoverFault.TheVariants.{NoMemory}
 use Rattle.onll_merge.specs.declared.fault.ImagesFault.{ImagesFault}
@@ -125,15 +125,12 @@ module _ {State Op Query Reply : Type 0} (b : Behaviour State Op Query Reply) wh
       subst (λ (heads : List LogHead). Recovers heads (steps_of b c ts) images) (steps_heads c ts) (recovers count (steps_of b c ts) images (steps_consistent b count c ts k) a)
 
 -- ---- what code finds
--- whoever reads these images as logs reads those that are recovered
+-- the same contents are the same logs
 pub some_same : (xs ys : List Content) → map Some xs ≡ map Some ys → xs ≡ ys
 some_same [] [] e = refl
 some_same [] (y ∷ ys) e = absurd (cc)
 some_same (x ∷ xs) [] e = absurd (cc)
 some_same (x ∷ xs) (y ∷ ys) e = let a : Some x ≡ Some y = (cc) in let b : map Some xs ≡ map Some ys = (cc) in let here = same_some x y a in let rest = some_same xs ys b in λ i. here i ∷ rest i
-
-pub recovered_by : {State Op Query Reply : Type 0} (heads : List LogHead) (c : CoreState State Op Query Reply) (images : List (List (List ℕ))) (r : Recovers heads c images) (logs : List Content) → map content_of images ≡ map Some logs → merge heads logs ≡ Ok r.nodes
-recovered_by heads c images r logs e = ap (merge heads) (some_same logs r.logs (sym e ∙ r.contents)) ∙ r.recovered
 
 -- what code gives for images of a core is what is recovered, or want of memory
 pub own_images : {State Op Query Reply V : Type 0} (items : V → List Node) (count : ℕ) (c : CoreState State Op Query Reply) (images : List (List (List ℕ))) (heads : List LogHead) → IsConsistent count c → heads ≡ heads_of c.threads

@@ -2,10 +2,10 @@ use Rattle.std.proofs.Common.{ℕ, zero, suc, ◌≡◌, ◌+◌, ◌<◌, ◌�
 use Rattle.std.specs.List.{slice_get}
 use Rattle.onll_model.specs.declared.call.Call.{Call}
 use Rattle.onll_model.proofs.Lists.{same_some, some_not_none, all_at}
+use Rattle.onll_model.specs.Calls.{updates_in}
 use Rattle.onll_log.specs.declared.head.LogHead.{LogHead}
 use Rattle.onll_log.specs.Head.{head_for}
 use Rattle.onll_log.proofs.Lines.{length-digest_words}
-use Rattle.onll_core.specs.Tie.{updates_in}
 use Rattle.onll_core.specs.Consistent.{IsConsistent}
 use Rattle.onll_core.specs.Begin.{IsHeadOf}
 use Rattle.onll_core.specs.First.{AreFirst}

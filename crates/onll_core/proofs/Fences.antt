@@ -8,13 +8,13 @@ use Rattle.onll_model.specs.Trace.{reply_after, answer_after}
 use Rattle.onll_model.specs.Frames.{is_available}
 use Rattle.onll_model.specs.Events.{next_node}
 use Rattle.onll_model.proofs.Lists.{at_set}
+use Rattle.onll_model.specs.Calls.{updates_in}
 use Rattle.onll_pmem.specs.Device.{Write, WriteBack, after_step}
 use Rattle.onll_core.specs.declared.phase.Phase.{Phase}
 use Rattle.onll_core.specs.declared.phase.Phase.TheVariants as phases
 use Rattle.onll_core.specs.declared.returned.Returned.{Returned}
 use Rattle.onll_core.specs.Core.{CoreThread, CoreState}
 use Rattle.onll_core.specs.Step.{turned, begun, on_device, logged, returning, put, linked, line_of_entry, after_exchange, after_flag, answered, act, next_call, step_by, step_of, steps_of}
-use Rattle.onll_core.specs.Tie.{updates_in}
 use Rattle.onll_core.specs.Fences.{fenced_in, updates_returned, CountsFences}
 use Rattle.onll_core.proofs.Calls.{length_snoc, update_taken, ask_taken}
 

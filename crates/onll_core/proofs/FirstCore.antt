@@ -7,11 +7,11 @@ use Rattle.onll_model.specs.Trace.{is_of_thread}
 use Rattle.onll_model.specs.Segment.{Segment}
 use Rattle.onll_model.proofs.Lists.{same_some, some_not_none}
 use Rattle.onll_model.proofs.FirstFrames.{created_resumable}
+use Rattle.onll_model.specs.Calls.{updates_in}
 use Rattle.onll_pmem.specs.Device.{zero_line, zero_lines, settled}
 use Rattle.onll_log.specs.declared.head.LogHead.{LogHead}
 use Rattle.onll_log.specs.Encoding.{log_lines, FitEntries}
 use Rattle.onll_core.specs.Core.{CoreThread}
-use Rattle.onll_core.specs.Tie.{updates_in}
 use Rattle.onll_core.specs.Consistent.{IsConsistent}
 use Rattle.onll_core.specs.Begin.{IsHeadOf, HoldsLog, HasBegun, IsBegun}
 use Rattle.onll_core.specs.First.{lines_for, first_device, first_thread, first_threads, first_core, AreFirst}

@@ -13,10 +13,10 @@ use Rattle.onll_log.specs.Head.{head_for, head_line}
 use Rattle.onll_core.specs.declared.phase.Phase.TheVariants as phases
 use Rattle.onll_core.specs.declared.local.Local.{Local}
 use Rattle.onll_core.specs.Core.{CoreThread, CoreState}
-use Rattle.onll_core.specs.Tie.{updates_in}
 use Rattle.onll_core.specs.First.{first_device, first_thread, first_threads}
 use Rattle.onll_core.specs.Created.{heads_from, created_core, IsWithinLimits}
 use Rattle.onll_model.specs.declared.node.Node.{Node}
+use Rattle.onll_model.specs.Calls.{updates_in}
 use Rattle.onll_core.specs.Consistent.{IsConsistent}
 use Rattle.onll_core.proofs.Windows.{threads_count}
 use Rattle.onll_core.specs.Kept.{own_place, KeepsWorker, IsLocal, KeepsCore}

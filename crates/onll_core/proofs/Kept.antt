@@ -15,6 +15,7 @@ use Rattle.onll_model.specs.FrameLaws.{SoundOver}
 use Rattle.onll_model.proofs.Lists.{at_set, set_here, all_append}
 use Rattle.onll_model.proofs.Traces.{count_own, count_other}
 use Rattle.onll_model.proofs.EventLaw.{event_sound}
+use Rattle.onll_model.specs.Calls.{updates_in}
 use Rattle.onll_pmem.specs.Device.{Write, WriteBack, after_step, line_at}
 use Rattle.onll_log.specs.Encoding.{entry_lines}
 use Rattle.onll_core.specs.declared.phase.Phase.{Phase}
@@ -23,7 +24,7 @@ use Rattle.onll_core.specs.declared.returned.Returned.{Returned}
 use Rattle.onll_core.specs.Core.{CoreThread, CoreState}
 use Rattle.onll_core.specs.CoreFrame.{pending_in, frame_of}
 use Rattle.onll_core.specs.Step.{turned, begun, on_device, logged, returning, put, linked, flagged, line_of_entry, after_exchange, after_flag, answered, act, next_call, step_by, step_of, steps_of}
-use Rattle.onll_core.specs.Tie.{written_in, lines_needed, IsBehind, InEntry, updates_in, updates_to_log, updates_to_link, IsTied}
+use Rattle.onll_core.specs.Tie.{written_in, lines_needed, IsBehind, InEntry, updates_to_log, updates_to_link, IsTied}
 use Rattle.onll_core.specs.Consistent.{IsConsistent}
 use Rattle.onll_core.specs.StepEvent.{event_at, after_maybe, MayCome, IsEvent}
 use Rattle.onll_core.proofs.Calls.{length_snoc, update_left, ask_left}

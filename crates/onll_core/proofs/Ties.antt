@@ -4,6 +4,7 @@ use mathlib.Core.Logic.{dite}
 use native.Mathlib.Decide.{ℕ_discrete}
 use Rattle.onll_model.specs.Segment.{Segment}
 use Rattle.onll_model.proofs.Lists.{all_append}
+use Rattle.onll_model.specs.Calls.{updates_in}
 use Rattle.onll_pmem.specs.Device.{Write, WriteBack, after_step, line_at, is_marked, zero_line, zero_lines, settled}
 use Rattle.onll_pmem.proofs.Lines.{settled-all}
 use Rattle.onll_log.specs.Encoding.{entry_lines, log_lines, FitsEntry}
@@ -17,7 +18,7 @@ use Rattle.onll_core.specs.declared.returned.Returned.{Returned}
 use Rattle.onll_core.specs.Core.{CoreThread}
 use Rattle.onll_core.specs.CoreFrame.{fenced_entries}
 use Rattle.onll_core.specs.Step.{on_device, logged}
-use Rattle.onll_core.specs.Tie.{written_in, lines_needed, IsBehind, InEntry, coming_lines, updates_in, updates_to_log, IsTied}
+use Rattle.onll_core.specs.Tie.{written_in, lines_needed, IsBehind, InEntry, coming_lines, updates_to_log, IsTied}
 
 -- The steps on a device keep it tied to its log.
 

@@ -4,13 +4,13 @@ use Rattle.onll_model.specs.declared.call.Call.{Call}
 use Rattle.onll_model.specs.Object.{Behaviour}
 use Rattle.onll_model.specs.Trace.{is_of_thread}
 use Rattle.onll_model.specs.Segment.{Segment}
+use Rattle.onll_model.specs.Calls.{updates_in}
 use Rattle.onll_pmem.specs.Device.{IsImage}
 use Rattle.onll_log.specs.declared.head.LogHead.{LogHead}
 use Rattle.onll_log.specs.Torn.{Holds}
 use Rattle.onll_merge.specs.Resumed.{entries_of}
 use Rattle.onll_core.specs.Core.{CoreState}
 use Rattle.onll_core.specs.CoreFrame.{pending_in}
-use Rattle.onll_core.specs.Tie.{updates_in}
 use Rattle.onll_core.specs.Step.{steps_of}
 use Rattle.onll_core.specs.First.{first_core, AreFirst}
 use Rattle.onll_core.specs.Resumed.{resumed_core, AreResumed}

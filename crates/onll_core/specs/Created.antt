@@ -1,10 +1,10 @@
 use Rattle.std.specs.Prelude.{ℕ, zero, suc, ◌≤◌, List, [], ◌∷◌, length}
 use Rattle.std.specs.List.{AllByRecursion}
 use Rattle.onll_model.specs.declared.call.Call.{Call}
+use Rattle.onll_model.specs.Calls.{updates_in}
 use Rattle.onll_log.specs.declared.head.LogHead.{LogHead}
 use Rattle.onll_log.specs.Head.{head_for}
 use Rattle.onll_core.specs.Core.{CoreState}
-use Rattle.onll_core.specs.Tie.{updates_in}
 use Rattle.onll_core.specs.First.{first_core}
 
 -- The core that is made of an object, the bytes of its initial state and scripts.

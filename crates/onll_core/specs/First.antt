@@ -1,11 +1,11 @@
 use Rattle.std.specs.Prelude.{ℕ, ◌≡◌, ◌+◌, ◌*◌, ◌≤◌, List, [], ◌∷◌, length, Some, slice_get}
 use Rattle.onll_model.specs.declared.call.Call.{Call}
+use Rattle.onll_model.specs.Calls.{updates_in}
 use Rattle.onll_pmem.specs.Device.{DeviceState, Write, WriteBack, Fence, after_steps, new_device}
 use Rattle.onll_log.specs.declared.head.LogHead.{LogHead}
 use Rattle.onll_log.specs.Head.{head_line}
 use Rattle.onll_core.specs.declared.phase.Phase.TheVariants as phases
 use Rattle.onll_core.specs.Core.{CoreThread, CoreState}
-use Rattle.onll_core.specs.Tie.{updates_in}
 use Rattle.onll_core.specs.Begin.{IsHeadOf}
 
 -- The first state of a core that begins anew.

@@ -5,13 +5,13 @@ use Rattle.onll_model.specs.declared.node.Node.{Node}
 use Rattle.onll_model.specs.Trace.{is_of_thread}
 use Rattle.onll_model.specs.Segment.{Segment}
 use Rattle.onll_model.specs.FrameLaws.{IsResumable}
+use Rattle.onll_model.specs.Calls.{updates_in}
 use Rattle.onll_pmem.specs.Device.{DeviceState, zero_lines}
 use Rattle.onll_log.specs.declared.head.LogHead.{LogHead}
 use Rattle.onll_log.specs.Encoding.{log_lines, FitEntries}
 use Rattle.onll_log.specs.Grammar.{lines_in}
 use Rattle.onll_core.specs.declared.phase.Phase.TheVariants as phases
 use Rattle.onll_core.specs.Core.{CoreThread, CoreState}
-use Rattle.onll_core.specs.Tie.{updates_in}
 use Rattle.onll_core.specs.Begin.{IsHeadOf}
 
 -- The first state of a core that goes on from recovered logs.

@@ -1,6 +1,5 @@
-use Rattle.std.specs.Prelude.{ℕ, suc, ◌≡◌, ◌≢◌, ◌+◌, ◌-◌, ◌*◌, ◌≤◌, ◌⊎◌, true, List, [], ◌∷◌, ◌++◌, length, take, drop, Option, Some, None}
-use Rattle.onll_model.specs.declared.call.Call.{Call}
-use Rattle.onll_model.specs.declared.call.Call.TheVariants.{Update, Ask}
+use Rattle.std.specs.Prelude.{ℕ, suc, ◌≡◌, ◌≢◌, ◌+◌, ◌-◌, ◌*◌, ◌≤◌, ◌⊎◌, true, List, [], ◌++◌, length, take, drop, Option, Some, None}
+use Rattle.onll_model.specs.Calls.{updates_in}
 use Rattle.onll_model.specs.Segment.{Segment}
 use Rattle.onll_pmem.specs.Device.{line_at, is_marked, zero_lines}
 use Rattle.onll_log.specs.declared.head.LogHead.{LogHead}
@@ -66,12 +65,6 @@ InEntry (phases.Ask f d) = Unit {0}
 abbrev pub coming_lines : LogHead → ℕ → Option Segment → List (List ℕ)
 coming_lines head before None = []
 coming_lines head before (Some s) = entry_lines head before s
-
--- how many of these calls are updates
-abbrev pub updates_in : {State Op Query Reply : Type 0} → List (Call State Op Query Reply) → ℕ
-updates_in [] = 0
-updates_in (Update op ∷ calls) = suc (updates_in calls)
-updates_in (Ask query ∷ calls) = updates_in calls
 
 -- the updates of a script that have no entry yet: in its last step an update has its own
 abbrev pub updates_to_log : {State Op Query Reply : Type 0} → CoreThread State Op Query Reply → Phase → ℕ

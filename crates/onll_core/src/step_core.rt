@@ -2,6 +2,7 @@ ghost use Rattle.std.specs.Prelude.{◌≡◌, ℕ, suc, ◌+◌, ◌-◌, ◌*�
 ghost use Rattle.std.specs.List.{All};
 ghost use Rattle.onll_model.specs.declared.call.Call.TheVariants.{Update, Ask};
 ghost use Rattle.onll_model.specs.Frames.{is_available};
+ghost use Rattle.onll_model.specs.Calls.{updates_in};
 ghost use Rattle.onll_core.specs.declared.phase.Phase.TheVariants as phases;
 ghost use Rattle.onll_core.specs.declared.returned.Stepped.TheVariants as stepped;
 ghost use Rattle.onll_pmem.specs.Device.{line_at};
@@ -9,7 +10,6 @@ ghost use Rattle.onll_log.specs.Encoding.{entry_lines, FitsEntry};
 ghost use Rattle.onll_core.specs.CoreFrame.{seen_in};
 ghost use Rattle.onll_core.specs.Step.{turned, begun, put, answered, line_of_entry, after_exchange, after_flag, after_back, next_call, step_of, steps_of};
 ghost use Rattle.onll_core.specs.Consistent.{IsConsistent};
-ghost use Rattle.onll_core.specs.Tie.{updates_in};
 ghost use Rattle.onll_core.specs.First.{first_threads};
 ghost use Rattle.onll_core.specs.Created.{heads_from, created_core};
 ghost use Rattle.onll_core.specs.Next.{IsNext, IsUpdating};

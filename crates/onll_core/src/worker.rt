@@ -1,7 +1,7 @@
 ghost use Rattle.std.specs.Prelude.{◌≡◌, ◌+◌, ◌<◌, ◌≤◌, suc, [], length, IfOk};
+ghost use Rattle.onll_model.specs.Calls.{updates_in};
 ghost use Rattle.onll_pmem.specs.Device.{line_at, FillsWords, after_step, Write, WriteBack};
 ghost use Rattle.std.specs.Vec.{vec_capacity};
-ghost use Rattle.onll_core.specs.Tie.{updates_in};
 ghost use Rattle.onll_core.specs.First.{first_device, first_thread};
 ghost use Rattle.onll_core.specs.Step.{turned, begun, on_device, logged, returning, next_call};
 

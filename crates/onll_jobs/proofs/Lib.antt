@@ -10,7 +10,6 @@ mod Stops
 pub mod Jobs
 pub mod ShowWords
 pub mod Shown
-pub mod ScriptUpdates
 pub mod Replays
 pub mod Crashes
 pub mod ReplayEnds

@@ -2,8 +2,8 @@ use Rattle.std.proofs.Common.{ℕ, suc, List, [], ◌∷◌, ◌≡◌, ◌≤�
 use Rattle.std.specs.List.{AllByRecursion}
 use Rattle.onll_model.specs.declared.call.Call.{Call}
 use Rattle.onll_model.specs.Object.{Behaviour}
+use Rattle.onll_model.specs.Calls.{updates_in}
 use Rattle.onll_core.specs.Core.{CoreState}
-use Rattle.onll_core.specs.Tie.{updates_in}
 use Rattle.onll_core.specs.Step.{steps_of}
 use Rattle.onll_core.specs.Turns.{turns_of}
 use Rattle.onll_core.specs.Created.{created_heads, created_core, IsWithinLimits}
@@ -29,6 +29,7 @@ use Rattle.onll_text.specs.LeaseWording.{lease_wording}
 use Rattle.onll_text.specs.Init.{init_of}
 use Rattle.onll_text.specs.Script.{script_of}
 use Rattle.onll_text.specs.Schedule.{schedule_of}
+use Rattle.onll_text.proofs.FewCalls.{few_calls}
 use Rattle.onll_outside.specs.Views.{StoreView}
 use Rattle.onll_jobs.specs.declared.ending.Ending.{Ending}
 use Rattle.onll_jobs.specs.declared.ending.Ending.TheVariants.{Done, Usage, Refused, BadLog, ReadFault, WriteFault}
@@ -43,7 +44,6 @@ use Rattle.onll_jobs.specs.Says.{job_of, PutWhole}
 use Rattle.onll_jobs.specs.RecoverJob.{Recovered, recovered}
 use Rattle.onll_jobs.specs.ReplayJob.{played, replay_report, crash_says, crash_job, reading_scripts, schedule_job, replay_on, replay_any, replay_job}
 use Rattle.onll_jobs.specs.Durable.{ReadScripts, with_images, HasReplayed, HasReplayedAny, ReplayPut}
-use Rattle.onll_jobs.proofs.ScriptUpdates.{script_updates}
 use Rattle.onll_jobs.proofs.Crashes.{crash_recovered}
 use Rattle.onll_jobs.proofs.Forms.{few-scripts}
 
@@ -131,7 +131,7 @@ module _ (after : StoreView) (ending : Ending) (text : List ℕ) (said : IsSaid 
     few_updates [] [] h = tt
     few_updates [] (script ∷ scripts) h = absurd h
     few_updates (name ∷ names) [] h = absurd h
-    few_updates (name ∷ names) (script ∷ scripts) h = (script_updates w h.0.bytes script h.0.accepted, few_updates names scripts h.1)
+    few_updates (name ∷ names) (script ∷ scripts) h = ((few_calls w h.0.bytes script h.0.accepted).0, few_updates names scripts h.1)
 
     -- ---- what was replayed
     module _ (code : ℕ) (is : (1 ≤ code) × (code ≤ 4)) (init : List ℕ) (s : State) (schedule logs : List ℕ) (names : List (List ℕ)) (few : length names ≤ 16) where

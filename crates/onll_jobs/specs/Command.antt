@@ -20,13 +20,17 @@ recover_form init logs (Some threads) = if nat_le 1 threads && nat_le threads 16
 abbrev pub replay_form : (init schedule logs : List ℕ) → List (List ℕ) → Option Form
 replay_form init schedule logs scripts = if nat_le 1 (length scripts) && nat_le (length scripts) 16 then Some (Replay init schedule logs scripts) else None
 
+-- the form of a replay, where words have it
+abbrev pub replay_of : List (List ℕ) → Option Form
+replay_of (command ∷ init ∷ schedule ∷ logs ∷ script ∷ scripts) = if bytes_eq command (codes "replay") then replay_form init schedule logs (script ∷ scripts) else None
+replay_of _ = None
+
 -- the form that words have, where they have one that is built
 abbrev pub form_of : List (List ℕ) → Option Form
 form_of (command ∷ init ∷ script ∷ []) = if bytes_eq command (codes "fold") then Some (Fold init script) else None
 form_of (command ∷ init ∷ logs ∷ threads ∷ []) = if bytes_eq command (codes "recover") then recover_form init logs (number_of threads) else None
-form_of (command ∷ init ∷ schedule ∷ logs ∷ script ∷ scripts) = if bytes_eq command (codes "replay") then replay_form init schedule logs (script ∷ scripts) else None
 form_of (command ∷ image ∷ []) = if bytes_eq command (codes "show") then Some (Show image) else None
-form_of _ = None
+form_of words = replay_of words
 
 -- the form of a command that was read
 abbrev pub form_in : Command → Form

@@ -1,5 +1,5 @@
 ghost use Rattle.std.specs.Prelude.{◌≡◌, map, string_bytes, Some, None, MatchOption, IfSome};
-ghost use Rattle.onll_jobs.specs.Command.{form_of, form_in, recover_form, replay_form, IsCommand};
+ghost use Rattle.onll_jobs.specs.Command.{form_of, form_in, recover_form, replay_form, replay_of, IsCommand};
 ghost use Rattle.onll_words.specs.Numbers.{number_of};
 
 use onll_words::whole_number;
@@ -65,6 +65,20 @@ fn replay<'a>(
     })
 }
 
+/// The replay of the words; nothing where they are none.
+fn read_replay<'a>(words: &'a [String]) -> Option<Command<'a>>
+    ensures form { let form = replay_of (map string_bytes words.now) in
+        MatchOption result (form ≡ None) (λ command. form ≡ Some (form_in command)) }
+    ensures command { IfSome result IsCommand }
+{
+    match words {
+        [command, init, schedule, logs, scripts @ ..] if command.as_str() == "replay" => {
+            replay(init.as_str(), schedule.as_str(), logs.as_str(), scripts)
+        }
+        _ => None,
+    }
+}
+
 impl<'a> Command<'a> {
     /// The command of the words; nothing where they are of no form.
     pub(crate) fn read(words: &'a [String]) -> Option<Command<'a>>
@@ -82,10 +96,7 @@ impl<'a> Command<'a> {
             [command, init, logs, threads] if command.as_str() == "recover" => {
                 recover(init.as_str(), logs.as_str(), threads.as_str())
             }
-            [command, init, schedule, logs, scripts @ ..] if command.as_str() == "replay" => {
-                replay(init.as_str(), schedule.as_str(), logs.as_str(), scripts)
-            }
-            _ => None,
+            _ => read_replay(words),
         }
     }
 }

@@ -42,9 +42,6 @@ pub logs_refuse : (heads : List LogHead) (images : List (List (List ℕ))) (logs
     → (Recover fault ≡ Recover NoMemory) ⊎ (merge_images heads images ≡ Err (Recover fault))
 logs_refuse heads images logs fault e h = ⊎_elim (λ (a : fault ≡ NoMemory). inl (ap Recover a)) (λ (m : merge heads logs ≡ Err fault). inr (logs_merge heads images logs e ∙ ap of_logs m)) h
 
-pub no_log : (heads : List LogHead) (images : List (List (List ℕ))) (fault : ImagesFault) → not_log 0 images ≡ Some fault → merge_images heads images ≡ Err fault
-no_log heads images fault e = ap (λ (o : Option ImagesFault). option_map_or (λ (f : ImagesFault). Err f) o (of_logs (merge heads (contents_of images)))) e
-
 -- what stands where the images merge, and want of memory
 pub merged_only : {V : Type 0} (items : V → List Node) (merged : Result (List Node) ImagesFault) (nodes : List Node) → merged ≡ Ok nodes
     → (result : Result V ImagesFault) → MatchResult result (λ v. merged ≡ Ok (items v)) (λ e. (e ≡ Recover NoMemory) ⊎ (merged ≡ Err e))

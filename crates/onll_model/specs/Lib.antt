@@ -1,5 +1,6 @@
 pub mod Object
 pub mod Trace
+pub mod Calls
 pub mod Legal
 pub mod Fold
 pub mod Recovered

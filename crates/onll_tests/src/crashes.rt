@@ -1,5 +1,5 @@
 ghost use Rattle.std.specs.Prelude.{◌≤◌, IfOk};
-ghost use Rattle.onll_core.specs.Tie.{updates_in};
+ghost use Rattle.onll_model.specs.Calls.{updates_in};
 
 use onll_bank::{Bank, BankOp};
 use onll_core::Core;

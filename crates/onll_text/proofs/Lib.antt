@@ -1,6 +1,8 @@
+mod Accepted
 pub mod Appending
 pub mod LineWords
 pub mod Whole
+pub mod FewCalls
 pub mod Playable
 pub mod ReadBack
 pub mod BankReadBack

@@ -14,6 +14,7 @@ use Rattle.onll_text.specs.declared.reason.Reason.TheVariants.{OutOfRange, TooMa
 use Rattle.onll_text.specs.Refusal.{Refusal, ◌>>=◌, only_if, at_line}
 use Rattle.onll_text.specs.Words.{one_number}
 use Rattle.onll_text.specs.Schedule.{most_steps, turn_of, turn_after, line_after, ended_by, after_turns, from_line, schedule_in, steps_in, IsTurn, IsPlayable}
+use Rattle.onll_text.proofs.Accepted.{accepted, accepted_if, accepted_line}
 
 -- turns before a schedule
 
@@ -28,18 +29,6 @@ after_turns-append xs ys (Err refusal) = refl
 pub ruleset turns_before = (after_turns-none, after_turns-append)
 
 -- what was accepted
-
-accepted : {A B E : Type 0} (v : Result A E) (f : A → Result B E) (y : B) → (v >>= f) ≡ Ok y → (x : A) × (v ≡ Ok x) × (f x ≡ Ok y)
-accepted (Ok x) f y e = (x, refl, e)
-accepted (Err r) f y e = cc e
-
-accepted_if : {A : Type 0} (test : Bool) (reason : Reason) (x y : A) → only_if test reason x ≡ Ok y → (test ≡ true) × (x ≡ y)
-accepted_if true reason x y e = (refl, cc e)
-accepted_if false reason x y e = cc e
-
-accepted_line : {A : Type 0} (n : ℕ) (v : Result A Reason) (y : A) → at_line n v ≡ Ok y → v ≡ Ok y
-accepted_line n (Ok x) y e = cc e
-accepted_line n (Err r) y e = cc e
 
 is_turn : (threads : ℕ) (turn : Turn) → (nat_lt turn.thread threads && nat_le 1 turn.count && nat_le turn.count most_steps) ≡ true → IsTurn threads turn
 is_turn threads turn h = record { thread = grind (arith, nat_tests); some = grind (arith, nat_tests); few = grind (arith, nat_tests) }

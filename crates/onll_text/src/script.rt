@@ -1,7 +1,8 @@
-ghost use Rattle.std.specs.Prelude.{◌≡◌, MatchResult, Ok};
+ghost use Rattle.std.specs.Prelude.{◌≡◌, ◌≤◌, MatchResult, IfOk, Ok};
 ghost use Rattle.onll_words.specs.Texts.{words_of};
+ghost use Rattle.onll_model.specs.Calls.{updates_in, reads_in};
 ghost use Rattle.onll_text.specs.Refusal.{Fails};
-ghost use Rattle.onll_text.specs.Script.{script_of, is_too_long, counted, call_after};
+ghost use Rattle.onll_text.specs.Script.{most_calls, script_of, is_too_long, counted, call_after, calls_in, no_calls};
 
 use crate::reason::{Reason, TextFault};
 use crate::texted::Texted;
@@ -55,17 +56,10 @@ fn read_line<O: Texted>(line: &[u8], counts: Counts) -> Result<(Call<O>, Counts)
     Ok((call, counts))
 }
 
-/// The calls of a script, or the first line that is none with the first reason.
-pub fn read_script<O: Texted>(alloc: Global, text: &[u8]) -> Result<Vec<Call<O>>, TextFault>
-    ensures { MatchResult result (λ calls. script_of O.wording text.now ≡ Ok calls.items) (λ fault. Fails fault (script_of O.wording text.now)) }
+/// The calls of the lines that are left.
+fn read_lines<O: Texted>(alloc: Global, lines: &mut Lines<'_>) -> Result<Vec<Call<O>>, TextFault>
+    ensures { MatchResult result (λ calls. calls_in O.wording no_calls lines.old ≡ Ok calls.items) (λ fault. Fails fault (calls_in O.wording no_calls lines.old)) }
 {
-    if is_too_long(text) {
-        return Err(TextFault::Refused {
-            line: 0,
-            reason: Reason::TooLong,
-        });
-    }
-    let mut lines = Lines::of(text);
     let mut calls = Vec::new(alloc);
     let mut counts = Counts {
         updates: 0,
@@ -86,4 +80,20 @@ pub fn read_script<O: Texted>(alloc: Global, text: &[u8]) -> Result<Vec<Call<O>>
         }
     }
     Ok(calls)
+}
+
+/// The calls of a script, or the first line that is none with the first reason.
+pub fn read_script<O: Texted>(alloc: Global, text: &[u8]) -> Result<Vec<Call<O>>, TextFault>
+    ensures calls { MatchResult result (λ calls. script_of O.wording text.now ≡ Ok calls.items) (λ fault. Fails fault (script_of O.wording text.now)) }
+    ensures updates { IfOk result (λ calls. updates_in calls.items ≤ most_calls) }
+    ensures reads { IfOk result (λ calls. reads_in calls.items ≤ most_calls) }
+{
+    if is_too_long(text) {
+        return Err(TextFault::Refused {
+            line: 0,
+            reason: Reason::TooLong,
+        });
+    }
+    let mut lines = Lines::of(text);
+    read_lines(alloc, &mut lines)
 }

@@ -2,7 +2,7 @@ use Rattle.std.proofs.Common.{◌≡◌, ◌+◌, ◌≤◌, ◌∙◌, ◌∷�
 use Rattle.std.specs.List.{All}
 use Rattle.std.proofs.lemmas.List.{length_push}
 use Rattle.std.proofs.lemmas.List.Elements.{All-tail}
-use Rattle.onll_core.specs.Tie.{updates_in}
+use Rattle.onll_model.specs.Calls.{updates_in}
 use Rattle.std.specs.Vec.Iter.{into_iter_items}
 use Rattle.onll_log.specs.Head.{head_for}
 use Rattle.onll_core.specs.First.{first_thread}

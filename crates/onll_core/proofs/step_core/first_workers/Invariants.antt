@@ -3,7 +3,7 @@ use Rattle.std.specs.Prelude.{map}
 use Rattle.std.specs.List.{All}
 use Rattle.std.specs.Vec.{vec_capacity}
 use Rattle.std.specs.Vec.Iter.{into_iter_items}
-use Rattle.onll_core.specs.Tie.{updates_in}
+use Rattle.onll_model.specs.Calls.{updates_in}
 use Rattle.onll_core.specs.First.{first_threads}
 use Rattle.onll_core.specs.Created.{heads_from}
 use Rattle.onll_core.proofs.step_core.first_workers.Given as goal

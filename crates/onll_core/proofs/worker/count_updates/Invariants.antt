@@ -1,5 +1,5 @@
 use Rattle.std.proofs.Common.{◌≡◌, ◌+◌, drop}
-use Rattle.onll_core.specs.Tie.{updates_in}
+use Rattle.onll_model.specs.Calls.{updates_in}
 use Rattle.onll_core.proofs.worker.count_updates.Given as goal
 
 abbrev pub invariant-loop-call : goal.invariant-loop-call

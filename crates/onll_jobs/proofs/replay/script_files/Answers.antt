@@ -2,9 +2,8 @@ use Rattle.std.proofs.Common.{◌≡◌, ◌≤◌, ◌+◌, ◌++◌, ◌∷◌
 use Rattle.std.proofs.lemmas.List.{map-append, drop_all}
 use Rattle.std.proofs.lemmas.List.Elements.{All-push}
 use Rattle.std.specs.List.{All}
-use Rattle.onll_core.specs.Tie.{updates_in}
+use Rattle.onll_model.specs.Calls.{updates_in}
 use Rattle.onll_jobs.proofs.Replays.{name_next, none_read, script_next, script_stopped, scripts_read}
-use Rattle.onll_jobs.proofs.ScriptUpdates.{script_updates}
 use Rattle.onll_jobs.proofs.replay.script_files.Goals as goal
 
 pub loop-name-init : goal.loop-name-init
@@ -35,8 +34,7 @@ loop-name-preserved g c =
           (name_next string_bytes names i c.name-item.result (omega arith) c.name-item.is ∙ ap (λ name. name ∷ map string_bytes (drop (i + 1) names)) (sym c.deref.ensures))
           c.loop-name.invariant.so c.in-Ok.ensures.same c.in-Ok.ensures.count c.in-Ok.ensures.calls (ap (map (λ script. script.items)) pushed ∙ map-append (λ script. script.items) scripts (c.in-Ok.script ∷ []));
       count = ap length pushed ∙ length-append scripts (c.in-Ok.script ∷ []) ∙ ap (λ n. n + 1) c.loop-name.invariant.count;
-      updates = subst (All (λ script. updates_in script.items ≤ 4096)) (sym pushed) (All-push (λ script. updates_in script.items ≤ 4096) scripts c.in-Ok.script c.loop-name.invariant.updates
-          (script_updates g.O.Texted.wording c.in-Ok.ensures.calls.bytes c.in-Ok.script.items c.in-Ok.ensures.calls.accepted));
+      updates = subst (All (λ script. updates_in script.items ≤ 4096)) (sym pushed) (All-push (λ script. updates_in script.items ≤ 4096) scripts c.in-Ok.script c.loop-name.invariant.updates c.in-Ok.ensures.updates);
     }
 
 pub returns-clause-read : goal.returns-clause-read

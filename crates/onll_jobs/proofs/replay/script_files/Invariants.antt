@@ -1,6 +1,6 @@
 use Rattle.std.proofs.Common.{◌≡◌, ◌≤◌, drop, map, string_bytes, length}
 use Rattle.std.specs.List.{All}
-use Rattle.onll_core.specs.Tie.{updates_in}
+use Rattle.onll_model.specs.Calls.{updates_in}
 use Rattle.onll_jobs.proofs.Replays.{ScriptsSo}
 use Rattle.onll_jobs.proofs.replay.script_files.Given as goal
 

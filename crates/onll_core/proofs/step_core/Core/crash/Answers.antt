@@ -1,4 +1,4 @@
-use Rattle.std.proofs.Common.{◌≡◌, map, length}
+use Rattle.std.proofs.Common.{map, length}
 use Rattle.onll_pmem.specs.Pmem.{words_of}
 use Rattle.onll_core.proofs.Crashed.{own_crash}
 use Rattle.onll_core.proofs.step_core.Core.crash.Goals as goal

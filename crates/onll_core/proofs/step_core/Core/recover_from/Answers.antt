@@ -1,4 +1,4 @@
-use Rattle.std.proofs.Common.{◌≡◌, ◌∙◌, refl, ap, map, length}
+use Rattle.std.proofs.Common.{◌∙◌, refl, ap, map, length}
 use Rattle.onll_pmem.specs.Pmem.{words_of}
 use Rattle.onll_core.specs.Crash.{heads_of}
 use Rattle.onll_core.proofs.Crashed.{recovers, own_images}

@@ -1,13 +1,12 @@
 use Rattle.std.proofs.Common.{◌≡◌, length}
-use Rattle.onll_words.specs.Texts.{meaningful_lines}
 use Rattle.onll_text.specs.Script.{calls_in, no_calls, after_calls}
-use Rattle.onll_text.proofs.script.read_script.Given as goal
+use Rattle.onll_text.proofs.script.read_lines.Given as goal
 
 -- the calls so far and those of the lines that are left are those of all
 abbrev pub invariant-loop-number : goal.invariant-loop-number
 invariant-loop-number g l =
     let w = g.O.Texted.wording in
-    after_calls l.calls.items (calls_in w l.counts l.lines) ≡ calls_in w no_calls (meaningful_lines l.text)
+    after_calls l.calls.items (calls_in w l.counts l.lines) ≡ calls_in w no_calls l.fn.lines
 
 abbrev pub decreases-loop-number : goal.decreases-loop-number
 decreases-loop-number g l = length l.lines

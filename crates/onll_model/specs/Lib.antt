@@ -2,6 +2,7 @@ pub mod Object
 pub mod Trace
 pub mod Legal
 pub mod Fold
+pub mod FoldLaws
 pub mod Recovered
 pub mod Names
 pub mod Segment

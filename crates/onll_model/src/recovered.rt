@@ -5,9 +5,10 @@ ghost use Rattle.onll_model.specs.Recovered.{operations_front};
 use crate::node::Node;
 use crate::object::Object;
 
-/// The row at this place is no operation of the object.
+/// A node whose row is the row of no operation of the object.
 #[derive(Clone, Copy, Debug, PartialEq, Eq)]
 pub struct NotOp {
+    /// Its place among the nodes, from 1.
     pub place: u64,
 }
 

@@ -1,4 +1,4 @@
-use Rattle.std.proofs.Common.{◌≡◌, ◌+◌, ◌++◌, take, drop, length}
+use Rattle.std.proofs.Common.{◌≡◌, ◌+◌, ◌++◌, take, drop}
 use Rattle.onll_model.specs.Trace.{state_after}
 use Rattle.onll_model.specs.Recovered.{operations_front}
 use Rattle.onll_model.proofs.recovered.fold_nodes.Given as goal

@@ -1,7 +1,6 @@
 ghost use Rattle.std.specs.Prelude.{◌≡◌, ℕ, ◌+◌, ◌++◌, ◌∷◌, ◌<◌, ◌^◌, [], length, true, IsSome, IfOk, OnOk};
 ghost use Rattle.std.specs.List.{AllByRecursion};
 ghost use Rattle.onll_model.specs.Fold.{fold_trace, fold_ends, fold_state};
-ghost use Rattle.onll_model.specs.Legal.{IsLegal};
 ghost use Rattle.onll_text.specs.Bytes.{begins_line, with_lines};
 ghost use Rattle.onll_text.specs.Lines.{call_lines, node_lines};
 ghost use Rattle.onll_outside.specs.Views.{SameFiles};
@@ -90,7 +89,8 @@ pub(crate) fn put_nodes<O: Texted>(trace: &[Node], out: &mut Report) -> Result<(
     Ok(())
 }
 
-/// The report of a script that is done in order on the object. Its outcomes and its trace are a legal report.
+/// The report of a script that is done in order on the object. That its outcomes and its trace are a legal history is `fold_law`
+/// of `onll_model`.
 #[tactic(auto, using(onll_text::proofs::Appending::beginning))]
 fn fold_script<O: Texted>(
     alloc: Global,
@@ -98,9 +98,6 @@ fn fold_script<O: Texted>(
     script: &[Call<O>],
 ) -> Result<Vec<u8>, NoMemory>
     ensures report { IfOk result (λ bytes. bytes.items ≡ fold_report O.means O.wording object.old script.now) }
-    ensures legal { let trace = fold_trace O.means 0 script.now in
-        let ends = fold_ends O.means object.old 0 script.now in
-        OnOk result (IsLegal O.means object.old [] (script.now ∷ []) trace (ends ∷ [])) }
 {
     let mut out = Report::new(alloc);
     let mut trace = Vec::new(alloc);

@@ -9,7 +9,8 @@ use Rattle.onll_model.specs.declared.call.CallEnd.TheVariants.{Answered}
 use Rattle.onll_model.specs.Object.{Behaviour}
 use Rattle.onll_model.specs.Trace.{is_of_thread, state_after, after_row, NumberedAbove}
 use Rattle.onll_model.specs.Legal.{placed_updates, placed_rows, EachEnd, EachLaterEnd, HasReply, HasAnswer, InOrder, BrokenAfterFailure, OverButLast, IsLegal}
-use Rattle.onll_model.specs.Fold.{fold_trace, fold_ends}
+use Rattle.onll_model.specs.Fold.{fold_trace, fold_ends, fold_state}
+use Rattle.onll_model.specs.FoldLaws.{AreAnswered}
 use Rattle.onll_model.proofs.States.{state_after-append}
 
 -- the updates stand at the places of their nodes
@@ -108,3 +109,15 @@ fold_legal b s calls =
         tt,
       );
     }
+
+-- each call of a script done in order is answered
+pub fold_answered : {State Op Query Reply : Type 0} (b : Behaviour State Op Query Reply) (s : State) (n : ℕ) (calls : List (Call State Op Query Reply)) → AreAnswered calls (fold_ends b s n calls)
+fold_answered b s n [] = tt
+fold_answered b s n (Update op ∷ calls) = fold_answered b (b.next s op) (n + 1) calls
+fold_answered b s n (Ask query ∷ calls) = fold_answered b s n calls
+
+-- the trace of calls leads to the state that they leave
+pub fold_reaches : {State Op Query Reply : Type 0} (b : Behaviour State Op Query Reply) (s : State) (n : ℕ) (calls : List (Call State Op Query Reply)) → fold_state b s calls ≡ state_after b s (fold_trace b n calls)
+fold_reaches b s n [] = refl
+fold_reaches b s n (Update op ∷ calls) = fold_reaches b (b.next s op) (n + 1) calls ∙ ap (λ o. state_after b (after_row b s o) (fold_trace b (n + 1) calls)) (sym (b.op_of_its_row op))
+fold_reaches b s n (Ask query ∷ calls) = fold_reaches b s n calls

@@ -3,6 +3,7 @@ pub mod Trace
 pub mod Calls
 pub mod Legal
 pub mod Fold
+pub mod FoldLaws
 pub mod Recovered
 pub mod Names
 pub mod Segment

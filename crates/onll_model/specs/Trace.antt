@@ -1,4 +1,4 @@
-use Rattle.std.specs.Prelude.{ℕ, Bool, List, [], ◌∷◌, ◌++◌, ◌≡◌, ◌+◌, ◌==◌, Option, Some, None, filter, count_by, slice_get, suc, zero}
+use Rattle.std.specs.Prelude.{ℕ, Bool, List, [], ◌∷◌, ◌++◌, ◌≡◌, ◌+◌, ◌==◌, Option, Some, None, count_by, slice_get, suc, zero}
 use Rattle.onll_model.specs.declared.node.Node.{Node}
 use Rattle.onll_model.specs.Object.{Behaviour}
 
@@ -27,17 +27,15 @@ reply_after b s ns op = b.reply (state_after b s ns) op
 abbrev pub answer_after : {State Op Query Reply : Type 0} → Behaviour State Op Query Reply → State → List Node → Query → Reply
 answer_after b s ns query = b.answer (state_after b s ns) query
 
+-- the node is one of this thread's
 abbrev pub is_of_thread : ℕ → Node → Bool
 is_of_thread t n = n.thread == t
-
--- a thread's nodes, in the trace's order
-abbrev pub of_thread : ℕ → List Node → List Node
-of_thread t trace = filter (is_of_thread t) trace
 
 -- each node's number is one more than the count of its thread's nodes below it
 abbrev pub NumberedAbove : List Node → List Node → Type 0
 NumberedAbove below [] = Unit {0}
 NumberedAbove below (n ∷ ns) = (n.number ≡ count_by (is_of_thread n.thread) below + 1) × NumberedAbove (below ++ n ∷ []) ns
 
+-- each node's number is its thread's next one
 abbrev pub IsNumbered : List Node → Type 0
 IsNumbered trace = NumberedAbove [] trace

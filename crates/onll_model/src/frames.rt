@@ -2,7 +2,8 @@ ghost use Rattle.onll_model.specs.FrameLaws.{EventLaw, StepLaw, ResumedLaw, Crea
 ghost use Rattle.onll_model.specs.Looks.{LookLaw};
 ghost use Rattle.onll_model.specs.RealTime.{StandOrder};
 
-/// What an event does to a sound frame: where it may come it keeps the frame sound, and its base; it is a step of its thread alone.
+/// Soundness is an invariant of frames: each event that may come keeps it, and the base. An event is a step of its thread alone:
+/// the trace and the set flags only grow, and the parts of other threads stay.
 pub fn event_laws()
     ensures sound { EventLaw }
     ensures step { StepLaw }
@@ -14,12 +15,13 @@ pub fn first_frame_laws()
     ensures created { CreatedLaw }
 {}
 
-/// What a look says of the places that it loaded.
+/// What a call learns from its loads, of the tail and then of flags from there down to the first that is set or the base: all
+/// places above the one where it ends were loaded as unset, and that one as set unless it is the base.
 pub fn look_law()
     ensures { LookLaw }
 {}
 
-/// The order in which nodes and reads stand is a strict one, and any two points of it are comparable.
-pub fn stand_law()
+/// The points at which updates and reads take effect, nodes and the reads that have returned, are in a strict total order.
+pub fn total_order_law()
     ensures { StandOrder }
 {}

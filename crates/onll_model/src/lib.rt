@@ -10,8 +10,8 @@ mod recovered;
 mod turn;
 
 pub use call::{Call, CallEnd};
-pub use frames::{event_laws, first_frame_laws, look_law, stand_law};
-pub use laws::{capacity_kept, name_law, op_of_its_row, row_of_its_op, undone};
+pub use frames::{event_laws, first_frame_laws, look_law, total_order_law};
+pub use laws::{capacity_kept, fold_law, name_law, op_of_its_row, row_of_its_op, undone};
 pub use node::{Node, node_line};
 pub use object::Object;
 pub use recovered::{NotOp, fold_nodes};

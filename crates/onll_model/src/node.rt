@@ -6,11 +6,14 @@ use onll_words::{Line, OpRow};
 /// How many names a thread has, one for each of its updates.
 const NAMES: u64 = 4096;
 
-/// An update in the trace: its thread, its number in that thread from 1, and the row of its operation.
+/// An update in a trace. It doesn't hold its place, which is its number in the trace from 1.
 #[derive(Clone, Copy, Debug, PartialEq, Eq)]
 pub struct Node {
+    /// The thread whose update it is, from 0.
     pub thread: u64,
+    /// Which update of its thread it is, from 1.
     pub number: u64,
+    /// The row of its operation.
     pub row: OpRow,
 }
 

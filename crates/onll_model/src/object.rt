@@ -6,10 +6,13 @@ use std::alloc::Global;
 
 /// A deterministic sequential object. It reserves its capacity when it is made, so its calls take no memory.
 pub trait Object: Sized {
+    /// An operation, which may change the object.
     type Op: Copy;
 
+    /// A query, which changes nothing.
     type Query: Copy;
 
+    /// What an operation or a query gives back.
     type Reply: Copy;
 
     /// The object's code in a log's header, 1 to 4.
@@ -17,7 +20,7 @@ pub trait Object: Sized {
 
     ghost CODE: { ℕ };
 
-    /// What the object does.
+    /// The sequential specification: what each call does and gives from each state, how rows stand for operations, the capacity.
     ghost means: { Behaviour Self Self.Op Self.Query Self.Reply };
 
     /// Does an operation and gives its reply.

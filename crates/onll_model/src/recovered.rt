@@ -5,13 +5,15 @@ ghost use Rattle.onll_model.specs.Recovered.{operations_front};
 use crate::node::Node;
 use crate::object::Object;
 
-/// The row at this place is no operation of the object.
+/// A node whose row is the row of no operation of the object.
 #[derive(Clone, Copy, Debug, PartialEq, Eq)]
 pub struct NotOp {
+    /// Its place among the nodes, from 1.
     pub place: u64,
 }
 
-/// Applies the rows of a trace's nodes in order, from place 1. It refuses the first that is no operation of the object, which then is after the nodes before it.
+/// Applies the rows of a trace's nodes in order, from place 1. It refuses the first that is no operation of the object, which
+/// then is after the nodes before it.
 pub fn fold_nodes<O: Object>(object: &mut O, nodes: &[Node]) -> Result<(), NotOp>
     ensures after { object.new ≡ state_after O.means object.old (operations_front O.means nodes.now) }
     ensures ok { OnOk result (operations_front O.means nodes.now ≡ nodes.now) }

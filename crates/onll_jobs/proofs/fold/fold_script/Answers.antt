@@ -2,7 +2,6 @@ use Rattle.std.proofs.Common.{◌∙◌, sym, ap, subst}
 use Rattle.std.specs.List.{AllByRecursion}
 use Rattle.std.specs.Option.{IsSome}
 use Rattle.onll_model.specs.declared.node.Node.{Node}
-use Rattle.onll_model.proofs.FoldLegal.{fold_legal}
 use Rattle.onll_text.specs.Bytes.{begins_line}
 use Rattle.onll_text.specs.Lines.{trace_line, node_lines}
 use Rattle.onll_text.proofs.Appending.{begins_line-line, begins_line-lines}
@@ -23,6 +22,3 @@ state_lines-requires g c =
     ap begins_line c.in_ok-put_nodes.ensures
     ∙ begins_line-lines c.trace_line.new.self (node_lines g.O.Object.means g.O.Texted.wording 0 c.deref.result.now)
     (ap begins_line c.in_ok-trace_line.ensures.ok ∙ begins_line-line c.put_calls.new.out (trace_line c.len.result))
-
-pub returns-clause-legal : goal.returns-clause-legal
-returns-clause-legal g c = fold_legal g.O.Object.means c.args.object.now c.args.script.now

@@ -1,4 +1,4 @@
-use Rattle.onll_model.proofs.frames.stand_law.Goals as goal
+use Rattle.onll_model.proofs.frames.total_order_law.Goals as goal
 use Rattle.onll_model.proofs.StandOrder.{stand_order}
 
 pub returns : goal.returns

@@ -1,13 +1,13 @@
-use crate::calls::{Outcome, Program, named};
+use crate::calls::{Outcome, Program, USAGE, named};
 use crate::images::{
     BOTH_AT_2, CODE_9, CODE_9_AT_1, COUNT_0_ENTRY, COUNT_2_ENTRY, DEPOSIT_0, DEPOSIT_4, DEPOSIT_5,
-    DEPOSIT_7, FIRST_AT_1, FIRST_AT_3, FORMAT_9_HEAD, FULL, GRANT, GRANT_AT_1, HEAD_0, HEAD_1,
-    Image, LEASE_HEAD, MAGIC_ENTRY, MAGIC_HEAD, MAP_AT_1, MAP_HEAD, NAME_0_LINE, NAME_0_OF,
-    NAME_4097_LINE, NAME_4097_OF, NUMBER_2_ENTRY, OBJECT_5_HEAD, OLD_BOTH_AT_2, OLD_FIRST_AT_1,
-    OLD_HEAD_0, OLD_HEAD_1, OLD_ONE_AT_1, OLD_ONE_HEAD, OLD_OWN_AT_2, ONE_AT_1, ONE_AT_2, ONE_HEAD,
-    ONE_MAP_HEAD, ONES, OTHER_DIGEST, OWN_AT_1, OWN_AT_2, PLACE_0_ENTRY, PLACE_4097_ENTRY, PUSH_9,
-    PUSH_AT_1, PUT, PUT_AT_1, QUEUE_HEAD, SECOND, SECOND_AT_2, THREAD_1_ENTRY, THREADS_2_HEAD,
-    THREADS_17_HEAD, ZERO,
+    DEPOSIT_7, FIRST_AT_1, FIRST_AT_3, FORMAT_0_HEAD, FORMAT_9_HEAD, FULL, GRANT, GRANT_AT_1,
+    HEAD_0, HEAD_1, Image, LEASE_HEAD, MAGIC_ENTRY, MAGIC_HEAD, MAP_AT_1, MAP_HEAD, NAME_0_LINE,
+    NAME_0_OF, NAME_4097_LINE, NAME_4097_OF, NUMBER_2_ENTRY, OBJECT_0_HEAD, OBJECT_5_HEAD,
+    OLD_BOTH_AT_2, OLD_FIRST_AT_1, OLD_HEAD_0, OLD_HEAD_1, OLD_ONE_AT_1, OLD_ONE_HEAD,
+    OLD_OWN_AT_2, ONE_AT_1, ONE_AT_2, ONE_HEAD, ONE_MAP_HEAD, ONES, OTHER_DIGEST, OWN_AT_1,
+    OWN_AT_2, PLACE_0_ENTRY, PLACE_4097_ENTRY, PUSH_9, PUSH_AT_1, PUT, PUT_AT_1, QUEUE_HEAD,
+    SECOND, SECOND_AT_2, THREAD_1_ENTRY, THREAD_1_OF_1_HEAD, THREADS_2_HEAD, THREADS_17_HEAD, ZERO,
 };
 use onll_outside::MemStore;
 use std::alloc::{AllocError, Global};
@@ -23,15 +23,20 @@ struct Recovery<'a> {
     output: &'a str,
 }
 
-/// The outcome of a recovery.
-fn recover(alloc: Global, case: &Recovery<'_>) -> Result<Outcome, AllocError> {
+/// A store of an initial state and these images.
+fn store_of(alloc: Global, init: &[u8], images: &[Image<'_>]) -> Result<MemStore, AllocError> {
     let mut files = Vec::new(alloc);
-    files.push(named(alloc, "i", case.init)?)?;
-    for image in case.images {
+    files.push(named(alloc, "i", init)?)?;
+    for image in images {
         let bytes = image.bytes(alloc)?;
         files.push(named(alloc, image.name, &bytes)?)?;
     }
-    let mut store = MemStore::new(files, Vec::new(alloc), Vec::new(alloc));
+    Ok(MemStore::new(files, Vec::new(alloc), Vec::new(alloc)))
+}
+
+/// The outcome of a recovery.
+fn recover(alloc: Global, case: &Recovery<'_>) -> Result<Outcome, AllocError> {
+    let mut store = store_of(alloc, case.init, case.images)?;
     let words: &[&str] = &["recover", "i", "out", case.threads];
     Program::new(words, &[]).run_over(alloc, &mut store)
 }
@@ -125,6 +130,25 @@ const RECOVERIES: &[Recovery<'static>] = &[
         threads: "1",
         status: 0,
         output: "log 0 empty\nrecovered 0\nstate\nbank 1\naccount 0 0\n",
+    },
+    Recovery {
+        name: "an image of zeros beside a log",
+        init: b"bank 2\n",
+        images: &[
+            Image {
+                name: "out.0",
+                lines: &[ZERO, ZERO, ZERO, ZERO],
+                length: 256,
+            },
+            Image {
+                name: "out.1",
+                lines: &[HEAD_1, BOTH_AT_2, DEPOSIT_5, DEPOSIT_7],
+                length: 256,
+            },
+        ],
+        threads: "2",
+        status: 0,
+        output: "log 0 empty\nlog 1 entries 1 lines 4\nrecovered 2\nnode 1 0 1 deposit 0 5\nnode 2 1 1 deposit 1 7\nstate\nbank 2\naccount 0 5\naccount 1 7\n",
     },
     Recovery {
         name: "an image that is cut inside an entry",
@@ -500,11 +524,35 @@ const HOSTILE_IMAGES: &[Recovery<'static>] = &[
         output: "log 0 not a log\n",
     },
     Recovery {
+        name: "a head of format 0",
+        init: b"bank 1\n",
+        images: &[Image {
+            name: "out.0",
+            lines: &[FORMAT_0_HEAD, OLD_ONE_AT_1, DEPOSIT_5],
+            length: 192,
+        }],
+        threads: "1",
+        status: 4,
+        output: "log 0 not a log\n",
+    },
+    Recovery {
         name: "a head of format 9",
         init: b"bank 1\n",
         images: &[Image {
             name: "out.0",
             lines: &[FORMAT_9_HEAD, OLD_ONE_AT_1, DEPOSIT_5],
+            length: 192,
+        }],
+        threads: "1",
+        status: 4,
+        output: "log 0 not a log\n",
+    },
+    Recovery {
+        name: "a head of thread 1 of 1",
+        init: b"bank 1\n",
+        images: &[Image {
+            name: "out.0",
+            lines: &[THREAD_1_OF_1_HEAD, OLD_ONE_AT_1, DEPOSIT_5],
             length: 192,
         }],
         threads: "1",
@@ -524,11 +572,23 @@ const HOSTILE_IMAGES: &[Recovery<'static>] = &[
         output: "log 0 not a log\n",
     },
     Recovery {
+        name: "a head of object 0",
+        init: b"bank 1\n",
+        images: &[Image {
+            name: "out.0",
+            lines: &[OBJECT_0_HEAD, OLD_ONE_AT_1, DEPOSIT_5],
+            length: 192,
+        }],
+        threads: "1",
+        status: 4,
+        output: "log 0 not a log\n",
+    },
+    Recovery {
         name: "a head of object 5",
         init: b"bank 1\n",
         images: &[Image {
             name: "out.0",
-            lines: &[OBJECT_5_HEAD, OLD_ONE_AT_1, DEPOSIT_5],
+            lines: &[OBJECT_0_HEAD, OBJECT_5_HEAD, OLD_ONE_AT_1, DEPOSIT_5],
             length: 192,
         }],
         threads: "1",
@@ -701,8 +761,114 @@ fn hostile_images(rt: HostRuntime) -> Result<(), Fail> {
     Ok(())
 }
 
-pub(crate) const USAGE: &str =
-    "usage: onll fold INIT SCRIPT\n       onll show IMAGE\n       onll recover INIT LOGS T\n       onll replay INIT SCHEDULE LOGS SCRIPT..\n       onll run INIT LOGS SCRIPT..\n       onll make T N SEED\n";
+/// Bits of the masks of an entry in format 2 that are wrong: what they are, the word, and its bits.
+const WRONG_BITS: &[(&str, usize, u64)] = &[
+    ("no bit 63 in the first mask", 5, 0x8000_0000_0000_0000),
+    ("no bit 63 in the second mask", 6, 0x8000_0000_0000_0000),
+    ("no bit 63 in the third mask", 7, 0x8000_0000_0000_0000),
+    ("a word that is zero", 5, 1 << 2),
+    ("a line after the last", 5, 1 << 8),
+    ("bit 56 of the first mask", 5, 1 << 56),
+    ("a line of the second mask", 6, 1),
+    ("bit 16 of the third mask", 7, 1 << 16),
+    ("bit 62 of the third mask", 7, 1 << 62),
+    ("a missing word", 5, 1 << 3),
+];
+
+/// The line with these bits of one word turned over.
+fn turned(mut line: [u64; 8], word: usize, bits: u64) -> [u64; 8] {
+    if word < 8 {
+        line[word] ^= bits;
+    }
+    line
+}
+
+/// The outcome of a recovery of one thread over `bank 1` from the log of these lines.
+fn recover_lines(alloc: Global, lines: &[[u64; 8]]) -> Result<Outcome, AllocError> {
+    let image = Image {
+        name: "out.0",
+        lines,
+        length: usize::MAX,
+    };
+    let mut store = store_of(alloc, b"bank 1\n", &[image])?;
+    Program::new(&["recover", "i", "out", "1"], &[]).run_over(alloc, &mut store)
+}
+
+#[test]
+fn masks_with_wrong_bits(rt: HostRuntime) -> Result<(), Fail> {
+    for (case, word, bits) in WRONG_BITS {
+        let entry = turned(ONE_AT_1, *word, *bits);
+        recover_lines(rt.alloc(), &[ONE_HEAD, entry, DEPOSIT_5])?.expect(
+            &rt,
+            case,
+            0,
+            "log 0 entries 0 lines 1\nrecovered 0\nstate\nbank 1\naccount 0 0\n",
+        );
+    }
+    Ok(())
+}
+
+/// Recoveries of one thread whose only put fails.
+const PUTS: &[Recovery<'static>] = &[
+    Recovery {
+        name: "the put of a report fails",
+        init: b"bank 1\n",
+        images: &[Image {
+            name: "out.0",
+            lines: &[ONE_HEAD, ONE_AT_1, DEPOSIT_5],
+            length: 192,
+        }],
+        threads: "1",
+        status: 6,
+        output: "",
+    },
+    Recovery {
+        name: "the put of an image that is no log fails",
+        init: b"bank 1\n",
+        images: &[Image {
+            name: "out.0",
+            lines: &[ONES],
+            length: 64,
+        }],
+        threads: "1",
+        status: 6,
+        output: "",
+    },
+    Recovery {
+        name: "the put of an image that is not there fails",
+        init: b"bank 1\n",
+        images: &[],
+        threads: "1",
+        status: 6,
+        output: "",
+    },
+    Recovery {
+        name: "the put of a refused initial state fails",
+        init: b"tree 1\n",
+        images: &[],
+        threads: "1",
+        status: 6,
+        output: "",
+    },
+];
+
+#[test]
+fn the_put_of_a_recovery_fails(rt: HostRuntime) -> Result<(), Fail> {
+    let alloc = rt.alloc();
+    let program = Program {
+        words: &["recover", "i", "out", "1"],
+        files: &[],
+        failing_calls: &[],
+        failing_puts: &[1],
+    };
+    for case in PUTS {
+        let mut store = store_of(alloc, case.init, case.images)?;
+        program
+            .run_over(alloc, &mut store)?
+            .expect(&rt, case.name, case.status, case.output);
+    }
+    Ok(())
+}
 
 /// Words that are no recovery.
 const NO_FORMS: &[&[&str]] = &[

@@ -35,7 +35,6 @@ fn object_name(code: u64) -> &'static [u8]
 }
 
 /// The line of a log's head.
-
 fn put_head(head: &LogHead, out: &mut Report) -> Result<(), NoMemory>
     requires { begins_line out.old ≡ true }
     ensures { OnOk result (out.new ≡ out.old ++ line_text (head_words head.now)) }
@@ -93,7 +92,6 @@ fn put_rows(below: u64, nodes: &[Node], out: &mut Report) -> Result<(), NoMemory
 }
 
 /// The lines of an entry.
-
 fn put_entry(number: u64, entry: &Entry, out: &mut Report) -> Result<(), NoMemory>
     requires begins { begins_line out.old ≡ true }
     requires placed { IsPlaced (segment_in entry.now) }
@@ -129,7 +127,6 @@ fn put_entries(entries: &[Entry], out: &mut Report) -> Result<(), NoMemory>
 }
 
 /// How many entries there are, and how many lines are used.
-
 fn put_counts(entries: u64, lines: u64, out: &mut Report) -> Result<(), NoMemory>
     requires { begins_line out.old ≡ true }
     ensures { OnOk result (out.new ≡ out.old ++ line_text (count_words entries lines)) }

@@ -330,10 +330,6 @@ fn logs_that_merge(rt: HostRuntime) -> Result<(), Fail> {
             Err(fault) => assert_eq!(rt; Some(fault), None, "{}", case.name),
         }
     }
-    merge_laws();
-    place_laws();
-    frame_logs_law();
-    resumable_law();
     Ok(())
 }
 

@@ -401,11 +401,35 @@ pub(crate) const MAGIC_HEAD: [u64; 8] = [
     0x4c2f_4800_83be_a8e2,
 ];
 
+/// Of a head of format 0.
+pub(crate) const FORMAT_0_HEAD: [u64; 8] = [
+    0x3147_4f4c_4c4c_4e4f,
+    0,
+    0,
+    1,
+    1,
+    0x7d12_ad3d_cb9a_9c2c,
+    0x5841_2539_9219_fbcb,
+    0x4c2f_4800_83be_a8e2,
+];
+
 /// Of a head of format 9.
 pub(crate) const FORMAT_9_HEAD: [u64; 8] = [
     0x3147_4f4c_4c4c_4e4f,
     9,
     0,
+    1,
+    1,
+    0x7d12_ad3d_cb9a_9c2c,
+    0x5841_2539_9219_fbcb,
+    0x4c2f_4800_83be_a8e2,
+];
+
+/// Of a head of thread 1 of 1.
+pub(crate) const THREAD_1_OF_1_HEAD: [u64; 8] = [
+    0x3147_4f4c_4c4c_4e4f,
+    1,
+    1,
     1,
     1,
     0x7d12_ad3d_cb9a_9c2c,
@@ -420,6 +444,18 @@ pub(crate) const THREADS_17_HEAD: [u64; 8] = [
     0,
     17,
     1,
+    0x7d12_ad3d_cb9a_9c2c,
+    0x5841_2539_9219_fbcb,
+    0x4c2f_4800_83be_a8e2,
+];
+
+/// Of a head of object 0.
+pub(crate) const OBJECT_0_HEAD: [u64; 8] = [
+    0x3147_4f4c_4c4c_4e4f,
+    1,
+    0,
+    1,
+    0,
     0x7d12_ad3d_cb9a_9c2c,
     0x5841_2539_9219_fbcb,
     0x4c2f_4800_83be_a8e2,

@@ -1,37 +1,43 @@
-use crate::calls::{Outcome, Program, named};
+use crate::calls::{Outcome, Program, USAGE, named};
 use crate::images::{
-    BOTH_AT_2, CODE_9, CODE_9_AT_1, COUNT_0_ENTRY, COUNT_2_ENTRY, DEPOSIT_0, DEPOSIT_4, DEPOSIT_5,
-    DEPOSIT_7, FIRST_AT_1, FIRST_AT_3, FORMAT_9_HEAD, FULL, GRANT, GRANT_AT_1, HEAD_0, HEAD_1,
-    Image, LEASE_HEAD, MAGIC_ENTRY, MAGIC_HEAD, MAP_AT_1, MAP_HEAD, NAME_0_LINE, NAME_0_OF,
-    NAME_4097_LINE, NAME_4097_OF, NUMBER_2_ENTRY, OBJECT_5_HEAD, OLD_BOTH_AT_2, OLD_FIRST_AT_1,
-    OLD_HEAD_0, OLD_HEAD_1, OLD_ONE_AT_1, OLD_ONE_HEAD, OLD_OWN_AT_2, ONE_AT_1, ONE_AT_2, ONE_HEAD,
-    ONE_MAP_HEAD, ONES, OTHER_DIGEST, OWN_AT_1, OWN_AT_2, PLACE_0_ENTRY, PLACE_4097_ENTRY, PUSH_9,
-    PUSH_AT_1, PUT, PUT_AT_1, QUEUE_HEAD, SECOND, SECOND_AT_2, THREAD_1_ENTRY, THREADS_2_HEAD,
-    THREADS_17_HEAD, ZERO,
+    BOTH_AT_2, CODE_9, CODE_9_AT_1, DEPOSIT_0, DEPOSIT_4, DEPOSIT_5, DEPOSIT_7, FIRST_AT_1,
+    FIRST_AT_3, GRANT, GRANT_AT_1, HEAD_0, HEAD_1, Image, LEASE_HEAD, MAP_AT_1, MAP_HEAD,
+    OLD_BOTH_AT_2, OLD_FIRST_AT_1, OLD_HEAD_0, OLD_HEAD_1, OLD_OWN_AT_2, ONE_AT_1, ONE_AT_2,
+    ONE_HEAD, ONE_MAP_HEAD, ONES, OWN_AT_1, OWN_AT_2, PUSH_9, PUSH_AT_1, PUT, PUT_AT_1, QUEUE_HEAD,
+    SECOND, SECOND_AT_2, ZERO,
 };
 use onll_outside::MemStore;
 use std::alloc::{AllocError, Global};
 use std::test::Fail;
 
 /// A recovery from images, and how it ends.
-struct Recovery<'a> {
-    name: &'a str,
-    init: &'a [u8],
-    images: &'a [Image<'a>],
-    threads: &'a str,
-    status: u8,
-    output: &'a str,
+pub(crate) struct Recovery<'a> {
+    pub(crate) name: &'a str,
+    pub(crate) init: &'a [u8],
+    pub(crate) images: &'a [Image<'a>],
+    pub(crate) threads: &'a str,
+    pub(crate) status: u8,
+    pub(crate) output: &'a str,
 }
 
-/// The outcome of a recovery.
-fn recover(alloc: Global, case: &Recovery<'_>) -> Result<Outcome, AllocError> {
+/// A store of an initial state and these images.
+pub(crate) fn store_of(
+    alloc: Global,
+    init: &[u8],
+    images: &[Image<'_>],
+) -> Result<MemStore, AllocError> {
     let mut files = Vec::new(alloc);
-    files.push(named(alloc, "i", case.init)?)?;
-    for image in case.images {
+    files.push(named(alloc, "i", init)?)?;
+    for image in images {
         let bytes = image.bytes(alloc)?;
         files.push(named(alloc, image.name, &bytes)?)?;
     }
-    let mut store = MemStore::new(files, Vec::new(alloc), Vec::new(alloc));
+    Ok(MemStore::new(files, Vec::new(alloc), Vec::new(alloc)))
+}
+
+/// The outcome of a recovery.
+pub(crate) fn recover(alloc: Global, case: &Recovery<'_>) -> Result<Outcome, AllocError> {
+    let mut store = store_of(alloc, case.init, case.images)?;
     let words: &[&str] = &["recover", "i", "out", case.threads];
     Program::new(words, &[]).run_over(alloc, &mut store)
 }
@@ -125,6 +131,25 @@ const RECOVERIES: &[Recovery<'static>] = &[
         threads: "1",
         status: 0,
         output: "log 0 empty\nrecovered 0\nstate\nbank 1\naccount 0 0\n",
+    },
+    Recovery {
+        name: "an image of zeros beside a log",
+        init: b"bank 2\n",
+        images: &[
+            Image {
+                name: "out.0",
+                lines: &[ZERO, ZERO, ZERO, ZERO],
+                length: 256,
+            },
+            Image {
+                name: "out.1",
+                lines: &[HEAD_1, BOTH_AT_2, DEPOSIT_5, DEPOSIT_7],
+                length: 256,
+            },
+        ],
+        threads: "2",
+        status: 0,
+        output: "log 0 empty\nlog 1 entries 1 lines 4\nrecovered 2\nnode 1 0 1 deposit 0 5\nnode 2 1 1 deposit 1 7\nstate\nbank 2\naccount 0 5\naccount 1 7\n",
     },
     Recovery {
         name: "an image that is cut inside an entry",
@@ -485,224 +510,67 @@ fn recoveries_from_logs(rt: HostRuntime) -> Result<(), Fail> {
     Ok(())
 }
 
-/// Images in format 1 with one change each, where the digest is that of the changed entry.
-const HOSTILE_IMAGES: &[Recovery<'static>] = &[
+/// Recoveries of one thread whose only put fails.
+const PUTS: &[Recovery<'static>] = &[
     Recovery {
-        name: "a head of another magic",
+        name: "the put of a report fails",
         init: b"bank 1\n",
         images: &[Image {
             name: "out.0",
-            lines: &[MAGIC_HEAD, OLD_ONE_AT_1, DEPOSIT_5],
+            lines: &[ONE_HEAD, ONE_AT_1, DEPOSIT_5],
             length: 192,
         }],
         threads: "1",
-        status: 4,
-        output: "log 0 not a log\n",
+        status: 6,
+        output: "",
     },
     Recovery {
-        name: "a head of format 9",
+        name: "the put of an image that is no log fails",
         init: b"bank 1\n",
         images: &[Image {
             name: "out.0",
-            lines: &[FORMAT_9_HEAD, OLD_ONE_AT_1, DEPOSIT_5],
-            length: 192,
+            lines: &[ONES],
+            length: 64,
         }],
         threads: "1",
-        status: 4,
-        output: "log 0 not a log\n",
+        status: 6,
+        output: "",
     },
     Recovery {
-        name: "a head of 17 threads",
+        name: "the put of an image that is not there fails",
         init: b"bank 1\n",
-        images: &[Image {
-            name: "out.0",
-            lines: &[THREADS_17_HEAD, OLD_ONE_AT_1, DEPOSIT_5],
-            length: 192,
-        }],
+        images: &[],
         threads: "1",
-        status: 4,
-        output: "log 0 not a log\n",
+        status: 6,
+        output: "",
     },
     Recovery {
-        name: "a head of object 5",
-        init: b"bank 1\n",
-        images: &[Image {
-            name: "out.0",
-            lines: &[OBJECT_5_HEAD, OLD_ONE_AT_1, DEPOSIT_5],
-            length: 192,
-        }],
+        name: "the put of a refused initial state fails",
+        init: b"tree 1\n",
+        images: &[],
         threads: "1",
-        status: 4,
-        output: "log 0 not a log\n",
-    },
-    Recovery {
-        name: "a head of two threads",
-        init: b"bank 1\n",
-        images: &[Image {
-            name: "out.0",
-            lines: &[THREADS_2_HEAD, OLD_ONE_AT_1, DEPOSIT_5],
-            length: 192,
-        }],
-        threads: "1",
-        status: 4,
-        output: "log 0 not of this run\n",
-    },
-    Recovery {
-        name: "an entry of another magic",
-        init: b"bank 1\n",
-        images: &[Image {
-            name: "out.0",
-            lines: &[OLD_ONE_HEAD, MAGIC_ENTRY, DEPOSIT_5],
-            length: 192,
-        }],
-        threads: "1",
-        status: 0,
-        output: "log 0 entries 0 lines 1\nrecovered 0\nstate\nbank 1\naccount 0 0\n",
-    },
-    Recovery {
-        name: "an entry of thread 1",
-        init: b"bank 1\n",
-        images: &[Image {
-            name: "out.0",
-            lines: &[OLD_ONE_HEAD, THREAD_1_ENTRY, DEPOSIT_5],
-            length: 192,
-        }],
-        threads: "1",
-        status: 0,
-        output: "log 0 entries 0 lines 1\nrecovered 0\nstate\nbank 1\naccount 0 0\n",
-    },
-    Recovery {
-        name: "an entry of number 2",
-        init: b"bank 1\n",
-        images: &[Image {
-            name: "out.0",
-            lines: &[OLD_ONE_HEAD, NUMBER_2_ENTRY, DEPOSIT_5],
-            length: 192,
-        }],
-        threads: "1",
-        status: 0,
-        output: "log 0 entries 0 lines 1\nrecovered 0\nstate\nbank 1\naccount 0 0\n",
-    },
-    Recovery {
-        name: "an entry of no operation",
-        init: b"bank 1\n",
-        images: &[Image {
-            name: "out.0",
-            lines: &[OLD_ONE_HEAD, COUNT_0_ENTRY, DEPOSIT_5],
-            length: 192,
-        }],
-        threads: "1",
-        status: 0,
-        output: "log 0 entries 0 lines 1\nrecovered 0\nstate\nbank 1\naccount 0 0\n",
-    },
-    Recovery {
-        name: "an entry of more operations than threads",
-        init: b"bank 1\n",
-        images: &[Image {
-            name: "out.0",
-            lines: &[OLD_ONE_HEAD, COUNT_2_ENTRY, DEPOSIT_5, SECOND],
-            length: 256,
-        }],
-        threads: "1",
-        status: 0,
-        output: "log 0 entries 0 lines 1\nrecovered 0\nstate\nbank 1\naccount 0 0\n",
-    },
-    Recovery {
-        name: "an entry at place 0",
-        init: b"bank 1\n",
-        images: &[Image {
-            name: "out.0",
-            lines: &[OLD_ONE_HEAD, PLACE_0_ENTRY, DEPOSIT_5],
-            length: 192,
-        }],
-        threads: "1",
-        status: 0,
-        output: "log 0 entries 0 lines 1\nrecovered 0\nstate\nbank 1\naccount 0 0\n",
-    },
-    Recovery {
-        name: "an entry at place 4097",
-        init: b"bank 1\n",
-        images: &[Image {
-            name: "out.0",
-            lines: &[OLD_ONE_HEAD, PLACE_4097_ENTRY, DEPOSIT_5],
-            length: 192,
-        }],
-        threads: "1",
-        status: 0,
-        output: "log 0 entries 0 lines 1\nrecovered 0\nstate\nbank 1\naccount 0 0\n",
-    },
-    Recovery {
-        name: "a node of name 0",
-        init: b"bank 1\n",
-        images: &[Image {
-            name: "out.0",
-            lines: &[OLD_ONE_HEAD, NAME_0_OF, NAME_0_LINE],
-            length: 192,
-        }],
-        threads: "1",
-        status: 0,
-        output: "log 0 entries 0 lines 1\nrecovered 0\nstate\nbank 1\naccount 0 0\n",
-    },
-    Recovery {
-        name: "a node of name 4097",
-        init: b"bank 1\n",
-        images: &[Image {
-            name: "out.0",
-            lines: &[OLD_ONE_HEAD, NAME_4097_OF, NAME_4097_LINE],
-            length: 192,
-        }],
-        threads: "1",
-        status: 0,
-        output: "log 0 entries 0 lines 1\nrecovered 0\nstate\nbank 1\naccount 0 0\n",
-    },
-    Recovery {
-        name: "another digest",
-        init: b"bank 1\n",
-        images: &[Image {
-            name: "out.0",
-            lines: &[OLD_ONE_HEAD, OTHER_DIGEST, DEPOSIT_5],
-            length: 192,
-        }],
-        threads: "1",
-        status: 0,
-        output: "log 0 entries 0 lines 1\nrecovered 0\nstate\nbank 1\naccount 0 0\n",
-    },
-    Recovery {
-        name: "an entry that is cut off",
-        init: b"bank 1\n",
-        images: &[Image {
-            name: "out.0",
-            lines: &[OLD_ONE_HEAD, OLD_ONE_AT_1],
-            length: 128,
-        }],
-        threads: "1",
-        status: 0,
-        output: "log 0 entries 0 lines 1\nrecovered 0\nstate\nbank 1\naccount 0 0\n",
-    },
-    Recovery {
-        name: "further bytes of 255",
-        init: b"bank 1\n",
-        images: &[Image {
-            name: "out.0",
-            lines: &[OLD_ONE_HEAD, OLD_ONE_AT_1, DEPOSIT_5, FULL],
-            length: 256,
-        }],
-        threads: "1",
-        status: 0,
-        output: "log 0 entries 1 lines 3\nrecovered 1\nnode 1 0 1 deposit 0 5\nstate\nbank 1\naccount 0 5\n",
+        status: 6,
+        output: "",
     },
 ];
 
 #[test]
-fn hostile_images(rt: HostRuntime) -> Result<(), Fail> {
-    for case in HOSTILE_IMAGES {
-        recover(rt.alloc(), case)?.expect(&rt, case.name, case.status, case.output);
+fn the_put_of_a_recovery_fails(rt: HostRuntime) -> Result<(), Fail> {
+    let alloc = rt.alloc();
+    let program = Program {
+        words: &["recover", "i", "out", "1"],
+        files: &[],
+        failing_calls: &[],
+        failing_puts: &[1],
+    };
+    for case in PUTS {
+        let mut store = store_of(alloc, case.init, case.images)?;
+        program
+            .run_over(alloc, &mut store)?
+            .expect(&rt, case.name, case.status, case.output);
     }
     Ok(())
 }
-
-pub(crate) const USAGE: &str =
-    "usage: onll fold INIT SCRIPT\n       onll show IMAGE\n       onll recover INIT LOGS T\n       onll replay INIT SCHEDULE LOGS SCRIPT..\n       onll run INIT LOGS SCRIPT..\n       onll make T N SEED\n";
 
 /// Words that are no recovery.
 const NO_FORMS: &[&[&str]] = &[

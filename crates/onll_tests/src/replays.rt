@@ -1,5 +1,6 @@
-use crate::calls::Program;
-use crate::recovers::USAGE;
+use crate::calls::{Program, USAGE};
+use crate::images::{BOTH_AT_2, DEPOSIT_5, DEPOSIT_7, HEAD_0, HEAD_1, Image, ZERO};
+use onll_outside::MemStore;
 use std::alloc::{AllocError, Global};
 use std::process::Abort;
 use std::test::Fail;
@@ -43,6 +44,16 @@ const HELPED_FILES: &[(&str, &[u8])] = &[
 
 const HELPED: &str =
     "call 0 1 deposit 0 5 -> ordered at 1\ncall 1 1 deposit 1 7 -> ok at 2\ntrace 2\nnode 1 0 1 unset deposit 0 5\nnode 2 1 1 set deposit 1 7\ncrash 0\nlog 0 entries 0 lines 1 fences 0\nlog 1 entries 1 lines 4 fences 1\nrecovered 2\nstate\nbank 2\naccount 0 5\naccount 1 7\n";
+
+/// Sixteen threads, the last of which logs the updates of all.
+const SIXTEEN_FILES: &[(&str, &[u8])] = &[
+    ("i", b"bank 1\n"),
+    (
+        "c",
+        b"0 2\n1 2\n2 2\n3 2\n4 2\n5 2\n6 2\n7 2\n8 2\n9 2\n10 2\n11 2\n12 2\n13 2\n14 2\n15 53\ncrash 0\n",
+    ),
+    ("s0", b"deposit 0 1\n"),
+];
 
 const REPLAYS: &[Replay<'static>] = &[
     Replay {
@@ -182,14 +193,7 @@ const REPLAYS: &[Replay<'static>] = &[
     Replay {
         name: "the greatest window",
         words: SIXTEEN,
-        files: &[
-            ("i", b"bank 1\n"),
-            (
-                "c",
-                b"0 2\n1 2\n2 2\n3 2\n4 2\n5 2\n6 2\n7 2\n8 2\n9 2\n10 2\n11 2\n12 2\n13 2\n14 2\n15 53\ncrash 0\n",
-            ),
-            ("s0", b"deposit 0 1\n"),
-        ],
+        files: SIXTEEN_FILES,
         status: 0,
         output: "call 0 1 deposit 0 1 -> ordered at 1\ncall 1 1 deposit 0 1 -> ordered at 2\ncall 2 1 deposit 0 1 -> ordered at 3\ncall 3 1 deposit 0 1 -> ordered at 4\ncall 4 1 deposit 0 1 -> ordered at 5\ncall 5 1 deposit 0 1 -> ordered at 6\ncall 6 1 deposit 0 1 -> ordered at 7\ncall 7 1 deposit 0 1 -> ordered at 8\ncall 8 1 deposit 0 1 -> ordered at 9\ncall 9 1 deposit 0 1 -> ordered at 10\ncall 10 1 deposit 0 1 -> ordered at 11\ncall 11 1 deposit 0 1 -> ordered at 12\ncall 12 1 deposit 0 1 -> ordered at 13\ncall 13 1 deposit 0 1 -> ordered at 14\ncall 14 1 deposit 0 1 -> ordered at 15\ncall 15 1 deposit 0 1 -> ok at 16\ntrace 16\nnode 1 0 1 unset deposit 0 1\nnode 2 1 1 unset deposit 0 1\nnode 3 2 1 unset deposit 0 1\nnode 4 3 1 unset deposit 0 1\nnode 5 4 1 unset deposit 0 1\nnode 6 5 1 unset deposit 0 1\nnode 7 6 1 unset deposit 0 1\nnode 8 7 1 unset deposit 0 1\nnode 9 8 1 unset deposit 0 1\nnode 10 9 1 unset deposit 0 1\nnode 11 10 1 unset deposit 0 1\nnode 12 11 1 unset deposit 0 1\nnode 13 12 1 unset deposit 0 1\nnode 14 13 1 unset deposit 0 1\nnode 15 14 1 unset deposit 0 1\nnode 16 15 1 set deposit 0 1\ncrash 0\nlog 0 entries 0 lines 1 fences 0\nlog 1 entries 0 lines 1 fences 0\nlog 2 entries 0 lines 1 fences 0\nlog 3 entries 0 lines 1 fences 0\nlog 4 entries 0 lines 1 fences 0\nlog 5 entries 0 lines 1 fences 0\nlog 6 entries 0 lines 1 fences 0\nlog 7 entries 0 lines 1 fences 0\nlog 8 entries 0 lines 1 fences 0\nlog 9 entries 0 lines 1 fences 0\nlog 10 entries 0 lines 1 fences 0\nlog 11 entries 0 lines 1 fences 0\nlog 12 entries 0 lines 1 fences 0\nlog 13 entries 0 lines 1 fences 0\nlog 14 entries 0 lines 1 fences 0\nlog 15 entries 1 lines 18 fences 1\nrecovered 16\nstate\nbank 1\naccount 0 16\n",
     },
@@ -437,45 +441,84 @@ fn crashes_at_each_step(rt: HostRuntime) -> Result<(), Fail> {
     Ok(())
 }
 
-/// The number of the store's call that fails, and how the replay of two threads ends.
-const FAULTS: &[(u64, u8, &str)] = &[
-    (1, 5, "read fault i\n"),
-    (2, 5, "read fault s0\n"),
-    (3, 5, "read fault s1\n"),
-    (4, 5, "read fault c\n"),
-    (5, 6, "write fault out.0\n"),
-    (6, 6, "write fault out.1\n"),
-    (7, 0, HELPED),
+/// The images after that replay: thread 0 wrote no entry, and thread 1's log holds both updates.
+const HELPED_IMAGES: &[Image<'static>] = &[
+    Image {
+        name: "out.0",
+        lines: &[HEAD_0, ZERO, ZERO, ZERO],
+        length: 256,
+    },
+    Image {
+        name: "out.1",
+        lines: &[HEAD_1, BOTH_AT_2, DEPOSIT_5, DEPOSIT_7],
+        length: 256,
+    },
 ];
 
-/// What a replay of two threads leaves in its files where a call of this number fails.
-fn after_fault<R: Abort>(
+/// The number of the store's call that fails, how the replay of two threads ends, and how many images
+/// it leaves.
+const FAULTS: &[(u64, u8, &str, usize)] = &[
+    (1, 5, "read fault i\n", 0),
+    (2, 5, "read fault s0\n", 0),
+    (3, 5, "read fault s1\n", 0),
+    (4, 5, "read fault c\n", 0),
+    (5, 6, "write fault out.0\n", 0),
+    (6, 6, "write fault out.1\n", 1),
+    (7, 0, HELPED, 2),
+];
+
+/// The first so many images of that replay are there, exactly, and no others.
+fn expect_images<R: Abort>(
     rt: &R,
     alloc: Global,
-    call: u64,
-    status: u8,
-    output: &str,
-) -> Result<(bool, bool), AllocError> {
-    let program = Program {
-        words: TWO,
-        files: HELPED_FILES,
-        failing_calls: &[call],
-        failing_puts: &[],
-    };
-    let mut store = program.store(alloc)?;
-    program
-        .run_over(alloc, &mut store)?
-        .expect(rt, "a call fails", status, output);
-    Ok((store.file("out.0").is_some(), store.file("out.1").is_some()))
+    store: &MemStore,
+    count: usize,
+) -> Result<(), AllocError> {
+    for (place, image) in HELPED_IMAGES.iter().enumerate() {
+        let held = store.file(image.name);
+        if place < count {
+            let bytes = image.bytes(alloc)?;
+            assert!(rt; held == Some(bytes.as_slice()), "{}", image.name);
+        } else {
+            assert!(rt; held.is_none(), "{}", image.name);
+        }
+    }
+    Ok(())
 }
 
 #[test]
 fn calls_that_fail(rt: HostRuntime) -> Result<(), Fail> {
-    for (call, status, output) in FAULTS {
-        let (first, second) = after_fault(&rt, rt.alloc(), *call, *status, output)?;
-        assert_eq!(rt; first, *call > 5, "call {call}");
-        assert_eq!(rt; second, *call > 6, "call {call}");
+    let alloc = rt.alloc();
+    for (call, status, output, images) in FAULTS {
+        let program = Program {
+            words: TWO,
+            files: HELPED_FILES,
+            failing_calls: &[*call],
+            failing_puts: &[],
+        };
+        let mut store = program.store(alloc)?;
+        program
+            .run_over(alloc, &mut store)?
+            .expect(&rt, "a call fails", *status, output);
+        expect_images(&rt, alloc, &store, *images)?;
     }
+    Ok(())
+}
+
+#[test]
+fn the_put_of_a_replay_fails(rt: HostRuntime) -> Result<(), Fail> {
+    let alloc = rt.alloc();
+    let program = Program {
+        words: TWO,
+        files: HELPED_FILES,
+        failing_calls: &[],
+        failing_puts: &[1],
+    };
+    let mut store = program.store(alloc)?;
+    program
+        .run_over(alloc, &mut store)?
+        .expect(&rt, "the put of a report fails", 6, "");
+    expect_images(&rt, alloc, &store, 2)?;
     Ok(())
 }
 
@@ -530,6 +573,22 @@ fn what_a_crash_left_is_recovered(rt: HostRuntime) -> Result<(), Fail> {
         4,
         "log 0 not of this run\n",
     )?;
+    Ok(())
+}
+
+/// What is recovered of the logs of sixteen threads.
+const SIXTEEN_RECOVERED: &str =
+    "log 0 entries 0 lines 1\nlog 1 entries 0 lines 1\nlog 2 entries 0 lines 1\nlog 3 entries 0 lines 1\nlog 4 entries 0 lines 1\nlog 5 entries 0 lines 1\nlog 6 entries 0 lines 1\nlog 7 entries 0 lines 1\nlog 8 entries 0 lines 1\nlog 9 entries 0 lines 1\nlog 10 entries 0 lines 1\nlog 11 entries 0 lines 1\nlog 12 entries 0 lines 1\nlog 13 entries 0 lines 1\nlog 14 entries 0 lines 1\nlog 15 entries 1 lines 18\nrecovered 16\nnode 1 0 1 deposit 0 1\nnode 2 1 1 deposit 0 1\nnode 3 2 1 deposit 0 1\nnode 4 3 1 deposit 0 1\nnode 5 4 1 deposit 0 1\nnode 6 5 1 deposit 0 1\nnode 7 6 1 deposit 0 1\nnode 8 7 1 deposit 0 1\nnode 9 8 1 deposit 0 1\nnode 10 9 1 deposit 0 1\nnode 11 10 1 deposit 0 1\nnode 12 11 1 deposit 0 1\nnode 13 12 1 deposit 0 1\nnode 14 13 1 deposit 0 1\nnode 15 14 1 deposit 0 1\nnode 16 15 1 deposit 0 1\nstate\nbank 1\naccount 0 16\n";
+
+#[test]
+fn sixteen_logs_are_recovered(rt: HostRuntime) -> Result<(), Fail> {
+    let replay = Program::new(SIXTEEN, SIXTEEN_FILES);
+    let mut store = replay.store(rt.alloc())?;
+    let _ = replay.run_over(rt.alloc(), &mut store)?;
+    let recovery = Program::new(&["recover", "i", "out", "16"], &[]);
+    recovery
+        .run_over(rt.alloc(), &mut store)?
+        .expect(&rt, "sixteen logs", 0, SIXTEEN_RECOVERED);
     Ok(())
 }
 

@@ -1,4 +1,4 @@
-use crate::calls::Program;
+use crate::calls::{Program, repeated};
 use crate::images::{
     BOTH_AT_2, DEPOSIT_5, DEPOSIT_7, FULL, HEAD_1, Image, LEASE_HEAD, OLD_BOTH_AT_2, OLD_HEAD_1,
     ONE_AT_2, ONE_HEAD, ONE_MAP_HEAD, ONES, PUT, PUT_AT_1, QUEUE_HEAD, SECOND, SECOND_AT_2, ZERO,
@@ -176,5 +176,38 @@ fn an_image_that_is_not_there(rt: HostRuntime) -> Result<(), Fail> {
     program
         .run(rt.alloc())?
         .expect(&rt, "no image", 5, "read fault out.1\n");
+    Ok(())
+}
+
+#[test]
+fn the_put_of_an_image_fails(rt: HostRuntime) -> Result<(), Fail> {
+    for case in SHOWS {
+        let bytes = case.image.bytes(rt.alloc())?;
+        let program = Program {
+            words: &["show", "out.1"],
+            files: &[("out.1", &bytes)],
+            failing_calls: &[],
+            failing_puts: &[1],
+        };
+        program.run(rt.alloc())?.expect(&rt, case.name, 6, "");
+    }
+    Ok(())
+}
+
+/// How many lines of zeros stand before a line of other bytes, and how `show` of that image ends. Of an
+/// image 69,633 lines are read.
+const LONG: &[(usize, u8, &str)] = &[(69_632, 4, "not a log\n"), (69_633, 0, "empty\n")];
+
+#[test]
+fn images_that_are_too_long(rt: HostRuntime) -> Result<(), Fail> {
+    for (zeros, status, output) in LONG {
+        let mut bytes = repeated(rt.alloc(), &[0; 64], *zeros)?;
+        bytes.extend_from_slice(&[1; 64])?;
+        let files: &[(&str, &[u8])] = &[("out.1", &bytes)];
+        let program = Program::new(&["show", "out.1"], files);
+        program
+            .run(rt.alloc())?
+            .expect(&rt, "zeros and then other bytes", *status, output);
+    }
     Ok(())
 }

@@ -1,4 +1,4 @@
-use crate::calls::{Program, fold};
+use crate::calls::{Program, USAGE, fold};
 use std::test::Fail;
 
 const TRANSFER_INIT: &[u8] = b"bank 2\naccount 0 100\n";
@@ -7,9 +7,6 @@ const TRANSFER_SCRIPT: &[u8] = b"transfer 0 1 30\nbalance 1\n";
 
 const TRANSFER_REPORT: &str =
     "call 0 1 transfer 0 1 30 -> ok at 1\ncall 0 2 balance 1 -> 30 at 1\ntrace 1\nnode 1 0 1 transfer 0 1 30\nstate\nbank 2\naccount 0 70\naccount 1 30\n";
-
-const USAGE: &str =
-    "usage: onll fold INIT SCRIPT\n       onll show IMAGE\n       onll recover INIT LOGS T\n       onll replay INIT SCHEDULE LOGS SCRIPT..\n       onll run INIT LOGS SCRIPT..\n       onll make T N SEED\n";
 
 /// The name of a case, an initial state, a script and its report.
 const REPORTS: &[(&str, &[u8], &[u8], &str)] = &[

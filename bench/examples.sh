@@ -1,0 +1,63 @@
+#!/bin/sh
+# Runs the commands of examples/ on a copy of that folder, and compares what each prints and writes with what stands there.
+# Ends with 0, or names what differs and ends with 1.
+# Usage: bench/examples.sh
+set -u
+
+top=$(cd "$(dirname "$0")/.." && pwd)
+folder=$(mktemp -d)
+trap 'rm -r "$folder"' EXIT
+mkdir "$folder/examples"
+failed=0
+
+# Copies files of an example, without its reports and images.
+take() {
+    example=$1
+    shift
+    mkdir "$folder/examples/$example"
+    for file in "$@"; do
+        cp "$top/examples/$example/$file" "$folder/examples/$example/$file"
+    done
+}
+
+# Compares a file that a run made with the one that stands in examples/.
+compare() {
+    if ! cmp -s "$folder/examples/$1" "$top/examples/$1"; then
+        echo "examples/$1 differs" >&2
+        failed=1
+    fi
+}
+
+# Runs the program with these words, and compares what it prints with the file named first.
+prints() {
+    printed=$1
+    shift
+    if ! (cd "$folder" && "$top/onll" "$@") > "$folder/examples/$printed"; then
+        echo "onll $* fails" >&2
+        failed=1
+    fi
+    compare "$printed"
+}
+
+# Folds a script of an example over its initial state.
+folds() {
+    take "$1" "$2" "$3"
+    prints "$1/report" fold "examples/$1/$2" "examples/$1/$3"
+}
+
+folds transfer bank script
+folds payroll accounts payday
+folds directory names changes
+folds printer waiting morning
+folds locks held shift
+
+take crash bank plan first second
+prints crash/replayed replay examples/crash/bank examples/crash/plan examples/crash/out \
+    examples/crash/first examples/crash/second
+compare crash/out.0
+compare crash/out.1
+prints crash/shown.0 show examples/crash/out.0
+prints crash/shown.1 show examples/crash/out.1
+prints crash/report recover examples/crash/bank examples/crash/out 2
+
+exit $failed

@@ -10,8 +10,8 @@ use onll_words::{NoMemory, OpRow, Short};
 use std::alloc::Global;
 use std::marker::Model;
 
-/// A map from short texts to short texts, of 1 to 4,096 pairs at the most, seen as its pairs in the order of the keys
-/// and its capacity.
+/// A map from short texts to short texts with room for 1 to 4,096 pairs, seen as its pairs in the order of the keys and
+/// its room.
 #[derive(Drop)]
 pub struct Map {
     pairs: Vec<(Short, Short)>,

@@ -1,4 +1,4 @@
-use Rattle.std.specs.Prelude.{ℕ, Bool, List, [], ◌∷◌, ◌+◌, ◌-◌, ◌^◌, Option, Some, None, if◌then◌else◌, length, slice_index, slice_set, sum, nat_lt, ◌==◌, ◌&&◌}
+use Rattle.std.specs.Prelude.{ℕ, Bool, List, [], ◌∷◌, ◌+◌, ◌-◌, ◌^◌, ◌≤◌, Option, Some, None, if◌then◌else◌, length, slice_index, slice_set, sum, nat_lt, ◌==◌, ◌&&◌}
 use Rattle.onll_words.specs.declared.line.OpRow.{OpRow}
 use Rattle.onll_bank.specs.declared.operation.BankOp.{BankOp}
 use Rattle.onll_bank.specs.declared.operation.BankOp.TheVariants.{Deposit, Withdraw, Transfer}
@@ -12,6 +12,12 @@ use Rattle.onll_bank.specs.declared.operation.BankReply.TheVariants.{Done, Over,
 -- the greatest sum of all balances
 abbrev pub greatest_total : ℕ
 greatest_total = 2 ^ 64 - 1
+
+-- there are 1 to 4,096 accounts, and the sum of all balances fits into 64 bits
+pub record IsBank (s : List ℕ) : Type 0 where
+  pub least : 1 ≤ length s
+  pub greatest : length s ≤ 4096
+  pub total : sum s ≤ greatest_total
 
 abbrev pub is_account : List ℕ → ℕ → Bool
 is_account s a = nat_lt a (length s)

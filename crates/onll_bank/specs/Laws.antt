@@ -1,6 +1,6 @@
-use Rattle.std.proofs.Common.{ℕ, Bool, true, false, List, [], ◌∷◌, ◌≡◌, ◌==◌, ◌&&◌, Some, None, cond, length, refl, ap, ◌∙◌, length-set, arith}
-use Rattle.std.proofs.lemmas.Bool.Decides.{nat_tests}
+use Rattle.std.proofs.Common.{ℕ, Bool, true, false, List, [], ◌∷◌, ◌≡◌, ◌==◌, ◌&&◌, Some, None, cond, length, refl, ap, ◌∙◌, length-set}
 use Rattle.onll_words.specs.declared.line.OpRow.{OpRow}
+use Rattle.onll_words.proofs.RowWords.{two_arguments, three_arguments}
 use Rattle.onll_bank.specs.declared.operation.BankOp.{BankOp}
 use Rattle.onll_bank.specs.declared.operation.BankOp.TheVariants.{Deposit, Withdraw, Transfer}
 use Rattle.onll_bank.specs.declared.operation.BankReply.{BankReply}
@@ -26,25 +26,6 @@ pub op_of_its_row : (op : BankOp) → bank_op_at (bank_row op) ≡ Some op
 op_of_its_row (Deposit a x) = refl
 op_of_its_row (Withdraw a x) = refl
 op_of_its_row (Transfer a b x) = refl
-
--- the words that a row of two arguments has, where the test of its words holds
-two_arguments : (n k a b c d e f : ℕ) → (k == n && (c == 0) && (d == 0) && (e == 0) && (f == 0)) ≡ true → n ∷ a ∷ b ∷ 0 ∷ 0 ∷ 0 ∷ 0 ∷ [] ≡ k ∷ a ∷ b ∷ c ∷ d ∷ e ∷ f ∷ []
-two_arguments n k a b c d e f h =
-    let hk : k ≡ n = grind (arith, nat_tests) in
-    let hc : c ≡ 0 = grind (arith, nat_tests) in
-    let hd : d ≡ 0 = grind (arith, nat_tests) in
-    let he : e ≡ 0 = grind (arith, nat_tests) in
-    let hf : f ≡ 0 = grind (arith, nat_tests) in
-    cc
-
--- the same of three arguments
-three_arguments : (n k a b c d e f : ℕ) → (k == n && (d == 0) && (e == 0) && (f == 0)) ≡ true → n ∷ a ∷ b ∷ c ∷ 0 ∷ 0 ∷ 0 ∷ [] ≡ k ∷ a ∷ b ∷ c ∷ d ∷ e ∷ f ∷ []
-three_arguments n k a b c d e f h =
-    let hk : k ≡ n = grind (arith, nat_tests) in
-    let hd : d ≡ 0 = grind (arith, nat_tests) in
-    let he : e ≡ 0 = grind (arith, nat_tests) in
-    let hf : f ≡ 0 = grind (arith, nat_tests) in
-    cc
 
 -- the rows of these words, by the tests in turn
 by_tests : (t₁ t₂ t₃ : Bool) (ws : List ℕ) (x₁ x₂ x₃ op : BankOp)

@@ -1,3 +1,4 @@
 pub mod Bank
 pub mod Laws
 pub mod Object
+pub mod Totals

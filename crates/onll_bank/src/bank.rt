@@ -1,6 +1,6 @@
 ghost use Rattle.std.specs.Prelude.{◌≡◌, ℕ, ◌+◌, ◌-◌, ◌^◌, ◌<◌, ◌≤◌, length, replicate, IfOk, slice_index, sum};
 ghost use Rattle.std.proofs.Common.{rules};
-ghost use Rattle.onll_bank.specs.Bank.{raised, lowered, bank_reply, bank_next};
+ghost use Rattle.onll_bank.specs.Bank.{IsBank, raised, lowered, bank_reply, bank_next};
 ghost use Rattle.onll_bank.specs.Object.{bank};
 
 use crate::operation::{BankOp, BankQuery, BankReply};
@@ -22,8 +22,8 @@ fn move_between(balances: &mut [u64], a: usize, b: usize, x: u64)
     balances[b] += x;
 }
 
-/// A row of accounts, numbered from 0 and seen as the list of their balances. The sum of all balances never
-/// exceeds `2^64 - 1`.
+/// A row of 1 to 4,096 accounts, numbered from 0 and seen as the list of their balances. The sum of all balances
+/// never exceeds `2^64 - 1`.
 #[derive(Drop)]
 pub struct Bank {
     balances: Vec<u64>,
@@ -32,12 +32,13 @@ pub struct Bank {
 
 impl Model for Bank {
     ghost use Rattle.std.specs.Prelude.{◌≡◌, ℕ, List, sum};
+    ghost use Rattle.onll_bank.specs.Bank.{IsBank};
 
     ghost Value = { List ℕ };
 
     ghost view = { λ s. s.balances.items };
 
-    ghost invariant = { λ s. s.total ≡ sum s.balances.items };
+    ghost invariant = { λ s. IsBank s.balances.items × (s.total ≡ sum s.balances.items) };
 }
 
 impl Bank {
@@ -50,6 +51,13 @@ impl Bank {
             Ok(balances) => Ok(Bank { balances, total: 0 }),
             Err(_) => Err(NoMemory),
         }
+    }
+
+    /// What every bank keeps. It does nothing when called.
+    pub fn consistent(&self)
+        ensures { IsBank self.now }
+    {
+        let _ = &self.balances;
     }
 
     /// The balance of an account.

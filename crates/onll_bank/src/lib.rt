@@ -2,9 +2,11 @@
 #![tactic(auto)]
 
 mod bank;
+mod laws;
 mod operation;
 #[cfg(test)]
 mod tests;
 
 pub use bank::Bank;
+pub use laws::bank_laws;
 pub use operation::{BankOp, BankQuery, BankReply};

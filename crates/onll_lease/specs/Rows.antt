@@ -1,6 +1,6 @@
-use Rattle.std.proofs.Common.{ℕ, Bool, true, false, List, [], ◌∷◌, ◌≡◌, ◌==◌, ◌&&◌, if◌then◌else◌, Option, Some, None, cond, length, refl, ap, arith}
-use Rattle.std.proofs.lemmas.Bool.Decides.{nat_tests}
+use Rattle.std.proofs.Common.{ℕ, Bool, true, false, List, [], ◌∷◌, ◌≡◌, ◌==◌, ◌&&◌, if◌then◌else◌, Option, Some, None, cond, length, refl, ap}
 use Rattle.onll_words.specs.declared.line.OpRow.{OpRow}
+use Rattle.onll_words.proofs.RowWords.{two_arguments, four_arguments}
 use Rattle.onll_lease.specs.declared.operation.LeaseOp.{LeaseOp}
 use Rattle.onll_lease.specs.declared.operation.LeaseOp.TheVariants.{Grant, Renew, Release}
 
@@ -26,24 +26,6 @@ pub op_of_its_row : (op : LeaseOp) → lease_op_at (lease_row op) ≡ Some op
 op_of_its_row (Grant r h now ttl) = refl
 op_of_its_row (Renew r t now ttl) = refl
 op_of_its_row (Release r t) = refl
-
--- the words that a row of four arguments has, where the test of its words holds
-four_arguments : (n k a b c d e f : ℕ) → (k == n && (e == 0) && (f == 0)) ≡ true → n ∷ a ∷ b ∷ c ∷ d ∷ 0 ∷ 0 ∷ [] ≡ k ∷ a ∷ b ∷ c ∷ d ∷ e ∷ f ∷ []
-four_arguments n k a b c d e f h =
-    let hk : k ≡ n = grind (arith, nat_tests) in
-    let he : e ≡ 0 = grind (arith, nat_tests) in
-    let hf : f ≡ 0 = grind (arith, nat_tests) in
-    cc
-
--- the same of two arguments
-two_arguments : (n k a b c d e f : ℕ) → (k == n && (c == 0) && (d == 0) && (e == 0) && (f == 0)) ≡ true → n ∷ a ∷ b ∷ 0 ∷ 0 ∷ 0 ∷ 0 ∷ [] ≡ k ∷ a ∷ b ∷ c ∷ d ∷ e ∷ f ∷ []
-two_arguments n k a b c d e f h =
-    let hk : k ≡ n = grind (arith, nat_tests) in
-    let hc : c ≡ 0 = grind (arith, nat_tests) in
-    let hd : d ≡ 0 = grind (arith, nat_tests) in
-    let he : e ≡ 0 = grind (arith, nat_tests) in
-    let hf : f ≡ 0 = grind (arith, nat_tests) in
-    cc
 
 -- the rows of these words, by the tests in turn
 by_tests : (t₁ t₂ t₃ : Bool) (ws : List ℕ) (x₁ x₂ x₃ op : LeaseOp)

@@ -4,11 +4,14 @@ ghost use Rattle.onll_lease.specs.Lease.{entry_reply, entry_next};
 
 use crate::operation::{LeaseOp, LeaseReply};
 
-/// The lease of one resource: the last token given, 0 where none was, its holder, and the moment at which it ends.
+/// The lease of one resource.
 #[derive(Clone, Copy, Debug, PartialEq, Eq)]
 pub struct LeaseEntry {
+    /// The last token given, from 1 on; 0 where none was.
     pub token: u64,
+    /// To whom that token was given.
     pub holder: u64,
+    /// The moment at which the lease ends: it is held before. 0 where it was released.
     pub until: u64,
 }
 

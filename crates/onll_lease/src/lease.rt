@@ -11,8 +11,8 @@ use onll_words::{NoMemory, OpRow};
 use std::alloc::Global;
 use std::marker::Model;
 
-/// A table of leases, one a resource, numbered from 0 and seen as the list of their entries. Each grant of a resource
-/// gives a new token. Where a resource's token is 0, its holder and its end are 0.
+/// A table of leases of 1 to 4,096 resources, numbered from 0 and seen as the list of their entries. Each grant of a
+/// resource gives a new token. Where a resource's token is 0, its holder and its end are 0.
 #[derive(Drop)]
 pub struct Lease {
     entries: Vec<LeaseEntry>,
@@ -47,6 +47,13 @@ impl Lease {
         }
     }
 
+    /// What every table keeps. It does nothing when called.
+    pub fn consistent(&self)
+        ensures { IsLease self.now }
+    {
+        let _ = &self.entries;
+    }
+
     /// The entry of a resource.
     pub fn entry(&self, r: u64) -> LeaseEntry
         requires { r < length self.now }
@@ -54,14 +61,6 @@ impl Lease {
         ensures never_granted { IsEntry result }
     {
         self.entries[r as usize]
-    }
-
-    /// A law: there are 1 to 4,096 resources, and where a resource's token is 0, its holder and its end are 0. It does
-    /// nothing when called.
-    pub fn entries_law(&self)
-        ensures { IsLease self.now }
-    {
-        let _ = &self.entries;
     }
 
     /// Sets the last token given for a resource, its holder and the moment at which its lease ends.

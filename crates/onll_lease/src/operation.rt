@@ -1,18 +1,22 @@
-/// What changes a table of leases: `r` is a resource, `h` a holder, `now` a moment and `ttl` how long from then on.
+/// What changes a table of leases: `r` is a resource, numbered from 0, `h` a holder, `now` a moment and `ttl` how long
+/// from then on. Holders, moments and tokens are numbers up to `2^64 - 1`; a moment's unit is the caller's.
 #[derive(Clone, Copy, Debug, PartialEq, Eq)]
 pub enum LeaseOp {
+    /// Gives the resource to h until now + ttl, with a new token.
     Grant {
         r: u64,
         h: u64,
         now: u64,
         ttl: u64,
     },
+    /// Lets the lease with this token last until now + ttl.
     Renew {
         r: u64,
         token: u64,
         now: u64,
         ttl: u64,
     },
+    /// Ends the lease with this token.
     Release {
         r: u64,
         token: u64,
@@ -45,6 +49,7 @@ pub enum LeaseReply {
     Stale,
     /// It was released.
     Released,
+    /// Who holds the resource, with which token, and the moment at which the lease ends.
     HeldBy { holder: u64, token: u64, until: u64 },
     /// Nobody holds the resource.
     Free,

@@ -1,6 +1,4 @@
-use crate::{
-    Lease, LeaseEntry, LeaseOp, LeaseQuery, LeaseReply, held_law, stale_law, token_law, zero_law,
-};
+use crate::{Lease, LeaseEntry, LeaseOp, LeaseQuery, LeaseReply};
 use onll_model::{Object, capacity_kept, op_of_its_row, row_of_its_op, undone};
 use onll_words::OpRow;
 use std::test::Fail;
@@ -154,15 +152,5 @@ fn a_copy_restores(rt: HostRuntime) -> Result<(), Fail> {
     undone(alloc, &mut lease, release(1, 1))?;
     assert_eq!(rt; lease.ask(holder(1, 4)), held);
     assert!(rt; capacity_kept(&mut lease, release(1, 1)));
-    Ok(())
-}
-
-#[test]
-fn laws_do_nothing(rt: HostRuntime) -> Result<(), Fail> {
-    Lease::make(rt.alloc(), 1)?.entries_law();
-    token_law();
-    held_law();
-    stale_law();
-    zero_law();
     Ok(())
 }

@@ -2,6 +2,7 @@ pub mod Edits
 pub mod Found
 pub mod InOrder
 pub mod Least
+pub mod Lookups
 pub mod Maps
 pub mod Order
 pub mod Sets

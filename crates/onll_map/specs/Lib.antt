@@ -1,4 +1,5 @@
 pub mod Laws
+pub mod Lookups
 pub mod Map
 pub mod Object
 pub mod Places

@@ -1,4 +1,4 @@
-ghost use Rattle.std.specs.Prelude.{◌≡◌, ◌≢◌, ◌<◌, ◌≤◌, [], length, IfOk, IfErr, MatchOption, slice_index_or};
+ghost use Rattle.std.specs.Prelude.{◌≡◌, ◌≢◌, ◌<◌, ◌≤◌, [], length, IfOk, IfErr, MatchOption, Some, slice_get};
 ghost use Rattle.std.proofs.Common.{rules};
 ghost use Rattle.onll_map.specs.Map.{IsMap, Sets, IsLeastFrom, NoneFrom, value_at, key_from, map_next, map_reply};
 ghost use Rattle.onll_map.specs.Object.{map_object};
@@ -10,7 +10,8 @@ use onll_words::{NoMemory, OpRow, Short};
 use std::alloc::Global;
 use std::marker::Model;
 
-/// A map from short texts to short texts, seen as its pairs in the order of the keys and its capacity.
+/// A map from short texts to short texts with room for 1 to 4,096 pairs, seen as its pairs in the order of the keys and
+/// its room.
 #[derive(Drop)]
 pub struct Map {
     pairs: Vec<(Short, Short)>,
@@ -44,10 +45,16 @@ impl Map {
         }
     }
 
-    /// How many pairs there are.
+    /// What every map keeps. It does nothing when called.
+    pub fn consistent(&self)
+        ensures { IsMap self.now }
+    {
+        let _ = &self.pairs;
+    }
+
+    /// How many pairs there are, at most 4,096.
     pub fn count(&self) -> u64
-        ensures count { result ≡ length self.now.pairs }
-        ensures map { IsMap self.now }
+        ensures { result ≡ length self.now.pairs }
     {
         self.pairs.len() as u64
     }
@@ -55,7 +62,7 @@ impl Map {
     /// A key and its value by their place in the order of the keys, from 0.
     pub fn pair(&self, i: u64) -> (Short, Short)
         requires { i < length self.now.pairs }
-        ensures { result ≡ slice_index_or self.now.pairs i result }
+        ensures { slice_get self.now.pairs i ≡ Some result }
     {
         self.pairs[i as usize]
     }

@@ -1,9 +1,11 @@
 use onll_words::Short;
 
-/// What changes a map: `k` is a key, `v` is a value.
+/// What changes a map: `k` is a key, `v` is a value, each a text of 1 to 23 bytes.
 #[derive(Clone, Copy, Debug, PartialEq, Eq)]
 pub enum MapOp {
+    /// Gives the key k the value v, in place of what it had.
     Put { k: Short, v: Short },
+    /// Takes the key k and its value away.
     Del { k: Short },
 }
 
@@ -29,7 +31,10 @@ pub enum MapReply {
     Full,
     /// The key is not there, or no key is as great.
     Absent,
+    /// The value that was asked for.
     Value(Short),
+    /// The key that was asked for.
     Key(Short),
+    /// How many pairs there are, at most 4,096.
     Count(u64),
 }

@@ -1,7 +1,7 @@
 /// What changes a queue.
 #[derive(Clone, Copy, Debug, PartialEq, Eq)]
 pub enum QueueOp {
-    /// Puts x behind the last item.
+    /// Puts x, any number up to `2^64 - 1`, behind the last item.
     Push { x: u64 },
     /// Takes the first item away.
     Pop,
@@ -25,6 +25,8 @@ pub enum QueueReply {
     Full,
     /// There is no item.
     Empty,
+    /// The item that was taken away, or that is first.
     Item(u64),
+    /// How many items there are, at most 4,096.
     Length(u64),
 }

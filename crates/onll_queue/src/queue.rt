@@ -24,7 +24,7 @@ fn refill(ring: &mut HeapCircularBuffer<u64>, from: &HeapCircularBuffer<u64>)
     ring.fill_from_slice(back);
 }
 
-/// A bounded queue, seen as the list of its items, front first, and its room.
+/// A queue of 64-bit numbers with room for 1 to 4,096, seen as the list of its items, front first, and its room.
 #[derive(Drop)]
 pub struct Queue {
     ring: HeapCircularBuffer<u64>,
@@ -52,10 +52,16 @@ impl Queue {
         }
     }
 
-    /// How many items there are.
+    /// What every queue keeps. It does nothing when called.
+    pub fn consistent(&self)
+        ensures { IsQueue self.now }
+    {
+        let _ = &self.ring;
+    }
+
+    /// How many items there are, at most 4,096.
     pub fn length(&self) -> u64
-        ensures length { result ≡ length self.now.items }
-        ensures queue { IsQueue self.now }
+        ensures { result ≡ length self.now.items }
     {
         self.ring.len() as u64
     }

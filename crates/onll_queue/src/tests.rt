@@ -1,4 +1,4 @@
-use crate::{Queue, QueueOp, QueueQuery, QueueReply, queue_laws};
+use crate::{Queue, QueueOp, QueueQuery, QueueReply};
 use onll_model::{Object, capacity_kept, op_of_its_row, row_of_its_op, undone};
 use onll_words::OpRow;
 use std::test::Fail;
@@ -21,7 +21,6 @@ fn replies_in_order(rt: HostRuntime) -> Result<(), Fail> {
     for (op, reply) in table {
         assert_eq!(rt; queue.apply(op), reply, "{op:?}");
     }
-    queue_laws();
     Ok(())
 }
 

@@ -5,7 +5,7 @@ use Rattle.std.proofs.lemmas.List.Sums.{sum_by-cons, sum_by-append}
 use Rattle.std.proofs.lemmas.List.Folds.{sum_by-replicate}
 use Rattle.std.proofs.lemmas.Bool.Decides.{nat_tests}
 use Rattle.onll_words.specs.Texts.{Numbered, numbered, joined, line_text}
-use Rattle.onll_bank.specs.Bank.{greatest_total, is_account, raised}
+use Rattle.onll_bank.specs.Bank.{IsBank, greatest_total, is_account, raised}
 use Rattle.onll_text.specs.declared.reason.Reason.{Reason}
 use Rattle.onll_text.specs.declared.reason.Reason.TheVariants.{OutOfRange, Repeated, TooLarge}
 use Rattle.onll_text.specs.declared.any_object.AnyObject.TheVariants as objects
@@ -14,7 +14,7 @@ use Rattle.onll_text.specs.Refusal.{Refusal, ◌>>=◌, only_if, at_line}
 use Rattle.onll_text.specs.BankText.{Accounts, is_marked, is_named, account_line, account_lines, bank_state_lines, with_account, with_account_line}
 use Rattle.onll_text.specs.BankWording.{bank_wording, state_in_lines}
 use Rattle.onll_text.specs.Init.{head_of, after_lines}
-use Rattle.onll_text.specs.ReadBack.{ReadsBack, IsBank}
+use Rattle.onll_text.specs.ReadBack.{ReadsBack}
 use Rattle.onll_text.proofs.LineWords.{account_line_in_words}
 use Rattle.onll_text.proofs.ReadBack.{capacity_of-decimal, two_numbers-decimal, length-decimal, after_lines-joined, init_of-flat_map}
 
@@ -44,8 +44,8 @@ length-state s h =
       arith,
       length-append (line_text (codes "bank" ∷ decimal (length s) ∷ [])) (flat_map line_text (account_lines 0 s)),
       length-append (decimal (length s)) (10 ∷ []),
-      length-decimal (length s) (within_word (length s) h.few),
-      length-account_lines 0 s (from_zero (length s) h.few) h.total,
+      length-decimal (length s) (within_word (length s) h.greatest),
+      length-account_lines 0 s (from_zero (length s) h.greatest) h.total,
     )
 
 -- the first line
@@ -132,7 +132,7 @@ after_lines-accounts k done marks (x ∷ xs) e few fits =
     ∙ ap Ok (append_assoc done (x ∷ []) xs)
 
 -- what is printed of a bank reads as that bank
-pub bank_reads_back : ReadsBack bank_wording IsBank objects.Bank
+pub bank_reads_back : (s : List ℕ) → IsBank s → ReadsBack bank_wording objects.Bank s
 bank_reads_back s h =
-    init_of-flat_map (codes "bank" ∷ decimal (length s) ∷ []) (account_lines 0 s) (record { kind = kinds.Bank; capacity = length s }) (state_in_lines s) (length-state s h) (head_of-bank (length s) h.some h.few)
-    ∙ ap (λ (v : Result (List ℕ) Refusal). v >>= λ balances. Ok (objects.Bank balances)) (after_lines-accounts 2 [] [] s refl (from_zero (length s) h.few) (omega (arith, h.total)))
+    init_of-flat_map (codes "bank" ∷ decimal (length s) ∷ []) (account_lines 0 s) (record { kind = kinds.Bank; capacity = length s }) (state_in_lines s) (length-state s h) (head_of-bank (length s) h.least h.greatest)
+    ∙ ap (λ (v : Result (List ℕ) Refusal). v >>= λ balances. Ok (objects.Bank balances)) (after_lines-accounts 2 [] [] s refl (from_zero (length s) h.greatest) (omega (arith, h.total)))

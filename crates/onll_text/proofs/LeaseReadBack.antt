@@ -147,7 +147,7 @@ after_lines-held k done (e ∷ es) few valid h =
     next_entry k done e (length es) (held_lines (length done + 1) es) (done ++ e ∷ es) (All-head IsEntry e es valid) (All-head OfNumbers e es h) (omega arith) more
 
 -- what is printed of a lease table reads as that table
-pub lease_reads_back : ReadsBack lease_wording IsLease objects.Lease
+pub lease_reads_back : (s : List LeaseEntry) → IsLease s → ReadsBack lease_wording objects.Lease s
 lease_reads_back s h =
     init_of-flat_map (codes "lease" ∷ decimal (length s) ∷ []) (held_lines 0 s) (record { kind = kinds.Lease; capacity = length s }) (state_in_lines s) (length-state s h) (head_of-lease (length s) h.least h.greatest)
     ∙ ap (λ (v : Result (List LeaseEntry) Refusal). v >>= λ entries. Ok (objects.Lease entries)) (after_lines-held 2 [] s (from_zero (length s) h.greatest) h.valid h.numbers)

@@ -1,6 +1,7 @@
-use Rattle.std.proofs.Common.{ℕ, Bool, true, false, List, [], ◌∷◌, ◌++◌, ◌≡◌, Option, Some, None, codes, decimal, refl, sym, ap, ◌∙◌, ◌+◌, ◌<◌, ◌≤◌, length, map, drop, slice_index_or, append_assoc}
+use Rattle.std.proofs.Common.{ℕ, Bool, true, false, List, [], ◌∷◌, ◌++◌, ◌≡◌, Option, Some, None, codes, decimal, refl, sym, ap, ◌∙◌, ◌+◌, ◌<◌, ◌≤◌, length, map, drop, slice_get, slice_index_or, append_assoc}
 use Rattle.std.specs.List.{flat_map}
 use Rattle.std.proofs.lemmas.List.{append-nil, drop_more}
+use Rattle.std.proofs.lemmas.Option.{slice_get_within, get_or_from_slice_get}
 use Rattle.onll_words.specs.Texts.{line_text, AreWords}
 use Rattle.onll_words.proofs.Decimals.{IsWord-decimal}
 use Rattle.onll_model.specs.declared.node.Node.{Node}
@@ -144,11 +145,13 @@ pub pair_line_in_words : (pair : ShortText × ShortText) → AreWords (pair_line
 pair_line_in_words pair = (record { some = refl; bytes = refl }, (IsWord-short pair.0, (IsWord-short pair.1, tt)))
 
 -- one pair's line before those of the rest
-pub pair_lines_more : (bytes : List ℕ) (pairs : Pairs) (i : ℕ) (d : ShortText × ShortText) → i < length pairs
-    → with_lines (bytes ++ line_text (pair_line (slice_index_or pairs i d))) (pair_lines (drop (i + 1) pairs)) ≡ with_lines bytes (pair_lines (drop i pairs))
-pair_lines_more bytes pairs i d h =
-    append_assoc bytes (line_text (pair_line (slice_index_or pairs i d))) (flat_map line_text (pair_lines (drop (i + 1) pairs)))
-    ∙ sym (ap (λ t. with_lines bytes (pair_lines t)) (drop_more pairs i d h))
+pub pair_lines_more : (bytes : List ℕ) (pairs : Pairs) (i : ℕ) (pair : ShortText × ShortText) → slice_get pairs i ≡ Some pair
+    → with_lines (bytes ++ line_text (pair_line pair)) (pair_lines (drop (i + 1) pairs)) ≡ with_lines bytes (pair_lines (drop i pairs))
+pair_lines_more bytes pairs i pair h =
+    let left : drop i pairs ≡ pair ∷ drop (i + 1) pairs =
+    drop_more pairs i pair (slice_get_within pairs i pair h) ∙ ap (λ p. p ∷ drop (i + 1) pairs) (get_or_from_slice_get pairs i pair pair h) in
+    append_assoc bytes (line_text (pair_line pair)) (flat_map line_text (pair_lines (drop (i + 1) pairs)))
+    ∙ sym (ap (λ t. with_lines bytes (pair_lines t)) left)
 
 pub item_line_in_words : (x : ℕ) → AreWords (item_line x)
 item_line_in_words x = (record { some = refl; bytes = refl }, (IsWord-decimal x, tt))

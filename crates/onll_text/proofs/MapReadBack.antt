@@ -116,7 +116,7 @@ after_lines-pairs k done (pair ∷ rest) n s h =
     ∙ ap (λ (xs : Pairs). Ok (so_far xs n)) whole
 
 -- what is printed of a map reads as that map
-pub map_reads_back : ReadsBack map_wording IsMap objects.Map
+pub map_reads_back : (s : Entries) → IsMap s → ReadsBack map_wording objects.Map s
 map_reads_back s h =
     init_of-flat_map (codes "map" ∷ decimal s.room ∷ []) (pair_lines s.pairs) (record { kind = kinds.Map; capacity = s.room }) (state_in_lines s) (length-state s h) (head_of-map s.room h.least_room h.greatest_room)
     ∙ ap (λ (v : Result Entries Refusal). v >>= λ entries. Ok (objects.Map entries)) (after_lines-pairs 2 [] s.pairs s.room h.rising (omega (arith, h.fits)))

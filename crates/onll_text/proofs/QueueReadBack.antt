@@ -74,7 +74,7 @@ after_lines-items k done (x ∷ rest) n words h =
     ∙ ap (λ (xs : List ℕ). Ok (items_in n xs)) (append_assoc done (x ∷ []) rest)
 
 -- what is printed of a queue reads as that queue
-pub queue_reads_back : ReadsBack queue_wording IsQueue objects.Queue
+pub queue_reads_back : (s : Items) → IsQueue s → ReadsBack queue_wording objects.Queue s
 queue_reads_back s h =
     init_of-flat_map (codes "queue" ∷ decimal s.room ∷ []) (item_lines s.items) (record { kind = kinds.Queue; capacity = s.room }) (state_in_lines s) (length-state s h) (head_of-queue s.room h.least_room h.greatest_room)
     ∙ ap (λ (v : Result Items Refusal). v >>= λ items. Ok (objects.Queue items)) (after_lines-items 2 [] s.items s.room h.numbers (omega (arith, h.fits)))

@@ -2,4 +2,4 @@ use Rattle.onll_text.proofs.QueueReadBack.{queue_reads_back}
 use Rattle.onll_text.proofs.read_back.queue_reads_back.Goals as goal
 
 pub returns : goal.returns
-returns c = queue_reads_back
+returns c = queue_reads_back c.args.queue.now c.consistent.ensures

@@ -20,6 +20,7 @@ use Rattle.onll_merge.proofs.FrameLogs.{merge_to_front}
 use Rattle.onll_core.specs.declared.returned.Returned.{Returned}
 use Rattle.onll_core.specs.Core.{CoreThread, CoreState}
 use Rattle.onll_core.specs.CoreFrame.{seen_in, pending_in, fenced_entries, frame_thread, frame_of}
+use Rattle.onll_core.specs.Outcomes.{script_of}
 use Rattle.onll_core.specs.Consistent.{IsConsistent}
 use Rattle.onll_core.specs.Crash.{AreImages, images_of, heads_of, HasUpTo, Recovers}
 use Rattle.onll_core.proofs.CoreFrames.{part_at}
@@ -103,21 +104,24 @@ recovers count c images k a =
     }
 
 -- ---- after any steps
--- threads whose heads are the same
-same_heads : {State Op Query Reply : Type 0} (old new : List (CoreThread State Op Query Reply)) → length new ≡ length old
-    → ((t : ℕ) (th : CoreThread State Op Query Reply) → slice_get old t ≡ Some th → (w : CoreThread State Op Query Reply) × (slice_get new t ≡ Some w) × (w.head ≡ th.head)) → heads_of new ≡ heads_of old
-same_heads [] [] e h = refl
-same_heads [] (w ∷ ws) e h = absurd (omega arith)
-same_heads (th ∷ ths) [] e h = absurd (omega arith)
-same_heads (th ∷ ths) (w ∷ ws) e h =
+-- threads of which a part is the same
+same_parts : {State Op Query Reply A : Type 0} (part : CoreThread State Op Query Reply → A) (old new : List (CoreThread State Op Query Reply)) → length new ≡ length old
+    → ((t : ℕ) (th : CoreThread State Op Query Reply) → slice_get old t ≡ Some th → (w : CoreThread State Op Query Reply) × (slice_get new t ≡ Some w) × (part w ≡ part th)) → map part new ≡ map part old
+same_parts part [] [] e h = refl
+same_parts part [] (w ∷ ws) e h = absurd (omega arith)
+same_parts part (th ∷ ths) [] e h = absurd (omega arith)
+same_parts part (th ∷ ths) (w ∷ ws) e h =
     let x = h 0 th refl in
-    let here : w.head ≡ th.head = ap (λ z. z.head) (same_some w x.0 x.1) ∙ x.2 in
-    let rest = same_heads ths ws (omega arith) (λ t v at. h (suc t) v at) in
+    let here : part w ≡ part th = ap part (same_some w x.0 x.1) ∙ x.2 in
+    let rest = same_parts part ths ws (omega arith) (λ t v at. h (suc t) v at) in
     λ i. here i ∷ rest i
 
 module _ {State Op Query Reply : Type 0} (b : Behaviour State Op Query Reply) where
   pub steps_heads : (c : CoreState State Op Query Reply) (ts : List ℕ) → heads_of (steps_of b c ts).threads ≡ heads_of c.threads
-  steps_heads c ts = let s = steps_stay b c ts in same_heads c.threads (steps_of b c ts).threads s.all_threads (λ t th at. let x = s.threads t th at in (x.0, x.1, x.2.head))
+  steps_heads c ts = let s = steps_stay b c ts in same_parts (λ th. th.head) c.threads (steps_of b c ts).threads s.all_threads (λ t th at. let x = s.threads t th at in (x.0, x.1, x.2.head))
+
+  pub steps_scripts : (c : CoreState State Op Query Reply) (ts : List ℕ) → map script_of (steps_of b c ts).threads ≡ map script_of c.threads
+  steps_scripts c ts = let s = steps_stay b c ts in same_parts script_of c.threads (steps_of b c ts).threads s.all_threads (λ t th at. let x = s.threads t th at in (x.0, x.1, x.2.script))
 
   pub later_recovers : (count : ℕ) (c : CoreState State Op Query Reply) (ts : List ℕ) (images : List (List (List ℕ))) → IsConsistent count c → AreImages (steps_of b c ts).threads images
       → Recovers (heads_of c.threads) (steps_of b c ts) images

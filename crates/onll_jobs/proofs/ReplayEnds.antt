@@ -8,7 +8,6 @@ use Rattle.onll_core.specs.Step.{steps_of}
 use Rattle.onll_core.specs.Turns.{turns_of}
 use Rattle.onll_core.specs.Created.{created_heads, created_core, IsWithinLimits}
 use Rattle.onll_core.specs.Crash.{AreImages, images_of, RecoversAll}
-use Rattle.onll_core.specs.Durable.{IsDurable}
 use Rattle.onll_core.proofs.Created.{created_consistent}
 use Rattle.onll_core.proofs.Kept.{steps_consistent}
 use Rattle.onll_core.proofs.Crashed.{picked_images}

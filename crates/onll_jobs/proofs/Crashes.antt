@@ -26,7 +26,7 @@ use Rattle.onll_core.proofs.Crashed.{are_held, steps_heads}
 use Rattle.onll_core.proofs.Operations.{AllOperations, steps_operations}
 use Rattle.onll_jobs.specs.declared.bad_logs.LogsFault.{LogsFault}
 use Rattle.onll_jobs.specs.declared.bad_logs.LogsFault.TheVariants.{NotOperation}
-use Rattle.onll_jobs.specs.RecoverJob.{Recovered, content_before, contents_from, expected_heads, operations, operations_of, with_logs, merged, recovered}
+use Rattle.onll_jobs.specs.RecoverJob.{content_before, contents_from, expected_heads, operations, operations_of, with_logs, merged, recovered}
 
 -- The images of a core that was made of scripts are logs of this run, and what is recovered from them are operations.
 

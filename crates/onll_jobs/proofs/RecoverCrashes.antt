@@ -1,5 +1,4 @@
-use Rattle.std.proofs.Common.{ℕ, suc, List, [], ◌∷◌, ◌≡◌, length, Result, Ok, Err, refl, sym, ap, ◌∙◌, subst, Some}
-use Rattle.onll_model.specs.declared.call.Call.{Call}
+use Rattle.std.proofs.Common.{ℕ, suc, List, [], ◌∷◌, ◌≡◌, length, Result, Ok, refl, sym, ap, ◌∙◌, subst, Some}
 use Rattle.onll_model.specs.Object.{Behaviour}
 use Rattle.onll_log.specs.ImageFile.{image_lines}
 use Rattle.onll_core.specs.Step.{steps_of}
@@ -29,13 +28,13 @@ use Rattle.onll_jobs.specs.declared.ending.Exit.{Exit}
 use Rattle.onll_jobs.specs.declared.bad_logs.LogsFault.{LogsFault}
 use Rattle.onll_jobs.specs.Reading.{IsTold}
 use Rattle.onll_jobs.specs.Job.{Job, Decides, on_value}
-use Rattle.onll_jobs.specs.Images.{image_name, reading_images}
+use Rattle.onll_jobs.specs.Images.{reading_images}
 use Rattle.onll_jobs.specs.Seen.{Seen}
 use Rattle.onll_jobs.specs.Command.{form_of, Recover}
 use Rattle.onll_jobs.specs.Printed.{exit_status}
 use Rattle.onll_jobs.specs.Says.{job_of, ExitSays, NoneRose, SaysThis}
 use Rattle.onll_jobs.specs.RecoverJob.{Recovered, recovered, recover_report, found_says, recover_on, recover_any, recover_job}
-use Rattle.onll_jobs.specs.Durable.{TellImages, IsLeft, RecoversLeft, RecoversLeftAny, RecoversCrashes}
+use Rattle.onll_jobs.specs.Durable.{TellImages, IsLeft, RecoversLeft, RecoversCrashes}
 use Rattle.onll_jobs.proofs.Crashes.{crash_recovered}
 use Rattle.onll_jobs.proofs.ExitCauses.{decided_exactly}
 
@@ -45,9 +44,14 @@ decides_images : (store : StoreView) (logs : List ℕ) (i : ℕ) (images : List 
     → TellImages store logs i images → Decides store (next images) ending text → Decides store (reading_images logs i (length images) next) ending text
 decides_images store logs i [] next ending text told d = d
 decides_images store logs i (image ∷ images) next ending text told d =
-    let here = told.0 in
-    (here.bytes, (here.told, decides_images store logs (suc i) images (λ more. next (image_lines here.bytes ∷ more)) ending text told.1
-      (subst (λ lines. Decides store (next (lines ∷ images)) ending text) here.image d)))
+    let here = told.0 in (
+      here.bytes,
+      (
+        here.told,
+        decides_images store logs (suc i) images (λ more. next (image_lines here.bytes ∷ more)) ending text told.1
+            (subst (λ lines. Decides store (next (lines ∷ images)) ending text) here.image d),
+      ),
+    )
 
 many_images : {State Op Query Reply : Type 0} (ths : List (CoreThread State Op Query Reply)) (images : List (List (List ℕ))) → AreImages ths images → length images ≡ length ths
 many_images [] [] a = refl
@@ -61,7 +65,7 @@ found_decides b w store s found r e = subst (λ (x : Result Recovered LogsFault)
 
 -- the call says what the told files decide
 module _ (seen : Seen) (x : Exit) (says : ExitSays seen x) (init logs bytes : List ℕ) (threads : ℕ) (object : AnyObject)
-  (form : form_of seen.words ≡ Some (Recover init logs threads)) (told : IsTold seen.store init bytes) (accepted : init_of bytes ≡ Ok object) (none : NoneRose seen) where
+    (form : form_of seen.words ≡ Some (Recover init logs threads)) (told : IsTold seen.store init bytes) (accepted : init_of bytes ≡ Ok object) (none : NoneRose seen) where
   object_says : (text : List ℕ) → Decides seen.store (reading_images logs 0 threads (recover_any bytes object)) Done text → SaysThis seen (exit_status x) Done text
   object_says text d =
       let on : Result AnyObject Refusal → Job = λ r. on_value init (λ o. reading_images logs 0 threads (recover_any bytes o)) r in
@@ -81,7 +85,7 @@ module _ (seen : Seen) (x : Exit) (says : ExitSays seen x) (init logs bytes : Li
       record {
         crash = crash;
         says = say (recover_report b w s r) (subst (λ (n : ℕ). Decides seen.store (reading_images logs 0 n (recover_on b w code bytes s)) Done (recover_report b w s r)) many
-          (decides_images seen.store logs 0 left.images (recover_on b w code bytes s) Done (recover_report b w s r) left.files found));
+            (decides_images seen.store logs 0 left.images (recover_on b w code bytes s) Done (recover_report b w s r) left.files found));
       }
 
 pub recovers_crashes : (seen : Seen) (x : Exit) → ExitSays seen x → RecoversCrashes seen (exit_status x)

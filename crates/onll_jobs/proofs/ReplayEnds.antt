@@ -1,13 +1,12 @@
-use Rattle.std.proofs.Common.{ℕ, suc, List, [], ◌∷◌, ◌≡◌, ◌≤◌, inl, inr, length, Some, Result, Ok, Err, refl, sym, ap, ◌∙◌, subst, arith}
+use Rattle.std.proofs.Common.{ℕ, suc, List, [], ◌∷◌, ◌≡◌, ◌≤◌, inl, inr, length, Some, Result, Ok, Err, refl, sym, ap, subst, arith}
 use Rattle.std.specs.List.{AllByRecursion}
 use Rattle.onll_model.specs.declared.call.Call.{Call}
 use Rattle.onll_model.specs.Object.{Behaviour}
 use Rattle.onll_model.specs.Calls.{updates_in}
 use Rattle.onll_core.specs.Core.{CoreState}
-use Rattle.onll_core.specs.Step.{steps_of}
 use Rattle.onll_core.specs.Turns.{turns_of}
-use Rattle.onll_core.specs.Created.{created_heads, created_core, IsWithinLimits}
-use Rattle.onll_core.specs.Crash.{AreImages, images_of, RecoversAll}
+use Rattle.onll_core.specs.Created.{created_core, IsWithinLimits}
+use Rattle.onll_core.specs.Crash.{images_of}
 use Rattle.onll_core.proofs.Created.{created_consistent}
 use Rattle.onll_core.proofs.Kept.{steps_consistent}
 use Rattle.onll_core.proofs.Crashed.{picked_images}
@@ -33,9 +32,9 @@ use Rattle.onll_outside.specs.Views.{StoreView}
 use Rattle.onll_jobs.specs.declared.ending.Ending.{Ending}
 use Rattle.onll_jobs.specs.declared.ending.Ending.TheVariants.{Done, Usage, Refused, BadLog, ReadFault, WriteFault}
 use Rattle.onll_jobs.specs.declared.bad_logs.LogsFault.{LogsFault}
-use Rattle.onll_jobs.specs.Reading.{Reads, ReadsWhole, CannotRead}
+use Rattle.onll_jobs.specs.Reading.{ReadsWhole, CannotRead}
 use Rattle.onll_jobs.specs.Writing.{FilesStay, CannotWrite, written}
-use Rattle.onll_jobs.specs.Job.{Job, JobEnds, on_value, reading, reading_whole}
+use Rattle.onll_jobs.specs.Job.{Job, JobEnds, on_value, reading_whole}
 use Rattle.onll_jobs.specs.Images.{image_name, image_bytes, writing_images}
 use Rattle.onll_jobs.specs.Seen.{Seen}
 use Rattle.onll_jobs.specs.Command.{form_of, Replay}
@@ -154,19 +153,21 @@ module _ (after : StoreView) (ending : Ending) (text : List ℕ) (said : IsSaid 
           let left = picked_images count core plan.keep (steps_consistent b count (created_core s code init scripts) (turns_of plan.turns) (created_consistent s code init scripts within)) in
           let crash = (durable (turns_of plan.turns)).crash images left in
           let is_found = crash_recovered b code init s scripts (turns_of plan.turns) images within left crash.recovers in
-          let end = crash_ends core plan.keep (with_images store logs 0 images) found (record { logs = crash.recovers.logs; nodes = crash.recovers.nodes }) is_found (images_end store logs 0 images (crash_says b w core plan.keep found) planned.ends) in
-          (end.0, record {
-            scripts = scripts;
-            plan = plan;
-            read = read.read;
-            planned = record { bytes = planned.bytes; held = planned.read.held; accepted = planned.read.accepted };
-            durable = durable;
-            core = core;
-            run = refl;
-            crash = crash;
-            printed = end.1;
-            files = end.2;
-          })
+          let end = crash_ends core plan.keep (with_images store logs 0 images) found (record { logs = crash.recovers.logs; nodes = crash.recovers.nodes }) is_found (images_end store logs 0 images (crash_says b w core plan.keep found) planned.ends) in (
+            end.0,
+            record {
+              scripts = scripts;
+              plan = plan;
+              read = read.read;
+              planned = record { bytes = planned.bytes; held = planned.read.held; accepted = planned.read.accepted };
+              durable = durable;
+              core = core;
+              run = refl;
+              crash = crash;
+              printed = end.1;
+              files = end.2;
+            },
+          )
 
   any_ends : (store : StoreView) (init schedule logs : List ℕ) (names : List (List ℕ)) (object : AnyObject) → length names ≤ 16 → JobEnds store after (replay_any init schedule logs names object) ending text
       → (ending ≡ Done) × HasReplayedAny init store after schedule logs names text object

@@ -51,7 +51,7 @@ with_images store logs i (image ∷ images) = with_images (written store (image_
 -- scripts, by any schedule, is durable at each step; and what is printed of this one is its calls and its trace, and the front
 -- of that trace which the images of its crash recover to. They are in the files of the logs.
 pub record HasReplayed {State Op Query Reply : Type 0} (b : Behaviour State Op Query Reply) (w : Wording State Op Query Reply) (code : ℕ) (init : List ℕ) (s : State)
-  (store after : StoreView) (schedule logs : List ℕ) (names : List (List ℕ)) (text : List ℕ) : Type 0 where
+    (store after : StoreView) (schedule logs : List ℕ) (names : List (List ℕ)) (text : List ℕ) : Type 0 where
   pub scripts : List (List (Call State Op Query Reply))
   pub plan : Schedule
   pub read : ReadScripts w store names scripts
@@ -109,7 +109,7 @@ pub record IsLeft {State Op Query Reply : Type 0} (b : Behaviour State Op Query 
 -- What is printed is the front of that run's trace which holds every returned update and all that returned reads saw, and the
 -- state after it; or memory could not be had.
 pub record RecoversLeft {State Op Query Reply : Type 0} (b : Behaviour State Op Query Reply) (w : Wording State Op Query Reply) (code : ℕ) (init : List ℕ) (s : State)
-  (seen : Seen) (status : ℕ) (logs : List ℕ) (threads : ℕ) (left : IsLeft b code init s seen.store logs threads) : Type 0 where
+    (seen : Seen) (status : ℕ) (logs : List ℕ) (threads : ℕ) (left : IsLeft b code init s seen.store logs threads) : Type 0 where
   pub crash : RecoversAll b (created_heads code init left.scripts) (steps_of b (created_core s code init left.scripts) left.steps) left.images
   pub says : SaysThis seen status Done (recover_report b w s (record { logs = crash.recovers.logs; nodes = crash.recovers.nodes }))
 

@@ -19,9 +19,11 @@ use Rattle.onll_core.specs.Next.{IsNext, IsUpdating}
 use Rattle.onll_core.specs.Ready.{FitsLog, MayWrite, MayWriteBack}
 use Rattle.onll_core.proofs.Ready.{line_fits, may_write, may_write_back, fence_fits}
 use Rattle.onll_core.specs.Consistent.{IsConsistent}
+use Rattle.onll_core.specs.Reached.{IsReached}
 use Rattle.onll_core.specs.Kept.{IsLocal, HoldOwn, KeepsCore}
 use Rattle.onll_core.proofs.Kept.{step_consistent}
 use Rattle.onll_core.proofs.Owns.{step_own}
+use Rattle.onll_core.proofs.ReachedCores.{step_reached}
 
 -- What a core keeps beside its state is kept by a step of its code.
 
@@ -44,6 +46,7 @@ module _ {State Op Query Reply : Type 0} (b : Behaviour State Op Query Reply) (n
       let n = k.as_many in
       record {
         consistent = subst (λ (n : ℕ). IsConsistent n new) (sym size) (subst (IsConsistent (length c.threads)) step (step_consistent b (length c.threads) c t k.consistent));
+        reached = subst (λ (n : ℕ). IsReached b n new) (sym size) (subst (IsReached b (length c.threads)) step (step_reached b (length c.threads) c t k.reached));
         own = subst (HoldOwn b) step (step_own b c t k.own);
         nodes_room = subst (λ (n : ℕ). 4096 * n ≤ nodes') (sym size) (omega arith);
         flags_room = subst (λ (n : ℕ). 4096 * n ≤ flags') (sym size) (omega arith);

@@ -11,11 +11,6 @@ use Rattle.onll_log.specs.Grammar.{Content, content_of}
 use Rattle.onll_log.specs.Torn.{Holds}
 use Rattle.onll_merge.specs.Merge.{top_of}
 use Rattle.onll_merge.specs.FrameLogs.{AreLogsOf}
-use Rattle.onll_merge.specs.declared.fault.RecoverFault.TheVariants.{NoMemory}
-use Rattle.onll_merge.specs.declared.fault.ImagesFault.{ImagesFault}
-use Rattle.onll_merge.specs.declared.fault.ImagesFault.TheVariants.{Recover}
-use Rattle.onll_merge.specs.Images.{merge_images}
-use Rattle.onll_merge.proofs.Images.{logs_give, merged_only}
 use Rattle.onll_merge.proofs.FrameLogs.{merge_to_front}
 use Rattle.onll_core.specs.declared.returned.Returned.{Returned}
 use Rattle.onll_core.specs.Core.{CoreThread, CoreState}
@@ -39,6 +34,12 @@ module _ {State Op Query Reply : Type 0} where
 
   pub picked_images : (count : ℕ) (c : CoreState State Op Query Reply) (keep : ℕ) → IsConsistent count c → AreImages c.threads (images_of keep c.threads)
   picked_images count c keep k = picked_from keep c.threads (λ t th at. picked_image count c k t th at keep)
+
+  pub images_many : (ths : List (CoreThread State Op Query Reply)) (images : List (List (List ℕ))) → AreImages ths images → length images ≡ length ths
+  images_many [] [] a = refl
+  images_many [] (image ∷ images) a = absurd a
+  images_many (th ∷ ths) [] a = absurd a
+  images_many (th ∷ ths) (image ∷ images) a = ap suc (images_many ths images a.1)
 
   -- an image holds the fenced entries, or these and the one being written
   abbrev HoldsEither : List Node → CoreThread State Op Query Reply → List (List ℕ) → Type 0
@@ -136,16 +137,7 @@ some_same [] (y ∷ ys) e = absurd (cc)
 some_same (x ∷ xs) [] e = absurd (cc)
 some_same (x ∷ xs) (y ∷ ys) e = let a : Some x ≡ Some y = (cc) in let b : map Some xs ≡ map Some ys = (cc) in let here = same_some x y a in let rest = some_same xs ys b in λ i. here i ∷ rest i
 
--- what code gives for images of a core is what is recovered, or want of memory
-pub own_images : {State Op Query Reply V : Type 0} (items : V → List Node) (count : ℕ) (c : CoreState State Op Query Reply) (images : List (List (List ℕ))) (heads : List LogHead) → IsConsistent count c → heads ≡ heads_of c.threads
-    → (result : Result V ImagesFault) → MatchResult result (λ v. merge_images heads images ≡ Ok (items v)) (λ e. (e ≡ Recover NoMemory) ⊎ (merge_images heads images ≡ Err e)) → AreImages c.threads images
-    → (r : Recovers (heads_of c.threads) c images) × MatchResult result (λ v. items v ≡ r.nodes) (λ e. e ≡ Recover NoMemory)
-own_images items count c images heads k same result h a =
-    let r = recovers count c images k a in
-    let e : merge_images heads images ≡ Ok r.nodes = ap (λ (hs : List LogHead). merge_images hs images) same ∙ logs_give (heads_of c.threads) images r.logs r.nodes r.contents r.recovered in
-    (r, merged_only items (merge_images heads images) r.nodes e result h)
-
--- and a crash leaves images of it
+-- a crash leaves images of a core
 pub own_crash : {State Op Query Reply V E : Type 0} (lines : V → List (List (List ℕ))) (count : ℕ) (c : CoreState State Op Query Reply) (keep : ℕ) (ths : List (CoreThread State Op Query Reply)) → IsConsistent count c → ths ≡ c.threads
     → (result : Result V E) → IfOk result (λ v. lines v ≡ images_of keep ths) → IfOk result (λ v. AreImages c.threads (lines v))
 own_crash lines count c keep ths k same (Ok v) h = subst (λ (images : List (List (List ℕ))). AreImages c.threads images) (sym (h ∙ ap (images_of keep) same)) (picked_images count c keep k)

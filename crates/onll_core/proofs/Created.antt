@@ -15,7 +15,7 @@ use Rattle.onll_core.proofs.FirstCore.{first_consistent, first_counts, length-fi
 
 -- A core that is made of scripts within the limits.
 
-length-heads_from : (count object : ℕ) (init : List ℕ) (t n : ℕ) → length (heads_from count object init t n) ≡ n
+pub length-heads_from : (count object : ℕ) (init : List ℕ) (t n : ℕ) → length (heads_from count object init t n) ≡ n
 length-heads_from count object init t zero = refl
 length-heads_from count object init t (suc n) = ap suc (length-heads_from count object init (suc t) n)
 

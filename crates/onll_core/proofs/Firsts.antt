@@ -19,8 +19,10 @@ use Rattle.onll_model.specs.declared.node.Node.{Node}
 use Rattle.onll_model.specs.Calls.{updates_in}
 use Rattle.onll_core.specs.Consistent.{IsConsistent}
 use Rattle.onll_core.proofs.Windows.{threads_count}
+use Rattle.onll_core.specs.Reached.{IsReached}
 use Rattle.onll_core.specs.Kept.{own_place, KeepsWorker, IsLocal, KeepsCore}
 use Rattle.onll_core.proofs.Created.{created_consistent}
+use Rattle.onll_core.proofs.ReachedCores.{created_reached}
 
 -- What the code of a core keeps before any step.
 
@@ -77,6 +79,7 @@ module _ {State Op Query Reply : Type 0} (b : Behaviour State Op Query Reply) (i
   first_keeps : KeepsCore b (4096 * length scripts) (4096 * length scripts) (replicate (length scripts) new_local) first
   first_keeps = record {
     consistent = subst (λ (n : ℕ). IsConsistent n first) (sym count) (created_consistent initial object init scripts l);
+    reached = subst (λ (n : ℕ). IsReached b n first) (sym count) (created_reached b initial object init scripts l);
     own = λ u v e op p call place. some_not_none p (sym place ∙ ap own_place (idle_first (heads_from (length scripts) object init 0 (length scripts)) scripts u v e));
     nodes_room = subst (λ (n : ℕ). 4096 * n ≤ 4096 * length scripts) (sym count) (omega arith);
     flags_room = subst (λ (n : ℕ). 4096 * n ≤ 4096 * length scripts) (sym count) (omega arith);

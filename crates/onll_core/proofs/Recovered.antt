@@ -1,4 +1,4 @@
-use Rattle.std.proofs.Common.{ℕ, zero, suc, ◌≡◌, ◌-◌, ◌<◌, ◌≤◌, List, [], ◌∷◌, ◌++◌, length, map, take, Some, sym, refl, ap, ◌∙◌, subst, arith}
+use Rattle.std.proofs.Common.{ℕ, zero, suc, ◌≡◌, ◌-◌, ◌<◌, ◌≤◌, ◌⊎◌, List, [], ◌∷◌, ◌++◌, length, map, take, Some, Result, Ok, Err, MatchResult, sym, refl, ap, ◌∙◌, subst, arith}
 use Rattle.std.proofs.lemmas.List.{take_at}
 use Rattle.std.specs.List.{slice_get}
 use Rattle.onll_model.specs.declared.node.Node.{Node}
@@ -12,6 +12,11 @@ use Rattle.onll_model.specs.Legal.{HasReply, HasAnswer}
 use Rattle.onll_model.proofs.Lists.{all_at, at_before, inside}
 use Rattle.onll_model.proofs.Placed.{each_end_at, each_end_call, own_node}
 use Rattle.onll_log.specs.declared.head.LogHead.{LogHead}
+use Rattle.onll_merge.specs.declared.fault.RecoverFault.TheVariants.{NoMemory}
+use Rattle.onll_merge.specs.declared.fault.ImagesFault.{ImagesFault}
+use Rattle.onll_merge.specs.declared.fault.ImagesFault.TheVariants.{Recover}
+use Rattle.onll_merge.specs.Images.{merge_images}
+use Rattle.onll_merge.proofs.Images.{logs_give, merged_only}
 use Rattle.onll_core.specs.declared.returned.Returned.{Returned}
 use Rattle.onll_core.specs.Core.{CoreThread, CoreState}
 use Rattle.onll_core.specs.Step.{steps_of}
@@ -43,6 +48,12 @@ front_same trace nodes p q e l = sym (take_take p q nodes l) ∙ (ap (take q) e 
 pub node_same : (trace nodes : List Node) (p : ℕ) → take p nodes ≡ take p trace → node_at nodes p ≡ node_at trace p
 node_same trace nodes zero e = refl
 node_same trace nodes (suc p) e = sym (get_take (suc p) nodes p (omega arith)) ∙ (ap (λ (l : List Node). slice_get l p) e ∙ get_take (suc p) trace p (omega arith))
+
+-- the heads of a core that begins anew
+pub first_heads : {State Op Query Reply : Type 0} (heads : List LogHead) (scripts : List (List (Call State Op Query Reply))) → length heads ≡ length scripts → heads_of (first_threads heads scripts) ≡ heads
+first_heads [] scripts e = refl
+first_heads (head ∷ heads) [] e = absurd (omega arith)
+first_heads (head ∷ heads) (script ∷ scripts) e = let rest = first_heads heads scripts (omega arith) in λ i. head ∷ rest i
 
 module _ {State Op Query Reply : Type 0} (b : Behaviour State Op Query Reply) where
   -- a returned call of a lawful thread
@@ -79,12 +90,17 @@ module _ {State Op Query Reply : Type 0} (b : Behaviour State Op Query Reply) wh
             (call.0, call.1, held_call c.initial c.base c.trace r.nodes t th lawful i call.0 x call.1 returned up);
       }
 
-  -- ---- with the heads that the core was given
-  first_heads : (heads : List LogHead) (scripts : List (List (Call State Op Query Reply))) → length heads ≡ length scripts → heads_of (first_threads heads scripts) ≡ heads
-  first_heads [] scripts e = refl
-  first_heads (head ∷ heads) [] e = absurd (omega arith)
-  first_heads (head ∷ heads) (script ∷ scripts) e = let rest = first_heads heads scripts (omega arith) in λ i. head ∷ rest i
+  -- what code gives for images of a core is what is recovered, or want of memory
+  pub own_recovers : {V : Type 0} (items : V → List Node) (count : ℕ) (c : CoreState State Op Query Reply) (images : List (List (List ℕ))) (heads : List LogHead) → IsReached b count c → heads ≡ heads_of c.threads
+      → (result : Result V ImagesFault) → MatchResult result (λ v. merge_images heads images ≡ Ok (items v)) (λ e. (e ≡ Recover NoMemory) ⊎ (merge_images heads images ≡ Err e)) → AreImages c.threads images
+      → (all : RecoversAll b (heads_of c.threads) c images) × MatchResult result (λ v. items v ≡ all.recovers.nodes) (λ e. e ≡ Recover NoMemory)
+  own_recovers items count c images heads h same result m a =
+      let all = reached_recovers count c images h a in
+      let r = all.recovers in
+      let e : merge_images heads images ≡ Ok r.nodes = ap (λ (hs : List LogHead). merge_images hs images) same ∙ logs_give (heads_of c.threads) images r.logs r.nodes r.contents r.recovered in
+      (all, merged_only items (merge_images heads images) r.nodes e result m)
 
+  -- ---- with the heads that the core was given
   resumed_heads : (heads : List LogHead) (logs : List (List Segment)) (scripts : List (List (Call State Op Query Reply))) → length heads ≡ length logs → length heads ≡ length scripts → heads_of (resumed_core_threads heads logs scripts) ≡ heads
   resumed_heads [] logs scripts e f = refl
   resumed_heads (head ∷ heads) [] scripts e f = absurd (omega arith)

@@ -92,3 +92,7 @@ HoldAllReturned {State} {Op} {Query} {Reply} b c nodes = EachCoreThread c (λ t 
 pub record RecoversAll {State Op Query Reply : Type 0} (b : Behaviour State Op Query Reply) (heads : List LogHead) (c : CoreState State Op Query Reply) (images : List (List (List ℕ))) : Type 0 where
   pub recovers : Recovers heads c images
   pub calls : HoldAllReturned b c recovers.nodes
+
+-- So do all images that a crash may leave.
+abbrev pub RecoversAlways : {State Op Query Reply : Type 0} → Behaviour State Op Query Reply → List LogHead → CoreState State Op Query Reply → Type 0
+RecoversAlways b heads c = (images : List (List (List ℕ))) → AreImages c.threads images → RecoversAll b heads c images

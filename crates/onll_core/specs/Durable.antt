@@ -13,7 +13,7 @@ use Rattle.onll_core.specs.CallTimes.{AreInTime}
 use Rattle.onll_core.specs.Fences.{CountsFences}
 use Rattle.onll_core.specs.Entries.{EntriesAreFew}
 use Rattle.onll_core.specs.Returns.{OrderedReturn}
-use Rattle.onll_core.specs.Crash.{AreImages, RecoversAll}
+use Rattle.onll_core.specs.Crash.{RecoversAlways}
 
 -- What the construction promises, in one place: durable linearizability, with one fence for each update and none for a read.
 
@@ -29,7 +29,7 @@ pub record IsDurable {State Op Query Reply : Type 0} (b : Behaviour State Op Que
   pub returns : OrderedReturn b (length scripts) c
   -- whatever a crash leaves of each device, the logs recover to a prefix of the trace that holds every returned update and all
   -- that returned reads saw
-  pub crash : (images : List (List (List ℕ))) → AreImages c.threads images → RecoversAll b heads c images
+  pub crash : RecoversAlways b heads c
 
 -- a core that is made of scripts, after any steps of its threads in any order
 abbrev pub AlwaysDurable : {State Op Query Reply : Type 0} → Behaviour State Op Query Reply → ℕ → List ℕ → State → List (List (Call State Op Query Reply)) → Type 0

@@ -11,6 +11,7 @@ use Rattle.onll_core.specs.Core.{CoreThread, CoreState}
 use Rattle.onll_core.specs.CoreFrame.{seen_in}
 use Rattle.onll_core.specs.Step.{next_call}
 use Rattle.onll_core.specs.Consistent.{EachCoreThread, IsConsistent}
+use Rattle.onll_core.specs.Reached.{IsReached}
 
 -- What the code of a core keeps beside its state: room for all that grows, and each thread's replica.
 
@@ -62,6 +63,7 @@ AreLocal b c locals = EachCoreThread c (λ t th. (l : Local _ _ _ _) → slice_g
 -- what a core keeps, with this room for nodes and for flags
 pub record KeepsCore {State Op Query Reply : Type 0} (b : Behaviour State Op Query Reply) (nodes flags : ℕ) (locals : List (Local State Op Query Reply)) (c : CoreState State Op Query Reply) : Type 0 where
   pub consistent : IsConsistent (length c.threads) c
+  pub reached : IsReached b (length c.threads) c
   pub own : HoldOwn b c
   pub nodes_room : 4096 * length c.threads ≤ nodes
   pub flags_room : 4096 * length c.threads ≤ flags

@@ -6,7 +6,7 @@ ghost use Rattle.onll_merge.specs.Merge.{contents_in};
 ghost use Rattle.onll_merge.specs.Images.{not_log, merge_images};
 ghost use Rattle.onll_merge.specs.declared.fault.RecoverFault.TheVariants.{NoMemory as OutOfMemory};
 ghost use Rattle.onll_merge.specs.declared.fault.ImagesFault.TheVariants.{NotLog, Recover};
-ghost use Rattle.onll_core.specs.Crash.{AreImages, images_of, heads_of, Recovers};
+ghost use Rattle.onll_core.specs.Crash.{AreImages, images_of, heads_of, RecoversAll};
 
 use crate::step_core::Core;
 use crate::worker::Worker;
@@ -97,8 +97,8 @@ impl<O: Object + Drop> Core<O> {
     }
 
     /// The nodes that images hold as logs with this core's heads, one image for each thread. Images of this core's devices
-    /// are refused only for want of memory, and what they hold is a front of the trace up to the place of each returned
-    /// call, or further.
+    /// are refused only for want of memory, and what they hold is a prefix of the trace with every returned update and all
+    /// that returned reads saw.
     pub fn recover_from(
         &self,
         alloc: Global,
@@ -106,9 +106,9 @@ impl<O: Object + Drop> Core<O> {
     ) -> Result<Vec<Node>, ImagesFault>
         requires { length images.now ≡ length self.now.threads }
         ensures all { MatchResult result (λ v. merge_images (heads_of self.now.threads) (map (λ image. words_of image.items) images.now) ≡ Ok v.items) (λ e. (e ≡ Recover OutOfMemory) ⊎ (merge_images (heads_of self.now.threads) (map (λ image. words_of image.items) images.now) ≡ Err e)) }
-        ensures own { AreImages self.now.threads (map (λ image. words_of image.items) images.now) → (r : Recovers (heads_of self.now.threads) self.now (map (λ image. words_of image.items) images.now)) × MatchResult result (λ v. v.items ≡ r.nodes) (λ e. e ≡ Recover OutOfMemory) }
+        ensures own { AreImages self.now.threads (map (λ image. words_of image.items) images.now) → (all : RecoversAll O.means (heads_of self.now.threads) self.now (map (λ image. words_of image.items) images.now)) × MatchResult result (λ v. v.items ≡ all.recovers.nodes) (λ e. e ≡ Recover OutOfMemory) }
     {
-        self.consistent();
+        self.reached();
         match heads_of(alloc, self.workers()) {
             Ok(heads) => recover_images(alloc, &heads, images),
             Err(_) => Err(ImagesFault::Recover(RecoverFault::NoMemory)),

@@ -14,7 +14,12 @@ ghost use Rattle.onll_core.specs.First.{first_threads};
 ghost use Rattle.onll_core.specs.Created.{heads_from, created_core};
 ghost use Rattle.onll_core.specs.Next.{IsNext, IsUpdating};
 ghost use Rattle.onll_core.specs.Turns.{turns_of};
-ghost use Rattle.onll_core.specs.Outcomes.{current_in};
+ghost use Rattle.onll_core.specs.Outcomes.{current_in, IsLegalCore};
+ghost use Rattle.onll_core.specs.Reached.{IsReached};
+ghost use Rattle.onll_core.specs.CallTimes.{AreInTime};
+ghost use Rattle.onll_core.specs.Entries.{EntriesAreFew};
+ghost use Rattle.onll_core.specs.Returns.{OrderedReturn};
+ghost use Rattle.onll_core.specs.Crash.{heads_of, RecoversAlways};
 
 use crate::local::{Local, window};
 use crate::phase::Phase;
@@ -322,6 +327,26 @@ impl<O: Object + Drop> Core<O> {
         ensures { IsConsistent (length self.now.threads) self.now }
     {
         let _ = &self.clock;
+    }
+
+    /// Every core is one that steps have led to, from a state in which no call had begun.
+    pub fn reached(&self)
+        ensures { IsReached O.means (length self.now.threads) self.now }
+    {
+        let _ = &self.clock;
+    }
+
+    /// What every core promises of its calls: their outcomes and the trace are one legal history of the object, in an order
+    /// that agrees with the time at which they were made; no entry of a log holds more nodes than there are threads; an
+    /// ordered call returns; and whatever a crash leaves recovers to all that returned.
+    pub fn lawful(&self)
+        ensures legal { IsLegalCore O.means self.now }
+        ensures in_time { AreInTime self.now }
+        ensures entries { EntriesAreFew (length self.now.threads) self.now }
+        ensures returns { OrderedReturn O.means (length self.now.threads) self.now }
+        ensures crash { RecoversAlways O.means (heads_of self.now.threads) self.now }
+    {
+        self.reached();
     }
 
     /// The thread's next step is of another kind, and that's all the step does.

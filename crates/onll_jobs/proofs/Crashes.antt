@@ -1,5 +1,6 @@
 use Rattle.std.proofs.Common.{ℕ, zero, suc, Bool, true, false, List, [], ◌∷◌, ◌≡◌, ◌+◌, ◌==◌, cond, length, map, take, Option, Some, None, IsSome, refl, ap, ◌∙◌, sym, subst, arith, Result, Ok, Err}
 use Rattle.std.proofs.lemmas.Bool.Decides.{nat_tests}
+use Rattle.std.proofs.lemmas.List.{length-map}
 use Rattle.std.specs.List.{AllByRecursion}
 use Rattle.onll_model.specs.declared.node.Node.{Node}
 use Rattle.onll_model.specs.declared.call.Call.{Call}
@@ -15,14 +16,14 @@ use Rattle.onll_merge.specs.FrameLogs.{AreLogsOf}
 use Rattle.onll_core.specs.Core.{CoreThread, CoreState}
 use Rattle.onll_core.specs.CoreFrame.{frame_thread}
 use Rattle.onll_core.specs.Step.{steps_of}
-use Rattle.onll_core.specs.First.{first_threads}
 use Rattle.onll_core.specs.Created.{heads_from, created_heads, created_core, IsWithinLimits}
 use Rattle.onll_core.specs.Consistent.{IsConsistent}
 use Rattle.onll_core.specs.Crash.{AreImages, heads_of, Recovers}
-use Rattle.onll_core.proofs.Created.{created_consistent}
+use Rattle.onll_core.proofs.Created.{length-heads_from, created_consistent}
 use Rattle.onll_core.proofs.Kept.{steps_consistent}
 use Rattle.onll_core.proofs.Images.{image_either}
-use Rattle.onll_core.proofs.Crashed.{are_held, steps_heads}
+use Rattle.onll_core.proofs.Crashed.{images_many, are_held, steps_heads}
+use Rattle.onll_core.proofs.Recovered.{first_heads}
 use Rattle.onll_core.proofs.Operations.{AllOperations, steps_operations}
 use Rattle.onll_jobs.specs.declared.bad_logs.LogsFault.{LogsFault}
 use Rattle.onll_jobs.specs.declared.bad_logs.LogsFault.TheVariants.{NotOperation}
@@ -73,10 +74,6 @@ heads_have_format count code init t zero = tt
 heads_have_format count code init t (suc n) = (refl, heads_have_format count code init (suc t) n)
 
 -- ---- the heads
-length-heads : (count code : ℕ) (init : List ℕ) (t n : ℕ) → length (heads_from count code init t n) ≡ n
-length-heads count code init t zero = refl
-length-heads count code init t (suc n) = ap suc (length-heads count code init (suc t) n)
-
 heads_expected : (count code : ℕ) (init : List ℕ) (i : ℕ) (images : List (List (List ℕ))) → AreFormat2 images → expected_heads code init count i images ≡ heads_from count code init i (length images)
 heads_expected count code init i [] f = refl
 heads_expected count code init i (image ∷ images) f =
@@ -84,17 +81,6 @@ heads_expected count code init i (image ∷ images) f =
     let here = f.0 in
     let rest = heads_expected count code init (i + 1) images f.1 ∙ ap (λ (n : ℕ). heads_from count code init n (length images)) next in
     λ j. head_for (here j) i count code init ∷ rest j
-
-heads_of_first : {State Op Query Reply : Type 0} (heads : List LogHead) (scripts : List (List (Call State Op Query Reply))) → length heads ≡ length scripts → heads_of (first_threads heads scripts) ≡ heads
-heads_of_first [] scripts e = refl
-heads_of_first (head ∷ heads) [] e = absurd (omega arith)
-heads_of_first (head ∷ heads) (script ∷ scripts) e = ap (λ (hs : List LogHead). head ∷ hs) (heads_of_first heads scripts (omega arith))
-
-images_many : {State Op Query Reply : Type 0} (ths : List (CoreThread State Op Query Reply)) (images : List (List (List ℕ))) → AreImages ths images → length images ≡ length (heads_of ths)
-images_many [] [] a = refl
-images_many [] (image ∷ images) a = absurd a
-images_many (th ∷ ths) [] a = absurd a
-images_many (th ∷ ths) (image ∷ images) a = ap suc (images_many ths images a.1)
 
 -- ---- the contents
 contents_are : (i : ℕ) (images : List (List (List ℕ))) (logs : List Content) → map content_of images ≡ map Some logs → contents_from i images ≡ Ok logs
@@ -144,7 +130,7 @@ module _ {State Op Query Reply : Type 0} (b : Behaviour State Op Query Reply) wh
   core_recovers count code init c images k rows same a r =
       let held = are_held c.base c.trace c.threads images a (λ t th at image i. image_either count c k t th at image i) in
       let formats = formats_are (map (frame_thread c.base c.trace) c.threads) (heads_of c.threads) held.logs images held.left held.contents (subst HaveFormat2 (sym same) (heads_have_format count code init 0 count)) in
-      let many : length images ≡ count = images_many c.threads images a ∙ ap length same ∙ length-heads count code init 0 count in
+      let many : length images ≡ count = images_many c.threads images a ∙ sym (length-map c.threads (λ (th : CoreThread State Op Query Reply). th.head)) ∙ ap length same ∙ length-heads_from count code init 0 count in
       let heads : expected_heads code init (length images) 0 images ≡ heads_from count code init 0 count =
       heads_expected (length images) code init 0 images formats ∙ ap (λ (n : ℕ). heads_from n code init 0 n) many in
       let ops = subst (λ (nodes : List Node). operations b nodes ≡ Ok nodes) (sym r.front) (operations_are (take (top_of r.logs) c.trace) (take_operations (top_of r.logs) c.trace rows)) in
@@ -158,5 +144,5 @@ module _ {State Op Query Reply : Type 0} (b : Behaviour State Op Query Reply) wh
       let count = length scripts in
       let c = created_core s code init scripts in
       let k = steps_consistent b count c ts (created_consistent s code init scripts l) in
-      let heads = steps_heads b c ts ∙ heads_of_first (created_heads code init scripts) scripts (length-heads count code init 0 count) in
+      let heads = steps_heads b c ts ∙ first_heads (created_heads code init scripts) scripts (length-heads_from count code init 0 count) in
       core_recovers count code init (steps_of b c ts) images k (steps_operations b c ts tt) heads a r

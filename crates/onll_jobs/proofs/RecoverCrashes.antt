@@ -5,6 +5,7 @@ use Rattle.onll_core.specs.Step.{steps_of}
 use Rattle.onll_core.specs.Created.{created_core}
 use Rattle.onll_core.specs.Crash.{AreImages}
 use Rattle.onll_core.proofs.Created.{created_threads}
+use Rattle.onll_core.proofs.Crashed.{images_many}
 use Rattle.onll_core.proofs.Durable.{always_durable}
 use Rattle.onll_core.proofs.Stays.{steps_stay}
 use Rattle.onll_core.specs.Core.{CoreThread}
@@ -53,12 +54,6 @@ decides_images store logs i (image ∷ images) next ending text told d =
       ),
     )
 
-many_images : {State Op Query Reply : Type 0} (ths : List (CoreThread State Op Query Reply)) (images : List (List (List ℕ))) → AreImages ths images → length images ≡ length ths
-many_images [] [] a = refl
-many_images [] (image ∷ images) a = absurd a
-many_images (th ∷ ths) [] a = absurd a
-many_images (th ∷ ths) (image ∷ images) a = ap suc (many_images ths images a.1)
-
 found_decides : {State Op Query Reply : Type 0} (b : Behaviour State Op Query Reply) (w : Wording State Op Query Reply) (store : StoreView) (s : State) (found : Result Recovered LogsFault) (r : Recovered) → found ≡ Ok r
     → Decides store (found_says b w s found) Done (recover_report b w s r)
 found_decides b w store s found r e = subst (λ (x : Result Recovered LogsFault). Decides store (found_says b w s x) Done (recover_report b w s r)) (sym e) (refl, refl)
@@ -81,7 +76,7 @@ module _ (seen : Seen) (x : Exit) (says : ExitSays seen x) (init logs bytes : Li
       let crash = (always_durable b code bytes s left.scripts left.within left.steps).crash left.images left.left in
       let r : Recovered = record { logs = crash.recovers.logs; nodes = crash.recovers.nodes } in
       let found = found_decides b w seen.store s (recovered b code bytes left.images) r (crash_recovered b code bytes s left.scripts left.steps left.images left.within left.left crash.recovers) in
-      let many : length left.images ≡ threads = many_images core.threads left.images left.left ∙ ((steps_stay b first left.steps).all_threads ∙ (created_threads s code bytes left.scripts ∙ left.many)) in
+      let many : length left.images ≡ threads = images_many core.threads left.images left.left ∙ ((steps_stay b first left.steps).all_threads ∙ (created_threads s code bytes left.scripts ∙ left.many)) in
       record {
         crash = crash;
         says = say (recover_report b w s r) (subst (λ (n : ℕ). Decides seen.store (reading_images logs 0 n (recover_on b w code bytes s)) Done (recover_report b w s r)) many

@@ -17,11 +17,41 @@ use Rattle.onll_core.specs.Core.{CoreThread, CoreState}
 use Rattle.onll_core.specs.CoreFrame.{seen_in, pending_in, activity_in, fenced_entries, frame_thread, frame_of}
 use Rattle.onll_core.specs.Tie.{updates_to_link, IsTied}
 use Rattle.onll_core.specs.Consistent.{IsConsistent}
-use Rattle.onll_core.specs.Begin.{HasBegun, IsBegun}
+use Rattle.onll_core.specs.First.{IsHeadOf}
 use Rattle.onll_core.specs.Fences.{fenced_in, updates_returned, CountsFences}
 use Rattle.onll_core.proofs.Ties.{fenced_is_log}
 
--- A core before its first step is consistent.
+-- A core before its first step, one that begins anew or one that goes on from logs that were recovered, is consistent.
+
+-- a device that holds a log with these entries, and this many lines of zeros after it, all of them fenced
+pub record DeviceHolds (head : LogHead) (log : List Segment) (free : ℕ) (device : DeviceState) : Type 0 where
+  pub fenced : device.fenced ≡ log_lines head log ++ zero_lines free
+  pub read : device.read ≡ log_lines head log ++ zero_lines free
+  pub marks : length device.backed ≡ length device.read
+
+-- A thread that has done nothing: its device holds its log, and has room for a whole entry of each update. It has made
+-- this many fences.
+pub record HasBegun {State Op Query Reply : Type 0} (count fences t : ℕ) (base : List Node) (log : List Segment) (th : CoreThread State Op Query Reply) : Type 0 where
+  pub head : IsHeadOf count t th.head
+  pub fits : FitEntries th.head.threads log
+  pub returned : th.returned ≡ []
+  pub phase : th.phase ≡ phases.Idle
+  pub used : th.used ≡ suc (lines_in log)
+  pub logged : th.logged ≡ length log
+  pub device : DeviceHolds th.head log (updates_in th.script * suc th.head.threads) th.device
+  pub fenced : th.device.fences ≡ fences
+  -- with those of the base it has no more than 4,096 updates
+  pub names : count_by (is_of_thread t) base + updates_in th.script ≤ 4096
+
+-- no thread has done anything, and the trace is the base, which these logs hold
+pub record IsBegun {State Op Query Reply : Type 0} (count fences : ℕ) (logs : List (List Segment)) (c : CoreState State Op Query Reply) : Type 0 where
+  pub few : count ≤ 16
+  pub base : c.base ≡ length c.trace
+  pub flags : c.flags ≡ replicate (length c.trace) true
+  pub rows : AllByRecursion (λ (n : Node). length n.row.w ≡ 7) c.trace
+  pub resumable : IsResumable count c.trace logs
+  pub all_threads : length c.threads ≡ count
+  pub begun : EachCoreThread c (λ t th. (log : List Segment) → slice_get logs t ≡ Some log → HasBegun count fences t c.trace log th)
 
 -- lists that agree place by place
 same_maps : {A B C : Type 0} (f : A → C) (g : B → C) (xs : List A) (ys : List B) → length xs ≡ length ys → ((i : ℕ) (x : A) (y : B) → slice_get xs i ≡ Some x → slice_get ys i ≡ Some y → f x ≡ g y) → map f xs ≡ map g ys

@@ -16,7 +16,7 @@ use Rattle.onll_model.specs.declared.call.Call.{Call}
 use Rattle.onll_model.specs.declared.call.Call.TheVariants.{Update}
 use Rattle.onll_core.specs.Step.{put, turned, begun, on_device, logged, line_of_entry, after_back, act, next_call, step_by, step_of}
 use Rattle.onll_core.specs.Next.{IsNext, IsUpdating}
-use Rattle.onll_core.specs.Ready.{FitsLog, MayWrite, MayWriteBack}
+use Rattle.onll_core.proofs.Ready.{FitsLog, MayWrite, MayWriteBack}
 use Rattle.onll_core.proofs.Ready.{line_fits, may_write, may_write_back, fence_fits}
 use Rattle.onll_core.specs.Consistent.{IsConsistent}
 use Rattle.onll_core.specs.Reached.{IsReached}

@@ -7,7 +7,7 @@ use Rattle.onll_log.specs.declared.head.LogHead.{LogHead}
 use Rattle.onll_log.specs.Head.{head_for}
 use Rattle.onll_log.proofs.Lines.{length-digest_words}
 use Rattle.onll_core.specs.Consistent.{IsConsistent}
-use Rattle.onll_core.specs.Begin.{IsHeadOf}
+use Rattle.onll_core.specs.First.{IsHeadOf}
 use Rattle.onll_core.specs.First.{AreFirst}
 use Rattle.onll_core.specs.Created.{heads_from, created_core, IsWithinLimits}
 use Rattle.onll_core.specs.Fences.{CountsFences}

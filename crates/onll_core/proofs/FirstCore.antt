@@ -13,11 +13,10 @@ use Rattle.onll_log.specs.declared.head.LogHead.{LogHead}
 use Rattle.onll_log.specs.Encoding.{log_lines, FitEntries}
 use Rattle.onll_core.specs.Core.{CoreThread}
 use Rattle.onll_core.specs.Consistent.{IsConsistent}
-use Rattle.onll_core.specs.Begin.{IsHeadOf, HoldsLog, HasBegun, IsBegun}
-use Rattle.onll_core.specs.First.{lines_for, first_device, first_thread, first_threads, first_core, AreFirst}
+use Rattle.onll_core.specs.First.{IsHeadOf, lines_for, first_device, first_thread, first_threads, first_core, AreFirst}
 use Rattle.onll_core.specs.Resumed.{found_device, resumed_core_thread, resumed_core_threads, resumed_core, AreResumed}
 use Rattle.onll_core.specs.Fences.{CountsFences}
-use Rattle.onll_core.proofs.Begin.{begun_consistent, begun_counts}
+use Rattle.onll_core.proofs.Begin.{DeviceHolds, HasBegun, IsBegun, begun_consistent, begun_counts}
 
 -- The first states of a core: of one that begins anew, and of one that goes on.
 
@@ -32,15 +31,15 @@ add_one : (n : ℕ) → n + 1 ≡ suc n
 add_one n = omega arith
 
 -- the device of a log that is begun
-pub first_device_holds : (head : LogHead) (lines free : ℕ) → lines ≡ suc free → HoldsLog head [] free (first_device head lines)
-first_device_holds head lines free e = subst (λ (n : ℕ). HoldsLog head [] free (first_device head n)) (sym e) (record {
+pub first_device_holds : (head : LogHead) (lines free : ℕ) → lines ≡ suc free → DeviceHolds head [] free (first_device head lines)
+first_device_holds head lines free e = subst (λ (n : ℕ). DeviceHolds head [] free (first_device head n)) (sym e) (record {
   fenced = ap (λ (l : List (List ℕ)). log_lines head [] ++ l) (settled_same (replicate free false) (zero_lines free));
   read = refl;
   marks = ap suc (length-replicate free false ∙ sym (length-replicate free zero_line));
 })
 
 -- and of one that is found
-pub found_device_holds : (head : LogHead) (log : List Segment) (lines free : ℕ) → lines ≡ free → HoldsLog head log free (found_device (log_lines head log ++ zero_lines lines))
+pub found_device_holds : (head : LogHead) (log : List Segment) (lines free : ℕ) → lines ≡ free → DeviceHolds head log free (found_device (log_lines head log ++ zero_lines lines))
 found_device_holds head log lines free e = let same = ap (λ (n : ℕ). log_lines head log ++ zero_lines n) e in
     record { fenced = same; read = same; marks = length-replicate (length (log_lines head log ++ zero_lines lines)) false }
 

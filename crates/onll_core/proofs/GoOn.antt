@@ -20,7 +20,7 @@ use Rattle.onll_merge.proofs.Resumed.{each_entries, can_go_on}
 use Rattle.onll_core.specs.declared.returned.Returned.{Returned}
 use Rattle.onll_core.specs.Core.{CoreThread, CoreState}
 use Rattle.onll_core.specs.CoreFrame.{frame_of}
-use Rattle.onll_core.specs.Begin.{IsHeadOf}
+use Rattle.onll_core.specs.First.{IsHeadOf}
 use Rattle.onll_core.specs.Resumed.{AreResumed}
 use Rattle.onll_core.specs.Consistent.{IsConsistent}
 use Rattle.onll_core.specs.Crash.{AreImages, heads_of, Recovers, HoldsCall}

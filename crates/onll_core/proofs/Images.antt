@@ -116,7 +116,8 @@ module _ {State Op Query Reply : Type 0} (count t : ℕ) (th : CoreThread State 
         let long = length-log_lines th.head tie.log in
         let n : ℕ = suc (length g.nodes) in
         let done : take th.used th.device.fenced ≡ front = ap (take th.used) tie.fenced ∙ take_at front behind th.used (omega arith) in
-        let left : drop (th.used + n) th.device.fenced ≡ zero_lines zeros = ap (drop (th.used + n)) tie.fenced ∙ (drop_past front behind (th.used + n) n (omega arith) ∙ drop-replicate n (written_in ph + tie.free) zero_line) in
+        let size : length (entry_lines th.head th.logged g) ≡ n = length-entry_lines th.head th.logged g in
+        let left : drop (th.used + length (entry_lines th.head th.logged g)) th.device.fenced ≡ zero_lines zeros = ap (λ (m : ℕ). drop (th.used + m) th.device.fenced) size ∙ (ap (drop (th.used + n)) tie.fenced ∙ (drop_past front behind (th.used + n) n (omega arith) ∙ drop-replicate n (written_in ph + tie.free) zero_line)) in
         let here : entry_lines th.head th.logged g ≡ lines = ap (λ (m : ℕ). entry_lines th.head m g) tie.entries in
         (λ i. done i ++ (here i ++ left i)) ∙ sym (log_image-more th.head tie.log g zeros)
 

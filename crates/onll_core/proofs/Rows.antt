@@ -26,15 +26,15 @@ use Rattle.onll_core.specs.CoreFrame.{seen_in, frame_of, frame_thread, thread_at
 use Rattle.onll_core.specs.Step.{put, turned, linked, flagged, returning, answered, after_exchange, step_of}
 use Rattle.onll_core.specs.Next.{IsNext, IsUpdating}
 use Rattle.onll_core.specs.Consistent.{IsConsistent}
-use Rattle.onll_core.specs.Kept.{IsLocal, AreLocal, HoldOwn, Holds, KeepsCore, moved}
-use Rattle.onll_core.specs.Ready.{MayLink, MaySet}
+use Rattle.onll_core.specs.Kept.{IsLocal, Holds, KeepsCore, moved}
+use Rattle.onll_core.proofs.Ready.{MayLink, MaySet}
 use Rattle.onll_core.proofs.CoreFrames.{part_at}
 use Rattle.onll_core.proofs.Windows.{few_in_all, few_of_thread}
 use Rattle.onll_pmem.specs.Device.{line_at, FillsWords}
 use Rattle.onll_log.specs.declared.head.LogHead.{LogHead}
 use Rattle.onll_log.specs.Encoding.{entry_lines, FitsEntry}
 use Rattle.onll_core.specs.Step.{line_of_entry}
-use Rattle.onll_core.specs.Ready.{FitsLog}
+use Rattle.onll_core.proofs.Ready.{FitsLog}
 use Rattle.onll_core.proofs.Ready.{is_small, may_link, may_set, may_look, back_fits, may_write_back}
 use Rattle.onll_core.proofs.Closings.{Made, kept_step, set_clock, at_read, reads, of_thread, next_is, step_is, line_fits_here, may_write_here}
 

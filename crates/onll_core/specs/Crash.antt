@@ -1,4 +1,4 @@
-use Rattle.std.specs.Prelude.{ℕ, suc, ◌≡◌, ◌+◌, ◌-◌, ◌≤◌, ◌⊎◌, List, [], ◌∷◌, ◌++◌, length, map, take, drop, Option, Some, None, Ok, slice_get}
+use Rattle.std.specs.Prelude.{ℕ, ◌≡◌, ◌-◌, ◌≤◌, ◌⊎◌, List, [], ◌∷◌, length, map, take, Option, Some, None, Ok, slice_get}
 use Rattle.std.specs.List.{AllByRecursion}
 use Rattle.onll_model.specs.declared.node.Node.{Node}
 use Rattle.onll_model.specs.declared.call.Call.{Call}
@@ -9,6 +9,7 @@ use Rattle.onll_model.specs.Segment.{Segment}
 use Rattle.onll_pmem.specs.Device.{IsImage, image_of, zero_lines}
 use Rattle.onll_log.specs.declared.head.LogHead.{LogHead}
 use Rattle.onll_log.specs.Encoding.{entry_lines}
+use Rattle.onll_log.specs.Log.{placed_lines}
 use Rattle.onll_log.specs.Grammar.{Content, content_of}
 use Rattle.onll_log.specs.Torn.{Holds, TornOrWhole}
 use Rattle.onll_log.specs.Remains.{unused, HasRemains}
@@ -22,7 +23,7 @@ use Rattle.onll_core.specs.Consistent.{EachCoreThread}
 
 -- the fenced lines of a thread's device with the whole of this segment's entry in place
 abbrev pub with_entry : {State Op Query Reply : Type 0} → CoreThread State Op Query Reply → Segment → List (List ℕ)
-with_entry th s = take th.used th.device.fenced ++ (entry_lines th.head th.logged s ++ drop (th.used + suc (length s.nodes)) th.device.fenced)
+with_entry th s = placed_lines th.device.fenced th.used (entry_lines th.head th.logged s)
 
 -- What an image of a thread's device holds: its head and the fenced entries; and where a segment is being logged, its entry
 -- after them exactly where the image is those lines with the whole of it.

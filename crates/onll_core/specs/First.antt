@@ -3,10 +3,9 @@ use Rattle.onll_model.specs.declared.call.Call.{Call}
 use Rattle.onll_model.specs.Calls.{updates_in}
 use Rattle.onll_pmem.specs.Device.{DeviceState, Write, WriteBack, Fence, after_steps, new_device}
 use Rattle.onll_log.specs.declared.head.LogHead.{LogHead}
-use Rattle.onll_log.specs.Head.{head_line}
+use Rattle.onll_log.specs.Head.{FitsHead, head_line}
 use Rattle.onll_core.specs.declared.phase.Phase.TheVariants as phases
 use Rattle.onll_core.specs.Core.{CoreThread, CoreState}
-use Rattle.onll_core.specs.Begin.{IsHeadOf}
 
 -- The first state of a core that begins anew.
 
@@ -37,6 +36,13 @@ first_threads heads scripts = []
 
 abbrev pub first_core : {State Op Query Reply : Type 0} → State → List LogHead → List (List (Call State Op Query Reply)) → CoreState State Op Query Reply
 first_core initial heads scripts = record { initial = initial; base = 0; trace = []; flags = []; clock = 0; threads = first_threads heads scripts }
+
+-- the head of the log of thread t of `count`
+pub record IsHeadOf (count t : ℕ) (head : LogHead) : Type 0 where
+  pub fits : FitsHead head
+  pub thread : head.thread ≡ t
+  pub threads : head.threads ≡ count
+  pub format : head.format ≡ 2
 
 -- heads and scripts within the limits, one of each for each of `count` threads
 pub record AreFirst {State Op Query Reply : Type 0} (count : ℕ) (heads : List LogHead) (scripts : List (List (Call State Op Query Reply))) : Type 0 where

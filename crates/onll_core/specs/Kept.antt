@@ -1,14 +1,14 @@
-use Rattle.std.specs.Prelude.{ℕ, ◌≡◌, ◌+◌, ◌*◌, ◌<◌, ◌≤◌, List, [], length, count_by, take, Option, Some, None, slice_get}
+use Rattle.std.specs.Prelude.{ℕ, ◌≡◌, ◌+◌, ◌*◌, ◌<◌, ◌≤◌, List, [], length, count_by, take, Option, Some, slice_get}
 use Rattle.onll_model.specs.declared.node.Node.{Node}
 use Rattle.onll_model.specs.declared.call.Call.TheVariants.{Update}
 use Rattle.onll_model.specs.Object.{Behaviour}
 use Rattle.onll_model.specs.Trace.{node_at, is_of_thread, state_after}
 use Rattle.onll_model.specs.Segment.{nodes_between}
+use Rattle.onll_model.specs.Frames.{open_in}
 use Rattle.onll_core.specs.declared.phase.Phase.{Phase}
-use Rattle.onll_core.specs.declared.phase.Phase.TheVariants as phases
 use Rattle.onll_core.specs.declared.local.Local.{Local}
 use Rattle.onll_core.specs.Core.{CoreThread, CoreState}
-use Rattle.onll_core.specs.CoreFrame.{seen_in}
+use Rattle.onll_core.specs.CoreFrame.{seen_in, activity_in}
 use Rattle.onll_core.specs.Step.{next_call}
 use Rattle.onll_core.specs.Consistent.{EachCoreThread, IsConsistent}
 use Rattle.onll_core.specs.Reached.{IsReached}
@@ -27,15 +27,7 @@ pub record KeepsWorker {State Op Query Reply : Type 0} (failing : List ℕ) (mos
 
 -- the place of the own node that isn't flagged yet
 abbrev pub own_place : Phase → Option ℕ
-own_place phases.Idle = None
-own_place (phases.Tail l) = None
-own_place (phases.Exchange l) = None
-own_place (phases.Flag p d) = Some p
-own_place (phases.Line p d k) = Some p
-own_place (phases.Back p d k) = Some p
-own_place (phases.Fence p d) = Some p
-own_place (phases.Set p d) = Some p
-own_place (phases.Ask f d) = None
+own_place phase = open_in (activity_in phase)
 
 -- at this place stands the operation
 pub record Holds {State Op Query Reply : Type 0} (b : Behaviour State Op Query Reply) (trace : List Node) (p : ℕ) (op : Op) : Type 0 where

@@ -10,13 +10,11 @@ pub mod Turns
 pub mod Kept
 pub mod Next
 pub mod StepEvent
-pub mod Begin
 pub mod Created
 pub mod Resumed
 pub mod Fences
 pub mod Entries
 pub mod Laws
-pub mod Ready
 pub mod Reached
 pub mod Returns
 pub mod OutcomeLaws

@@ -12,7 +12,7 @@ use Rattle.onll_log.specs.Encoding.{log_lines, FitEntries}
 use Rattle.onll_log.specs.Grammar.{lines_in}
 use Rattle.onll_core.specs.declared.phase.Phase.TheVariants as phases
 use Rattle.onll_core.specs.Core.{CoreThread, CoreState}
-use Rattle.onll_core.specs.Begin.{IsHeadOf}
+use Rattle.onll_core.specs.First.{IsHeadOf}
 
 -- The first state of a core that goes on from recovered logs.
 

@@ -1,14 +1,12 @@
-use Rattle.std.proofs.Common.{ℕ, suc, List, [], ◌∷◌, ◌≡◌, length, Result, Ok, refl, sym, ap, ◌∙◌, subst, Some}
+use Rattle.std.proofs.Common.{ℕ, suc, List, [], ◌∷◌, ◌≡◌, length, Result, Ok, refl, sym, ◌∙◌, subst, Some}
 use Rattle.onll_model.specs.Object.{Behaviour}
 use Rattle.onll_log.specs.ImageFile.{image_lines}
 use Rattle.onll_core.specs.Step.{steps_of}
 use Rattle.onll_core.specs.Created.{created_core}
-use Rattle.onll_core.specs.Crash.{AreImages}
 use Rattle.onll_core.proofs.Created.{created_threads}
 use Rattle.onll_core.proofs.Crashed.{images_many}
 use Rattle.onll_core.proofs.Durable.{always_durable}
 use Rattle.onll_core.proofs.Stays.{steps_stay}
-use Rattle.onll_core.specs.Core.{CoreThread}
 use Rattle.onll_bank.specs.Object.{bank}
 use Rattle.onll_map.specs.Object.{map_object}
 use Rattle.onll_queue.specs.Object.{queue}

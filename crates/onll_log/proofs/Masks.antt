@@ -6,7 +6,8 @@ use Rattle.onll_log.specs.declared.head.LogHead.{LogHead}
 use Rattle.onll_log.specs.Head.{word}
 use Rattle.onll_log.specs.Masks.{bits, marks_in, marks, mask_of, masks}
 use Rattle.onll_log.specs.Encoding.{entry_digest, guard}
-use Rattle.onll_log.specs.Torn.{AmongWords, Among}
+use Rattle.onll_pmem.specs.Device.{FillsWords}
+use Rattle.onll_log.specs.Torn.{Among}
 
 -- in format 2 masks guard an entry
 pub guard-masks : (head : LogHead) (front : List ℕ) (lines : List (List ℕ)) → head.format ≡ 2 → guard head front lines ≡ masks lines
@@ -28,14 +29,14 @@ one_same x y (inr e) m = e
 one_same zero y (inl e) m = e
 one_same (suc x) y (inl e) m = let a : y == 0 ≡ true = eq-eqb y 0 e in let b : suc x == 0 ≡ false = ne_eqb (suc x) 0 (λ k. omega arith) in absurd (true≢false (sym (sym (ap not a) ∙ (m ∙ ap not b))))
 
-AmongWords-marked : (xs ys : List ℕ) → AmongWords xs ys → marks_in ys ≡ marks_in xs → ys ≡ xs
-AmongWords-marked [] [] a m = refl
-AmongWords-marked [] (y ∷ ys) a m = absurd a
-AmongWords-marked (x ∷ xs) [] a m = absurd a
-AmongWords-marked (x ∷ xs) (y ∷ ys) a m = let head : not (y == 0) ≡ not (x == 0) = (cc) in let tail : marks_in ys ≡ marks_in xs = (cc) in
-    let here = one_same x y a.0 head in let rest = AmongWords-marked xs ys a.1 tail in (cc)
+FillsWords-marked : (xs ys : List ℕ) → FillsWords ys xs → marks_in ys ≡ marks_in xs → ys ≡ xs
+FillsWords-marked [] [] a m = refl
+FillsWords-marked [] (y ∷ ys) a m = absurd a
+FillsWords-marked (x ∷ xs) [] a m = absurd a
+FillsWords-marked (x ∷ xs) (y ∷ ys) a m = let head : not (y == 0) ≡ not (x == 0) = (cc) in let tail : marks_in ys ≡ marks_in xs = (cc) in
+    let here = one_same x y a.0 head in let rest = FillsWords-marked xs ys a.1 tail in (cc)
 
-length-marks_in-Among : (xs ys : List ℕ) → AmongWords xs ys → length (marks_in ys) ≡ length (marks_in xs)
+length-marks_in-Among : (xs ys : List ℕ) → FillsWords ys xs → length (marks_in ys) ≡ length (marks_in xs)
 length-marks_in-Among [] [] a = refl
 length-marks_in-Among [] (y ∷ ys) a = absurd a
 length-marks_in-Among (x ∷ xs) [] a = absurd a
@@ -53,7 +54,7 @@ Among-marked [] [] a m = refl
 Among-marked [] (y ∷ ys) a m = absurd a
 Among-marked (x ∷ xs) [] a m = absurd a
 Among-marked (x ∷ xs) (y ∷ ys) a m = let h = fronts_same (marks_in y) (marks_in x) (marks ys) (marks xs) (length-marks_in-Among x y a.0) m in
-    let here : y ≡ x = AmongWords-marked x y a.0 h.0 in let rest : ys ≡ xs = Among-marked xs ys a.1 h.1 in (cc)
+    let here : y ≡ x = FillsWords-marked x y a.0 h.0 in let rest : ys ≡ xs = Among-marked xs ys a.1 h.1 in (cc)
 
 length-marks-Among : (xs ys : List (List ℕ)) → Among xs ys → length (marks ys) ≡ length (marks xs)
 length-marks-Among [] [] a = refl

@@ -3,7 +3,7 @@ use Rattle.std.proofs.Common.{ℕ, zero, suc, ◌≡◌, ◌≢◌, ◌+◌, ◌
 use Rattle.std.specs.Prelude.{Some}
 use Rattle.std.specs.List.{AllByRecursion}
 use Rattle.std.proofs.lemmas.Bool.{cases_Bool}
-use Rattle.onll_pmem.specs.Device.{DeviceState, Step, after_steps, AreLegal, IsImage, NonePending, zero_line, zero_lines, MixedWords, Mixed}
+use Rattle.onll_pmem.specs.Device.{FillsWords, DeviceState, Step, after_steps, AreLegal, IsImage, NonePending, zero_line, zero_lines, MixedWords, Mixed}
 use Rattle.onll_pmem.proofs.Mixes.{FillsWords-self, FillsLines-self, FillsLines-then, MixedWords-same, Mixed-image}
 use Rattle.onll_model.specs.Segment.{Segment}
 use Rattle.onll_log.specs.declared.head.LogHead.{LogHead}
@@ -11,7 +11,7 @@ use Rattle.onll_log.specs.Head.{word, FitsHead}
 use Rattle.onll_log.specs.Masks.{masks}
 use Rattle.onll_log.specs.Encoding.{entry_front, entry_line, entry_lines, entries_lines, log_lines, node_lines, FitsEntry, FitEntries}
 use Rattle.onll_log.specs.Grammar.{is_entry, entries_from}
-use Rattle.onll_log.specs.Torn.{IsLine, AreLines, AmongWords, Among, log_image, Holds, TornOrWhole}
+use Rattle.onll_log.specs.Torn.{IsLine, AreLines, Among, log_image, Holds, TornOrWhole}
 use Rattle.onll_log.proofs.Lines.{zero_line-zeros, FillsWords-zero_line}
 use Rattle.onll_log.proofs.Accepted.{Accepted-if, entries_from-none}
 use Rattle.onll_log.proofs.Encoded.{is_entry-entry_line, entries_from-entries_lines, content_of-head_line, content_of-log_lines, drop-node_lines, log_lines-more, FitEntries-append}
@@ -21,18 +21,18 @@ use Rattle.onll_log.proofs.Masks.{guard-masks, Among-take, Among-drop, same_by_p
 abbrev AreZero : List ℕ → Type 0
 AreZero ws = AllByRecursion (λ (w : ℕ). w ≡ 0) ws
 
-AmongWords-zero : (xs ys : List ℕ) → AmongWords xs ys → AreZero xs → ys ≡ xs
-AmongWords-zero [] [] a z = refl
-AmongWords-zero [] (y ∷ ys) a z = absurd a
-AmongWords-zero (x ∷ xs) [] a z = absurd a
-AmongWords-zero (x ∷ xs) (y ∷ ys) a z = let here : y ≡ x = ⊎_elim (λ (e : y ≡ 0). e ∙ sym z.0) (λ (e : y ≡ x). e) a.0 in let rest : ys ≡ xs = AmongWords-zero xs ys a.1 z.1 in (cc)
+FillsWords-zero : (xs ys : List ℕ) → FillsWords ys xs → AreZero xs → ys ≡ xs
+FillsWords-zero [] [] a z = refl
+FillsWords-zero [] (y ∷ ys) a z = absurd a
+FillsWords-zero (x ∷ xs) [] a z = absurd a
+FillsWords-zero (x ∷ xs) (y ∷ ys) a z = let here : y ≡ x = ⊎_elim (λ (e : y ≡ 0). e ∙ sym z.0) (λ (e : y ≡ x). e) a.0 in let rest : ys ≡ xs = FillsWords-zero xs ys a.1 z.1 in (cc)
 
 -- among zeros are zeros
 Among-zero_lines : (k : ℕ) (ys : List (List ℕ)) → Among (zero_lines k) ys → ys ≡ zero_lines k
 Among-zero_lines zero [] a = refl
 Among-zero_lines zero (y ∷ ys) a = absurd a
 Among-zero_lines (suc k) [] a = absurd a
-Among-zero_lines (suc k) (y ∷ ys) a = let here : y ≡ zero_line = AmongWords-zero zero_line y a.0 zero_line-zeros in let rest : ys ≡ zero_lines k = Among-zero_lines k ys a.1 in λ i. here i ∷ rest i
+Among-zero_lines (suc k) (y ∷ ys) a = let here : y ≡ zero_line = FillsWords-zero zero_line y a.0 zero_line-zeros in let rest : ys ≡ zero_lines k = Among-zero_lines k ys a.1 in λ i. here i ∷ rest i
 
 -- ---- the first line of an entry
 word_drop : (k j : ℕ) (l : List ℕ) → word (drop k l) j ≡ word l (k + j)
@@ -46,11 +46,11 @@ here_same x y (inl e) (inl n) = absurd (n e)
 here_same x y (inl e) (inr k) = k
 
 -- where each word is known not to be zero, or to be the whole one's, none is missing
-pub AmongWords-same : (xs ys : List ℕ) → AmongWords xs ys → ((j : ℕ) → j < length xs → (word ys j ≢ 0) ⊎ (word ys j ≡ word xs j)) → ys ≡ xs
-AmongWords-same [] [] a f = refl
-AmongWords-same [] (y ∷ ys) a f = absurd a
-AmongWords-same (x ∷ xs) [] a f = absurd a
-AmongWords-same (x ∷ xs) (y ∷ ys) a f = let here : y ≡ x = here_same x y a.0 (f 0 (omega arith)) in let rest : ys ≡ xs = AmongWords-same xs ys a.1 (λ j l. f (suc j) (omega arith)) in (cc)
+pub FillsWords-same : (xs ys : List ℕ) → FillsWords ys xs → ((j : ℕ) → j < length xs → (word ys j ≢ 0) ⊎ (word ys j ≡ word xs j)) → ys ≡ xs
+FillsWords-same [] [] a f = refl
+FillsWords-same [] (y ∷ ys) a f = absurd a
+FillsWords-same (x ∷ xs) [] a f = absurd a
+FillsWords-same (x ∷ xs) (y ∷ ys) a f = let here : y ≡ x = here_same x y a.0 (f 0 (omega arith)) in let rest : ys ≡ xs = FillsWords-same xs ys a.1 (λ j l. f (suc j) (omega arith)) in (cc)
 
 of_eight : (P : ℕ → Type 0) → P 0 → P 1 → P 2 → P 3 → P 4 → P 5 → P 6 → P 7 → (j : ℕ) → j < 8 → P j
 of_eight P a b c d e f g h zero l = a
@@ -66,14 +66,14 @@ of_eight P a b c d e f g h (suc (suc (suc (suc (suc (suc (suc (suc j)))))))) l =
 -- ---- the torn entry
 -- what is among an entry's line and lines, and is accepted, misses no word of them
 pub is_entry-Among : (head : LogHead) (before : ℕ) (line : List ℕ) (rest : List (List ℕ)) (read : List ℕ) (image : List (List ℕ)) → head.format ≡ 2 → IsLine line
-    → is_entry head before line rest ≡ true → AmongWords line read → Among rest image → is_entry head before read image ≡ true
+    → is_entry head before line rest ≡ true → FillsWords read line → Among rest image → is_entry head before read image ≡ true
     → (read ≡ line) × (take (word line 4) image ≡ take (word line 4) rest)
 is_entry-Among head before line rest read image masked eight at a b accepted =
     let f = Accepted-if head before line rest at in let g = Accepted-if head before read image accepted in
     let guarded : drop 5 read ≡ masks (take (word read 4) image) = g.guarded ∙ guard-masks head (take 5 read) (take (word read 4) image) masked in
     let big : (j : ℕ) → j < 3 → word (drop 5 read) j ≢ 0 = (λ j l e. masks-not_zero (take (word read 4) image) j l (ap (λ (z : List ℕ). word z j) (sym guarded) ∙ e)) in
     let mark : (j : ℕ) → j < 3 → word read (5 + j) ≢ 0 = (λ j l e. big j l (word_drop 5 j read ∙ e)) in
-    let same : read ≡ line = AmongWords-same line read a (λ j l. of_eight (λ j. (word read j ≢ 0) ⊎ (word read j ≡ word line j))
+    let same : read ≡ line = FillsWords-same line read a (λ j l. of_eight (λ j. (word read j ≢ 0) ⊎ (word read j ≡ word line j))
     (inl (λ e. let m = g.magic in omega arith)) (inr (g.own ∙ sym f.own)) (inr (g.next ∙ sym f.next)) (inl (λ e. let m = g.some_nodes in let p = g.from_one in omega arith)) (inl (λ e. let m = g.some_nodes in omega arith))
     (inl (mark 0 (omega arith))) (inl (mark 1 (omega arith))) (inl (mark 2 (omega arith))) j (omega arith)) in
     let count : word read 4 ≡ word line 4 = ap (λ (z : List ℕ). word z 4) same in
@@ -127,13 +127,13 @@ Mixed-front [] us vs zs m = (zs, refl, m)
 Mixed-front (x ∷ xs) us vs [] m = absurd m
 Mixed-front (x ∷ xs) us vs (z ∷ zs) m = let h = Mixed-front xs us vs zs m.1 in let here = MixedWords-same x z m.0 in let there = h.1 in (h.0, (λ i. here i ∷ there i), h.2)
 
-AmongWords-mixed : (zeros line image : List ℕ) → AreZero zeros → MixedWords zeros line image → AmongWords line image
-AmongWords-mixed [] [] [] z m = tt
-AmongWords-mixed [] [] (y ∷ ys) z m = absurd m
-AmongWords-mixed [] (x ∷ xs) ys z m = absurd m
-AmongWords-mixed (w ∷ ws) [] ys z m = absurd m
-AmongWords-mixed (w ∷ ws) (x ∷ xs) [] z m = absurd m
-AmongWords-mixed (w ∷ ws) (x ∷ xs) (y ∷ ys) z m = (⊎_elim (λ (e : y ≡ w). inl (e ∙ z.0)) (λ (e : y ≡ x). inr e) m.0, AmongWords-mixed ws xs ys z.1 m.1)
+FillsWords-mixed : (zeros line image : List ℕ) → AreZero zeros → MixedWords zeros line image → FillsWords image line
+FillsWords-mixed [] [] [] z m = tt
+FillsWords-mixed [] [] (y ∷ ys) z m = absurd m
+FillsWords-mixed [] (x ∷ xs) ys z m = absurd m
+FillsWords-mixed (w ∷ ws) [] ys z m = absurd m
+FillsWords-mixed (w ∷ ws) (x ∷ xs) [] z m = absurd m
+FillsWords-mixed (w ∷ ws) (x ∷ xs) (y ∷ ys) z m = (⊎_elim (λ (e : y ≡ w). inl (e ∙ z.0)) (λ (e : y ≡ x). inr e) m.0, FillsWords-mixed ws xs ys z.1 m.1)
 
 -- a mix of zeros and lines is among the lines
 pub Among-mixed : (k : ℕ) (lines image : List (List ℕ)) → Mixed (zero_lines k) lines image → Among lines image
@@ -142,7 +142,7 @@ Among-mixed zero [] (y ∷ ys) m = absurd m
 Among-mixed zero (x ∷ xs) ys m = absurd m
 Among-mixed (suc k) [] ys m = absurd m
 Among-mixed (suc k) (x ∷ xs) [] m = absurd m
-Among-mixed (suc k) (x ∷ xs) (y ∷ ys) m = (AmongWords-mixed zero_line x y zero_line-zeros m.0, Among-mixed k xs ys m.1)
+Among-mixed (suc k) (x ∷ xs) (y ∷ ys) m = (FillsWords-mixed zero_line x y zero_line-zeros m.0, Among-mixed k xs ys m.1)
 
 -- the image with the entry, by its parts
 pub log_image-more : (head : LogHead) (ss : List Segment) (s : Segment) (k : ℕ) → log_image head (ss ++ s ∷ []) k ≡ log_lines head ss ++ (entry_lines head (length ss) s ++ zero_lines k)

@@ -1,6 +1,6 @@
 use Rattle.std.specs.Prelude.{ℕ, ◌≡◌, List, [], ◌∷◌, ◌++◌, length, Some}
 use Rattle.std.specs.List.{AllByRecursion}
-use Rattle.onll_pmem.specs.Device.{zero_lines, FillsWords, FillsLines}
+use Rattle.onll_pmem.specs.Device.{zero_lines, FillsLines}
 use Rattle.onll_model.specs.Segment.{Segment}
 use Rattle.onll_log.specs.declared.head.LogHead.{LogHead}
 use Rattle.onll_log.specs.Encoding.{log_lines}
@@ -16,9 +16,6 @@ abbrev pub AreLines : List (List ℕ) → Type 0
 AreLines lines = AllByRecursion IsLine lines
 
 -- each word of the second is zero or the word of the first, the whole
-abbrev pub AmongWords : List ℕ → List ℕ → Type 0
-AmongWords whole line = FillsWords line whole
-
 abbrev pub Among : List (List ℕ) → List (List ℕ) → Type 0
 Among whole lines = FillsLines lines whole
 

@@ -13,11 +13,16 @@ use Rattle.std.proofs.lemmas.List.{length-append}
 use Rattle.onll_words.specs.Short.{ShortText}
 use Rattle.onll_map.specs.declared.operation.MapOp.TheVariants.{Put}
 use Rattle.onll_map.specs.declared.operation.MapReply.TheVariants.{New}
-use Rattle.onll_map.specs.Map.{Entries, Pairs, IsMap, value_at, has_room, put_reply, map_reply, pairs_put, map_next, puts}
+use Rattle.onll_map.specs.Map.{Entries, Pairs, IsMap, value_at, has_room, put_reply, map_reply, pairs_put, map_next}
 use Rattle.onll_map.proofs.Maps.{key_total}
 use Rattle.onll_map.proofs.Steps.{room_for}
 
 -- Pairs that are put in the order of their keys come one after another.
+
+-- the state after these pairs were put in turn
+abbrev puts : Entries → Pairs → Entries
+puts s [] = s
+puts s (pair ∷ pairs) = puts (map_next s (Put pair.0 pair.1)) pairs
 
 module _ {K X : Type 0} {R : K → K → Ordering} (o : IsTotalOrder R) (k : K) (v : X) (rest : List (K × X)) where
   above_first : (e : K × X) (es : List (K × X)) → AllByRecursion (λ y. R e.0 y ≡ Less) (keys_of (es ++ (k, v) ∷ rest)) → R e.0 k ≡ Less

@@ -90,11 +90,6 @@ pairs_next s (Del k) = pairs_without s.pairs k
 abbrev pub map_next : Entries → MapOp → Entries
 map_next s op = record { pairs = pairs_next s op; room = s.room }
 
--- the state after these pairs were put in turn
-abbrev pub puts : Entries → Pairs → Entries
-puts s [] = s
-puts s (pair ∷ pairs) = puts (map_next s (Put pair.0 pair.1)) pairs
-
 abbrev pub value_answer : Option ShortText → MapReply
 value_answer (Some v) = Value v
 value_answer None = Absent

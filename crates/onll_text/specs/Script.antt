@@ -1,4 +1,4 @@
-use Rattle.std.specs.Prelude.{ℕ, Bool, List, [], ◌∷◌, ◌++◌, ◌+◌, Result, Ok, Err, if◌then◌else◌, length, nat_lt}
+use Rattle.std.specs.Prelude.{ℕ, Bool, List, [], ◌∷◌, ◌+◌, Result, Ok, Err, if◌then◌else◌, length, nat_lt}
 use Rattle.onll_words.specs.Texts.{Numbered, words_of, meaningful_lines}
 use Rattle.onll_model.specs.declared.call.Call.{Call}
 use Rattle.onll_model.specs.declared.call.Call.TheVariants.{Update, Ask}
@@ -39,8 +39,3 @@ no_calls = record { updates = 0; reads = 0 }
 -- the calls of a script, or why its text is none
 abbrev pub script_of : {State Op Query Reply : Type 0} → Wording State Op Query Reply → List ℕ → Result (List (Call State Op Query Reply)) Refusal
 script_of w text = if is_too_long text then Err (refused 0 TooLong) else calls_in w no_calls (meaningful_lines text)
-
--- calls before those that follow them
-abbrev pub after_calls : {C : Type 0} → List C → Result (List C) Refusal → Result (List C) Refusal
-after_calls front (Err refusal) = Err refusal
-after_calls front (Ok calls) = Ok (front ++ calls)

@@ -1,22 +1,24 @@
 use Rattle.std.proofs.Common.{ℕ, suc, ◌≡◌, ◌+◌, ◌*◌, ◌≤◌, inr, true, List, [], ◌∷◌, ◌++◌, length, map, take, drop, replicate, Some, None, sym, refl, ap, ◌∙◌, subst, arith, count_by}
-use Rattle.std.specs.List.{slice_get}
+use Rattle.std.specs.List.{AllByRecursion, slice_get}
 use Rattle.onll_model.specs.declared.node.Node.{Node}
 use Rattle.onll_model.specs.Trace.{is_of_thread}
 use Rattle.onll_model.specs.Segment.{Segment}
 use Rattle.onll_model.specs.Frames.{resumed_thread, resumed_frame}
-use Rattle.onll_model.specs.FrameLaws.{SoundOver}
+use Rattle.onll_model.specs.FrameLaws.{SoundOver, IsResumable}
 use Rattle.onll_model.proofs.Lists.{inside, present}
 use Rattle.onll_model.proofs.FirstFrames.{resumed_sound}
 use Rattle.onll_model.specs.Calls.{updates_in}
-use Rattle.onll_pmem.specs.Device.{zero_lines, line_at}
-use Rattle.onll_log.specs.Encoding.{log_lines}
+use Rattle.onll_pmem.specs.Device.{DeviceState, zero_lines, line_at}
+use Rattle.onll_log.specs.declared.head.LogHead.{LogHead}
+use Rattle.onll_log.specs.Encoding.{log_lines, FitEntries}
+use Rattle.onll_log.specs.Grammar.{lines_in}
 use Rattle.onll_core.specs.declared.phase.Phase.{Phase}
 use Rattle.onll_core.specs.declared.phase.Phase.TheVariants as phases
 use Rattle.onll_core.specs.declared.returned.Returned.{Returned}
 use Rattle.onll_core.specs.Core.{CoreThread, CoreState}
 use Rattle.onll_core.specs.CoreFrame.{seen_in, pending_in, activity_in, fenced_entries, frame_thread, frame_of}
 use Rattle.onll_core.specs.Tie.{updates_to_link, IsTied}
-use Rattle.onll_core.specs.Consistent.{IsConsistent}
+use Rattle.onll_core.specs.Consistent.{EachCoreThread, IsConsistent}
 use Rattle.onll_core.specs.First.{IsHeadOf}
 use Rattle.onll_core.specs.Fences.{fenced_in, updates_returned, CountsFences}
 use Rattle.onll_core.proofs.Ties.{fenced_is_log}

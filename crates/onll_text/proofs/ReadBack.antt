@@ -2,18 +2,26 @@ use Rattle.std.proofs.Common.{ℕ, true, false, ◌&&◌, nat_le, List, [], ◌�
 use Rattle.std.specs.List.{flat_map}
 use Rattle.std.proofs.lemmas.Fmt.{length-decimal-le}
 use Rattle.std.proofs.lemmas.Bool.Decides.{nat_tests}
+use Rattle.onll_words.specs.Short.{ShortText, short_of-bytes}
 use Rattle.onll_words.specs.Texts.{Numbered, meaningful_lines, numbered, joined, line_text, AreWords, AreMeaningful}
 use Rattle.onll_words.proofs.Decimals.{number_of-decimal}
 use Rattle.onll_words.proofs.Joined.{words_of-joined, meaningful_lines-flat_map}
 use Rattle.onll_text.specs.declared.reason.Reason.{Reason}
-use Rattle.onll_text.specs.declared.reason.Reason.TheVariants.{BadNumber, OutOfRange, TooLong}
+use Rattle.onll_text.specs.declared.reason.Reason.TheVariants.{BadNumber, BadWord, OutOfRange, TooLong}
 use Rattle.onll_text.specs.declared.init.Head.{Head}
 use Rattle.onll_text.specs.Refusal.{refused, ◌>>=◌, only_if, or_reason, at_line}
-use Rattle.onll_text.specs.Words.{word_as_number, one_number, two_numbers, four_numbers}
+use Rattle.onll_text.specs.Words.{word_as_number, word_as_short, one_number, two_numbers, four_numbers}
 use Rattle.onll_text.specs.Script.{longest_text, is_too_long}
 use Rattle.onll_text.specs.Init.{capacity_of, head_of, after_lines, object_of, init_of_lines, init_of}
 
 -- numbers that are written in decimal are read back
+
+pub decimal_reads : (n : ℕ) → n < 2 ^ 64 → word_as_number (decimal n) ≡ Ok n
+decimal_reads n h = ap (or_reason BadNumber) (number_of-decimal n h)
+
+-- so are short texts
+pub short_reads : (word : ShortText) → word_as_short word.bytes ≡ Ok word
+short_reads word = ap (or_reason BadWord) (short_of-bytes word)
 
 pub one_number-decimal : (n : ℕ) → n < 2 ^ 64 → one_number (decimal n ∷ []) ≡ Ok n
 one_number-decimal n h = ap (or_reason BadNumber) (number_of-decimal n h)

@@ -7,7 +7,7 @@ ghost use Rattle.onll_text.specs.BankWording.{bank_wording};
 use crate::reason::Reason;
 use crate::report::{Piece, Report};
 use crate::texted::Texted;
-use crate::words::{is_text, no_word, one_number, three_numbers, two_numbers};
+use crate::words::{is_text, no_word, number_reads_back, one_number, three_numbers, two_numbers};
 use onll_bank::{Bank, BankOp, BankQuery, BankReply};
 use onll_model::{Call, Object};
 use onll_words::{Cut, NoMemory, split_word};
@@ -140,5 +140,30 @@ impl Texted for Bank {
         out.words(&[Piece::Text(b"bank"), Piece::Number(self.capacity())])?;
         out.end_line()?;
         put_accounts(self, out)
+    }
+
+    fn op_reads_back(op: BankOp) {
+        match op {
+            BankOp::Deposit { a, x } => {
+                number_reads_back(a);
+                number_reads_back(x);
+            }
+            BankOp::Withdraw { a, x } => {
+                number_reads_back(a);
+                number_reads_back(x);
+            }
+            BankOp::Transfer { a, b, x } => {
+                number_reads_back(a);
+                number_reads_back(b);
+                number_reads_back(x);
+            }
+        }
+    }
+
+    fn query_reads_back(query: BankQuery) {
+        match query {
+            BankQuery::Balance { a } => number_reads_back(a),
+            BankQuery::Total => {}
+        }
     }
 }

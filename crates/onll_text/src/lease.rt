@@ -8,7 +8,7 @@ use crate::init::Initial;
 use crate::reason::Reason;
 use crate::report::{Piece, Report};
 use crate::texted::Texted;
-use crate::words::{four_numbers, is_text, two_numbers};
+use crate::words::{four_numbers, is_text, number_reads_back, two_numbers};
 use onll_lease::{Lease, LeaseEntry, LeaseOp, LeaseQuery, LeaseReply};
 use onll_model::{Call, Object};
 use onll_words::{Cut, NoMemory, split_word};
@@ -170,6 +170,33 @@ impl Texted for Lease {
         out.words(&[Piece::Text(b"lease"), Piece::Number(self.capacity())])?;
         out.end_line()?;
         put_table(self, out)
+    }
+
+    fn op_reads_back(op: LeaseOp) {
+        match op {
+            LeaseOp::Grant { r, h, now, ttl } => {
+                number_reads_back(r);
+                number_reads_back(h);
+                number_reads_back(now);
+                number_reads_back(ttl);
+            }
+            LeaseOp::Renew { r, token, now, ttl } => {
+                number_reads_back(r);
+                number_reads_back(token);
+                number_reads_back(now);
+                number_reads_back(ttl);
+            }
+            LeaseOp::Release { r, token } => {
+                number_reads_back(r);
+                number_reads_back(token);
+            }
+        }
+    }
+
+    fn query_reads_back(query: LeaseQuery) {
+        let LeaseQuery::Holder { r, now } = query;
+        number_reads_back(r);
+        number_reads_back(now);
     }
 }
 

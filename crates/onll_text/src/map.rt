@@ -8,7 +8,7 @@ use crate::init::Initial;
 use crate::reason::Reason;
 use crate::report::{Piece, Report};
 use crate::texted::Texted;
-use crate::words::{is_text, no_word, one_short, two_shorts};
+use crate::words::{is_text, no_word, one_short, short_reads_back, two_shorts};
 use onll_map::{Map, MapOp, MapQuery, MapReply};
 use onll_model::{Call, Object};
 use onll_words::{Cut, NoMemory, Short, split_word};
@@ -130,6 +130,24 @@ impl Texted for Map {
         out.words(&[Piece::Text(b"map"), Piece::Number(self.capacity())])?;
         out.end_line()?;
         put_pairs(self, out)
+    }
+
+    fn op_reads_back(op: MapOp) {
+        match op {
+            MapOp::Put { k, v } => {
+                short_reads_back(k);
+                short_reads_back(v);
+            }
+            MapOp::Del { k } => short_reads_back(k),
+        }
+    }
+
+    fn query_reads_back(query: MapQuery) {
+        match query {
+            MapQuery::Get { k } => short_reads_back(k),
+            MapQuery::Next { k } => short_reads_back(k),
+            MapQuery::Count => {}
+        }
     }
 }
 

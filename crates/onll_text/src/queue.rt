@@ -8,7 +8,7 @@ use crate::init::Initial;
 use crate::reason::Reason;
 use crate::report::{Piece, Report};
 use crate::texted::Texted;
-use crate::words::{is_text, no_word, one_number};
+use crate::words::{is_text, no_word, number_reads_back, one_number};
 use onll_model::{Call, Object};
 use onll_queue::{Queue, QueueOp, QueueQuery, QueueReply};
 use onll_words::{Cut, NoMemory, split_word};
@@ -113,6 +113,20 @@ impl Texted for Queue {
         out.words(&[Piece::Text(b"queue"), Piece::Number(self.capacity())])?;
         out.end_line()?;
         put_items(self, out)
+    }
+
+    fn op_reads_back(op: QueueOp) {
+        match op {
+            QueueOp::Push { x } => number_reads_back(x),
+            QueueOp::Pop => {}
+        }
+    }
+
+    fn query_reads_back(query: QueueQuery) {
+        match query {
+            QueueQuery::Front => {}
+            QueueQuery::Length => {}
+        }
     }
 }
 

@@ -1,4 +1,5 @@
-ghost use Rattle.std.specs.Prelude.{◌≡◌, true, OnOk};
+ghost use Rattle.std.specs.Prelude.{◌≡◌, true, Ok, OnOk};
+ghost use Rattle.onll_model.specs.declared.call.Call.TheVariants.{Update, Ask};
 ghost use Rattle.onll_words.specs.Texts.{words_of};
 ghost use Rattle.onll_text.specs.Bytes.{begins_line, with_words, with_lines, Keeps};
 ghost use Rattle.onll_text.specs.Wording.{Wording};
@@ -37,4 +38,12 @@ pub trait Texted: Object {
         requires { begins_line out.old ≡ true }
         ensures ok { OnOk result (out.new ≡ with_lines out.old (wording.state_lines self.now)) }
         ensures keeps { Keeps out.old out.new };
+
+    /// A law: what is printed of an operation reads as that update. It does nothing when called.
+    fn op_reads_back(op: Self::Op)
+        ensures { wording.call_of (wording.op_words op) ≡ Ok (Update op) };
+
+    /// A law: what is printed of a query reads as that read. It does nothing when called.
+    fn query_reads_back(query: Self::Query)
+        ensures { wording.call_of (wording.query_words query) ≡ Ok (Ask query) };
 }

@@ -1,4 +1,4 @@
-ghost use Rattle.std.specs.Prelude.{◌≡◌, ◌∷◌, [], MatchResult, Err};
+ghost use Rattle.std.specs.Prelude.{◌≡◌, ◌∷◌, [], MatchResult, Ok, Err, decimal};
 ghost use Rattle.std.specs.Str.{bytes_eq};
 ghost use Rattle.onll_words.specs.Texts.{words_of};
 ghost use Rattle.onll_text.specs.Words.{word_as_number, word_as_short, no_word, one_number, two_numbers, three_numbers, four_numbers, one_short, two_shorts};
@@ -17,6 +17,22 @@ pub(crate) fn number(word: &[u8]) -> Result<u64, Reason>
     ensures { result ≡ word_as_number word.now }
 {
     whole_number(word).ok_or(Reason::BadNumber)
+}
+
+/// A law: a number reads as that number where it is printed. It does nothing when called.
+#[tactic(auto, using(crate::proofs::ReadBack::decimal_reads))]
+pub(crate) fn number_reads_back(n: u64)
+    ensures { word_as_number (decimal n) ≡ Ok n }
+{
+    let _ = n;
+}
+
+/// A law: a short text reads as that text where it is printed. It does nothing when called.
+#[tactic(auto, using(crate::proofs::ReadBack::short_reads))]
+pub(crate) fn short_reads_back(word: Short)
+    ensures { word_as_short word.bytes ≡ Ok word }
+{
+    let _ = word;
 }
 
 /// The next word of a line, where one is wanted.

@@ -47,10 +47,8 @@ impl Bank {
         requires { (1 ≤ capacity) × (capacity ≤ 4096) }
         ensures { IfOk result (λ made. made ≡ replicate capacity 0) }
     {
-        match vec![in alloc; 0; capacity as usize] {
-            Ok(balances) => Ok(Bank { balances, total: 0 }),
-            Err(_) => Err(NoMemory),
-        }
+        let balances = vec![in alloc; 0; capacity as usize]?;
+        Ok(Bank { balances, total: 0 })
     }
 
     /// What every bank keeps. It does nothing when called.
@@ -164,13 +162,10 @@ impl Object for Bank {
     }
 
     fn copy(&self, alloc: Global) -> Result<Self, NoMemory> {
-        match self.balances.to_vec(alloc) {
-            Ok(balances) => Ok(Bank {
-                balances,
-                total: self.total,
-            }),
-            Err(_) => Err(NoMemory),
-        }
+        Ok(Bank {
+            balances: self.balances.to_vec(alloc)?,
+            total: self.total,
+        })
     }
 
     fn restore(&mut self, from: &Self) {

@@ -27,7 +27,7 @@ fn images_of<O: Object>(
     let mut images = Vec::new(alloc);
     for worker in workers {
         let image = worker.device().image(alloc, keep)?;
-        images.push(image).map_err(|_| NoMemory)?;
+        images.push(image)?;
     }
     Ok(images)
 }
@@ -60,10 +60,7 @@ fn decode_all(alloc: Global, images: &[Vec<Line>]) -> Result<Vec<Decoded>, Image
 {
     let mut logs = Vec::new(alloc);
     for (log, image) in images.iter().enumerate() {
-        let decoded = decode_one(alloc, log as u64, image)?;
-        if logs.push(decoded).is_err() {
-            return Err(ImagesFault::Recover(RecoverFault::NoMemory));
-        }
+        logs.push(decode_one(alloc, log as u64, image)?)?;
     }
     Ok(logs)
 }

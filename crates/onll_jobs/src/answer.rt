@@ -2,12 +2,13 @@ ghost use Rattle.std.specs.Prelude.{◌≡◌, IfOk, MatchResult};
 ghost use Rattle.onll_text.specs.Refusal.{refused};
 ghost use Rattle.onll_jobs.specs.Printed.{usage_text, refusal_text, read_fault_text, write_fault_text};
 ghost use Rattle.onll_jobs.specs.Stop.{StopSays};
+ghost use Rattle.onll_jobs.specs.declared.answer.Stop.TheVariants.{NoMemory};
 
 use crate::ending::Ending;
 use itoa::Buffer;
 use onll_text::Reason;
 use onll_words::NoMemory;
-use std::alloc::{AllocError, Global};
+use std::alloc::{AllocError, AllocFailed, Global};
 
 /// The usage text, with the commands to come.
 const USAGE: &[u8] =
@@ -26,6 +27,30 @@ pub(crate) enum Stop {
     /// This is to be said.
     Says(Answer),
     NoMemory,
+}
+
+impl From<NoMemory> for Stop {
+    ghost from_gives = { λ _ stop. stop ≡ NoMemory };
+
+    fn from(_e: NoMemory) -> Stop {
+        Stop::NoMemory
+    }
+}
+
+impl From<AllocError> for Stop {
+    ghost from_gives = { λ _ stop. stop ≡ NoMemory };
+
+    fn from(_e: AllocError) -> Stop {
+        Stop::NoMemory
+    }
+}
+
+impl<T: Drop> From<AllocFailed<T>> for Stop {
+    ghost from_gives = { λ _ stop. stop ≡ NoMemory };
+
+    fn from(_e: AllocFailed<T>) -> Stop {
+        Stop::NoMemory
+    }
 }
 
 impl Stop {
@@ -115,11 +140,8 @@ fn write_fault_text(alloc: Global, name: &str) -> Result<Vec<u8>, AllocError>
 pub(crate) fn usage(alloc: Global) -> Result<Answer, NoMemory>
     ensures { IfOk result (λ answer. (answer.ending ≡ Ending.Usage) × (answer.text.items ≡ usage_text)) }
 {
-    match Vec::from_slice(alloc, USAGE) {
-        Ok(text) => Ok(Answer {
-            ending: Ending::Usage,
-            text,
-        }),
-        Err(_) => Err(NoMemory),
-    }
+    Ok(Answer {
+        ending: Ending::Usage,
+        text: Vec::from_slice(alloc, USAGE)?,
+    })
 }

@@ -2,13 +2,14 @@ ghost use Rattle.std.specs.Prelude.{◌≡◌, ◌++◌, true, IfOk, OnOk};
 ghost use Rattle.onll_words.specs.Texts.{line_text};
 ghost use Rattle.onll_text.specs.Bytes.{begins_line};
 ghost use Rattle.onll_jobs.specs.RecoverJob.{merging_words, fault_words};
+ghost use Rattle.onll_jobs.specs.declared.bad_logs.LogsFault.TheVariants.{NoMemory};
 
 use crate::answer::Answer;
 use crate::ending::Ending;
 use onll_merge::RecoverFault;
 use onll_text::{Piece, Report};
 use onll_words::NoMemory;
-use std::alloc::Global;
+use std::alloc::{AllocFailed, Global};
 
 /// Why logs give no state. Logs are numbered from 0, places from 1.
 #[derive(Clone, Copy, Debug, PartialEq, Eq)]
@@ -20,6 +21,14 @@ pub enum LogsFault {
     /// The row of a place is no operation of the object.
     NotOperation { place: u64 },
     NoMemory,
+}
+
+impl<T: Drop> From<AllocFailed<T>> for LogsFault {
+    ghost from_gives = { λ _ fault. fault ≡ NoMemory };
+
+    fn from(_e: AllocFailed<T>) -> LogsFault {
+        LogsFault::NoMemory
+    }
 }
 
 /// The line of logs that do not merge.

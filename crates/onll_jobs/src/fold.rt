@@ -37,9 +37,7 @@ fn fold_call<O: Texted>(
                 number,
                 row: O::op_row(*op),
             };
-            if trace.push(node).is_err() {
-                return Err(NoMemory);
-            }
+            trace.push(node)?;
             Ok(CallEnd::Answered {
                 reply: object.apply(*op),
                 place: number,

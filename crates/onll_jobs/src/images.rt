@@ -48,9 +48,7 @@ impl Image {
     {
         let mut images = Vec::new(alloc);
         for lines in logs {
-            if images.push(Image::of_vec(lines)).is_err() {
-                return Err(NoMemory);
-            }
+            images.push(Image::of_vec(lines))?;
         }
         Ok(images)
     }
@@ -80,10 +78,8 @@ fn read_image<S: Store>(
     ensures same { SameFiles (S.seen store.old) (S.seen store.new) }
     ensures faults { OnOk result (SameFaults (S.seen store.old) (S.seen store.new)) }
 {
-    match image_name(alloc, logs, thread) {
-        Ok(name) => Ok(Image::of_vec(image_file(alloc, &name, store)?)),
-        Err(_) => Err(Stop::NoMemory),
-    }
+    let name = image_name(alloc, logs, thread)?;
+    Ok(Image::of_vec(image_file(alloc, &name, store)?))
 }
 
 /// The images of the logs of so many threads, or what is said in their place.
@@ -102,11 +98,7 @@ pub(crate) fn read_images<S: Store>(
     let mut images = Vec::new(alloc);
     for thread in 0..threads {
         match read_image(alloc, logs, thread, store) {
-            Ok(image) => {
-                if images.push(image).is_err() {
-                    return Err(Stop::NoMemory);
-                }
-            }
+            Ok(image) => images.push(image)?,
             Err(stop) => return Err(stop),
         }
     }
@@ -136,13 +128,9 @@ fn write_image<S: Store>(
     ensures stop { IfErr result (λ stop. StopSays stop (CannotWrite (S.seen store.old) (S.seen store.new) (image_name logs.now thread))) }
     ensures others { SameOthers (image_name logs.now thread) (S.seen store.old) (S.seen store.new) }
 {
-    let Ok(name) = image_name(alloc, logs, thread) else {
-        return Err(Stop::NoMemory);
-    };
-    match image_bytes(alloc, image.as_slice()) {
-        Ok(bytes) => write_file(alloc, &name, &bytes, store),
-        Err(_) => Err(Stop::NoMemory),
-    }
+    let name = image_name(alloc, logs, thread)?;
+    let bytes = image_bytes(alloc, image.as_slice())?;
+    write_file(alloc, &name, &bytes, store)
 }
 
 /// Writes the images of the threads' logs, in thread order, or gives what is said in their place.

@@ -40,11 +40,7 @@ fn decode_images(alloc: Global, images: &[Image]) -> Result<Vec<Decoded>, LogsFa
     let mut logs = Vec::new(alloc);
     for (log, image) in images.iter().enumerate() {
         match decode(alloc, image.as_slice()) {
-            Ok(decoded) => {
-                if logs.push(decoded).is_err() {
-                    return Err(LogsFault::NoMemory);
-                }
-            }
+            Ok(decoded) => logs.push(decoded)?,
             Err(DecodeFault::NotLog) => return Err(LogsFault::NotLog { log: log as u64 }),
             Err(DecodeFault::NoMemory) => return Err(LogsFault::NoMemory),
         }
@@ -77,10 +73,7 @@ fn heads_of(
 {
     let mut heads = Vec::new(alloc);
     for (thread, image) in images.iter().enumerate() {
-        let head = head_of(object, init, thread as u64, images.len() as u64, image);
-        if heads.push(head).is_err() {
-            return Err(LogsFault::NoMemory);
-        }
+        heads.push(head_of(object, init, thread as u64, images.len() as u64, image))?;
     }
     Ok(heads)
 }

@@ -214,9 +214,7 @@ fn crash_answer<O: Texted + Drop>(
     ensures { let job = crash_says O.means O.wording core.now keep (recovered O.means O.CODE init.now (images_in images.now)) in
         IfOk result (λ answer. SaysNow job answer.ending answer.text.items) }
 {
-    let Ok(mut object) = core.initial().copy(alloc) else {
-        return Err(NoMemory);
-    };
+    let mut object = core.initial().copy(alloc)?;
     match find(alloc, &mut object, init, images) {
         Ok(found) => {
             let text = report(alloc, core, keep, &found, &object)?;
@@ -289,11 +287,7 @@ fn script_files<O: Texted, S: Store>(
     let mut scripts = Vec::new(alloc);
     for name in names {
         match script_file::<O, S>(alloc, name, store) {
-            Ok(script) => {
-                if scripts.push(script).is_err() {
-                    return Err(Stop::NoMemory);
-                }
-            }
+            Ok(script) => scripts.push(script)?,
             Err(stop) => return Err(stop),
         }
     }

@@ -183,13 +183,10 @@ fn report(alloc: Global, decoded: &Decoded) -> Result<Vec<u8>, NoMemory>
 fn not_a_log(alloc: Global) -> Result<Answer, NoMemory>
     ensures { IfOk result (λ answer. (answer.ending ≡ Ending.BadLog) × (answer.text.items ≡ not_a_log)) }
 {
-    match Vec::from_slice(alloc, NOT_A_LOG) {
-        Ok(text) => Ok(Answer {
-            ending: Ending::BadLog,
-            text,
-        }),
-        Err(_) => Err(NoMemory),
-    }
+    Ok(Answer {
+        ending: Ending::BadLog,
+        text: Vec::from_slice(alloc, NOT_A_LOG)?,
+    })
 }
 
 /// What is said of an image's lines.

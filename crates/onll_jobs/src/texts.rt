@@ -17,7 +17,7 @@ use onll_outside::{OutsideFault, Store};
 use onll_text::{
     AnyObject, LONGEST_TEXT, Schedule, TextFault, Texted, read_init, read_schedule, read_script,
 };
-use onll_words::{Line, NoMemory};
+use onll_words::Line;
 use std::alloc::Global;
 
 /// The text of a file, with one byte at most that is too many.
@@ -99,10 +99,7 @@ pub(crate) fn image_file<S: Store>(
         Err(OutsideFault::Failed) => return Err(Stop::unread(alloc, name)),
         Err(OutsideFault::NoMemory) => return Err(Stop::NoMemory),
     };
-    match image_lines(alloc, &bytes) {
-        Ok(lines) => Ok(lines),
-        Err(NoMemory) => Err(Stop::NoMemory),
-    }
+    Ok(image_lines(alloc, &bytes)?)
 }
 
 /// The schedule that a file holds for so many threads, or what is said in its place.

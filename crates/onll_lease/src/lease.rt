@@ -41,10 +41,8 @@ impl Lease {
             holder: 0,
             until: 0,
         };
-        match vec![in alloc; empty; capacity as usize] {
-            Ok(entries) => Ok(Lease { entries }),
-            Err(_) => Err(NoMemory),
-        }
+        let entries = vec![in alloc; empty; capacity as usize]?;
+        Ok(Lease { entries })
     }
 
     /// What every table keeps. It does nothing when called.
@@ -140,10 +138,8 @@ impl Object for Lease {
     }
 
     fn copy(&self, alloc: Global) -> Result<Self, NoMemory> {
-        match self.entries.to_vec(alloc) {
-            Ok(entries) => Ok(Lease { entries }),
-            Err(_) => Err(NoMemory),
-        }
+        let entries = self.entries.to_vec(alloc)?;
+        Ok(Lease { entries })
     }
 
     fn restore(&mut self, from: &Self) {

@@ -2,6 +2,7 @@ ghost use Rattle.std.specs.Prelude.{◌≡◌, ℕ, ◌+◌, ◌*◌, ◌<◌, �
 ghost use Rattle.onll_pmem.specs.Pmem.{words_of};
 ghost use Rattle.onll_log.specs.Head.{is_head, head_of, word};
 ghost use Rattle.onll_log.specs.Grammar.{all_named, is_entry, node_of_line, segment_of, entries_from, is_zero_line, are_zero_lines, content_of, used_by};
+ghost use Rattle.onll_log.specs.declared.image.DecodeFault.TheVariants.{NoMemory};
 ghost use Rattle.onll_log.specs.Decoded.{segment_in, segments_in, content_in, placed_from, Refuses};
 
 use crate::decoded::{Decoded, Entries, Entry, Nodes};
@@ -17,6 +18,14 @@ pub enum DecodeFault {
     /// There is no line, or the first one is no log's and some line is not zero.
     NotLog,
     NoMemory,
+}
+
+impl From<AllocError> for DecodeFault {
+    ghost from_gives = { λ _ e. e ≡ NoMemory };
+
+    fn from(_e: AllocError) -> DecodeFault {
+        DecodeFault::NoMemory
+    }
 }
 
 /// Whether all words of a line are zero.
@@ -108,13 +117,10 @@ fn log_of(alloc: Global, head: LogHead, lines: &[Line]) -> Result<Decoded, Decod
     ensures refused { IfErr result (λ fault. fault ≡ DecodeFault.NoMemory) }
 {
     let (_, rest) = lines.split_at(1);
-    match entries_of(alloc, &head, rest) {
-        Ok(entries) => Ok(Decoded {
-            head: Some(head),
-            entries: Entries::of_vec(entries),
-        }),
-        Err(_) => Err(DecodeFault::NoMemory),
-    }
+    Ok(Decoded {
+        head: Some(head),
+        entries: Entries::of_vec(entries_of(alloc, &head, rest)?),
+    })
 }
 
 /// Reads an image of a log. It refuses one that is no log.

@@ -14,13 +14,9 @@ fn lines_of(alloc: Global, bytes: &[u8]) -> Result<Vec<Line>, NoMemory>
 {
     let (chunks, _) = bytes.as_chunks::<64>();
     let mut lines = Vec::new(alloc);
-    if lines.try_reserve_exact(chunks.len()).is_err() {
-        return Err(NoMemory);
-    }
+    lines.try_reserve_exact(chunks.len())?;
     for chunk in chunks {
-        if lines.push(line_of_bytes(*chunk)).is_err() {
-            return Err(NoMemory);
-        }
+        lines.push(line_of_bytes(*chunk))?;
     }
     Ok(lines)
 }

@@ -36,13 +36,10 @@ impl Map {
         requires { (1 ≤ capacity) × (capacity ≤ 4096) }
         ensures { IfOk result (λ made. made ≡ record { pairs = []; room = capacity }) }
     {
-        match Vec::with_capacity(alloc, capacity as usize) {
-            Ok(pairs) => Ok(Map {
-                pairs,
-                room: capacity,
-            }),
-            Err(_) => Err(NoMemory),
-        }
+        Ok(Map {
+            pairs: Vec::with_capacity(alloc, capacity as usize)?,
+            room: capacity,
+        })
     }
 
     /// What every map keeps. It does nothing when called.

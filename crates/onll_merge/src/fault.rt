@@ -1,3 +1,9 @@
+ghost use Rattle.std.specs.Prelude.{◌≡◌};
+ghost use Rattle.onll_merge.specs.declared.fault.RecoverFault.TheVariants.{NoMemory};
+ghost use Rattle.onll_merge.specs.declared.fault.ImagesFault.TheVariants.{Recover};
+
+use std::alloc::AllocFailed;
+
 /// Why logs were not merged. The first of these that stands is answered, in this order; logs are numbered from 0.
 #[derive(Clone, Copy, Debug, PartialEq, Eq)]
 pub enum RecoverFault {
@@ -31,6 +37,14 @@ pub enum RecoverFault {
     NoMemory,
 }
 
+impl<T: Drop> From<AllocFailed<T>> for RecoverFault {
+    ghost from_gives = { λ _ e. e ≡ NoMemory };
+
+    fn from(_e: AllocFailed<T>) -> RecoverFault {
+        RecoverFault::NoMemory
+    }
+}
+
 /// Why images were not merged. The first of these that stands is answered, in this order.
 #[derive(Clone, Copy, Debug, PartialEq, Eq)]
 pub enum ImagesFault {
@@ -38,4 +52,12 @@ pub enum ImagesFault {
     NotLog { log: u64 },
     /// All images are logs, and these were not merged; or memory ran out.
     Recover(RecoverFault),
+}
+
+impl<T: Drop> From<AllocFailed<T>> for ImagesFault {
+    ghost from_gives = { λ _ e. e ≡ Recover NoMemory };
+
+    fn from(_e: AllocFailed<T>) -> ImagesFault {
+        ImagesFault::Recover(RecoverFault::NoMemory)
+    }
 }

@@ -158,11 +158,7 @@ pub fn gather(alloc: Global, logs: &[Decoded], top: u64) -> Result<Vec<Node>, Re
     for below in 0..top {
         let place = below + 1;
         match node_of_place(logs, &mut passed, place)? {
-            Some(node) => {
-                if nodes.push(node).is_err() {
-                    return Err(RecoverFault::NoMemory);
-                }
-            }
+            Some(node) => nodes.push(node)?,
             None => {
                 check_above(logs, &mut passed, place, top)?;
                 return Err(RecoverFault::Gap { place });

@@ -46,10 +46,8 @@ impl Queue {
         requires { (1 ≤ capacity) × (capacity ≤ 4096) }
         ensures { IfOk result (λ made. made ≡ items_in capacity []) }
     {
-        match HeapCircularBuffer::with_capacity(alloc, capacity as usize) {
-            Ok(ring) => Ok(Queue { ring }),
-            Err(_) => Err(NoMemory),
-        }
+        let ring = HeapCircularBuffer::with_capacity(alloc, capacity as usize)?;
+        Ok(Queue { ring })
     }
 
     /// What every queue keeps. It does nothing when called.
@@ -149,13 +147,9 @@ impl Object for Queue {
     }
 
     fn copy(&self, alloc: Global) -> Result<Self, NoMemory> {
-        match HeapCircularBuffer::with_capacity(alloc, self.ring.capacity()) {
-            Ok(mut ring) => {
-                refill(&mut ring, &self.ring);
-                Ok(Queue { ring })
-            }
-            Err(_) => Err(NoMemory),
-        }
+        let mut ring = HeapCircularBuffer::with_capacity(alloc, self.ring.capacity())?;
+        refill(&mut ring, &self.ring);
+        Ok(Queue { ring })
     }
 
     fn restore(&mut self, from: &Self) {

@@ -36,10 +36,8 @@ impl BankInit {
         ensures { IfOk result (λ made. made ≡ no_accounts capacity) }
     {
         let bank = Bank::make(alloc, capacity)?;
-        match vec![in alloc; false; capacity as usize] {
-            Ok(named) => Ok(BankInit { bank, named }),
-            Err(_) => Err(NoMemory),
-        }
+        let named = vec![in alloc; false; capacity as usize]?;
+        Ok(BankInit { bank, named })
     }
 
     pub(crate) fn finish(self) -> Bank

@@ -94,9 +94,7 @@ fn read_bank(alloc: Global, capacity: u64, lines: &mut Lines<'_>) -> Result<Bank
     requires { (1 ≤ capacity) × (capacity ≤ 4096) }
     ensures { MatchResult result (λ bank. bank_of_lines capacity lines.old ≡ Ok bank) (λ fault. Fails fault (bank_of_lines capacity lines.old)) }
 {
-    let Ok(mut made) = BankInit::begin(alloc, capacity) else {
-        return Err(TextFault::NoMemory);
-    };
+    let mut made = BankInit::begin(alloc, capacity)?;
     add_lines(&mut made, lines)?;
     Ok(made.finish())
 }
@@ -106,9 +104,7 @@ fn read_map(alloc: Global, capacity: u64, lines: &mut Lines<'_>) -> Result<Map, 
     requires { (1 ≤ capacity) × (capacity ≤ 4096) }
     ensures { MatchResult result (λ map. map_of_lines capacity lines.old ≡ Ok map) (λ fault. Fails fault (map_of_lines capacity lines.old)) }
 {
-    let Ok(mut map) = Map::make(alloc, capacity) else {
-        return Err(TextFault::NoMemory);
-    };
+    let mut map = Map::make(alloc, capacity)?;
     add_lines(&mut map, lines)?;
     Ok(map)
 }
@@ -118,9 +114,7 @@ fn read_queue(alloc: Global, capacity: u64, lines: &mut Lines<'_>) -> Result<Que
     requires { (1 ≤ capacity) × (capacity ≤ 4096) }
     ensures { MatchResult result (λ queue. queue_of_lines capacity lines.old ≡ Ok queue) (λ fault. Fails fault (queue_of_lines capacity lines.old)) }
 {
-    let Ok(mut queue) = Queue::make(alloc, capacity) else {
-        return Err(TextFault::NoMemory);
-    };
+    let mut queue = Queue::make(alloc, capacity)?;
     add_lines(&mut queue, lines)?;
     Ok(queue)
 }
@@ -130,9 +124,7 @@ fn read_lease(alloc: Global, capacity: u64, lines: &mut Lines<'_>) -> Result<Lea
     requires { (1 ≤ capacity) × (capacity ≤ 4096) }
     ensures { MatchResult result (λ lease. lease_of_lines capacity lines.old ≡ Ok lease) (λ fault. Fails fault (lease_of_lines capacity lines.old)) }
 {
-    let Ok(mut lease) = Lease::make(alloc, capacity) else {
-        return Err(TextFault::NoMemory);
-    };
+    let mut lease = Lease::make(alloc, capacity)?;
     add_lines(&mut lease, lines)?;
     Ok(lease)
 }

@@ -1,5 +1,9 @@
 ghost use Rattle.std.specs.Prelude.{◌≡◌};
 ghost use Rattle.onll_text.specs.Refusal.{reason_text};
+ghost use Rattle.onll_text.specs.declared.reason.TextFault.TheVariants.{NoMemory};
+
+use onll_words::NoMemory;
+use std::alloc::AllocFailed;
 
 /// Why a text is refused.
 #[derive(Clone, Copy, Debug, PartialEq, Eq)]
@@ -58,4 +62,20 @@ pub enum TextFault {
     /// The text is outside its grammar. The line is the first refused one, from 1, or 0 for the whole file.
     Refused { line: u64, reason: Reason },
     NoMemory,
+}
+
+impl From<NoMemory> for TextFault {
+    ghost from_gives = { λ _ e. e ≡ NoMemory };
+
+    fn from(_e: NoMemory) -> TextFault {
+        TextFault::NoMemory
+    }
+}
+
+impl<T: Drop> From<AllocFailed<T>> for TextFault {
+    ghost from_gives = { λ _ e. e ≡ NoMemory };
+
+    fn from(_e: AllocFailed<T>) -> TextFault {
+        TextFault::NoMemory
+    }
 }

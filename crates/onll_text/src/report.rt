@@ -85,10 +85,8 @@ impl Report {
         ensures keeps { Keeps self.old self.new }
         ensures err { OnErr result (self.new ≡ self.old) }
     {
-        match self.bytes.extend_from_slice(text) {
-            Ok(()) => Ok(()),
-            Err(_) => Err(NoMemory),
-        }
+        self.bytes.extend_from_slice(text)?;
+        Ok(())
     }
 
     /// A word, after one space unless it begins a line.

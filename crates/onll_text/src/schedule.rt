@@ -144,9 +144,7 @@ fn read_lines(alloc: Global, lines: &mut Lines<'_>, threads: u64) -> Result<Sche
         match read_line(line, threads, steps) {
             Ok(ScheduleLine::Steps(turn)) => {
                 steps += turn.count;
-                if turns.push(turn).is_err() {
-                    return Err(TextFault::NoMemory);
-                }
+                turns.push(turn)?;
             }
             Ok(ScheduleLine::Crash { keep }) => return crashed(turns, keep, lines),
             Err(reason) => return Err(TextFault::Refused {

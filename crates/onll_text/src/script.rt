@@ -69,9 +69,7 @@ fn read_lines<O: Texted>(alloc: Global, lines: &mut Lines<'_>) -> Result<Vec<Cal
         match read_line(line, counts) {
             Ok((call, more)) => {
                 counts = more;
-                if calls.push(call).is_err() {
-                    return Err(TextFault::NoMemory);
-                }
+                calls.push(call)?;
             }
             Err(reason) => return Err(TextFault::Refused {
                 line: number,

@@ -8,6 +8,8 @@ mod short;
 mod tests;
 mod text;
 
+use std::alloc::{AllocError, AllocFailed};
+
 pub use line::{Line, OpRow, line_bytes, line_of_bytes};
 pub use number::{number_at, whole_number};
 pub use short::Short;
@@ -16,3 +18,15 @@ pub use text::{Cut, Lines, NumberedLine, split_word};
 /// Memory could not be had. It is the fault of a call that refuses for nothing else.
 #[derive(Clone, Copy, Debug, PartialEq, Eq)]
 pub struct NoMemory;
+
+impl From<AllocError> for NoMemory {
+    fn from(_e: AllocError) -> NoMemory {
+        NoMemory
+    }
+}
+
+impl<T: Drop> From<AllocFailed<T>> for NoMemory {
+    fn from(_e: AllocFailed<T>) -> NoMemory {
+        NoMemory
+    }
+}

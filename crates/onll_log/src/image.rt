@@ -11,12 +11,15 @@ use crate::head::LogHead;
 use onll_model::Node;
 use onll_words::{Line, OpRow};
 use std::alloc::{AllocError, Global};
+use thiserror::Error;
 
 /// Why an image is not decoded.
-#[derive(Clone, Copy, Debug, PartialEq, Eq)]
+#[derive(Clone, Copy, Debug, PartialEq, Eq, Error)]
 pub enum DecodeFault {
     /// There is no line, or the first one is no log's and some line is not zero.
+    #[error("the image is no log")]
     NotLog,
+    #[error("out of memory")]
     NoMemory,
 }
 

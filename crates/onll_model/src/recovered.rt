@@ -4,9 +4,11 @@ ghost use Rattle.onll_model.specs.Recovered.{operations_front};
 
 use crate::node::Node;
 use crate::object::Object;
+use thiserror::Error;
 
 /// A node whose row is the row of no operation of the object.
-#[derive(Clone, Copy, Debug, PartialEq, Eq)]
+#[derive(Clone, Copy, Debug, PartialEq, Eq, Error)]
+#[error("the row of place {place} is no operation")]
 pub struct NotOp {
     /// Its place among the nodes, from 1.
     pub place: u64,

@@ -19,12 +19,15 @@ pub use mem_store::{FenceAt, MemStore, Named};
 pub use out_sink::OutSink;
 pub use sink::Sink;
 pub use store::{FaultKind, Store};
+use thiserror::Error;
 
 /// Why a call to the outside was refused.
-#[derive(Clone, Copy, Debug, PartialEq, Eq)]
+#[derive(Clone, Copy, Debug, PartialEq, Eq, Error)]
 pub enum OutsideFault {
     /// The outside failed; the count of faults rose in this call.
+    #[error("the outside failed")]
     Failed,
     /// Memory could not be had.
+    #[error("out of memory")]
     NoMemory,
 }

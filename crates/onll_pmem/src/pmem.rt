@@ -3,9 +3,11 @@ ghost use Rattle.onll_pmem.specs.Device.{line_at, FillsWords};
 ghost use Rattle.onll_pmem.specs.Pmem.{DeviceView, told_written, told_backed, told_fenced, ToldLines};
 
 use onll_words::Line;
+use thiserror::Error;
 
 /// A fence did not take effect: nothing new is durable, and what was pending stays pending.
-#[derive(Clone, Copy, Debug, PartialEq, Eq)]
+#[derive(Clone, Copy, Debug, PartialEq, Eq, Error)]
+#[error("the fence failed")]
 pub struct FenceFailed;
 
 /// A row of lines that outlives a crash: a line is durable once it was written, written back and fenced with success.

@@ -9,6 +9,7 @@ mod tests;
 mod text;
 
 use std::alloc::{AllocError, AllocFailed};
+use thiserror::Error;
 
 pub use line::{Line, OpRow, line_bytes, line_of_bytes};
 pub use number::{number_at, whole_number};
@@ -16,7 +17,8 @@ pub use short::Short;
 pub use text::{Cut, Lines, NumberedLine, split_word};
 
 /// Memory could not be had. It is the fault of a call that refuses for nothing else.
-#[derive(Clone, Copy, Debug, PartialEq, Eq)]
+#[derive(Clone, Copy, Debug, PartialEq, Eq, Error)]
+#[error("out of memory")]
 pub struct NoMemory;
 
 impl From<AllocError> for NoMemory {

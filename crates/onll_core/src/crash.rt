@@ -45,7 +45,8 @@ fn heads_of<O: Object>(alloc: Global, workers: &[Worker<O>]) -> Result<Vec<LogHe
 
 /// What the image of this number holds.
 fn decode_one(alloc: Global, log: u64, image: &[Line]) -> Result<Decoded, ImagesFault>
-    ensures { MatchResult result (λ d. content_of (words_of image.now) ≡ Some (content_in d)) (λ e. (e ≡ Recover OutOfMemory) ⊎ ((content_of (words_of image.now) ≡ None) × (e ≡ NotLog log))) }
+    ensures { let content = content_of (words_of image.now) in
+        MatchResult result (λ decoded. content ≡ Some (content_in decoded)) (λ e. (e ≡ Recover OutOfMemory) ⊎ ((content ≡ None) × (e ≡ NotLog log))) }
 {
     match decode(alloc, image) {
         Ok(decoded) => Ok(decoded),
@@ -56,7 +57,8 @@ fn decode_one(alloc: Global, log: u64, image: &[Line]) -> Result<Decoded, Images
 
 /// What all images hold.
 fn decode_all(alloc: Global, images: &[Vec<Line>]) -> Result<Vec<Decoded>, ImagesFault>
-    ensures { MatchResult result (λ logs. map content_of (map (λ image. words_of image.items) images.now) ≡ map Some (contents_in logs.items)) (λ e. (e ≡ Recover OutOfMemory) ⊎ (not_log 0 (map (λ image. words_of image.items) images.now) ≡ Some e)) }
+    ensures { let lines = map (λ image. words_of image.items) images.now in
+        MatchResult result (λ logs. map content_of lines ≡ map Some (contents_in logs.items)) (λ e. (e ≡ Recover OutOfMemory) ⊎ (not_log 0 lines ≡ Some e)) }
 {
     let mut logs = Vec::new(alloc);
     for (log, image) in images.iter().enumerate() {
@@ -73,7 +75,8 @@ fn recover_images(
 ) -> Result<Vec<Node>, ImagesFault>
     requires few { length images.now ≤ 16 }
     requires heads { length heads.now ≡ length images.now }
-    ensures { MatchResult result (λ v. merge_images heads.now (map (λ image. words_of image.items) images.now) ≡ Ok v.items) (λ e. (e ≡ Recover OutOfMemory) ⊎ (merge_images heads.now (map (λ image. words_of image.items) images.now) ≡ Err e)) }
+    ensures { let merged = merge_images heads.now (map (λ image. words_of image.items) images.now) in
+        MatchResult result (λ nodes. merged ≡ Ok nodes.items) (λ e. (e ≡ Recover OutOfMemory) ⊎ (merged ≡ Err e)) }
 {
     let logs = decode_all(alloc, images)?;
     match recover(alloc, &logs, heads) {
@@ -102,8 +105,11 @@ impl<O: Object + Drop> Core<O> {
         images: &[Vec<Line>],
     ) -> Result<Vec<Node>, ImagesFault>
         requires { length images.now ≡ length self.now.threads }
-        ensures all { MatchResult result (λ v. merge_images (heads_of self.now.threads) (map (λ image. words_of image.items) images.now) ≡ Ok v.items) (λ e. (e ≡ Recover OutOfMemory) ⊎ (merge_images (heads_of self.now.threads) (map (λ image. words_of image.items) images.now) ≡ Err e)) }
-        ensures own { AreImages self.now.threads (map (λ image. words_of image.items) images.now) → (all : RecoversAll O.means (heads_of self.now.threads) self.now (map (λ image. words_of image.items) images.now)) × MatchResult result (λ v. v.items ≡ all.recovers.nodes) (λ e. e ≡ Recover OutOfMemory) }
+        ensures all { let merged = merge_images (heads_of self.now.threads) (map (λ image. words_of image.items) images.now) in
+            MatchResult result (λ nodes. merged ≡ Ok nodes.items) (λ e. (e ≡ Recover OutOfMemory) ⊎ (merged ≡ Err e)) }
+        ensures own { let lines = map (λ image. words_of image.items) images.now in
+            AreImages self.now.threads lines →
+            (all : RecoversAll O.means (heads_of self.now.threads) self.now lines) × MatchResult result (λ nodes. nodes.items ≡ all.recovers.nodes) (λ e. e ≡ Recover OutOfMemory) }
     {
         self.reached();
         match heads_of(alloc, self.workers()) {

@@ -8,13 +8,12 @@ mod short;
 mod tests;
 mod text;
 
-use std::alloc::{AllocError, AllocFailed};
-use thiserror::Error;
-
 pub use line::{Line, OpRow, line_bytes, line_of_bytes};
 pub use number::{number_at, whole_number};
 pub use short::Short;
+use std::alloc::{AllocError, AllocFailed};
 pub use text::{Cut, Lines, NumberedLine, split_word};
+use thiserror::Error;
 
 /// Memory could not be had. It is the fault of a call that refuses for nothing else.
 #[derive(Clone, Copy, Debug, PartialEq, Eq, Error)]

@@ -7,8 +7,8 @@ loop-thread-preserved c =
     let thread = c.loop-thread.thread in
     let heads = c.loop-thread.heads.items in
     let images = c.args.images.now in
-    let pushed : c.push.new.self.items ≡ heads ++ c.head_of-head.result ∷ [] = search rules in
+    let pushed : c.push.new.self.items ≡ heads ++ c.head_of.result ∷ [] = search rules in
     record {
-      all = rw pushed (head_more c.args.object (length images) thread c.args.init.now heads images c.index-images-thread.result c.head_of-head.result (omega arith) c.index-images-thread.is c.head_of-head.ensures ∙ c.loop-thread.invariant.all);
-      count = omega (arith, ap length pushed, length-append heads (c.head_of-head.result ∷ []), c.loop-thread.invariant.count);
+      all = rw pushed (head_more c.args.object (length images) thread c.args.init.now heads images c.index-images-thread.result c.head_of.result (omega arith) c.index-images-thread.is c.head_of.ensures ∙ c.loop-thread.invariant.all);
+      count = omega (arith, ap length pushed, length-append heads (c.head_of.result ∷ []), c.loop-thread.invariant.count);
     }

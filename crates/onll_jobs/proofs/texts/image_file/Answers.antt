@@ -4,9 +4,9 @@ use Rattle.onll_jobs.specs.Reading.{HoldsImage}
 use Rattle.onll_jobs.proofs.Cuts.{image_of}
 use Rattle.onll_jobs.proofs.texts.image_file.Goals as goal
 
-pub returns-in-Ok-image_lines-clause-lines : goal.returns-in-Ok-image_lines-clause-lines
-returns-in-Ok-image_lines-clause-lines g c =
+pub returns-clause-lines : goal.returns-clause-lines
+returns-clause-lines g c =
     let store = g.S.Store.seen c.args.store.now in
     let bytes = c.in-Ok.bytes.items in
-    subst (HoldsImage store c.args.name.now) (sym (c.in-Ok-image_lines.ensures ∙ ap image_lines c.deref.ensures.value))
+    subst (HoldsImage store c.args.name.now) (sym (c.in_ok-image_lines.ensures ∙ ap image_lines c.deref.ensures.value))
     (image_of store c.args.name.now bytes c.in-Ok.ensures.bytes)

@@ -13,10 +13,10 @@ use Rattle.onll_jobs.specs.declared.answer.Stop.{Stop}
 use Rattle.onll_jobs.specs.declared.answer.Stop.TheVariants as stops
 use Rattle.onll_jobs.specs.Stop.{StopSays}
 use Rattle.onll_jobs.specs.Reading.{HoldsImage, CannotRead}
-use Rattle.onll_jobs.specs.Job.{Job, JobSays, SaysNow, Never}
+use Rattle.onll_jobs.specs.Job.{Job, JobEnds, SaysNow, Never}
 use Rattle.onll_jobs.specs.Images.{image_name, images_in, reading_images, HoldImages, CannotReadImages}
-use Rattle.onll_jobs.proofs.Jobs.{cannot_from, stopped_says}
-use Rattle.onll_jobs.proofs.Shown.{says_now}
+use Rattle.onll_jobs.proofs.Jobs.{files_stay, cannot_from, stopped_says}
+use Rattle.onll_jobs.proofs.Onwards.{now_ends}
 use Rattle.onll_jobs.proofs.Stops.{StopSays-weaker}
 
 -- Reading the images of threads, one after the other.
@@ -79,8 +79,8 @@ cannot_next store mid after logs thread threads images s so more h =
     }) h
 
 -- all images were read, and the job goes on with them
-pub images_on : (store after : StoreView) (logs : List ℕ) (i : ℕ) (images : List (List (List ℕ))) (next : List (List (List ℕ)) → Job) (ending : Ending) (text : List ℕ)
-    → HoldImages store logs i images → JobSays store after (next images) ending text → JobSays store after (reading_images logs i (length images) next) ending text
+images_on : (store after : StoreView) (logs : List ℕ) (i : ℕ) (images : List (List (List ℕ))) (next : List (List (List ℕ)) → Job) (ending : Ending) (text : List ℕ)
+    → HoldImages store logs i images → JobEnds store after (next images) ending text → JobEnds store after (reading_images logs i (length images) next) ending text
 images_on store after logs i [] next ending text h said = said
 images_on store after logs i (x ∷ xs) next ending text h said =
     inr (
@@ -88,44 +88,40 @@ images_on store after logs i (x ∷ xs) next ending text h said =
       (
         h.0.held,
         images_on store after logs (suc i) xs (λ rest. next (image_lines h.0.bytes ∷ rest)) ending text h.1
-            (subst (λ lines. JobSays store after (next (lines ∷ xs)) ending text) h.0.image said),
+            (subst (λ lines. JobEnds store after (next (lines ∷ xs)) ending text) h.0.image said),
       ),
     )
 
-stopped_after : (store after : StoreView) (logs : List ℕ) (i threads : ℕ) (before : List (List (List ℕ))) (next : List (List (List ℕ)) → Job) (ending : Ending) (text : List ℕ)
-    → HoldImages store logs i before → length before < threads → CannotRead store after (image_name logs (i + length before)) ending text → JobSays store after (reading_images logs i threads next) ending text
-stopped_after store after logs i zero before next ending text h more u = absurd (omega (arith, more))
-stopped_after store after logs i (suc threads) [] next ending text h more u =
-    let e : i + 0 ≡ i = omega arith in inl (subst (λ n. CannotRead store after (image_name logs n) ending text) e u)
-stopped_after store after logs i (suc threads) (x ∷ xs) next ending text h more u =
+stopped_after : (store after : StoreView) (logs : List ℕ) (i threads : ℕ) (before : List (List (List ℕ))) (next : List (List (List ℕ)) → Job) (ending : Ending) (text : List ℕ) → SameFiles store after
+    → HoldImages store logs i before → length before < threads → CannotRead store after (image_name logs (i + length before)) ending text → JobEnds store after (reading_images logs i threads next) ending text
+stopped_after store after logs i zero before next ending text same h more u = absurd (omega (arith, more))
+stopped_after store after logs i (suc threads) [] next ending text same h more u =
+    let e : i + 0 ≡ i = omega arith in inl (subst (λ n. CannotRead store after (image_name logs n) ending text) e u, files_stay store after same)
+stopped_after store after logs i (suc threads) (x ∷ xs) next ending text same h more u =
     let e : i + suc (length xs) ≡ suc i + length xs = omega arith in
     inr (
       h.0.bytes,
       (
         h.0.held,
-        stopped_after store after logs (suc i) threads xs (λ rest. next (image_lines h.0.bytes ∷ rest)) ending text h.1 (omega (arith, more))
+        stopped_after store after logs (suc i) threads xs (λ rest. next (image_lines h.0.bytes ∷ rest)) ending text same h.1 (omega (arith, more))
             (subst (λ n. CannotRead store after (image_name logs n) ending text) e u),
       ),
     )
 
--- one could not be read, and the call ends so
-pub images_stopped : (store after : StoreView) (logs : List ℕ) (threads : ℕ) (next : List (List (List ℕ)) → Job) (ending : Ending) (text : List ℕ)
-    → CannotReadImages store after logs 0 threads ending text → JobSays store after (reading_images logs 0 threads next) ending text
-images_stopped store after logs threads next ending text h = stopped_after store after logs 0 threads h.before next ending text h.held h.more h.unread
-
 -- this many images were read, and the job says so of them
-pub images_said : (store after : StoreView) (logs : List ℕ) (threads : ℕ) (images : List (List Line)) (next : List (List (List ℕ)) → Job) (ending : Ending) (text : List ℕ)
-    → HoldImages store logs 0 (images_in images) → length images ≡ threads → SaysNow (next (images_in images)) ending text → JobSays store after (reading_images logs 0 threads next) ending text
-images_said store after logs threads images next ending text h n said =
-    subst (λ m. JobSays store after (reading_images logs 0 m next) ending text) (length-map images words_of ∙ n)
-    (images_on store after logs 0 (images_in images) next ending text h (says_now store after (next (images_in images)) ending text said))
+pub images_said : (store after : StoreView) (logs : List ℕ) (threads : ℕ) (images : List (List Line)) (next : List (List (List ℕ)) → Job) (ending : Ending) (text : List ℕ) → SameFiles store after
+    → HoldImages store logs 0 (images_in images) → length images ≡ threads → SaysNow (next (images_in images)) ending text → JobEnds store after (reading_images logs 0 threads next) ending text
+images_said store after logs threads images next ending text same h n said =
+    subst (λ m. JobEnds store after (reading_images logs 0 m next) ending text) (length-map images words_of ∙ n)
+    (images_on store after logs 0 (images_in images) next ending text h (now_ends store after (next (images_in images)) ending text same said))
 
--- what was said in place of the images
-pub images_answered : (store after : StoreView) (logs : List ℕ) (threads : ℕ) (next : List (List (List ℕ)) → Job) (s : Stop) (r : Result Answer NoMemory)
+-- one could not be read, and the answer says so
+pub images_answered : (store after : StoreView) (logs : List ℕ) (threads : ℕ) (next : List (List (List ℕ)) → Job) (s : Stop) (r : Result Answer NoMemory) → SameFiles store after
     → MatchResult r (λ answer. s ≡ stops.Says answer) (λ e. s ≡ stops.NoMemory) → StopSays s (CannotReadImages store after logs 0 threads)
-    → IfOk r (λ answer. JobSays store after (reading_images logs 0 threads next) answer.ending answer.text.items)
-images_answered store after logs threads next s r m h =
-    stopped_says s r (CannotReadImages store after logs 0 threads) (JobSays store after (reading_images logs 0 threads next)) (λ e t. images_stopped store after logs threads next e t) m h
+    → IfOk r (λ answer. JobEnds store after (reading_images logs 0 threads next) answer.ending answer.text.items)
+images_answered store after logs threads next s r same m h =
+    stopped_says s r (CannotReadImages store after logs 0 threads) (JobEnds store after (reading_images logs 0 threads next))
+    (λ e t k. stopped_after store after logs 0 threads k.before next e t same k.held k.more k.unread) m h
 
 -- a job that reads images and goes on so never says the usage
 pub reading_images_never : (logs : List ℕ) (threads i : ℕ) (next : List (List (List ℕ)) → Job) → ((images : List (List (List ℕ))) → Never Usage (next images)) → Never Usage (reading_images logs i threads next)

@@ -25,10 +25,9 @@ use Rattle.onll_jobs.specs.Reading.{Reads, Stops}
 use Rattle.onll_jobs.specs.Writing.{SameBut}
 use Rattle.onll_jobs.specs.Images.{images_in, writing_images, AreWritten, ImagesStop, ImagesCut}
 use Rattle.onll_jobs.specs.RecoverJob.{recovered}
-use Rattle.onll_jobs.specs.Job.{Job, Say, Read, Write, JobEnds, JobCut, GoesOn, SaysNow}
+use Rattle.onll_jobs.specs.Job.{Job, JobEnds, JobCut, GoesOn, SaysNow}
 use Rattle.onll_jobs.specs.ReplayJob.{reading_scripts, AreRead, ScriptsStop, played, crash_says, crash_job, schedule_job}
-use Rattle.onll_jobs.proofs.Jobs.{files_stay}
-use Rattle.onll_jobs.proofs.Onwards.{stay_cut, goes_same, goes_after, on_text, stopped_ends}
+use Rattle.onll_jobs.proofs.Onwards.{stay_cut, now_ends, goes_same, goes_after, on_text, stopped_ends}
 use Rattle.onll_jobs.proofs.Stops.{StopSays-weaker}
 
 -- The parts of a replay, one after the other.
@@ -67,7 +66,7 @@ module _ {State Op Query Reply : Type 0} (w : Wording State Op Query Reply) wher
       (λ rest. o.1 (calls ∷ rest) ∙ ap next (sym (append_assoc scripts (calls ∷ []) rest)) ∙ ap (λ l. next (l ++ rest)) (sym e)),
       goes_after store mid new (reading_scripts w names next) (reading_scripts w before o.0) (reading_scripts w left (λ rest. o.0 (calls ∷ rest))) o.2
           (subst (λ l. GoesOn mid new (reading_scripts w l o.0) (reading_scripts w left (λ rest. o.0 (calls ∷ rest)))) (sym split)
-          (on_text mid new name (script_of w) (λ c. reading_scripts w left (λ rest. o.0 (c ∷ rest))) calls r (files_stay mid new files) faults)),
+          (on_text mid new name (script_of w) (λ c. reading_scripts w left (λ rest. o.0 (c ∷ rest))) calls r files faults)),
     );
     same = same_more store mid new so.same files;
   }
@@ -78,7 +77,7 @@ module _ {State Op Query Reply : Type 0} (w : Wording State Op Query Reply) wher
   script_stopped store mid after names left before name scripts s split so files stop =
       StopSays-weaker s (Stops mid after (script_of w) name) (ScriptsStop w store after names)
       (λ ending text k next. let o = so.on next in o.2.ends after ending text (subst (λ l. JobEnds mid after (reading_scripts w l o.0) ending text) (sym split)
-      (stopped_ends mid after name (script_of w) (λ bytes c. reading_scripts w left (λ rest. o.0 (c ∷ rest))) ending text (files_stay mid after files) k))) stop
+      (stopped_ends mid after name (script_of w) (λ bytes c. reading_scripts w left (λ rest. o.0 (c ∷ rest))) ending text files k))) stop
 
   -- all were read
   pub scripts_read : (store new : StoreView) (names left : List (List ℕ)) (scripts : List (List (Call State Op Query Reply))) → left ≡ [] → ScriptsSo store new names left scripts → AreRead w store new names scripts
@@ -96,18 +95,13 @@ words_in items (x ∷ made) = ap (λ l. words_of (items x) ∷ l) (words_in item
 pub images_are : {V : Type 0} (items : V → List Line) (all : List (List Line)) (made : List V) (images : List (List (List ℕ))) → all ≡ map items made → map (λ (image : V). words_of (items image)) made ≡ images → images_in all ≡ images
 images_are items all made images e h = ap images_in e ∙ words_in items made ∙ h
 
-now_ends : (store : StoreView) (job : Job) (ending : Ending) (text : List ℕ) → SaysNow job ending text → JobEnds store store job ending text
-now_ends store (Say e t) ending text h = (h.0, h.1, record { tells = refl; file = λ tells name. refl })
-now_ends store (Read name next) ending text h = absurd h
-now_ends store (Write name bytes next) ending text h = absurd h
-
 module _ {State Op Query Reply : Type 0} (b : Behaviour State Op Query Reply) (w : Wording State Op Query Reply) (code : ℕ) (init logs : List ℕ) where
   -- the images were written, and this is said of what they give
   pub crash_ends : (c : CoreState State Op Query Reply) (keep : ℕ) (store mid : StoreView) (images : List (List (List ℕ))) (ending : Ending) (text : List ℕ) → images ≡ images_of keep c.threads
       → AreWritten store mid logs images → SaysNow (crash_says b w c keep (recovered b code init images)) ending text → JobEnds store mid (crash_job b w code init logs c keep) ending text
   crash_ends c keep store mid images ending text e written h =
       subst (λ l. JobEnds store mid (writing_images logs 0 l (crash_says b w c keep (recovered b code init l))) ending text) e
-      ((written (crash_says b w c keep (recovered b code init images))).ends mid ending text (now_ends mid (crash_says b w c keep (recovered b code init images)) ending text h))
+      ((written (crash_says b w c keep (recovered b code init images))).ends mid ending text (now_ends mid mid (crash_says b w c keep (recovered b code init images)) ending text (record { tells = refl; file = λ name. refl }) h))
 
   -- they were written, and then memory could not be had
   pub crash_cut : (c : CoreState State Op Query Reply) (keep : ℕ) (store mid : StoreView) (images : List (List (List ℕ))) → images ≡ images_of keep c.threads
@@ -137,21 +131,7 @@ module _ {State Op Query Reply : Type 0} (b : Behaviour State Op Query Reply) (w
       let r' = subst (λ m. Reads store (schedule_of m) schedule plan) n r in
       let job : Schedule → Job = λ p. crash_job b w code init logs (played b code init s scripts p.turns) p.keep in
       subst (λ (k : CoreState State Op Query Reply). GoesOn store mid (schedule_job b w code init s schedule logs scripts) (crash_job b w code init logs k plan.keep)) (sym e)
-      (on_text store mid schedule (schedule_of (length scripts)) job plan r' (files_stay store mid files) faults)
-
-  -- and it ends as that core's crash does
-  pub schedule_ends : (s : State) (schedule : List ℕ) (scripts : List (List (Call State Op Query Reply))) (threads : ℕ) (plan : Schedule) (c : CoreState State Op Query Reply) (store mid after : StoreView) (ending : Ending) (text : List ℕ)
-      → threads ≡ length scripts → Reads store (schedule_of threads) schedule plan → SameFiles store mid → SameFaults store mid → c ≡ played b code init s scripts plan.turns
-      → JobEnds mid after (crash_job b w code init logs c plan.keep) ending text → JobEnds store after (schedule_job b w code init s schedule logs scripts) ending text
-  schedule_ends s schedule scripts threads plan c store mid after ending text n r files faults e h =
-      (schedule_on s schedule scripts threads plan c store mid n r files faults e).ends after ending text h
-
-  -- the schedule gives no turns
-  pub schedule_stopped : (s : State) (schedule : List ℕ) (scripts : List (List (Call State Op Query Reply))) (threads : ℕ) (store after : StoreView) (ending : Ending) (text : List ℕ)
-      → threads ≡ length scripts → SameFiles store after → Stops store after (schedule_of threads) schedule ending text → JobEnds store after (schedule_job b w code init s schedule logs scripts) ending text
-  schedule_stopped s schedule scripts threads store after ending text n files h =
-      stopped_ends store after schedule (schedule_of (length scripts)) (λ bytes (p : Schedule). crash_job b w code init logs (played b code init s scripts p.turns) p.keep) ending text (files_stay store after files)
-      (subst (λ m. Stops store after (schedule_of m) schedule ending text) n h)
+      (on_text store mid schedule (schedule_of (length scripts)) job plan r' files faults)
 
 -- ---- the core
 -- each row of a core that was made and took steps is an operation's

@@ -1,4 +1,4 @@
-use Rattle.std.proofs.Common.{ℕ, ◌≡◌, ◌+◌, ◌<◌, List, [], ◌∷◌, ◌++◌, IsSome, length, drop, get_or, map, refl, sym, ap, ◌∙◌, subst, append_assoc, append-nil}
+use Rattle.std.proofs.Common.{ℕ, ◌≡◌, ◌+◌, ◌<◌, List, [], ◌∷◌, ◌++◌, IsSome, length, drop, get_or, map, refl, sym, ap, ◌∙◌, subst}
 use Rattle.std.proofs.lemmas.List.{drop_more}
 use Rattle.std.specs.List.{AllByRecursion}
 use Rattle.onll_words.specs.declared.line.Line.{Line}
@@ -26,16 +26,13 @@ use Rattle.onll_jobs.specs.Writing.{SameBut}
 use Rattle.onll_jobs.specs.Images.{images_in, writing_images, AreWritten, ImagesStop, ImagesCut}
 use Rattle.onll_jobs.specs.RecoverJob.{recovered}
 use Rattle.onll_jobs.specs.Job.{Job, JobEnds, JobCut, GoesOn, SaysNow}
-use Rattle.onll_jobs.specs.ReplayJob.{reading_scripts, AreRead, ScriptsStop, played, crash_says, crash_job, schedule_job}
-use Rattle.onll_jobs.proofs.Onwards.{stay_cut, now_ends, goes_same, goes_after, on_text, stopped_ends}
+use Rattle.onll_jobs.specs.ReplayJob.{reading_scripts, ScriptsStop, played, crash_says, crash_job, schedule_job}
+use Rattle.onll_jobs.proofs.Onwards.{ReadSo, stay_cut, now_ends, on_text, value_next, value_stopped, stopped_ends}
 use Rattle.onll_jobs.proofs.Stops.{StopSays-weaker}
 
 -- The parts of a replay, one after the other.
 
 -- ---- where no file changes
-pub same_more : (store mid after : StoreView) → SameFiles store mid → SameFiles mid after → SameFiles store after
-same_more store mid after first then_ = record { tells = then_.tells ∙ first.tells; file = λ name. then_.file name ∙ first.file name }
-
 pub same_but : (names : List (List ℕ)) (store mid after : StoreView) → SameFiles store mid → SameBut names mid after → SameBut names store after
 same_but names store mid after first then_ = record { tells = then_.tells ∙ first.tells; file = λ other differs. then_.file other differs ∙ first.file other }
 
@@ -47,44 +44,23 @@ pub name_next : {X : Type 0} (f : X → List ℕ) (names : List X) (i : ℕ) (na
 name_next f names i name h same = ap (map f) (drop_more names i name h) ∙ ap (λ x. f x ∷ map f (drop (i + 1) names)) (sym same)
 
 module _ {State Op Query Reply : Type 0} (w : Wording State Op Query Reply) where
-  -- Some scripts were read and no file changed: a job that reads all goes on to those that are left, and has the others before them.
-  pub record ScriptsSo (store mid : StoreView) (names left : List (List ℕ)) (scripts : List (List (Call State Op Query Reply))) : Type 0 where
-    pub on : (next : List (List (Call State Op Query Reply)) → Job)
-        → (rest_next : List (List (Call State Op Query Reply)) → Job) × ((rest : List (List (Call State Op Query Reply))) → rest_next rest ≡ next (scripts ++ rest)) × GoesOn store mid (reading_scripts w names next) (reading_scripts w left rest_next)
-    pub same : SameFiles store mid
-
-  pub none_read : (store : StoreView) (names : List (List ℕ)) (scripts : List (List (Call State Op Query Reply))) → scripts ≡ [] → ScriptsSo store store names names scripts
-  none_read store names scripts e = subst (ScriptsSo store store names names) (sym e) (record { on = λ next. (next, (λ rest. refl), goes_same store (reading_scripts w names next)); same = record { tells = refl; file = λ name. refl } })
-
   -- one script more
   pub script_next : (store mid new : StoreView) (names left before : List (List ℕ)) (name : List ℕ) (scripts all : List (List (Call State Op Query Reply))) (calls : List (Call State Op Query Reply))
-      → before ≡ name ∷ left → ScriptsSo store mid names before scripts → SameFiles mid new → SameFaults mid new → Reads mid (script_of w) name calls → all ≡ scripts ++ calls ∷ []
-      → ScriptsSo store new names left all
-  script_next store mid new names left before name scripts all calls split so files faults r e = record {
-    on = λ next. let o = so.on next in (
-      λ rest. o.0 (calls ∷ rest),
-      (λ rest. o.1 (calls ∷ rest) ∙ ap next (sym (append_assoc scripts (calls ∷ []) rest)) ∙ ap (λ l. next (l ++ rest)) (sym e)),
-      goes_after store mid new (reading_scripts w names next) (reading_scripts w before o.0) (reading_scripts w left (λ rest. o.0 (calls ∷ rest))) o.2
-          (subst (λ l. GoesOn mid new (reading_scripts w l o.0) (reading_scripts w left (λ rest. o.0 (calls ∷ rest)))) (sym split)
-          (on_text mid new name (script_of w) (λ c. reading_scripts w left (λ rest. o.0 (c ∷ rest))) calls r files faults)),
-    );
-    same = same_more store mid new so.same files;
-  }
+      → before ≡ name ∷ left → ReadSo store mid (reading_scripts w names) (reading_scripts w before) scripts → SameFiles mid new → SameFaults mid new → Reads mid (script_of w) name calls → all ≡ scripts ++ calls ∷ []
+      → ReadSo store new (reading_scripts w names) (reading_scripts w left) all
+  script_next store mid new names left before name scripts all calls split so files faults r e =
+      value_next store mid new (reading_scripts w names) (reading_scripts w before) (reading_scripts w left) scripts all calls so files faults
+      (λ next. subst (λ l. GoesOn mid new (reading_scripts w l next) (reading_scripts w left (λ rest. next (calls ∷ rest)))) (sym split)
+      (on_text mid new name (script_of w) (λ c. reading_scripts w left (λ rest. next (c ∷ rest))) calls r files faults)) e
 
   -- the next script gives no calls
   pub script_stopped : (store mid after : StoreView) (names left before : List (List ℕ)) (name : List ℕ) (scripts : List (List (Call State Op Query Reply))) (s : Stop)
-      → before ≡ name ∷ left → ScriptsSo store mid names before scripts → SameFiles mid after → StopSays s (Stops mid after (script_of w) name) → StopSays s (ScriptsStop w store after names)
+      → before ≡ name ∷ left → ReadSo store mid (reading_scripts w names) (reading_scripts w before) scripts → SameFiles mid after → StopSays s (Stops mid after (script_of w) name) → StopSays s (ScriptsStop w store after names)
   script_stopped store mid after names left before name scripts s split so files stop =
       StopSays-weaker s (Stops mid after (script_of w) name) (ScriptsStop w store after names)
-      (λ ending text k next. let o = so.on next in o.2.ends after ending text (subst (λ l. JobEnds mid after (reading_scripts w l o.0) ending text) (sym split)
-      (stopped_ends mid after name (script_of w) (λ bytes c. reading_scripts w left (λ rest. o.0 (c ∷ rest))) ending text files k))) stop
-
-  -- all were read
-  pub scripts_read : (store new : StoreView) (names left : List (List ℕ)) (scripts : List (List (Call State Op Query Reply))) → left ≡ [] → ScriptsSo store new names left scripts → AreRead w store new names scripts
-  scripts_read store new names left scripts e so next =
-      let o = so.on next in
-      goes_after store new new (reading_scripts w names next) (reading_scripts w left o.0) (next scripts) o.2
-      (subst (λ l. GoesOn new new (reading_scripts w l o.0) (next scripts)) (sym e) (subst (λ j. GoesOn new new j (next scripts)) (sym (o.1 [] ∙ ap next (append-nil scripts))) (goes_same new (next scripts))))
+      (λ ending text k. value_stopped store mid after (reading_scripts w names) (reading_scripts w before) scripts ending text so
+      (λ next. subst (λ l. JobEnds mid after (reading_scripts w l next) ending text) (sym split)
+      (stopped_ends mid after name (script_of w) (λ bytes c. reading_scripts w left (λ rest. next (c ∷ rest))) ending text files k))) stop
 
 -- ---- the crash
 -- the images of lines are those that the lines are
@@ -101,7 +77,7 @@ module _ {State Op Query Reply : Type 0} (b : Behaviour State Op Query Reply) (w
       → AreWritten store mid logs images → SaysNow (crash_says b w c keep (recovered b code init images)) ending text → JobEnds store mid (crash_job b w code init logs c keep) ending text
   crash_ends c keep store mid images ending text e written h =
       subst (λ l. JobEnds store mid (writing_images logs 0 l (crash_says b w c keep (recovered b code init l))) ending text) e
-      ((written (crash_says b w c keep (recovered b code init images))).ends mid ending text (now_ends mid mid (crash_says b w c keep (recovered b code init images)) ending text (record { tells = refl; file = λ name. refl }) h))
+      ((written (crash_says b w c keep (recovered b code init images))).ends mid ending text (now_ends mid (crash_says b w c keep (recovered b code init images)) ending text h))
 
   -- they were written, and then memory could not be had
   pub crash_cut : (c : CoreState State Op Query Reply) (keep : ℕ) (store mid : StoreView) (images : List (List (List ℕ))) → images ≡ images_of keep c.threads

@@ -1,23 +1,27 @@
-use Rattle.std.proofs.Common.{ℕ, zero, suc, true, false, List, ◌≡◌, inl, inr, ⊎_elim, Option, Some, cond, ◌+◌, ◌<◌, length, drop, get_or, true≢false, Result, Ok, Err, sym, ap, ◌∙◌, subst, arith}
+use Rattle.std.proofs.Common.{ℕ, zero, suc, true, false, List, [], ◌∷◌, ◌++◌, ◌≡◌, inl, inr, ⊎_elim, Option, Some, cond, ◌+◌, ◌<◌, length, drop, get_or, true≢false, Result, Ok, Err, refl, sym, ap, ◌∙◌, subst, arith, append_assoc, append-nil}
 use Rattle.std.proofs.lemmas.List.{drop_more}
 use Rattle.std.proofs.lemmas.Bool.{cases_Bool}
 use Rattle.std.proofs.lemmas.Slice.Eq.{bytes_eq-Decides}
 use Rattle.std.specs.List.{AllByRecursion}
-use Rattle.std.specs.Result.{IfErr}
+use Rattle.std.specs.Result.{IfOk, IfErr, MatchResult}
 use Rattle.std.specs.Str.{bytes_eq}
+use Rattle.onll_words.specs.declared.NoMemory.{NoMemory}
 use Rattle.onll_words.specs.declared.line.Line.{Line}
 use Rattle.onll_pmem.specs.Pmem.{words_of}
-use Rattle.onll_outside.specs.Views.{StoreView, SameOthers, SameFaults, Rose, Holds}
+use Rattle.onll_log.specs.ImageFile.{image_lines}
+use Rattle.onll_outside.specs.Views.{StoreView, SameFiles, SameOthers, SameFaults, Rose, Holds}
 use Rattle.onll_text.specs.Refusal.{Refusal}
 use Rattle.onll_jobs.specs.declared.ending.Ending.{Ending}
 use Rattle.onll_jobs.specs.declared.ending.Ending.TheVariants.{Done, Usage, Refused, BadLog, ReadFault, WriteFault}
+use Rattle.onll_jobs.specs.declared.answer.Answer.{Answer}
 use Rattle.onll_jobs.specs.declared.answer.Stop.{Stop}
+use Rattle.onll_jobs.specs.declared.answer.Stop.TheVariants as stops
 use Rattle.onll_jobs.specs.Stop.{StopSays}
-use Rattle.onll_jobs.specs.Reading.{Reads, ReadsWhole, Stops}
+use Rattle.onll_jobs.specs.Reading.{Reads, ReadsWhole, HoldsImage, Stops}
 use Rattle.onll_jobs.specs.Images.{image_name, images_in, image_bytes, image_names, writing_images, ImagesStop, ImagesCut}
 use Rattle.onll_jobs.specs.Writing.{FilesStay, OthersStay, SameBut, HasWritten, CannotWrite, written}
-use Rattle.onll_jobs.specs.Job.{Job, Say, Read, Write, JobEnds, JobCut, GoesOn, on_value, reading, reading_whole}
-use Rattle.onll_jobs.proofs.Jobs.{cannot_from, says_ends, read_stopped}
+use Rattle.onll_jobs.specs.Job.{Job, Say, Read, Write, JobEnds, JobCut, GoesOn, SaysNow, on_value, reading, reading_whole}
+use Rattle.onll_jobs.proofs.Jobs.{files_stay, cannot_from, stopped_says}
 use Rattle.onll_jobs.proofs.Stops.{StopSays-weaker}
 
 -- How jobs that read and write go on.
@@ -84,6 +88,16 @@ pub on_any_error : {A E P : Type 0} (r : Result A E) → P → IfErr r (λ e. P)
 on_any_error (Ok x) h = tt
 on_any_error (Err e) h = h
 
+-- no file changed, and memory could not be had
+pub stayed : {A E : Type 0} (store after : StoreView) (job : Job) (r : Result A E) → SameFiles store after → IfErr r (λ e. JobCut store after job)
+stayed store after job r same = on_any_error r (stay_cut store after job (files_stay store after same))
+
+-- what is said at once
+pub now_ends : (store : StoreView) (job : Job) (ending : Ending) (text : List ℕ) → SaysNow job ending text → JobEnds store store job ending text
+now_ends store (Say e t) ending text h = (h.0, h.1, record { tells = refl; file = λ tells name. refl })
+now_ends store (Read name next) ending text h = absurd h
+now_ends store (Write name bytes next) ending text h = absurd h
+
 -- ---- jobs one after the other
 pub goes_same : (store : StoreView) (job : Job) → GoesOn store store job job
 goes_same store job = record { ends = λ after ending text h. h; cut = λ after h. h }
@@ -94,22 +108,99 @@ goes_after store mid new job next last first then_ = record {
   cut = λ after h. first.cut after (then_.cut after h);
 }
 
+-- what the rest answers is the answer of the whole
+pub says_on : (store mid after : StoreView) (job next : Job) (r : Result Answer NoMemory) → GoesOn store mid job next
+    → IfOk r (λ answer. JobEnds mid after next answer.ending answer.text.items) → IfOk r (λ answer. JobEnds store after job answer.ending answer.text.items)
+says_on store mid after job next (Ok answer) on h = on.ends after answer.ending answer.text.items h
+says_on store mid after job next (Err e) on h = tt
+
+pub cut_on : (store mid after : StoreView) (job next : Job) (r : Result Answer NoMemory) → GoesOn store mid job next → IfErr r (λ e. JobCut mid after next) → IfErr r (λ e. JobCut store after job)
+cut_on store mid after job next (Ok answer) on h = tt
+cut_on store mid after job next (Err e) on h = on.cut after h
+
+-- and so is what the rest says at once
+pub now_on : (store mid : StoreView) (job next : Job) (r : Result Answer NoMemory) → GoesOn store mid job next → IfOk r (λ answer. SaysNow next answer.ending answer.text.items) → IfOk r (λ answer. JobEnds store mid job answer.ending answer.text.items)
+now_on store mid job next (Ok answer) on h = on.ends mid answer.ending answer.text.items (now_ends mid next answer.ending answer.text.items h)
+now_on store mid job next (Err e) on h = tt
+
 -- ---- reading
+on_read : (store mid : StoreView) (name : List ℕ) (next : List ℕ → Job) (bytes : List ℕ) → Holds store name bytes → SameFiles store mid → SameFaults store mid → GoesOn store mid (Read name next) (next bytes)
+on_read store mid name next bytes held same faults =
+    let files = files_stay store mid same in
+    record {
+      ends = λ after ending text h. inr (bytes, (held, ends_from store mid after (next bytes) ending text files faults h));
+      cut = λ after h. inr (bytes, (held, cut_from store mid after (next bytes) files h));
+    }
+
+pub on_image : (store mid : StoreView) (name : List ℕ) (next : List (List ℕ) → Job) (lines : List (List ℕ)) → HoldsImage store name lines → SameFiles store mid → SameFaults store mid
+    → GoesOn store mid (Read name (λ bytes. next (image_lines bytes))) (next lines)
+on_image store mid name next lines h same faults =
+    subst (λ l. GoesOn store mid (Read name (λ bytes. next (image_lines bytes))) (next l)) (sym h.image) (on_read store mid name (λ bytes. next (image_lines bytes)) h.bytes h.held same faults)
+
 pub on_whole : {A : Type 0} (store mid : StoreView) (name : List ℕ) (grammar : List ℕ → Result A Refusal) (next : List ℕ → A → Job) (bytes : List ℕ) (value : A)
-    → ReadsWhole store grammar name bytes value → FilesStay store mid → SameFaults store mid → GoesOn store mid (reading_whole name grammar next) (next bytes value)
-on_whole store mid name grammar next bytes value r files faults = record {
-  ends = λ after ending text h. inr (bytes, (r.held, subst (λ v. JobEnds store after (on_value name (next bytes) v) ending text) (sym r.accepted) (ends_from store mid after (next bytes value) ending text files faults h)));
-  cut = λ after h. inr (bytes, (r.held, subst (λ v. JobCut store after (on_value name (next bytes) v)) (sym r.accepted) (cut_from store mid after (next bytes value) files h)));
-}
+    → ReadsWhole store grammar name bytes value → SameFiles store mid → SameFaults store mid → GoesOn store mid (reading_whole name grammar next) (next bytes value)
+on_whole store mid name grammar next bytes value r same faults =
+    subst (λ v. GoesOn store mid (reading_whole name grammar next) (on_value name (next bytes) v)) r.accepted (on_read store mid name (λ b. on_value name (next b) (grammar b)) bytes r.held same faults)
 
 pub on_text : {A : Type 0} (store mid : StoreView) (name : List ℕ) (grammar : List ℕ → Result A Refusal) (next : A → Job) (value : A)
-    → Reads store grammar name value → FilesStay store mid → SameFaults store mid → GoesOn store mid (reading name grammar next) (next value)
-on_text store mid name grammar next value r files faults = on_whole store mid name grammar (λ _. next) r.bytes value (record { held = r.held; accepted = r.accepted }) files faults
+    → Reads store grammar name value → SameFiles store mid → SameFaults store mid → GoesOn store mid (reading name grammar next) (next value)
+on_text store mid name grammar next value r same faults = on_whole store mid name grammar (λ _. next) r.bytes value (record { held = r.held; accepted = r.accepted }) same faults
 
+-- the reading of a text ended the call
 pub stopped_ends : {A : Type 0} (store after : StoreView) (name : List ℕ) (grammar : List ℕ → Result A Refusal) (next : List ℕ → A → Job) (ending : Ending) (text : List ℕ)
-    → FilesStay store after → Stops store after grammar name ending text → JobEnds store after (reading_whole name grammar next) ending text
-stopped_ends store after name grammar next ending text files h =
-    says_ends store after (reading_whole name grammar next) ending text files (read_stopped store after name grammar next ending text h)
+    → SameFiles store after → Stops store after grammar name ending text → JobEnds store after (reading_whole name grammar next) ending text
+stopped_ends store after name grammar next Done text same h = absurd h
+stopped_ends store after name grammar next Usage text same h = absurd h
+stopped_ends store after name grammar next Refused text same h =
+    inr (h.bytes, (h.held, subst (λ v. JobEnds store after (on_value name (next h.bytes) v) Refused text) (sym h.outside) (refl, h.line, files_stay store after same)))
+stopped_ends store after name grammar next BadLog text same h = absurd h
+stopped_ends store after name grammar next ReadFault text same h = inl (h, files_stay store after same)
+stopped_ends store after name grammar next WriteFault text same h = absurd h
+
+-- and the answer says so
+pub stopped : {A : Type 0} (store after : StoreView) (name : List ℕ) (grammar : List ℕ → Result A Refusal) (next : List ℕ → A → Job) (s : Stop) (r : Result Answer NoMemory)
+    → SameFiles store after → MatchResult r (λ answer. s ≡ stops.Says answer) (λ e. s ≡ stops.NoMemory) → StopSays s (Stops store after grammar name)
+    → IfOk r (λ answer. JobEnds store after (reading_whole name grammar next) answer.ending answer.text.items)
+stopped store after name grammar next s r same m h =
+    stopped_says s r (Stops store after grammar name) (JobEnds store after (reading_whole name grammar next)) (λ e t. stopped_ends store after name grammar next e t same) m h
+
+-- ---- reading one value after the other
+-- Some values were read, and neither files nor faults changed: a job that reads all goes on to those that are left, and has the
+-- others before them.
+pub record ReadSo {X : Type 0} (store mid : StoreView) (whole left : (List X → Job) → Job) (values : List X) : Type 0 where
+  pub on : (next : List X → Job) → (rest_next : List X → Job) × ((rest : List X) → rest_next rest ≡ next (values ++ rest)) × GoesOn store mid (whole next) (left rest_next)
+  pub same : SameFiles store mid
+  pub faults : SameFaults store mid
+
+pub none_read : {X : Type 0} (store : StoreView) (whole : (List X → Job) → Job) (values : List X) → values ≡ [] → ReadSo store store whole whole values
+none_read store whole values e = subst (ReadSo store store whole whole) (sym e) (record {
+  on = λ next. (next, (λ rest. refl), goes_same store (whole next));
+  same = record { tells = refl; file = λ name. refl };
+  faults = (refl, refl);
+})
+
+-- one value more
+pub value_next : {X : Type 0} (store mid new : StoreView) (whole before left : (List X → Job) → Job) (values more : List X) (x : X) → ReadSo store mid whole before values → SameFiles mid new → SameFaults mid new
+    → ((next : List X → Job) → GoesOn mid new (before next) (left (λ rest. next (x ∷ rest)))) → more ≡ values ++ x ∷ [] → ReadSo store new whole left more
+value_next store mid new whole before left values more x so files faults step e = record {
+  on = λ next. let o = so.on next in (
+    λ rest. o.0 (x ∷ rest),
+    (λ rest. o.1 (x ∷ rest) ∙ ap next (sym (append_assoc values (x ∷ []) rest)) ∙ ap (λ l. next (l ++ rest)) (sym e)),
+    goes_after store mid new (whole next) (before o.0) (left (λ rest. o.0 (x ∷ rest))) o.2 (step o.0),
+  );
+  same = record { tells = files.tells ∙ so.same.tells; file = λ name. files.file name ∙ so.same.file name };
+  faults = (faults.0 ∙ so.faults.0, faults.1 ∙ so.faults.1);
+}
+
+-- the next value can't be read
+pub value_stopped : {X : Type 0} (store mid after : StoreView) (whole before : (List X → Job) → Job) (values : List X) (ending : Ending) (text : List ℕ) → ReadSo store mid whole before values
+    → ((next : List X → Job) → JobEnds mid after (before next) ending text) → (next : List X → Job) → JobEnds store after (whole next) ending text
+value_stopped store mid after whole before values ending text so stop next = let o = so.on next in o.2.ends after ending text (stop o.0)
+
+-- all were read
+pub values_read : {X : Type 0} (store new : StoreView) (whole left : (List X → Job) → Job) (values : List X) → ((next : List X → Job) → left next ≡ next []) → ReadSo store new whole left values
+    → (next : List X → Job) → GoesOn store new (whole next) (next values)
+values_read store new whole left values e so next = let o = so.on next in subst (GoesOn store new (whole next)) (e o.0 ∙ o.1 [] ∙ ap next (append-nil values)) o.2
 
 -- ---- writing
 -- what a store's write leaves

@@ -1,4 +1,4 @@
-use Rattle.std.proofs.Common.{ℕ, ◌≡◌, ◌+◌, ◌<◌, List, [], ◌∷◌, ◌++◌, IsSome, length, drop, get_or, map, refl, sym, ap, ◌∙◌, subst, append_assoc, append-nil}
+use Rattle.std.proofs.Common.{ℕ, ◌≡◌, ◌+◌, ◌<◌, List, [], ◌∷◌, ◌++◌, IsSome, length, drop, get_or, map, refl, sym, ap, ◌∙◌, subst}
 use Rattle.std.proofs.lemmas.List.{drop_more}
 use Rattle.std.specs.List.{AllByRecursion}
 use Rattle.onll_words.specs.declared.line.Line.{Line}
@@ -25,18 +25,14 @@ use Rattle.onll_jobs.specs.Reading.{Reads, Stops}
 use Rattle.onll_jobs.specs.Writing.{SameBut}
 use Rattle.onll_jobs.specs.Images.{images_in, writing_images, AreWritten, ImagesStop, ImagesCut}
 use Rattle.onll_jobs.specs.RecoverJob.{recovered}
-use Rattle.onll_jobs.specs.Job.{Job, Say, Read, Write, JobEnds, JobCut, GoesOn, SaysNow}
-use Rattle.onll_jobs.specs.ReplayJob.{reading_scripts, AreRead, ScriptsStop, played, crash_says, crash_job, schedule_job}
-use Rattle.onll_jobs.proofs.Jobs.{files_stay}
-use Rattle.onll_jobs.proofs.Onwards.{stay_cut, goes_same, goes_after, on_text, stopped_ends}
+use Rattle.onll_jobs.specs.Job.{Job, JobEnds, JobCut, GoesOn, SaysNow}
+use Rattle.onll_jobs.specs.ReplayJob.{reading_scripts, ScriptsStop, played, crash_says, crash_job, schedule_job}
+use Rattle.onll_jobs.proofs.Onwards.{ReadSo, stay_cut, now_ends, on_text, value_next, value_stopped, stopped_ends}
 use Rattle.onll_jobs.proofs.Stops.{StopSays-weaker}
 
 -- The parts of a replay, one after the other.
 
 -- ---- where no file changes
-pub same_more : (store mid after : StoreView) → SameFiles store mid → SameFiles mid after → SameFiles store after
-same_more store mid after first then_ = record { tells = then_.tells ∙ first.tells; file = λ name. then_.file name ∙ first.file name }
-
 pub same_but : (names : List (List ℕ)) (store mid after : StoreView) → SameFiles store mid → SameBut names mid after → SameBut names store after
 same_but names store mid after first then_ = record { tells = then_.tells ∙ first.tells; file = λ other differs. then_.file other differs ∙ first.file other }
 
@@ -48,44 +44,23 @@ pub name_next : {X : Type 0} (f : X → List ℕ) (names : List X) (i : ℕ) (na
 name_next f names i name h same = ap (map f) (drop_more names i name h) ∙ ap (λ x. f x ∷ map f (drop (i + 1) names)) (sym same)
 
 module _ {State Op Query Reply : Type 0} (w : Wording State Op Query Reply) where
-  -- Some scripts were read and no file changed: a job that reads all goes on to those that are left, and has the others before them.
-  pub record ScriptsSo (store mid : StoreView) (names left : List (List ℕ)) (scripts : List (List (Call State Op Query Reply))) : Type 0 where
-    pub on : (next : List (List (Call State Op Query Reply)) → Job)
-        → (rest_next : List (List (Call State Op Query Reply)) → Job) × ((rest : List (List (Call State Op Query Reply))) → rest_next rest ≡ next (scripts ++ rest)) × GoesOn store mid (reading_scripts w names next) (reading_scripts w left rest_next)
-    pub same : SameFiles store mid
-
-  pub none_read : (store : StoreView) (names : List (List ℕ)) (scripts : List (List (Call State Op Query Reply))) → scripts ≡ [] → ScriptsSo store store names names scripts
-  none_read store names scripts e = subst (ScriptsSo store store names names) (sym e) (record { on = λ next. (next, (λ rest. refl), goes_same store (reading_scripts w names next)); same = record { tells = refl; file = λ name. refl } })
-
   -- one script more
   pub script_next : (store mid new : StoreView) (names left before : List (List ℕ)) (name : List ℕ) (scripts all : List (List (Call State Op Query Reply))) (calls : List (Call State Op Query Reply))
-      → before ≡ name ∷ left → ScriptsSo store mid names before scripts → SameFiles mid new → SameFaults mid new → Reads mid (script_of w) name calls → all ≡ scripts ++ calls ∷ []
-      → ScriptsSo store new names left all
-  script_next store mid new names left before name scripts all calls split so files faults r e = record {
-    on = λ next. let o = so.on next in (
-      λ rest. o.0 (calls ∷ rest),
-      (λ rest. o.1 (calls ∷ rest) ∙ ap next (sym (append_assoc scripts (calls ∷ []) rest)) ∙ ap (λ l. next (l ++ rest)) (sym e)),
-      goes_after store mid new (reading_scripts w names next) (reading_scripts w before o.0) (reading_scripts w left (λ rest. o.0 (calls ∷ rest))) o.2
-          (subst (λ l. GoesOn mid new (reading_scripts w l o.0) (reading_scripts w left (λ rest. o.0 (calls ∷ rest)))) (sym split)
-          (on_text mid new name (script_of w) (λ c. reading_scripts w left (λ rest. o.0 (c ∷ rest))) calls r (files_stay mid new files) faults)),
-    );
-    same = same_more store mid new so.same files;
-  }
+      → before ≡ name ∷ left → ReadSo store mid (reading_scripts w names) (reading_scripts w before) scripts → SameFiles mid new → SameFaults mid new → Reads mid (script_of w) name calls → all ≡ scripts ++ calls ∷ []
+      → ReadSo store new (reading_scripts w names) (reading_scripts w left) all
+  script_next store mid new names left before name scripts all calls split so files faults r e =
+      value_next store mid new (reading_scripts w names) (reading_scripts w before) (reading_scripts w left) scripts all calls so files faults
+      (λ next. subst (λ l. GoesOn mid new (reading_scripts w l next) (reading_scripts w left (λ rest. next (calls ∷ rest)))) (sym split)
+      (on_text mid new name (script_of w) (λ c. reading_scripts w left (λ rest. next (c ∷ rest))) calls r files faults)) e
 
   -- the next script gives no calls
   pub script_stopped : (store mid after : StoreView) (names left before : List (List ℕ)) (name : List ℕ) (scripts : List (List (Call State Op Query Reply))) (s : Stop)
-      → before ≡ name ∷ left → ScriptsSo store mid names before scripts → SameFiles mid after → StopSays s (Stops mid after (script_of w) name) → StopSays s (ScriptsStop w store after names)
+      → before ≡ name ∷ left → ReadSo store mid (reading_scripts w names) (reading_scripts w before) scripts → SameFiles mid after → StopSays s (Stops mid after (script_of w) name) → StopSays s (ScriptsStop w store after names)
   script_stopped store mid after names left before name scripts s split so files stop =
       StopSays-weaker s (Stops mid after (script_of w) name) (ScriptsStop w store after names)
-      (λ ending text k next. let o = so.on next in o.2.ends after ending text (subst (λ l. JobEnds mid after (reading_scripts w l o.0) ending text) (sym split)
-      (stopped_ends mid after name (script_of w) (λ bytes c. reading_scripts w left (λ rest. o.0 (c ∷ rest))) ending text (files_stay mid after files) k))) stop
-
-  -- all were read
-  pub scripts_read : (store new : StoreView) (names left : List (List ℕ)) (scripts : List (List (Call State Op Query Reply))) → left ≡ [] → ScriptsSo store new names left scripts → AreRead w store new names scripts
-  scripts_read store new names left scripts e so next =
-      let o = so.on next in
-      goes_after store new new (reading_scripts w names next) (reading_scripts w left o.0) (next scripts) o.2
-      (subst (λ l. GoesOn new new (reading_scripts w l o.0) (next scripts)) (sym e) (subst (λ j. GoesOn new new j (next scripts)) (sym (o.1 [] ∙ ap next (append-nil scripts))) (goes_same new (next scripts))))
+      (λ ending text k. value_stopped store mid after (reading_scripts w names) (reading_scripts w before) scripts ending text so
+      (λ next. subst (λ l. JobEnds mid after (reading_scripts w l next) ending text) (sym split)
+      (stopped_ends mid after name (script_of w) (λ bytes c. reading_scripts w left (λ rest. next (c ∷ rest))) ending text files k))) stop
 
 -- ---- the crash
 -- the images of lines are those that the lines are
@@ -95,11 +70,6 @@ words_in items (x ∷ made) = ap (λ l. words_of (items x) ∷ l) (words_in item
 
 pub images_are : {V : Type 0} (items : V → List Line) (all : List (List Line)) (made : List V) (images : List (List (List ℕ))) → all ≡ map items made → map (λ (image : V). words_of (items image)) made ≡ images → images_in all ≡ images
 images_are items all made images e h = ap images_in e ∙ words_in items made ∙ h
-
-now_ends : (store : StoreView) (job : Job) (ending : Ending) (text : List ℕ) → SaysNow job ending text → JobEnds store store job ending text
-now_ends store (Say e t) ending text h = (h.0, h.1, record { tells = refl; file = λ tells name. refl })
-now_ends store (Read name next) ending text h = absurd h
-now_ends store (Write name bytes next) ending text h = absurd h
 
 module _ {State Op Query Reply : Type 0} (b : Behaviour State Op Query Reply) (w : Wording State Op Query Reply) (code : ℕ) (init logs : List ℕ) where
   -- the images were written, and this is said of what they give
@@ -137,21 +107,7 @@ module _ {State Op Query Reply : Type 0} (b : Behaviour State Op Query Reply) (w
       let r' = subst (λ m. Reads store (schedule_of m) schedule plan) n r in
       let job : Schedule → Job = λ p. crash_job b w code init logs (played b code init s scripts p.turns) p.keep in
       subst (λ (k : CoreState State Op Query Reply). GoesOn store mid (schedule_job b w code init s schedule logs scripts) (crash_job b w code init logs k plan.keep)) (sym e)
-      (on_text store mid schedule (schedule_of (length scripts)) job plan r' (files_stay store mid files) faults)
-
-  -- and it ends as that core's crash does
-  pub schedule_ends : (s : State) (schedule : List ℕ) (scripts : List (List (Call State Op Query Reply))) (threads : ℕ) (plan : Schedule) (c : CoreState State Op Query Reply) (store mid after : StoreView) (ending : Ending) (text : List ℕ)
-      → threads ≡ length scripts → Reads store (schedule_of threads) schedule plan → SameFiles store mid → SameFaults store mid → c ≡ played b code init s scripts plan.turns
-      → JobEnds mid after (crash_job b w code init logs c plan.keep) ending text → JobEnds store after (schedule_job b w code init s schedule logs scripts) ending text
-  schedule_ends s schedule scripts threads plan c store mid after ending text n r files faults e h =
-      (schedule_on s schedule scripts threads plan c store mid n r files faults e).ends after ending text h
-
-  -- the schedule gives no turns
-  pub schedule_stopped : (s : State) (schedule : List ℕ) (scripts : List (List (Call State Op Query Reply))) (threads : ℕ) (store after : StoreView) (ending : Ending) (text : List ℕ)
-      → threads ≡ length scripts → SameFiles store after → Stops store after (schedule_of threads) schedule ending text → JobEnds store after (schedule_job b w code init s schedule logs scripts) ending text
-  schedule_stopped s schedule scripts threads store after ending text n files h =
-      stopped_ends store after schedule (schedule_of (length scripts)) (λ bytes (p : Schedule). crash_job b w code init logs (played b code init s scripts p.turns) p.keep) ending text (files_stay store after files)
-      (subst (λ m. Stops store after (schedule_of m) schedule ending text) n h)
+      (on_text store mid schedule (schedule_of (length scripts)) job plan r' files faults)
 
 -- ---- the core
 -- each row of a core that was made and took steps is an operation's

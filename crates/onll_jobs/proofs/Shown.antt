@@ -1,18 +1,13 @@
-use Rattle.std.proofs.Common.{ℕ, zero, suc, ◌≡◌, Bool, true, false, List, [], ◌∷◌, inr, ⊎_elim, Option, Some, None, cond, take, sym, subst, arith}
+use Rattle.std.proofs.Common.{ℕ, zero, suc, ◌≡◌, Bool, true, false, List, [], ◌∷◌, ⊎_elim, Option, Some, None, cond, take, sym, subst, arith}
 use Rattle.std.proofs.lemmas.Bool.{cases_Bool}
 use Rattle.std.proofs.lemmas.List.{length-map, length-take}
 use Rattle.std.specs.List.{AllByRecursion}
 use Rattle.onll_model.specs.Segment.{Segment}
-use Rattle.onll_outside.specs.Views.{StoreView}
 use Rattle.onll_log.specs.declared.head.LogHead.{LogHead}
 use Rattle.onll_log.specs.Head.{word, is_head, head_of}
 use Rattle.onll_log.specs.Grammar.{Content, content_of, entries_from, is_entry, segment_of, node_of_line, are_zero_lines}
-use Rattle.onll_log.specs.ImageFile.{image_lines}
 use Rattle.onll_log.proofs.Accepted.{Accepted-if, entries_from-entry, entries_from-none}
-use Rattle.onll_jobs.specs.declared.ending.Ending.{Ending}
-use Rattle.onll_jobs.specs.Reading.{HoldsImage}
-use Rattle.onll_jobs.specs.Job.{Job, Say, Read, Write, SaysNow, JobSays}
-use Rattle.onll_jobs.specs.ShowJob.{IsPlaced, shown, show_job}
+use Rattle.onll_jobs.specs.ShowJob.{IsPlaced}
 
 -- What an image holds, as `show` needs it.
 
@@ -45,15 +40,3 @@ all_placed (l ∷ ls) = if_placed (is_head l) (are_zero_lines (l ∷ ls)) (recor
 
 pub content_placed : (lines : List (List ℕ)) (c : Content) → content_of lines ≡ Some c → AllByRecursion IsPlaced c.entries
 content_placed lines c e = subst (λ o. AllByRecursion IsPlaced (entries_in o)) e (all_placed lines)
-
--- what is said at once is said over any store
-pub says_now : (store after : StoreView) (job : Job) (ending : Ending) (text : List ℕ) → SaysNow job ending text → JobSays store after job ending text
-says_now store after (Say e t) ending text h = h
-says_now store after (Read name next) ending text h = absurd h
-says_now store after (Write name bytes next) ending text h = absurd h
-
--- an image was read, and its content is said
-pub image_shown : (store after : StoreView) (name : List ℕ) (lines : List (List ℕ)) (ending : Ending) (text : List ℕ) → HoldsImage store name lines
-    → SaysNow (shown (content_of lines)) ending text → JobSays store after (show_job name) ending text
-image_shown store after name lines ending text h said =
-    inr (h.bytes, (h.held, says_now store after (shown (content_of (image_lines h.bytes))) ending text (subst (λ ls. SaysNow (shown (content_of ls)) ending text) h.image said)))

@@ -1,12 +1,11 @@
 use Rattle.std.specs.List.{flat_map}
-use Rattle.std.specs.Prelude.{ℕ, zero, suc, List, [], ◌∷◌, ◌++◌, ◌+◌, ◌<◌, length, map, codes, decimal}
+use Rattle.std.specs.Prelude.{ℕ, zero, suc, List, [], ◌∷◌, ◌++◌, map, codes, decimal}
 use Rattle.onll_words.specs.declared.line.Line.{Line}
 use Rattle.onll_words.specs.Lines.{bytes_of_words}
 use Rattle.onll_pmem.specs.Pmem.{words_of}
 use Rattle.onll_log.specs.ImageFile.{image_lines}
 use Rattle.onll_outside.specs.Views.{StoreView}
 use Rattle.onll_jobs.specs.declared.ending.Ending.{Ending}
-use Rattle.onll_jobs.specs.Reading.{HoldsImage, CannotRead}
 use Rattle.onll_jobs.specs.Job.{Job, Read, Write, JobEnds, JobCut, GoesOn}
 
 -- The images of the logs of one run: one file for each thread.
@@ -20,6 +19,14 @@ abbrev pub reading_images : List ℕ → ℕ → ℕ → (List (List (List ℕ))
 reading_images logs i zero next = next []
 reading_images logs i (suc threads) next =
     Read (image_name logs i) (λ bytes. reading_images logs (suc i) threads (λ images. next (image_lines bytes ∷ images)))
+
+-- these images of this many threads were read, and a job that reads them goes on
+abbrev pub ImagesRead : StoreView → StoreView → List ℕ → ℕ → List (List (List ℕ)) → Type 0
+ImagesRead store after logs threads images = (next : List (List (List ℕ)) → Job) → GoesOn store after (reading_images logs 0 threads next) (next images)
+
+-- one of them can't be read, and every job that reads them ends so
+abbrev pub ImagesUnread : StoreView → StoreView → List ℕ → ℕ → Ending → List ℕ → Type 0
+ImagesUnread store after logs threads ending text = (next : List (List (List ℕ)) → Job) → JobEnds store after (reading_images logs 0 threads next) ending text
 
 -- the bytes of an image's file
 abbrev pub image_bytes : List (List ℕ) → List ℕ
@@ -50,15 +57,3 @@ ImagesCut store after logs images = (next : Job) → JobCut store after (writing
 -- the lines of images, as words
 abbrev pub images_in : List (List Line) → List (List (List ℕ))
 images_in images = map words_of images
-
--- the files of the threads from i on hold these images
-abbrev pub HoldImages : StoreView → List ℕ → ℕ → List (List (List ℕ)) → Type 0
-HoldImages store logs i [] = Unit {0}
-HoldImages store logs i (image ∷ images) = HoldsImage store (image_name logs i) image × HoldImages store logs (suc i) images
-
--- one of the images of this many threads can't be read, and the call ends so; those before it were
-pub record CannotReadImages (store after : StoreView) (logs : List ℕ) (i threads : ℕ) (ending : Ending) (text : List ℕ) : Type 0 where
-  pub before : List (List (List ℕ))
-  pub held : HoldImages store logs i before
-  pub more : length before < threads
-  pub unread : CannotRead store after (image_name logs (i + length before)) ending text

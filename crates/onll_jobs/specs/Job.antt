@@ -34,13 +34,6 @@ pub record GoesOn (store mid : StoreView) (job next : Job) : Type 0 where
   pub ends : (after : StoreView) (ending : Ending) (text : List ℕ) → JobEnds mid after next ending text → JobEnds store after job ending text
   pub cut : (after : StoreView) → JobCut mid after next → JobCut store after job
 
--- a job that writes nothing may end so over this store: each file that it reads holds some bytes, which it goes on with, or can't be read
-abbrev pub JobSays : StoreView → StoreView → Job → Ending → List ℕ → Type 0
-JobSays store after (Say e t) ending text = (ending ≡ e) × (text ≡ t)
-JobSays store after (Read name next) ending text =
-    CannotRead store after name ending text ⊎ ((bytes : List ℕ) × (Holds store name bytes × JobSays store after (next bytes) ending text))
-JobSays store after (Write name bytes next) ending text = ⊥
-
 -- the job says this without reading any file
 abbrev pub SaysNow : Job → Ending → List ℕ → Type 0
 SaysNow (Say e t) ending text = (ending ≡ e) × (text ≡ t)

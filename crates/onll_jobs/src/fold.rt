@@ -1,4 +1,4 @@
-ghost use Rattle.std.specs.Prelude.{◌≡◌, ℕ, ◌+◌, ◌++◌, ◌∷◌, ◌<◌, ◌^◌, [], length, true, IsSome, IfOk, OnOk};
+ghost use Rattle.std.specs.Prelude.{◌≡◌, ℕ, ◌+◌, ◌++◌, ◌∷◌, ◌<◌, ◌^◌, [], length, true, IsSome, IfOk, IfErr, OnOk};
 ghost use Rattle.std.specs.List.{AllByRecursion};
 ghost use Rattle.onll_model.specs.Fold.{fold_trace, fold_ends, fold_state};
 ghost use Rattle.onll_text.specs.Bytes.{begins_line, with_lines};
@@ -6,7 +6,7 @@ ghost use Rattle.onll_text.specs.Lines.{call_lines, node_lines};
 ghost use Rattle.onll_outside.specs.Views.{SameFiles};
 ghost use Rattle.onll_jobs.specs.Fold.{fold_report};
 ghost use Rattle.onll_jobs.specs.FoldJob.{script_job, script_job_on, fold_job};
-ghost use Rattle.onll_jobs.specs.Job.{JobSays};
+ghost use Rattle.onll_jobs.specs.Job.{JobEnds, JobCut};
 
 use crate::answer::Answer;
 use crate::ending::Ending;
@@ -114,7 +114,9 @@ fn fold_object<O: Texted, S: Store>(
     store: &mut S,
 ) -> Result<Answer, NoMemory>
     ensures says { let job = script_job O.means O.wording object.old script.now in
-        IfOk result (λ answer. JobSays (S.seen store.old) (S.seen store.new) job answer.ending answer.text.items) }
+        IfOk result (λ answer. JobEnds (S.seen store.old) (S.seen store.new) job answer.ending answer.text.items) }
+    ensures cut { let job = script_job O.means O.wording object.old script.now in
+        IfErr result (λ e. JobCut (S.seen store.old) (S.seen store.new) job) }
     ensures same { SameFiles (S.seen store.old) (S.seen store.new) }
 {
     match script_file::<O, S>(alloc, script, store) {
@@ -136,7 +138,8 @@ fn fold_any<S: Store>(
     script: &str,
     store: &mut S,
 ) -> Result<Answer, NoMemory>
-    ensures says { IfOk result (λ answer. JobSays (S.seen store.old) (S.seen store.new) (script_job_on script.now object) answer.ending answer.text.items) }
+    ensures says { IfOk result (λ answer. JobEnds (S.seen store.old) (S.seen store.new) (script_job_on script.now object) answer.ending answer.text.items) }
+    ensures cut { IfErr result (λ e. JobCut (S.seen store.old) (S.seen store.new) (script_job_on script.now object)) }
     ensures same { SameFiles (S.seen store.old) (S.seen store.new) }
 {
     match object {
@@ -154,7 +157,8 @@ pub(crate) fn answer<S: Store>(
     script: &str,
     store: &mut S,
 ) -> Result<Answer, NoMemory>
-    ensures says { IfOk result (λ answer. JobSays (S.seen store.old) (S.seen store.new) (fold_job init.now script.now) answer.ending answer.text.items) }
+    ensures says { IfOk result (λ answer. JobEnds (S.seen store.old) (S.seen store.new) (fold_job init.now script.now) answer.ending answer.text.items) }
+    ensures cut { IfErr result (λ e. JobCut (S.seen store.old) (S.seen store.new) (fold_job init.now script.now)) }
     ensures same { SameFiles (S.seen store.old) (S.seen store.new) }
 {
     match init_file(alloc, init, store) {

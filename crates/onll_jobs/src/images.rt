@@ -2,7 +2,7 @@ ghost use Rattle.std.specs.Prelude.{◌≡◌, length, map, string_bytes, IfOk, 
 ghost use Rattle.onll_outside.specs.Views.{SameFiles, SameOthers, SameFaults};
 ghost use Rattle.onll_pmem.specs.Pmem.{words_of};
 ghost use Rattle.onll_jobs.specs.Reading.{HoldsImage, CannotRead};
-ghost use Rattle.onll_jobs.specs.Images.{image_name, images_in, HoldImages, CannotReadImages, image_bytes, image_names, AreWritten, ImagesStop, ImagesCut};
+ghost use Rattle.onll_jobs.specs.Images.{image_name, images_in, ImagesRead, ImagesUnread, image_bytes, image_names, AreWritten, ImagesStop, ImagesCut};
 ghost use Rattle.onll_jobs.specs.Writing.{SameBut, HasWritten, CannotWrite};
 ghost use Rattle.onll_jobs.specs.Stop.{StopSays};
 
@@ -89,9 +89,9 @@ pub(crate) fn read_images<S: Store>(
     threads: u64,
     store: &mut S,
 ) -> Result<Vec<Image>, Stop>
-    ensures images { IfOk result (λ images. HoldImages (S.seen store.old) logs.now 0 (images_in images.items)) }
+    ensures images { IfOk result (λ images. ImagesRead (S.seen store.old) (S.seen store.new) logs.now threads (images_in images.items)) }
     ensures count { IfOk result (λ images. length images.items ≡ threads) }
-    ensures stop { IfErr result (λ stop. StopSays stop (CannotReadImages (S.seen store.old) (S.seen store.new) logs.now 0 threads)) }
+    ensures stop { IfErr result (λ stop. StopSays stop (ImagesUnread (S.seen store.old) (S.seen store.new) logs.now threads)) }
     ensures same { SameFiles (S.seen store.old) (S.seen store.new) }
     ensures faults { OnOk result (SameFaults (S.seen store.old) (S.seen store.new)) }
 {

@@ -1,4 +1,4 @@
-ghost use Rattle.std.specs.Prelude.{◌≡◌, ◌⊎◌, ℕ, ◌≤◌, ◌<◌, ◌^◌, ◌++◌, length, true, Ok, Err, IfOk, OnOk, MatchResult};
+ghost use Rattle.std.specs.Prelude.{◌≡◌, ◌⊎◌, ℕ, ◌≤◌, ◌<◌, ◌^◌, ◌++◌, length, true, Ok, Err, IfOk, IfErr, OnOk, MatchResult};
 ghost use Rattle.std.specs.List.{AllByRecursion, flat_map};
 ghost use Rattle.onll_words.specs.Texts.{line_text};
 ghost use Rattle.onll_model.specs.Trace.{state_after};
@@ -12,7 +12,7 @@ ghost use Rattle.onll_text.specs.Bytes.{begins_line, with_lines};
 ghost use Rattle.onll_text.specs.Lines.{node_lines, state_lines};
 ghost use Rattle.onll_outside.specs.Views.{SameFiles};
 ghost use Rattle.onll_merge.specs.declared.fault.RecoverFault.{RecoverFault};
-ghost use Rattle.onll_jobs.specs.Job.{JobSays, SaysNow};
+ghost use Rattle.onll_jobs.specs.Job.{JobEnds, JobCut, SaysNow};
 ghost use Rattle.onll_jobs.specs.Images.{images_in, reading_images};
 ghost use Rattle.onll_jobs.specs.RecoverJob.{contents_from, expected_heads, operations, operations_of, recovered, content_line, log_lines, recovered_line, lines_with, recover_on, recover_any, recover_job};
 ghost use Rattle.onll_jobs.specs.Found.{found_in};
@@ -268,7 +268,9 @@ fn recover_logs<S: Store>(
 ) -> Result<Answer, NoMemory>
     requires { (1 ≤ threads) × (threads ≤ 16) }
     ensures says { let job = reading_images logs.now 0 threads (recover_any init.text.items init.object) in
-        IfOk result (λ answer. JobSays (S.seen store.old) (S.seen store.new) job answer.ending answer.text.items) }
+        IfOk result (λ answer. JobEnds (S.seen store.old) (S.seen store.new) job answer.ending answer.text.items) }
+    ensures cut { let job = reading_images logs.now 0 threads (recover_any init.text.items init.object) in
+        IfErr result (λ e. JobCut (S.seen store.old) (S.seen store.new) job) }
     ensures same { SameFiles (S.seen store.old) (S.seen store.new) }
 {
     match read_images(alloc, logs, threads, store) {
@@ -286,7 +288,8 @@ pub(crate) fn answer<S: Store>(
     store: &mut S,
 ) -> Result<Answer, NoMemory>
     requires { (1 ≤ threads) × (threads ≤ 16) }
-    ensures says { IfOk result (λ answer. JobSays (S.seen store.old) (S.seen store.new) (recover_job init.now logs.now threads) answer.ending answer.text.items) }
+    ensures says { IfOk result (λ answer. JobEnds (S.seen store.old) (S.seen store.new) (recover_job init.now logs.now threads) answer.ending answer.text.items) }
+    ensures cut { IfErr result (λ e. JobCut (S.seen store.old) (S.seen store.new) (recover_job init.now logs.now threads)) }
     ensures same { SameFiles (S.seen store.old) (S.seen store.new) }
 {
     match init_file(alloc, init, store) {

@@ -1,4 +1,4 @@
-ghost use Rattle.std.specs.Prelude.{◌≡◌, ◌∷◌, ◌++◌, ◌+◌, ◌-◌, ◌<◌, ◌≤◌, ◌^◌, [], length, true, IfOk, OnOk, Some, map, decimal};
+ghost use Rattle.std.specs.Prelude.{◌≡◌, ◌∷◌, ◌++◌, ◌+◌, ◌-◌, ◌<◌, ◌≤◌, ◌^◌, [], length, true, IfOk, IfErr, OnOk, Some, map, decimal};
 ghost use Rattle.std.specs.List.{AllByRecursion};
 ghost use Rattle.onll_words.specs.Texts.{line_text};
 ghost use Rattle.onll_pmem.specs.Pmem.{words_of};
@@ -6,7 +6,7 @@ ghost use Rattle.onll_log.specs.Grammar.{content_of, used_by};
 ghost use Rattle.onll_log.specs.Decoded.{segment_in, segments_in, content_in};
 ghost use Rattle.onll_text.specs.Bytes.{begins_line, with_words, with_lines};
 ghost use Rattle.onll_outside.specs.Views.{SameFiles};
-ghost use Rattle.onll_jobs.specs.Job.{SaysNow, JobSays};
+ghost use Rattle.onll_jobs.specs.Job.{JobEnds, JobCut, SaysNow};
 ghost use Rattle.onll_jobs.specs.ShowJob.{object_name, head_words, row_line, row_lines, entry_words, entry_lines, entries_lines, count_words, content_lines, show_report, not_a_log, shown, show_job, IsPlaced};
 
 use crate::answer::Answer;
@@ -212,7 +212,8 @@ pub(crate) fn answer<S: Store>(
     image: &str,
     store: &mut S,
 ) -> Result<Answer, NoMemory>
-    ensures says { IfOk result (λ answer. JobSays (S.seen store.old) (S.seen store.new) (show_job image.now) answer.ending answer.text.items) }
+    ensures says { IfOk result (λ answer. JobEnds (S.seen store.old) (S.seen store.new) (show_job image.now) answer.ending answer.text.items) }
+    ensures cut { IfErr result (λ e. JobCut (S.seen store.old) (S.seen store.new) (show_job image.now)) }
     ensures same { SameFiles (S.seen store.old) (S.seen store.new) }
 {
     match image_file(alloc, image, store) {

@@ -1,6 +1,11 @@
-use Rattle.onll_jobs.proofs.ImageFiles.{ReadSo}
+use Rattle.std.proofs.Common.{◌≡◌, ◌-◌, length}
+use Rattle.onll_jobs.specs.Images.{images_in, reading_images}
+use Rattle.onll_jobs.proofs.Onwards.{ReadSo}
 use Rattle.onll_jobs.proofs.images.read_images.Given as goal
 
--- the images so far are those of the threads before, and the store is as it was
+-- the images of the threads before were read
 abbrev pub invariant-loop-thread : goal.invariant-loop-thread
-invariant-loop-thread g l = ReadSo (g.S.Store.seen l.fn.store) (g.S.Store.seen l.store) l.logs l.thread l.images.items
+invariant-loop-thread g l = record {
+  so : ReadSo (g.S.Store.seen l.fn.store) (g.S.Store.seen l.store) (reading_images l.logs 0 l.threads) (reading_images l.logs l.thread (l.threads - l.thread)) (images_in l.images.items);
+  count : length l.images.items ≡ l.thread;
+}

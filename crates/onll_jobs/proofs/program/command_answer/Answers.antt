@@ -5,10 +5,6 @@ use Rattle.onll_jobs.specs.Job.{JobCut}
 use Rattle.onll_jobs.specs.Says.{FormSays, job_of, writes_of}
 use Rattle.onll_jobs.specs.Writing.{SameBut}
 use Rattle.onll_jobs.proofs.Forms.{same-images}
-use Rattle.onll_jobs.specs.FoldJob.{fold_job}
-use Rattle.onll_jobs.specs.ShowJob.{show_job}
-use Rattle.onll_jobs.specs.RecoverJob.{recover_job}
-use Rattle.onll_jobs.proofs.Jobs.{answer_ends}
 use Rattle.onll_jobs.proofs.program.command_answer.Goals as goal
 
 pub returns-in-Fold-clause-says : goal.returns-in-Fold-clause-says
@@ -16,21 +12,7 @@ returns-in-Fold-clause-says g c =
     let store = g.S.Store.seen c.args.store.now in
     let after = g.S.Store.seen c.answer.new.store in
     subst (λ command. IfOk c.answer.result (λ answer. FormSays (Some (form_in command)) store after answer.ending answer.text.items)) (sym c.in-Fold.is)
-    (answer_ends store after (fold_job c.in-Fold.init.now c.in-Fold.script.now) c.answer.result c.answer.ensures.same c.answer.ensures.says)
-
-pub returns-in-Show-clause-says : goal.returns-in-Show-clause-says
-returns-in-Show-clause-says g c =
-    let store = g.S.Store.seen c.args.store.now in
-    let after = g.S.Store.seen c.answer-in-Show.new.store in
-    subst (λ command. IfOk c.answer-in-Show.result (λ answer. FormSays (Some (form_in command)) store after answer.ending answer.text.items)) (sym c.in-Show.is)
-    (answer_ends store after (show_job c.in-Show.image.now) c.answer-in-Show.result c.answer-in-Show.ensures.same c.answer-in-Show.ensures.says)
-
-pub returns-in-Recover-clause-says : goal.returns-in-Recover-clause-says
-returns-in-Recover-clause-says g c =
-    let store = g.S.Store.seen c.args.store.now in
-    let after = g.S.Store.seen c.answer-in-Recover.new.store in
-    subst (λ command. IfOk c.answer-in-Recover.result (λ answer. FormSays (Some (form_in command)) store after answer.ending answer.text.items)) (sym c.in-Recover.is)
-    (answer_ends store after (recover_job c.in-Recover.init.now c.in-Recover.logs.now c.in-Recover.threads) c.answer-in-Recover.result c.answer-in-Recover.ensures.same c.answer-in-Recover.ensures.says)
+    c.answer.ensures.says
 
 pub returns-in-Replay-clause-says : goal.returns-in-Replay-clause-says
 returns-in-Replay-clause-says g c =

@@ -1,10 +1,9 @@
 use Rattle.std.proofs.Common.{refl}
 use Rattle.onll_jobs.specs.ReplayJob.{crash_job}
-use Rattle.onll_jobs.proofs.Onwards.{stay_cut, on_any_error}
+use Rattle.onll_jobs.proofs.Onwards.{stayed}
 use Rattle.onll_jobs.proofs.replay.crash.Goals as goal
 
 pub returns-in_err-images-clause-cut : goal.returns-in_err-images-clause-cut
 returns-in_err-images-clause-cut g c =
     let store = g.S.Store.seen c.args.store.now in
-    on_any_error c.from_residual.result
-    (stay_cut store store (crash_job g.O.Object.means g.O.Texted.wording g.O.Object.CODE c.args.init.now c.args.logs.now c.args.core.now c.args.keep) (record { tells = refl; file = λ tells name. refl }))
+    stayed store store (crash_job g.O.Object.means g.O.Texted.wording g.O.Object.CODE c.args.init.now c.args.logs.now c.args.core.now c.args.keep) c.from_residual.result (record { tells = refl; file = λ name. refl })

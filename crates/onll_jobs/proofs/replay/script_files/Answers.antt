@@ -3,14 +3,16 @@ use Rattle.std.proofs.lemmas.List.{map-append, drop_all}
 use Rattle.std.proofs.lemmas.List.Elements.{All-push}
 use Rattle.std.specs.List.{All}
 use Rattle.onll_model.specs.Calls.{updates_in}
-use Rattle.onll_jobs.proofs.Replays.{name_next, none_read, script_next, script_stopped, scripts_read}
+use Rattle.onll_jobs.specs.ReplayJob.{reading_scripts}
+use Rattle.onll_jobs.proofs.Onwards.{none_read, values_read}
+use Rattle.onll_jobs.proofs.Replays.{name_next, script_next, script_stopped}
 use Rattle.onll_jobs.proofs.replay.script_files.Goals as goal
 
 pub loop-name-init : goal.loop-name-init
 loop-name-init g c =
     let none : c.new-scripts.result.items ≡ [] = c.new-scripts.ensures.items in
     record {
-      so = none_read g.O.Texted.wording (g.S.Store.seen c.args.store.now) (map string_bytes c.args.names.now) (map (λ script. script.items) c.new-scripts.result.items) (ap (map (λ script. script.items)) none);
+      so = none_read (g.S.Store.seen c.args.store.now) (reading_scripts g.O.Texted.wording (map string_bytes c.args.names.now)) (map (λ script. script.items) c.new-scripts.result.items) (ap (map (λ script. script.items)) none);
       count = ap length none;
       updates = subst (All (λ script. updates_in script.items ≤ 4096)) (sym none) (λ k d h. absurd (omega arith));
     }
@@ -41,5 +43,7 @@ pub returns-clause-read : goal.returns-clause-read
 returns-clause-read g c =
     let names = c.args.names.now in
     let left = drop c.loop-name.name-index names in
+    let w = g.O.Texted.wording in
     let none : left ≡ [] = drop_all c.loop-name.name-index names c.loop-name-test.false in
-    scripts_read g.O.Texted.wording (g.S.Store.seen c.args.store.now) (g.S.Store.seen c.loop-name.store) (map string_bytes names) (map string_bytes left) (map (λ script. script.items) c.loop-name.scripts.items) (ap (map string_bytes) none) c.loop-name.invariant.so
+    values_read (g.S.Store.seen c.args.store.now) (g.S.Store.seen c.loop-name.store) (reading_scripts w (map string_bytes names)) (reading_scripts w (map string_bytes left)) (map (λ script. script.items) c.loop-name.scripts.items)
+    (λ next. ap (λ l. reading_scripts w (map string_bytes l) next) none) c.loop-name.invariant.so

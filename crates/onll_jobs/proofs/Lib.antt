@@ -14,3 +14,4 @@ pub mod Replays
 pub mod Crashes
 pub mod ReplayEnds
 pub mod RecoverCrashes
+pub mod Determined

@@ -12,6 +12,8 @@ mod recover;
 mod replay;
 mod show;
 mod texts;
+mod told;
 
 pub use ending::{Ending, Exit};
 pub use program::onll;
+pub use told::{fold_report_law, recover_report_law, replay_report_law};

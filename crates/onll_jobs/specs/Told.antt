@@ -14,8 +14,22 @@ use Rattle.onll_core.specs.Core.{CoreThread, CoreState}
 use Rattle.onll_core.specs.Outcomes.{ends_of, script_of}
 use Rattle.onll_text.specs.Wording.{Wording}
 use Rattle.onll_text.specs.Lines.{call_lines, trace_line, node_lines, log_line, state_lines}
-use Rattle.onll_text.specs.Told.{EndsRead, NodeReads, StateReads, Told, told_lines, ToldReads}
+use Rattle.onll_text.specs.Told.{EndsRead, NodeReads, StateReads, Told, told_lines, ToldReads, SaysOnly}
+use Rattle.onll_text.specs.declared.any_object.AnyObject.{AnyObject}
+use Rattle.onll_text.specs.declared.any_object.AnyObject.TheVariants as objects
+use Rattle.onll_text.specs.BankWording.{bank_wording}
+use Rattle.onll_text.specs.MapWording.{map_wording}
+use Rattle.onll_text.specs.QueueWording.{queue_wording}
+use Rattle.onll_text.specs.LeaseWording.{lease_wording}
+use Rattle.onll_text.specs.Script.{script_of as read_script}
+use Rattle.onll_text.specs.Init.{init_of}
+use Rattle.onll_bank.specs.Object.{bank}
+use Rattle.onll_map.specs.Object.{map_object}
+use Rattle.onll_queue.specs.Object.{queue}
+use Rattle.onll_lease.specs.Object.{lease}
+use Rattle.onll_outside.specs.Views.{StoreView}
 use Rattle.onll_jobs.specs.Fold.{fold_report}
+use Rattle.onll_jobs.specs.Reading.{Reads}
 use Rattle.onll_jobs.specs.RecoverJob.{Recovered, recovered_line, recover_report}
 use Rattle.onll_jobs.specs.ReplayJob.{flagged_lines, crash_line, replay_report}
 
@@ -31,6 +45,25 @@ abbrev pub FoldReportLaw : {State Op Query Reply : Type 0} → Behaviour State O
 FoldReportLaw {State} {Op} {Query} {Reply} b w =
     (s : State) (calls : List (Call State Op Query Reply)) (other : Told State Op Query Reply) → ToldReads b w calls (fold_told b s calls) → ToldReads b w calls other
     → fold_report b w s calls ≡ flat_map line_text (told_lines b w calls other) → fold_told b s calls ≡ other
+
+-- a script is read from this file, and this text says what its fold gives, and nothing else that reads back
+pub record FoldsTo {State Op Query Reply : Type 0} (b : Behaviour State Op Query Reply) (w : Wording State Op Query Reply) (s : State) (store : StoreView) (script text : List ℕ) : Type 0 where
+  pub calls : List (Call State Op Query Reply)
+  pub read : Reads store (read_script w) script calls
+  pub says : SaysOnly b w calls text (fold_told b s calls)
+
+-- the same for an object of any kind
+abbrev pub FoldsToAny : StoreView → (script text : List ℕ) → AnyObject → Type 0
+FoldsToAny store script text (objects.Bank s) = FoldsTo bank bank_wording s store script text
+FoldsToAny store script text (objects.Map s) = FoldsTo map_object map_wording s store script text
+FoldsToAny store script text (objects.Queue s) = FoldsTo queue queue_wording s store script text
+FoldsToAny store script text (objects.Lease s) = FoldsTo lease lease_wording s store script text
+
+-- an initial state is read from the one file, and the other's script is folded on it
+pub record FoldsFiles (store : StoreView) (init script text : List ℕ) : Type 0 where
+  pub object : AnyObject
+  pub read : Reads store init_of init object
+  pub folds : FoldsToAny store script text object
 
 -- ---- recover
 -- what is said of a log with a head: its entries and its lines

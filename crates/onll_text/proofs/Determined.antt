@@ -17,7 +17,7 @@ use Rattle.onll_model.specs.Object.{Behaviour}
 use Rattle.onll_text.specs.declared.reason.Reason.{Reason}
 use Rattle.onll_text.specs.Wording.{Wording}
 use Rattle.onll_text.specs.Lines.{at_words, call_words, end_words, call_line, call_lines, trace_line, flag_words, row_words, node_line, node_lines, state_lines}
-use Rattle.onll_text.specs.Told.{EndReads, NodeReads, StateReads, NoCallNext, NoNodeNext, Told, told_lines, FoldToldLaw}
+use Rattle.onll_text.specs.Told.{EndReads, NodeReads, StateReads, NoCallNext, NoNodeNext, Told, told_lines, ToldReads, FoldToldLaw, SaysOnly}
 use Rattle.onll_text.proofs.LineWords.{call_line_in_words, node_line_in_words}
 
 -- ---- texts
@@ -241,3 +241,7 @@ module _ {State Op Query Reply : Type 0} where
       let trace = line_same (trace_line (length told.nodes)) (trace_line (length other.nodes)) left right calls.1 in
       let nodes = nodes_told b w 0 told.nodes other.nodes (state_lines w told.state) (state_lines w other.state) g.nodes h.nodes (λ rest d. cc d) (λ rest d. cc d) trace.1 in
       told_same told other calls.0 nodes.0 (state_told w told.state other.state g.state h.state nodes.1)
+
+  pub says_only : (b : Behaviour State Op Query Reply) (w : Wording State Op Query Reply) (script : List (Call State Op Query Reply)) (bytes : List ℕ) (told : Told State Op Query Reply)
+      → bytes ≡ flat_map line_text (told_lines b w script told) → ToldReads b w script told → SaysOnly b w script bytes told
+  says_only b w script bytes told e h = record { printed = e; reads = h; only = λ other k f. fold_told b w script told other h k (sym e ∙ f) }

@@ -95,3 +95,9 @@ abbrev pub FoldToldLaw : {State Op Query Reply : Type 0} → Behaviour State Op 
 FoldToldLaw {State} {Op} {Query} {Reply} b w =
     (script : List (Call State Op Query Reply)) (told other : Told State Op Query Reply) → ToldReads b w script told → ToldReads b w script other
     → flat_map line_text (told_lines b w script told) ≡ flat_map line_text (told_lines b w script other) → told ≡ other
+
+-- these bytes say this, for this script, and nothing else that reads back
+pub record SaysOnly {State Op Query Reply : Type 0} (b : Behaviour State Op Query Reply) (w : Wording State Op Query Reply) (script : List (Call State Op Query Reply)) (bytes : List ℕ) (told : Told State Op Query Reply) : Type 0 where
+  pub printed : bytes ≡ flat_map line_text (told_lines b w script told)
+  pub reads : ToldReads b w script told
+  pub only : (other : Told State Op Query Reply) → ToldReads b w script other → bytes ≡ flat_map line_text (told_lines b w script other) → told ≡ other

@@ -27,9 +27,15 @@ use Rattle.onll_bank.specs.Object.{bank}
 use Rattle.onll_map.specs.Object.{map_object}
 use Rattle.onll_queue.specs.Object.{queue}
 use Rattle.onll_lease.specs.Object.{lease}
-use Rattle.onll_outside.specs.Views.{StoreView}
+use Rattle.onll_outside.specs.Views.{StoreView, Puts}
 use Rattle.onll_jobs.specs.Fold.{fold_report}
 use Rattle.onll_jobs.specs.Reading.{Reads}
+use Rattle.onll_jobs.specs.Command.{Form, Fold, form_of}
+use Rattle.onll_jobs.specs.Seen.{Seen}
+use Rattle.onll_jobs.specs.declared.ending.Ending.{Ending}
+use Rattle.onll_jobs.specs.declared.ending.Ending.TheVariants.{Done}
+use Rattle.onll_jobs.specs.declared.ending.Exit.{Exit}
+use Rattle.onll_jobs.specs.declared.ending.Exit.TheVariants.{Said}
 use Rattle.onll_jobs.specs.RecoverJob.{Recovered, recovered_line, recover_report}
 use Rattle.onll_jobs.specs.ReplayJob.{flagged_lines, crash_line, replay_report}
 
@@ -64,6 +70,24 @@ pub record FoldsFiles (store : StoreView) (init script text : List ℕ) : Type 0
   pub object : AnyObject
   pub read : Reads store init_of init object
   pub folds : FoldsToAny store script text object
+
+-- where a form is that of a fold, and the fold is done, this text is told so
+abbrev pub FormTold : StoreView → Option Form → Ending → List ℕ → Type 0
+FormTold store (Some (Fold init script)) ending text = ending ≡ Done → FoldsFiles store init script text
+FormTold store form ending text = Unit {0}
+
+-- a fold whose report was put
+pub record FoldPut (seen : Seen) (init script : List ℕ) : Type 0 where
+  pub text : List ℕ
+  pub folds : FoldsFiles seen.store init script text
+  pub put : Puts seen.sink seen.sink_after text
+
+-- a fold that is done, by its exit and by its status
+abbrev pub FoldExits : Seen → Exit → Type 0
+FoldExits seen exit = (init script : List ℕ) → form_of seen.words ≡ Some (Fold init script) → exit ≡ Said Done → FoldPut seen init script
+
+abbrev pub FoldIsTold : Seen → ℕ → Type 0
+FoldIsTold seen status = (init script : List ℕ) → form_of seen.words ≡ Some (Fold init script) → status ≡ 0 → FoldPut seen init script
 
 -- ---- recover
 -- what is said of a log with a head: its entries and its lines

@@ -2,6 +2,7 @@ use Rattle.std.proofs.Common.{◌∙◌, sym, ap, subst}
 use Rattle.std.specs.List.{All, AllByRecursion}
 use Rattle.std.specs.Option.{IsSome}
 use Rattle.onll_model.specs.declared.node.Node.{Node}
+use Rattle.onll_model.specs.Fold.{fold_trace}
 use Rattle.onll_text.specs.Bytes.{begins_line}
 use Rattle.onll_text.specs.Lines.{trace_line, node_lines}
 use Rattle.onll_text.specs.Told.{NodeReads, StateReads}
@@ -28,8 +29,9 @@ pub returns-clause-reads : goal.returns-clause-reads
 returns-clause-reads g c =
     let b = g.O.Object.means in
     let w = g.O.Texted.wording in
+    let trace = c.deref.ensures.value ∙ c.in_ok-put_calls.ensures.trace in
     record {
       ends = c.in_ok-put_calls.ensures.reads;
-      nodes = subst (All (NodeReads b w)) (c.deref.ensures.value ∙ c.in_ok-put_calls.ensures.trace) c.in_ok-put_nodes.ensures.reads;
+      nodes = subst (All (NodeReads b w)) {y = fold_trace b 0 c.args.script.now} trace c.in_ok-put_nodes.ensures.reads;
       state = subst (StateReads w) c.in_ok-put_calls.ensures.state c.state_reads_back.ensures;
     }

@@ -16,7 +16,7 @@ use crate::ending::Ending;
 use crate::texts::{init_file, script_file};
 use onll_model::{Call, CallEnd, Node};
 use onll_outside::Store;
-use onll_text::{AnyObject, Report, Texted, end_reads_back, node_reads_back};
+use onll_text::{AnyObject, Report, Texted, end_reads_back};
 use onll_words::NoMemory;
 use std::alloc::Global;
 
@@ -31,6 +31,7 @@ fn fold_call<O: Texted>(
     ensures state { OnOk result (object.new ≡ fold_state O.means object.old (call.now ∷ [])) }
     ensures trace { OnOk result (trace.new.items ≡ trace.old.items ++ fold_trace O.means updates (call.now ∷ [])) }
     ensures end { IfOk result (λ end. end ∷ [] ≡ fold_ends O.means object.old updates (call.now ∷ [])) }
+    ensures reads { OnOk result (All (NodeReads O.means O.wording) trace.old.items → All (NodeReads O.means O.wording) trace.new.items) }
 {
     match call {
         Call::Update(op) => {
@@ -43,6 +44,7 @@ fn fold_call<O: Texted>(
             if trace.push(node).is_err() {
                 return Err(NoMemory);
             }
+            O::op_reads_back(*op);
             Ok(CallEnd::Answered {
                 reply: object.apply(*op),
                 place: number,
@@ -68,7 +70,8 @@ fn put_calls<O: Texted>(
     ensures trace { OnOk result (trace.new.items ≡ fold_trace O.means 0 script.now) }
     ensures lines { let ends = fold_ends O.means object.old 0 script.now in
         OnOk result (out.new ≡ with_lines out.old (call_lines O.wording 0 0 script.now ends)) }
-    ensures reads { OnOk result (EndsRead O.wording script.now (fold_ends O.means object.old 0 script.now)) }
+    ensures ends { OnOk result (EndsRead O.wording script.now (fold_ends O.means object.old 0 script.now)) }
+    ensures nodes { OnOk result (All (NodeReads O.means O.wording) trace.new.items) }
 {
     let mut number = 0;
     for call in script {
@@ -84,14 +87,12 @@ fn put_calls<O: Texted>(
 pub(crate) fn put_nodes<O: Texted>(trace: &[Node], out: &mut Report) -> Result<(), NoMemory>
     requires operations { AllByRecursion (λ n. IsSome (O.means.op_at n.row)) trace.now }
     requires begins { begins_line out.old ≡ true }
-    ensures lines { OnOk result (out.new ≡ with_lines out.old (node_lines O.means O.wording 0 trace.now)) }
-    ensures reads { OnOk result (All (NodeReads O.means O.wording) trace.now) }
+    ensures { OnOk result (out.new ≡ with_lines out.old (node_lines O.means O.wording 0 trace.now)) }
 {
     let mut place = 0;
     for node in trace {
         place += 1;
         out.node_line::<O>(place, *node, None)?;
-        node_reads_back::<O>(*node);
     }
     Ok(())
 }

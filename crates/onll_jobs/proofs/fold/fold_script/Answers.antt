@@ -2,7 +2,6 @@ use Rattle.std.proofs.Common.{◌∙◌, sym, ap, subst}
 use Rattle.std.specs.List.{All, AllByRecursion}
 use Rattle.std.specs.Option.{IsSome}
 use Rattle.onll_model.specs.declared.node.Node.{Node}
-use Rattle.onll_model.specs.Fold.{fold_trace}
 use Rattle.onll_text.specs.Bytes.{begins_line}
 use Rattle.onll_text.specs.Lines.{trace_line, node_lines}
 use Rattle.onll_text.specs.Told.{NodeReads, StateReads}
@@ -21,17 +20,13 @@ put_nodes-requires-clause-begins g c =
 
 pub state_lines-requires : goal.state_lines-requires
 state_lines-requires g c =
-    ap begins_line c.in_ok-put_nodes.ensures.lines
+    ap begins_line c.in_ok-put_nodes.ensures
     ∙ begins_line-lines c.trace_line.new.self (node_lines g.O.Object.means g.O.Texted.wording 0 c.deref.result.now)
     (ap begins_line c.in_ok-trace_line.ensures.ok ∙ begins_line-line c.put_calls.new.out (trace_line c.len.result))
 
 pub returns-clause-reads : goal.returns-clause-reads
-returns-clause-reads g c =
-    let b = g.O.Object.means in
-    let w = g.O.Texted.wording in
-    let trace = c.deref.ensures.value ∙ c.in_ok-put_calls.ensures.trace in
-    record {
-      ends = c.in_ok-put_calls.ensures.reads;
-      nodes = subst (All (NodeReads b w)) {y = fold_trace b 0 c.args.script.now} trace c.in_ok-put_nodes.ensures.reads;
-      state = subst (StateReads w) c.in_ok-put_calls.ensures.state c.state_reads_back.ensures;
-    }
+returns-clause-reads g c = record {
+  ends = c.in_ok-put_calls.ensures.ends;
+  nodes = subst (All (NodeReads g.O.Object.means g.O.Texted.wording)) c.in_ok-put_calls.ensures.trace c.in_ok-put_calls.ensures.nodes;
+  state = subst (StateReads g.O.Texted.wording) c.in_ok-put_calls.ensures.state c.state_reads_back.ensures;
+}

@@ -29,19 +29,20 @@ loop-call-preserved g c =
       state = done.state ∙ sym (ap (fold_state b s) e) ∙ c.loop-call.invariant.state;
       nodes = done.nodes ∙ sym (ap (λ t. trace ++ fold_trace b (length trace) t) e) ∙ c.loop-call.invariant.nodes;
       lines = done.lines ∙ sym (ap (λ t. with_lines out (call_lines w 0 k t (fold_ends b s (length trace) t))) e) ∙ c.loop-call.invariant.lines;
-      reads = λ h. c.loop-call.invariant.reads (subst (All (EndReads w)) (sym (ap (fold_ends b s (length trace)) e ∙ done.ends)) (All-cons (EndReads w) end (fold_ends b c.fold_call.new.object (length c.fold_call.new.trace.items) calls) c.end_reads_back.ensures h));
+      nodes_read = c.in_ok-end.ensures.reads c.loop-call.invariant.nodes_read;
+      ends_read = λ h. c.loop-call.invariant.ends_read (subst (All (EndReads w)) (sym (ap (fold_ends b s (length trace)) e ∙ done.ends)) (All-cons (EndReads w) end (fold_ends b c.fold_call.new.object (length c.fold_call.new.trace.items) calls) c.end_reads_back.ensures h));
       begins = begins_after out c.call_line.new.self (call_line w 0 (k + 1) call c.in_ok-end.end) c.in_ok-call_line.ensures.ok;
       number = omega arith;
       count = omega (arith, done.count);
     }
 
-pub returns-clause-reads : goal.returns-clause-reads
-returns-clause-reads g c =
+pub returns-clause-ends : goal.returns-clause-ends
+returns-clause-ends g c =
     let b = g.O.Object.means in
     let w = g.O.Texted.wording in
     let s = c.loop-call.object in
     let n = length c.loop-call.trace.items in
     record {
       few = omega (arith, length-fold_ends b c.args.object.now 0 c.args.script.now);
-      reads = c.loop-call.invariant.reads (subst (λ calls. All (EndReads w) (fold_ends b s n calls)) (sym (drop_all c.loop-call.call-index c.args.script.now (omega arith))) (All-nil (EndReads w)));
+      reads = c.loop-call.invariant.ends_read (subst (λ calls. All (EndReads w) (fold_ends b s n calls)) (sym (drop_all c.loop-call.call-index c.args.script.now (omega arith))) (All-nil (EndReads w)));
     }

@@ -10,5 +10,5 @@ put_nodes-requires-clause-operations g c = all_operations g.O.Object.means c.arg
 
 pub state_lines-requires : goal.state_lines-requires
 state_lines-requires g c =
-    ap begins_line c.in_ok-put_nodes.ensures.lines
+    ap begins_line c.in_ok-put_nodes.ensures
     ∙ begins_line-lines c.args.out.now (node_lines g.O.Object.means g.O.Texted.wording 0 c.args.nodes.now) c.requires.begins

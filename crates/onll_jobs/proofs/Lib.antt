@@ -16,3 +16,4 @@ pub mod ReplayEnds
 pub mod RecoverCrashes
 pub mod Determined
 mod FoldTold
+mod ReplayReads

@@ -10,6 +10,7 @@ mod images;
 mod program;
 mod recover;
 mod replay;
+mod run_reads;
 mod show;
 mod texts;
 mod told;

@@ -1,4 +1,4 @@
-use Rattle.std.proofs.Common.{ℕ, zero, suc, ◌≡◌, ◌+◌, ◌-◌, ◌<◌, ◌≤◌, ◌^◌, List, [], ◌∷◌, ◌++◌, Some, length, drop, get_or, map, sym, ap, ◌∙◌, subst, arith}
+use Rattle.std.proofs.Common.{ℕ, zero, suc, ◌≡◌, ◌+◌, ◌-◌, ◌<◌, ◌≤◌, ◌^◌, List, [], ◌∷◌, ◌++◌, Option, Some, None, length, drop, get_or, map, sym, ap, ◌∙◌, subst, arith}
 use Rattle.std.specs.List.{All, slice_get}
 use Rattle.std.specs.Option.{IfSome}
 use Rattle.std.proofs.lemmas.List.{drop_more}
@@ -13,16 +13,18 @@ use Rattle.onll_core.specs.declared.returned.Returned.{Returned}
 use Rattle.onll_core.specs.declared.returned.Current.{Current}
 use Rattle.onll_core.specs.Core.{CoreThread}
 use Rattle.onll_core.specs.Outcomes.{returned_end, current_ends, current_in, ends_of, script_of}
+use Rattle.onll_model.specs.Segment.{Segment}
+use Rattle.onll_log.specs.declared.head.LogHead.{LogHead}
 use Rattle.onll_log.specs.declared.decoded.Decoded.{Decoded}
-use Rattle.onll_log.specs.Grammar.{used_by}
+use Rattle.onll_log.specs.Grammar.{used_by, used_with}
 use Rattle.onll_log.specs.Decoded.{content_in}
 use Rattle.onll_merge.specs.Merge.{contents_in}
 use Rattle.onll_text.specs.Wording.{Wording}
 use Rattle.onll_text.specs.Told.{EndReads}
-use Rattle.onll_jobs.specs.Told.{EachReads, LogTold, LogReads, counts_of}
+use Rattle.onll_jobs.specs.Told.{EachReads, LogTold, LogReads, counts_of, HeldReads, held_with, held_of}
 use Rattle.onll_jobs.proofs.ReplaySteps.{if_at, thread_at}
 
--- What a replay prints reads back, one part after the other.
+-- What a replay and a recovery print reads back, one part after the other.
 
 -- a thread has no more outcomes than calls
 few_ends : {State Op Query Reply : Type 0} (P : Call State Op Query Reply → CallEnd State Op Query Reply → Type 0) (calls : List (Call State Op Query Reply)) (ends : List (CallEnd State Op Query Reply)) → EachEnd P calls ends → length ends ≤ length calls
@@ -79,3 +81,16 @@ module _ {State Op Query Reply : Type 0} where
       subst (λ (l : List (CoreThread State Op Query Reply)). All LogReads (counts_of (contents_in (drop t logs)) l)) (sym x.2)
       (subst (λ (l : List Decoded). All LogReads (counts_of (contents_in l) (th ∷ drop (suc t) ths))) (sym left)
       (All-cons LogReads told (counts_of (contents_in (drop (t + 1) logs)) (drop (suc t) ths)) (record { entries = entries; lines = used; fences = few }) more))
+
+-- a log's numbers, where it has a head
+held_reads : (head : Option LogHead) (entries : List Segment) → length entries < 2 ^ 64 → used_with head entries < 2 ^ 64 → HeldReads (held_with head entries)
+held_reads None entries g h = tt
+held_reads (Some head) entries g h = (g, h)
+
+-- one of them before those of the rest
+pub helds_more : (i : ℕ) (logs : List Decoded) (d : Decoded) → i < length logs → d ≡ get_or logs i d → length (content_in d).entries < 2 ^ 64 → used_by (content_in d) < 2 ^ 64
+    → All HeldReads (map held_of (contents_in (drop (i + 1) logs))) → All HeldReads (map held_of (contents_in (drop i logs)))
+helds_more i logs d h same entries used rest =
+    let left : drop i logs ≡ d ∷ drop (i + 1) logs = drop_more logs i d h ∙ ap (λ (y : Decoded). y ∷ drop (i + 1) logs) (sym same) in
+    subst (λ (l : List Decoded). All HeldReads (map held_of (contents_in l))) (sym left)
+    (All-cons HeldReads (held_of (content_in d)) (map held_of (contents_in (drop (i + 1) logs))) (held_reads d.head (content_in d).entries entries used) rest)

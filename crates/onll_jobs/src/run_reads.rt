@@ -1,15 +1,16 @@
-//! That what a replay prints reads back. These are laws of the values that a program has; calling them does nothing.
+//! That what a replay and a recovery print reads back. These are laws of the values that a program has; calling them does nothing.
 
 ghost use Rattle.std.specs.Prelude.{◌≡◌, ℕ, ◌++◌, ◌<◌, ◌^◌, length, map, All, IsSome};
 ghost use Rattle.std.specs.List.{AllByRecursion};
 ghost use Rattle.onll_model.specs.Trace.{state_after};
+ghost use Rattle.onll_model.specs.Recovered.{operations_front};
 ghost use Rattle.onll_log.specs.Grammar.{used_by};
 ghost use Rattle.onll_log.specs.Decoded.{content_in};
 ghost use Rattle.onll_merge.specs.Merge.{contents_in};
 ghost use Rattle.onll_core.specs.Outcomes.{returned_end, current_ends, ends_of, script_of};
 ghost use Rattle.onll_text.specs.Told.{EndReads, NodeReads};
 ghost use Rattle.onll_jobs.specs.Found.{found_in};
-ghost use Rattle.onll_jobs.specs.Told.{EachReads, LogReads, RunReads, counts_of, replay_told};
+ghost use Rattle.onll_jobs.specs.Told.{EachReads, HeldReads, LogReads, RecoverReads, RunReads, held_of, found_told, counts_of, replay_told};
 
 use crate::recover::Found;
 use onll_core::{Core, Current, Returned, report_law};
@@ -72,6 +73,27 @@ fn logs_read<O: Texted + Drop>(core: &Core<O>, logs: &[Decoded])
         let _ = decoded.entries.as_slice().len();
         let _ = core.fences(index as u64);
     }
+}
+
+/// What is said of the logs of a recovery.
+fn helds_read(logs: &[Decoded])
+    requires { AllByRecursion (λ d. used_by (content_in d) < 2 ^ 64) logs.now }
+    ensures { All HeldReads (map held_of (contents_in logs.now)) }
+{
+    for decoded in logs {
+        let _ = decoded.entries.as_slice().len();
+    }
+}
+
+/// All that is said of what was found, and of the object after the nodes that were found.
+pub(crate) fn recovery_reads<O: Texted>(object: &O, found: &Found)
+    requires used { AllByRecursion (λ d. used_by (content_in d) < 2 ^ 64) found.now.logs.items }
+    requires rows { operations_front O.means found.now.nodes.items ≡ found.now.nodes.items }
+    ensures { RecoverReads O.means O.wording (found_told (found_in found.now) object.now) }
+{
+    helds_read(&found.logs);
+    trace_reads::<O>(&found.nodes);
+    object.state_reads_back();
 }
 
 /// All that is said of a core that crashed, of what was found then, and of the object after the nodes that were found.

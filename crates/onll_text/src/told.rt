@@ -49,7 +49,8 @@ pub fn parts_told_law<O: Texted>()
 {}
 
 /// The bytes of a report of one thread, as `fold` prints it, determine the outcomes of its script's calls, the trace and the
-/// state. What is said reads back by the laws of `Texted`, so this holds of all that a program prints.
+/// state. Each outcome and each node that a program has reads back (`end_reads_back`, `node_reads_back`), and each state
+/// (`state_reads_back` of `Texted`).
 pub fn fold_told_law<O: Texted>()
     ensures { FoldToldLaw O.means O.wording }
 {}

@@ -1,4 +1,4 @@
-use Rattle.std.proofs.Common.{ℕ, true, List, [], ◌∷◌, ◌++◌, ◌≡◌, ◌+◌, length, refl, sym, ap, ◌∙◌, arith, append_assoc, length-append, None, IsSome, ◌≤◌, ◌<◌, subst, drop, get_or}
+use Rattle.std.proofs.Common.{ℕ, suc, true, List, [], ◌∷◌, ◌++◌, ◌≡◌, ◌+◌, length, refl, sym, ap, ◌∙◌, arith, append_assoc, length-append, None, IsSome, ◌≤◌, ◌<◌, subst, drop, get_or}
 use Rattle.std.proofs.lemmas.List.{append-nil, drop_more}
 use Rattle.std.specs.List.{AllByRecursion}
 use Rattle.onll_words.specs.Texts.{line_text}
@@ -15,16 +15,17 @@ use Rattle.onll_text.specs.Lines.{call_line, call_lines, node_line, node_lines}
 use Rattle.onll_text.proofs.Appending.{begins_line-line, with_lines-one}
 
 -- where one call of a script has been done, what is left makes what the script makes
-pub record Advances {State Op Query Reply : Type 0} (b : Behaviour State Op Query Reply) (w : Wording State Op Query Reply) (s new : State) (trace more : List Node) (out text : List ℕ) (k : ℕ) (c : Call State Op Query Reply) (calls : List (Call State Op Query Reply)) : Type 0 where
+pub record Advances {State Op Query Reply : Type 0} (b : Behaviour State Op Query Reply) (w : Wording State Op Query Reply) (s new : State) (trace more : List Node) (out text : List ℕ) (k : ℕ) (c : Call State Op Query Reply) (calls : List (Call State Op Query Reply)) (end : CallEnd State Op Query Reply) : Type 0 where
   pub state : fold_state b new calls ≡ fold_state b s (c ∷ calls)
   pub nodes : more ++ fold_trace b (length more) calls ≡ trace ++ fold_trace b (length trace) (c ∷ calls)
   pub lines : with_lines text (call_lines w 0 (k + 1) calls (fold_ends b new (length more) calls)) ≡ with_lines out (call_lines w 0 k (c ∷ calls) (fold_ends b s (length trace) (c ∷ calls)))
+  pub ends : fold_ends b s (length trace) (c ∷ calls) ≡ end ∷ fold_ends b new (length more) calls
   pub count : length more ≤ length trace + 1
 
 done_from : {State Op Query Reply : Type 0} (b : Behaviour State Op Query Reply) (w : Wording State Op Query Reply) (s new : State) (trace more : List Node) (out text : List ℕ) (k : ℕ) (c : Call State Op Query Reply) (calls : List (Call State Op Query Reply)) (end : CallEnd State Op Query Reply)
     → new ≡ fold_state b s (c ∷ []) → more ≡ trace ++ fold_trace b (length trace) (c ∷ []) → end ∷ [] ≡ fold_ends b s (length trace) (c ∷ [])
     → text ≡ out ++ line_text (call_line w 0 (k + 1) c end)
-    → Advances b w s new trace more out text k c calls
+    → Advances b w s new trace more out text k c calls end
 done_from b w s new trace more out text k (Update op) calls end hs ht he hl =
     let x : Node = record { thread = 0; number = length trace + 1; row = b.row_of op } in
     let n : length more ≡ length trace + 1 = omega (arith, ap length ht, length-append trace (x ∷ [])) in
@@ -38,6 +39,9 @@ done_from b w s new trace more out text k (Update op) calls end hs ht he hl =
           ∙ ap (λ m. with_lines text (call_lines w 0 (k + 1) calls (fold_ends b (b.next s op) m calls))) n
           ∙ ap (λ t. with_lines t rest) (hl ∙ ap (λ f. out ++ line_text (call_line w 0 (k + 1) (Update op) f)) e)
           ∙ sym (with_lines-one out (call_line w 0 (k + 1) (Update op) (Answered (b.reply s op) (length trace + 1))) rest);
+      ends =
+          ap (λ f. f ∷ fold_ends b (b.next s op) (length trace + 1) calls) (sym e) ∙ ap (λ m. end ∷ fold_ends b (b.next s op) m calls) (sym n)
+          ∙ ap (λ t. end ∷ fold_ends b t (length more) calls) (sym hs);
       count = omega (arith, n);
     }
 done_from b w s new trace more out text k (Ask query) calls end hs ht he hl =
@@ -53,6 +57,9 @@ done_from b w s new trace more out text k (Ask query) calls end hs ht he hl =
           ∙ ap (λ m. with_lines text (call_lines w 0 (k + 1) calls (fold_ends b s m calls))) n
           ∙ ap (λ t. with_lines t rest) (hl ∙ ap (λ f. out ++ line_text (call_line w 0 (k + 1) (Ask query) f)) e)
           ∙ sym (with_lines-one out (call_line w 0 (k + 1) (Ask query) (Answered (b.answer s query) (length trace))) rest);
+      ends =
+          ap (λ f. f ∷ fold_ends b s (length trace) calls) (sym e) ∙ ap (λ m. end ∷ fold_ends b s m calls) (sym n)
+          ∙ ap (λ t. end ∷ fold_ends b t (length more) calls) (sym hs);
       count = omega (arith, n);
     }
 
@@ -60,7 +67,7 @@ done_from b w s new trace more out text k (Ask query) calls end hs ht he hl =
 pub call_done : {State Op Query Reply : Type 0} (b : Behaviour State Op Query Reply) (w : Wording State Op Query Reply) (s new : State) (trace more : List Node) (out text : List ℕ) (k n : ℕ) (c : Call State Op Query Reply) (calls : List (Call State Op Query Reply)) (end : CallEnd State Op Query Reply)
     → n ≡ length trace → new ≡ fold_state b s (c ∷ []) → more ≡ trace ++ fold_trace b n (c ∷ []) → end ∷ [] ≡ fold_ends b s n (c ∷ [])
     → text ≡ out ++ line_text (call_line w 0 (k + 1) c end)
-    → Advances b w s new trace more out text k c calls
+    → Advances b w s new trace more out text k c calls end
 call_done b w s new trace more out text k n c calls end hn hs ht he hl =
     done_from b w s new trace more out text k c calls end hs (ht ∙ ap (λ m. trace ++ fold_trace b m (c ∷ [])) hn) (he ∙ ap (λ m. fold_ends b s m (c ∷ [])) hn) hl
 
@@ -82,3 +89,9 @@ pub fold_operations : {State Op Query Reply : Type 0} (b : Behaviour State Op Qu
 fold_operations b n [] = tt
 fold_operations b n (Update op ∷ calls) = (subst IsSome (sym (b.op_of_its_row op)) refl, fold_operations b (n + 1) calls)
 fold_operations b n (Ask query ∷ calls) = fold_operations b n calls
+
+-- each call of a fold has an outcome
+pub length-fold_ends : {State Op Query Reply : Type 0} (b : Behaviour State Op Query Reply) (s : State) (n : ℕ) (calls : List (Call State Op Query Reply)) → length (fold_ends b s n calls) ≡ length calls
+length-fold_ends b s n [] = refl
+length-fold_ends b s n (Update op ∷ calls) = ap suc (length-fold_ends b (b.next s op) (n + 1) calls)
+length-fold_ends b s n (Ask query ∷ calls) = ap suc (length-fold_ends b s n calls)

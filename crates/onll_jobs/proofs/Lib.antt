@@ -14,3 +14,6 @@ pub mod Replays
 pub mod Crashes
 pub mod ReplayEnds
 pub mod RecoverCrashes
+pub mod Determined
+mod FoldTold
+mod ReplayReads

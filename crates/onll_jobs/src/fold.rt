@@ -1,19 +1,22 @@
-ghost use Rattle.std.specs.Prelude.{◌≡◌, ℕ, ◌+◌, ◌++◌, ◌∷◌, ◌<◌, ◌^◌, [], length, true, IsSome, IfOk, IfErr, OnOk};
+ghost use Rattle.std.specs.Prelude.{◌≡◌, ℕ, ◌+◌, ◌++◌, ◌∷◌, ◌<◌, ◌^◌, [], length, true, IsSome, IfOk, IfErr, OnOk, All};
 ghost use Rattle.std.specs.List.{AllByRecursion};
 ghost use Rattle.onll_model.specs.Fold.{fold_trace, fold_ends, fold_state};
 ghost use Rattle.onll_text.specs.Bytes.{begins_line, with_lines};
 ghost use Rattle.onll_text.specs.Lines.{call_lines, node_lines};
+ghost use Rattle.onll_text.specs.Told.{EndsRead, NodeReads, ToldReads};
 ghost use Rattle.onll_outside.specs.Views.{SameFiles};
 ghost use Rattle.onll_jobs.specs.Fold.{fold_report};
 ghost use Rattle.onll_jobs.specs.FoldJob.{script_job, script_job_on, fold_job};
 ghost use Rattle.onll_jobs.specs.Job.{JobEnds, JobCut};
+ghost use Rattle.onll_jobs.specs.declared.ending.Ending.TheVariants.{Done};
+ghost use Rattle.onll_jobs.specs.Told.{fold_told, FoldsTo, FoldsToAny, FoldsFiles};
 
 use crate::answer::Answer;
 use crate::ending::Ending;
 use crate::texts::{init_file, script_file};
 use onll_model::{Call, CallEnd, Node};
 use onll_outside::Store;
-use onll_text::{AnyObject, Report, Texted};
+use onll_text::{AnyObject, Report, Texted, end_reads_back};
 use onll_words::NoMemory;
 use std::alloc::Global;
 
@@ -28,6 +31,7 @@ fn fold_call<O: Texted>(
     ensures state { OnOk result (object.new ≡ fold_state O.means object.old (call.now ∷ [])) }
     ensures trace { OnOk result (trace.new.items ≡ trace.old.items ++ fold_trace O.means updates (call.now ∷ [])) }
     ensures end { IfOk result (λ end. end ∷ [] ≡ fold_ends O.means object.old updates (call.now ∷ [])) }
+    ensures reads { OnOk result (All (NodeReads O.means O.wording) trace.old.items → All (NodeReads O.means O.wording) trace.new.items) }
 {
     match call {
         Call::Update(op) => {
@@ -38,6 +42,7 @@ fn fold_call<O: Texted>(
                 row: O::op_row(*op),
             };
             trace.push(node)?;
+            O::op_reads_back(*op);
             Ok(CallEnd::Answered {
                 reply: object.apply(*op),
                 place: number,
@@ -63,12 +68,15 @@ fn put_calls<O: Texted>(
     ensures trace { OnOk result (trace.new.items ≡ fold_trace O.means 0 script.now) }
     ensures lines { let ends = fold_ends O.means object.old 0 script.now in
         OnOk result (out.new ≡ with_lines out.old (call_lines O.wording 0 0 script.now ends)) }
+    ensures ends { OnOk result (EndsRead O.wording script.now (fold_ends O.means object.old 0 script.now)) }
+    ensures nodes { OnOk result (All (NodeReads O.means O.wording) trace.new.items) }
 {
     let mut number = 0;
     for call in script {
         number += 1;
         let end = fold_call(object, call, trace.len() as u64, trace)?;
         out.call_line(0, number, call, &end)?;
+        end_reads_back(&end);
     }
     Ok(())
 }
@@ -88,7 +96,7 @@ pub(crate) fn put_nodes<O: Texted>(trace: &[Node], out: &mut Report) -> Result<(
 }
 
 /// The report of a script that is done in order on the object. That its outcomes and its trace are a legal history is `fold_law`
-/// of `onll_model`.
+/// of `onll_model`. All that it says reads back.
 #[tactic(auto, using(onll_text::proofs::Appending::beginning))]
 fn fold_script<O: Texted>(
     alloc: Global,
@@ -96,6 +104,7 @@ fn fold_script<O: Texted>(
     script: &[Call<O>],
 ) -> Result<Vec<u8>, NoMemory>
     ensures report { IfOk result (λ bytes. bytes.items ≡ fold_report O.means O.wording object.old script.now) }
+    ensures reads { OnOk result (ToldReads O.means O.wording script.now (fold_told O.means object.old script.now)) }
 {
     let mut out = Report::new(alloc);
     let mut trace = Vec::new(alloc);
@@ -103,6 +112,7 @@ fn fold_script<O: Texted>(
     out.trace_line(trace.len() as u64)?;
     put_nodes::<O>(&trace, &mut out)?;
     out.state_lines(object)?;
+    object.state_reads_back();
     Ok(out.into_bytes())
 }
 
@@ -117,6 +127,7 @@ fn fold_object<O: Texted, S: Store>(
         IfOk result (λ answer. JobEnds (S.seen store.old) (S.seen store.new) job answer.ending answer.text.items) }
     ensures cut { let job = script_job O.means O.wording object.old script.now in
         IfErr result (λ e. JobCut (S.seen store.old) (S.seen store.new) job) }
+    ensures told { IfOk result (λ answer. answer.ending ≡ Done → FoldsTo O.means O.wording object.old (S.seen store.old) script.now answer.text.items) }
     ensures same { SameFiles (S.seen store.old) (S.seen store.new) }
 {
     match script_file::<O, S>(alloc, script, store) {
@@ -140,6 +151,7 @@ fn fold_any<S: Store>(
 ) -> Result<Answer, NoMemory>
     ensures says { IfOk result (λ answer. JobEnds (S.seen store.old) (S.seen store.new) (script_job_on script.now object) answer.ending answer.text.items) }
     ensures cut { IfErr result (λ e. JobCut (S.seen store.old) (S.seen store.new) (script_job_on script.now object)) }
+    ensures told { IfOk result (λ answer. answer.ending ≡ Done → FoldsToAny (S.seen store.old) script.now answer.text.items object) }
     ensures same { SameFiles (S.seen store.old) (S.seen store.new) }
 {
     match object {
@@ -159,6 +171,7 @@ pub(crate) fn answer<S: Store>(
 ) -> Result<Answer, NoMemory>
     ensures says { IfOk result (λ answer. JobEnds (S.seen store.old) (S.seen store.new) (fold_job init.now script.now) answer.ending answer.text.items) }
     ensures cut { IfErr result (λ e. JobCut (S.seen store.old) (S.seen store.new) (fold_job init.now script.now)) }
+    ensures told { IfOk result (λ answer. answer.ending ≡ Done → FoldsFiles (S.seen store.old) init.now script.now answer.text.items) }
     ensures same { SameFiles (S.seen store.old) (S.seen store.new) }
 {
     match init_file(alloc, init, store) {

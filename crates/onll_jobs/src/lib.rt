@@ -10,8 +10,11 @@ mod images;
 mod program;
 mod recover;
 mod replay;
+mod run_reads;
 mod show;
 mod texts;
+mod told;
 
 pub use ending::{Ending, Exit};
 pub use program::onll;
+pub use told::{fold_report_law, recover_report_law, replay_report_law};

@@ -10,3 +10,4 @@ pub mod MapReadBack
 pub mod QueueReadBack
 pub mod LeaseReadBack
 pub mod Keeping
+pub mod Determined

@@ -45,7 +45,7 @@ end_in_words w (Ordered place) = (record { some = refl; bytes = refl }, at_in_wo
 end_in_words w (FenceFailed place) = (record { some = refl; bytes = refl }, (record { some = refl; bytes = refl }, at_in_words place))
 end_in_words w (Broken place) = (record { some = refl; bytes = refl }, at_in_words place)
 
-call_line_in_words : {State Op Query Reply : Type 0} (w : Wording State Op Query Reply) (thread number : ℕ) (call : Call State Op Query Reply) (end : CallEnd State Op Query Reply) → AreWords (call_line w thread number call end)
+pub call_line_in_words : {State Op Query Reply : Type 0} (w : Wording State Op Query Reply) (thread number : ℕ) (call : Call State Op Query Reply) (end : CallEnd State Op Query Reply) → AreWords (call_line w thread number call end)
 call_line_in_words w thread number call end = (
   record { some = refl; bytes = refl },
   (
@@ -66,7 +66,7 @@ row_in_words : {State Op Query Reply : Type 0} (w : Wording State Op Query Reply
 row_in_words w None = tt
 row_in_words w (Some op) = w.op_in_words op
 
-node_line_in_words : {State Op Query Reply : Type 0} (b : Behaviour State Op Query Reply) (w : Wording State Op Query Reply) (place : ℕ) (node : Node) (flag : Option Bool) → AreWords (node_line b w place node flag)
+pub node_line_in_words : {State Op Query Reply : Type 0} (b : Behaviour State Op Query Reply) (w : Wording State Op Query Reply) (place : ℕ) (node : Node) (flag : Option Bool) → AreWords (node_line b w place node flag)
 node_line_in_words b w place node flag = (
   record { some = refl; bytes = refl },
   (
@@ -105,7 +105,7 @@ fence_in_words : (fences : Option ℕ) → AreWords (fence_words fences)
 fence_in_words None = tt
 fence_in_words (Some n) = (record { some = refl; bytes = refl }, (IsWord-decimal n, tt))
 
-log_line_in_words : (thread entries lines : ℕ) (fences : Option ℕ) → AreWords (log_line thread entries lines fences)
+pub log_line_in_words : (thread entries lines : ℕ) (fences : Option ℕ) → AreWords (log_line thread entries lines fences)
 log_line_in_words thread entries lines fences =
     (record { some = refl; bytes = refl }, (IsWord-decimal thread, (record { some = refl; bytes = refl }, (IsWord-decimal entries, (record { some = refl; bytes = refl }, (IsWord-decimal lines, fence_in_words fences))))))
 

@@ -10,9 +10,9 @@ use Rattle.onll_bank.specs.declared.operation.BankReply.{BankReply}
 use Rattle.onll_bank.specs.declared.operation.BankReply.TheVariants.{Done, Over, TooLittle, NoAccount, Amount}
 use Rattle.onll_bank.specs.Bank.{is_account, raised, greatest_total}
 use Rattle.onll_text.specs.declared.reason.Reason.{Reason}
-use Rattle.onll_text.specs.declared.reason.Reason.TheVariants.{UnknownWord, OutOfRange, Repeated, TooLarge}
+use Rattle.onll_text.specs.declared.reason.Reason.TheVariants.{UnknownWord, WrongCount, OutOfRange, Repeated, TooLarge}
 use Rattle.onll_text.specs.Refusal.{◌>>=◌, only_if}
-use Rattle.onll_text.specs.Words.{no_word, one_number, two_numbers, three_numbers}
+use Rattle.onll_text.specs.Words.{word_as_number, no_word, one_number, two_numbers, three_numbers}
 
 abbrev pub BankCall : Type 0
 BankCall = Call (List ℕ) BankOp BankQuery BankReply
@@ -59,6 +59,24 @@ bank_reply_words Over = codes "over" ∷ []
 bank_reply_words TooLittle = codes "short" ∷ []
 bank_reply_words NoAccount = codes "no-account" ∷ []
 bank_reply_words (Amount n) = decimal n ∷ []
+
+-- the reply that a word other than a number says
+abbrev pub word_reply_of : List ℕ → Result BankReply Reason
+word_reply_of word =
+    if bytes_eq word (codes "ok") then Ok Done
+    else (if bytes_eq word (codes "over") then Ok Over
+    else (if bytes_eq word (codes "short") then Ok TooLittle
+    else (if bytes_eq word (codes "no-account") then Ok NoAccount
+    else Err UnknownWord)))
+
+abbrev pub amount_or : Result ℕ Reason → Result BankReply Reason → Result BankReply Reason
+amount_or (Ok n) other = Ok (Amount n)
+amount_or (Err reason) other = other
+
+-- the reply that words say
+abbrev pub bank_reply_of : List (List ℕ) → Result BankReply Reason
+bank_reply_of (word ∷ []) = amount_or (word_as_number word) (word_reply_of word)
+bank_reply_of _ = Err WrongCount
 
 abbrev pub account_line : ℕ → ℕ → List (List ℕ)
 account_line a balance = codes "account" ∷ decimal a ∷ decimal balance ∷ []

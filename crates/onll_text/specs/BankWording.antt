@@ -8,7 +8,8 @@ use Rattle.onll_bank.specs.declared.operation.BankQuery.TheVariants.{Balance, To
 use Rattle.onll_bank.specs.declared.operation.BankReply.{BankReply}
 use Rattle.onll_bank.specs.declared.operation.BankReply.TheVariants.{Done, Over, TooLittle, NoAccount, Amount}
 use Rattle.onll_text.specs.Wording.{Wording}
-use Rattle.onll_text.specs.BankText.{bank_call_of, bank_op_words, bank_query_words, bank_reply_words, account_lines, bank_state_lines}
+use Rattle.onll_text.specs.BankText.{bank_call_of, bank_reply_of, bank_op_words, bank_query_words, bank_reply_words, account_lines, bank_state_lines}
+use Rattle.onll_text.specs.Init.{bank_read, init_of}
 
 pub op_in_words : (op : BankOp) → AreWords (bank_op_words op)
 op_in_words (Deposit a x) = (record { some = refl; bytes = refl }, (IsWord-decimal a, (IsWord-decimal x, tt)))
@@ -38,6 +39,8 @@ state_in_lines balances = ((record { some = refl; bytes = refl }, (IsWord-decima
 abbrev pub bank_wording : Wording (List ℕ) BankOp BankQuery BankReply
 bank_wording = record {
   call_of = bank_call_of;
+  reply_of = bank_reply_of;
+  state_of = λ text. bank_read (init_of text);
   op_words = bank_op_words;
   query_words = bank_query_words;
   reply_words = bank_reply_words;
@@ -46,4 +49,7 @@ bank_wording = record {
   query_in_words = query_in_words;
   reply_in_words = reply_in_words;
   state_in_lines = state_in_lines;
+  ordered_is_no_reply = refl;
+  fence_failed_is_no_reply = refl;
+  broken_is_no_reply = refl;
 }

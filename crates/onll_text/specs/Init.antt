@@ -1,4 +1,4 @@
-use Rattle.std.specs.Prelude.{ℕ, List, [], ◌∷◌, Result, Ok, Err, if◌then◌else◌, codes, replicate, nat_le, ◌&&◌}
+use Rattle.std.specs.Prelude.{ℕ, List, [], ◌∷◌, Option, Some, None, Result, Ok, Err, if◌then◌else◌, codes, replicate, nat_le, ◌&&◌}
 use Rattle.std.specs.Str.{bytes_eq}
 use Rattle.onll_words.specs.Texts.{Numbered, words_of, meaningful_lines}
 use Rattle.onll_text.specs.declared.reason.Reason.{Reason}
@@ -74,3 +74,20 @@ init_of_lines (l ∷ lines) = at_line l.number (head_of (words_of l.line)) >>= �
 -- the initial state of a text, or why the text is none
 abbrev pub init_of : List ℕ → Result AnyObject Refusal
 init_of text = if is_too_long text then Err (refused 0 TooLong) else init_of_lines (meaningful_lines text)
+
+-- the state that was read, where it is one of this kind of object
+abbrev pub bank_read : Result AnyObject Refusal → Option (List ℕ)
+bank_read (Ok (objects.Bank s)) = Some s
+bank_read _ = None
+
+abbrev pub map_read : Result AnyObject Refusal → Option Entries
+map_read (Ok (objects.Map s)) = Some s
+map_read _ = None
+
+abbrev pub queue_read : Result AnyObject Refusal → Option Items
+queue_read (Ok (objects.Queue s)) = Some s
+queue_read _ = None
+
+abbrev pub lease_read : Result AnyObject Refusal → Option (List LeaseEntry)
+lease_read (Ok (objects.Lease s)) = Some s
+lease_read _ = None

@@ -11,9 +11,9 @@ use Rattle.onll_lease.specs.declared.operation.LeaseReply.{LeaseReply}
 use Rattle.onll_lease.specs.declared.operation.LeaseReply.TheVariants.{NoResource, HeldUntil, Late, Spent, Granted, Renewed, Stale, Released, HeldBy, Free}
 use Rattle.onll_lease.specs.Lease.{entry_at}
 use Rattle.onll_text.specs.declared.reason.Reason.{Reason}
-use Rattle.onll_text.specs.declared.reason.Reason.TheVariants.{UnknownWord, OutOfRange, Repeated}
+use Rattle.onll_text.specs.declared.reason.Reason.TheVariants.{UnknownWord, WrongCount, OutOfRange, Repeated}
 use Rattle.onll_text.specs.Refusal.{◌>>=◌, only_if}
-use Rattle.onll_text.specs.Words.{two_numbers, four_numbers}
+use Rattle.onll_text.specs.Words.{word_as_number, no_word, one_number, two_numbers, four_numbers}
 
 abbrev pub LeaseCall : Type 0
 LeaseCall = Call (List LeaseEntry) LeaseOp LeaseQuery LeaseReply
@@ -60,6 +60,33 @@ lease_reply_words Stale = codes "stale" ∷ []
 lease_reply_words Released = codes "released" ∷ []
 lease_reply_words (HeldBy h t u) = codes "by" ∷ decimal h ∷ codes "token" ∷ decimal t ∷ codes "until" ∷ decimal u ∷ []
 lease_reply_words Free = codes "free" ∷ []
+
+-- the moment of the words `until U`
+abbrev pub until_of : List (List ℕ) → Result ℕ Reason
+until_of [] = Err WrongCount
+until_of (word ∷ args) = if bytes_eq word (codes "until") then one_number args else Err UnknownWord
+
+-- the lease of the words `H token T until U`
+abbrev pub held_by_of : List (List ℕ) → Result LeaseReply Reason
+held_by_of (holder ∷ word ∷ token ∷ args) =
+    if bytes_eq word (codes "token") then (word_as_number holder >>= λ h. word_as_number token >>= λ t. until_of args >>= λ u. Ok (HeldBy h t u)) else Err UnknownWord
+held_by_of _ = Err WrongCount
+
+-- the reply that words say
+abbrev pub lease_reply_of : List (List ℕ) → Result LeaseReply Reason
+lease_reply_of [] = Err UnknownWord
+lease_reply_of (first ∷ args) =
+    if bytes_eq first (codes "no-resource") then (no_word args >>= λ none. Ok NoResource)
+    else (if bytes_eq first (codes "held") then (until_of args >>= λ u. Ok (HeldUntil u))
+    else (if bytes_eq first (codes "late") then (no_word args >>= λ none. Ok Late)
+    else (if bytes_eq first (codes "spent") then (no_word args >>= λ none. Ok Spent)
+    else (if bytes_eq first (codes "granted") then (one_number args >>= λ t. Ok (Granted t))
+    else (if bytes_eq first (codes "renewed") then (one_number args >>= λ u. Ok (Renewed u))
+    else (if bytes_eq first (codes "stale") then (no_word args >>= λ none. Ok Stale)
+    else (if bytes_eq first (codes "released") then (no_word args >>= λ none. Ok Released)
+    else (if bytes_eq first (codes "by") then held_by_of args
+    else (if bytes_eq first (codes "free") then (no_word args >>= λ none. Ok Free)
+    else Err UnknownWord)))))))))
 
 abbrev pub held_line : ℕ → LeaseEntry → List (List ℕ)
 held_line r e = codes "held" ∷ decimal r ∷ decimal e.token ∷ decimal e.holder ∷ decimal e.until ∷ []

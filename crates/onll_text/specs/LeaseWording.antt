@@ -9,7 +9,8 @@ use Rattle.onll_lease.specs.declared.operation.LeaseQuery.TheVariants.{Holder}
 use Rattle.onll_lease.specs.declared.operation.LeaseReply.{LeaseReply}
 use Rattle.onll_lease.specs.declared.operation.LeaseReply.TheVariants.{NoResource, HeldUntil, Late, Spent, Granted, Renewed, Stale, Released, HeldBy, Free}
 use Rattle.onll_text.specs.Wording.{Wording}
-use Rattle.onll_text.specs.LeaseText.{lease_call_of, lease_op_words, lease_query_words, lease_reply_words, held_line, held_lines, lease_state_lines}
+use Rattle.onll_text.specs.LeaseText.{lease_call_of, lease_reply_of, lease_op_words, lease_query_words, lease_reply_words, held_line, held_lines, lease_state_lines}
+use Rattle.onll_text.specs.Init.{lease_read, init_of}
 
 pub op_in_words : (op : LeaseOp) → AreWords (lease_op_words op)
 op_in_words (Grant r h now ttl) = (record { some = refl; bytes = refl }, (IsWord-decimal r, (IsWord-decimal h, (IsWord-decimal now, (IsWord-decimal ttl, tt)))))
@@ -51,6 +52,8 @@ state_in_lines s = ((record { some = refl; bytes = refl }, (IsWord-decimal _, tt
 abbrev pub lease_wording : Wording (List LeaseEntry) LeaseOp LeaseQuery LeaseReply
 lease_wording = record {
   call_of = lease_call_of;
+  reply_of = lease_reply_of;
+  state_of = λ text. lease_read (init_of text);
   op_words = lease_op_words;
   query_words = lease_query_words;
   reply_words = lease_reply_words;
@@ -59,4 +62,7 @@ lease_wording = record {
   query_in_words = query_in_words;
   reply_in_words = reply_in_words;
   state_in_lines = state_in_lines;
+  ordered_is_no_reply = refl;
+  fence_failed_is_no_reply = refl;
+  broken_is_no_reply = refl;
 }

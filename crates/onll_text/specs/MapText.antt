@@ -13,7 +13,7 @@ use Rattle.onll_map.specs.Map.{Pairs, Entries, value_at, has_room, pairs_put}
 use Rattle.onll_text.specs.declared.reason.Reason.{Reason}
 use Rattle.onll_text.specs.declared.reason.Reason.TheVariants.{UnknownWord, Repeated, TooMany}
 use Rattle.onll_text.specs.Refusal.{◌>>=◌, only_if}
-use Rattle.onll_text.specs.Words.{no_word, one_short, two_shorts}
+use Rattle.onll_text.specs.Words.{no_word, one_number, one_short, two_shorts}
 
 abbrev pub MapCall : Type 0
 MapCall = Call Entries MapOp MapQuery MapReply
@@ -62,6 +62,19 @@ map_reply_words Absent = codes "none" ∷ []
 map_reply_words (Value v) = codes "value" ∷ v.bytes ∷ []
 map_reply_words (Key k) = codes "key" ∷ k.bytes ∷ []
 map_reply_words (Counted n) = codes "count" ∷ decimal n ∷ []
+
+-- the reply that words say
+abbrev pub map_reply_of : List (List ℕ) → Result MapReply Reason
+map_reply_of [] = Err UnknownWord
+map_reply_of (first ∷ args) =
+    if bytes_eq first (codes "new") then (no_word args >>= λ none. Ok New)
+    else (if bytes_eq first (codes "old") then (one_short args >>= λ v. Ok (Old v))
+    else (if bytes_eq first (codes "full") then (no_word args >>= λ none. Ok Full)
+    else (if bytes_eq first (codes "none") then (no_word args >>= λ none. Ok Absent)
+    else (if bytes_eq first (codes "value") then (one_short args >>= λ v. Ok (Value v))
+    else (if bytes_eq first (codes "key") then (one_short args >>= λ k. Ok (Key k))
+    else (if bytes_eq first (codes "count") then (one_number args >>= λ n. Ok (Counted n))
+    else Err UnknownWord))))))
 
 abbrev pub pair_line : ShortText × ShortText → List (List ℕ)
 pair_line pair = codes "pair" ∷ pair.0.bytes ∷ pair.1.bytes ∷ []

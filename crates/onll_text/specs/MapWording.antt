@@ -10,7 +10,8 @@ use Rattle.onll_map.specs.declared.operation.MapReply.{MapReply}
 use Rattle.onll_map.specs.declared.operation.MapReply.TheVariants.{New, Old, Full, Absent, Value, Key, Count as Counted}
 use Rattle.onll_map.specs.Map.{Pairs, Entries}
 use Rattle.onll_text.specs.Wording.{Wording}
-use Rattle.onll_text.specs.MapText.{map_call_of, map_op_words, map_query_words, map_reply_words, pair_lines, map_state_lines}
+use Rattle.onll_text.specs.MapText.{map_call_of, map_reply_of, map_op_words, map_query_words, map_reply_words, pair_lines, map_state_lines}
+use Rattle.onll_text.specs.Init.{map_read, init_of}
 
 pub op_in_words : (op : MapOp) → AreWords (map_op_words op)
 op_in_words (Put k v) = (record { some = refl; bytes = refl }, (IsWord-short k, (IsWord-short v, tt)))
@@ -42,6 +43,8 @@ state_in_lines s = ((record { some = refl; bytes = refl }, (IsWord-decimal s.roo
 abbrev pub map_wording : Wording Entries MapOp MapQuery MapReply
 map_wording = record {
   call_of = map_call_of;
+  reply_of = map_reply_of;
+  state_of = λ text. map_read (init_of text);
   op_words = map_op_words;
   query_words = map_query_words;
   reply_words = map_reply_words;
@@ -50,4 +53,7 @@ map_wording = record {
   query_in_words = query_in_words;
   reply_in_words = reply_in_words;
   state_in_lines = state_in_lines;
+  ordered_is_no_reply = refl;
+  fence_failed_is_no_reply = refl;
+  broken_is_no_reply = refl;
 }

@@ -56,6 +56,17 @@ queue_reply_words Empty = codes "empty" ∷ []
 queue_reply_words (Item x) = codes "item" ∷ decimal x ∷ []
 queue_reply_words (Length n) = codes "length" ∷ decimal n ∷ []
 
+-- the reply that words say
+abbrev pub queue_reply_of : List (List ℕ) → Result QueueReply Reason
+queue_reply_of [] = Err UnknownWord
+queue_reply_of (first ∷ args) =
+    if bytes_eq first (codes "ok") then (no_word args >>= λ none. Ok Done)
+    else (if bytes_eq first (codes "full") then (no_word args >>= λ none. Ok Full)
+    else (if bytes_eq first (codes "empty") then (no_word args >>= λ none. Ok Empty)
+    else (if bytes_eq first (codes "item") then (one_number args >>= λ x. Ok (Item x))
+    else (if bytes_eq first (codes "length") then (one_number args >>= λ n. Ok (Length n))
+    else Err UnknownWord))))
+
 abbrev pub item_line : ℕ → List (List ℕ)
 item_line x = codes "item" ∷ decimal x ∷ []
 

@@ -9,7 +9,8 @@ use Rattle.onll_queue.specs.declared.operation.QueueQuery.TheVariants.{Front, Le
 use Rattle.onll_queue.specs.declared.operation.QueueReply.{QueueReply}
 use Rattle.onll_queue.specs.declared.operation.QueueReply.TheVariants.{Done, Full, Empty, Item, Length}
 use Rattle.onll_text.specs.Wording.{Wording}
-use Rattle.onll_text.specs.QueueText.{queue_call_of, queue_op_words, queue_query_words, queue_reply_words, item_lines, queue_state_lines}
+use Rattle.onll_text.specs.QueueText.{queue_call_of, queue_reply_of, queue_op_words, queue_query_words, queue_reply_words, item_lines, queue_state_lines}
+use Rattle.onll_text.specs.Init.{queue_read, init_of}
 
 pub op_in_words : (op : QueueOp) → AreWords (queue_op_words op)
 op_in_words (Push x) = (record { some = refl; bytes = refl }, (IsWord-decimal x, tt))
@@ -37,6 +38,8 @@ state_in_lines s = ((record { some = refl; bytes = refl }, (IsWord-decimal s.roo
 abbrev pub queue_wording : Wording Items QueueOp QueueQuery QueueReply
 queue_wording = record {
   call_of = queue_call_of;
+  reply_of = queue_reply_of;
+  state_of = λ text. queue_read (init_of text);
   op_words = queue_op_words;
   query_words = queue_query_words;
   reply_words = queue_reply_words;
@@ -45,4 +48,7 @@ queue_wording = record {
   query_in_words = query_in_words;
   reply_in_words = reply_in_words;
   state_in_lines = state_in_lines;
+  ordered_is_no_reply = refl;
+  fence_failed_is_no_reply = refl;
+  broken_is_no_reply = refl;
 }

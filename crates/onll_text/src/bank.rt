@@ -4,6 +4,7 @@ ghost use Rattle.onll_text.specs.Bytes.{begins_line, with_lines, Keeps};
 ghost use Rattle.onll_text.specs.BankText.{deposit_of, withdraw_of, transfer_of, balance_of, total_of, account_line, account_lines};
 ghost use Rattle.onll_text.specs.BankWording.{bank_wording};
 
+use crate::read_back::bank_reads_back;
 use crate::reason::Reason;
 use crate::report::{Piece, Report};
 use crate::texted::Texted;
@@ -165,5 +166,19 @@ impl Texted for Bank {
             BankQuery::Balance { a } => number_reads_back(a),
             BankQuery::Total => {}
         }
+    }
+
+    fn reply_reads_back(reply: BankReply) {
+        match reply {
+            BankReply::Done => {}
+            BankReply::Over => {}
+            BankReply::TooLittle => {}
+            BankReply::NoAccount => {}
+            BankReply::Amount(n) => number_reads_back(n),
+        }
+    }
+
+    fn state_reads_back(&self) {
+        bank_reads_back(self);
     }
 }

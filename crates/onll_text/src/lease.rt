@@ -5,6 +5,7 @@ ghost use Rattle.onll_text.specs.LeaseText.{grant_of, renew_of, release_of, hold
 ghost use Rattle.onll_text.specs.LeaseWording.{lease_wording};
 
 use crate::init::Initial;
+use crate::read_back::lease_reads_back;
 use crate::reason::Reason;
 use crate::report::{Piece, Report};
 use crate::texted::Texted;
@@ -197,6 +198,33 @@ impl Texted for Lease {
         let LeaseQuery::Holder { r, now } = query;
         number_reads_back(r);
         number_reads_back(now);
+    }
+
+    fn reply_reads_back(reply: LeaseReply) {
+        match reply {
+            LeaseReply::NoResource => {}
+            LeaseReply::HeldUntil(until) => number_reads_back(until),
+            LeaseReply::Late => {}
+            LeaseReply::Spent => {}
+            LeaseReply::Granted(token) => number_reads_back(token),
+            LeaseReply::Renewed(until) => number_reads_back(until),
+            LeaseReply::Stale => {}
+            LeaseReply::Released => {}
+            LeaseReply::HeldBy {
+                holder,
+                token,
+                until,
+            } => {
+                number_reads_back(holder);
+                number_reads_back(token);
+                number_reads_back(until);
+            }
+            LeaseReply::Free => {}
+        }
+    }
+
+    fn state_reads_back(&self) {
+        lease_reads_back(self);
     }
 }
 

@@ -17,6 +17,7 @@ mod script;
 #[cfg(test)]
 mod tests;
 mod texted;
+mod told;
 mod words;
 
 pub use any_object::{AnyObject, Kind};
@@ -27,3 +28,4 @@ pub use report::{Piece, Report};
 pub use schedule::{MOST_STEPS, Schedule, Turns, read_schedule};
 pub use script::{LONGEST_TEXT, read_script};
 pub use texted::Texted;
+pub use told::{end_reads_back, fold_told_law, node_reads_back, parts_told_law};

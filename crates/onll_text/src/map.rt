@@ -5,10 +5,11 @@ ghost use Rattle.onll_text.specs.MapText.{put_of, del_of, get_of, next_of, count
 ghost use Rattle.onll_text.specs.MapWording.{map_wording};
 
 use crate::init::Initial;
+use crate::read_back::map_reads_back;
 use crate::reason::Reason;
 use crate::report::{Piece, Report};
 use crate::texted::Texted;
-use crate::words::{is_text, no_word, one_short, short_reads_back, two_shorts};
+use crate::words::{is_text, no_word, number_reads_back, one_short, short_reads_back, two_shorts};
 use onll_map::{Map, MapOp, MapQuery, MapReply};
 use onll_model::{Call, Object};
 use onll_words::{Cut, NoMemory, Short, split_word};
@@ -148,6 +149,22 @@ impl Texted for Map {
             MapQuery::Next { k } => short_reads_back(k),
             MapQuery::Count => {}
         }
+    }
+
+    fn reply_reads_back(reply: MapReply) {
+        match reply {
+            MapReply::New => {}
+            MapReply::Old(v) => short_reads_back(v),
+            MapReply::Full => {}
+            MapReply::Absent => {}
+            MapReply::Value(v) => short_reads_back(v),
+            MapReply::Key(k) => short_reads_back(k),
+            MapReply::Count(n) => number_reads_back(n),
+        }
+    }
+
+    fn state_reads_back(&self) {
+        map_reads_back(self);
     }
 }
 

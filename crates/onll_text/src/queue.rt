@@ -5,6 +5,7 @@ ghost use Rattle.onll_text.specs.QueueText.{push_of, pop_of, front_of, length_of
 ghost use Rattle.onll_text.specs.QueueWording.{queue_wording};
 
 use crate::init::Initial;
+use crate::read_back::queue_reads_back;
 use crate::reason::Reason;
 use crate::report::{Piece, Report};
 use crate::texted::Texted;
@@ -127,6 +128,20 @@ impl Texted for Queue {
             QueueQuery::Front => {}
             QueueQuery::Length => {}
         }
+    }
+
+    fn reply_reads_back(reply: QueueReply) {
+        match reply {
+            QueueReply::Done => {}
+            QueueReply::Full => {}
+            QueueReply::Empty => {}
+            QueueReply::Item(x) => number_reads_back(x),
+            QueueReply::Length(n) => number_reads_back(n),
+        }
+    }
+
+    fn state_reads_back(&self) {
+        queue_reads_back(self);
     }
 }
 

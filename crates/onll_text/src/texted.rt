@@ -1,6 +1,7 @@
-ghost use Rattle.std.specs.Prelude.{◌≡◌, true, Ok, OnOk};
+ghost use Rattle.std.specs.Prelude.{◌≡◌, true, Ok, OnOk, Some};
+ghost use Rattle.std.specs.List.{flat_map};
 ghost use Rattle.onll_model.specs.declared.call.Call.TheVariants.{Update, Ask};
-ghost use Rattle.onll_words.specs.Texts.{words_of};
+ghost use Rattle.onll_words.specs.Texts.{words_of, line_text};
 ghost use Rattle.onll_text.specs.Bytes.{begins_line, with_words, with_lines, Keeps};
 ghost use Rattle.onll_text.specs.Wording.{Wording};
 
@@ -46,4 +47,12 @@ pub trait Texted: Object {
     /// A law: what is printed of a query reads as that read. It does nothing when called.
     fn query_reads_back(query: Self::Query)
         ensures { wording.call_of (wording.query_words query) ≡ Ok (Ask query) };
+
+    /// A law: what is printed of a reply reads as that reply. It does nothing when called.
+    fn reply_reads_back(reply: Self::Reply)
+        ensures { wording.reply_of (wording.reply_words reply) ≡ Ok reply };
+
+    /// A law: what is printed of a state reads as that state. It does nothing when called.
+    fn state_reads_back(&self)
+        ensures { wording.state_of (flat_map line_text (wording.state_lines self.now)) ≡ Some self.now };
 }

@@ -1,3 +1,7 @@
+use Rattle.std.proofs.Common.{subst}
+use Rattle.onll_text.specs.Told.{SaysOnly}
+use Rattle.onll_text.proofs.Determined.{says_only}
+use Rattle.onll_jobs.specs.Told.{fold_told}
 use Rattle.onll_text.specs.Script.{script_of}
 use Rattle.onll_jobs.specs.declared.ending.Ending.TheVariants.{Done}
 use Rattle.onll_jobs.specs.Fold.{fold_report}
@@ -9,3 +13,17 @@ pub returns-in-Err-clause-says : goal.returns-in-Err-clause-says
 returns-in-Err-clause-says g c =
     stopped (g.S.Store.seen c.args.store.now) (g.S.Store.seen c.script_file.new.store) c.args.script.now (script_of g.O.Texted.wording)
     (λ _ calls. Say Done (fold_report g.O.Object.means g.O.Texted.wording c.args.object.now calls)) c.in-Err.stop c.answer.result c.in-Err.ensures.same c.answer.ensures c.in-Err.ensures.stop
+
+pub returns-in_ok-text-in-Ok-clause-told : goal.returns-in_ok-text-in-Ok-clause-told
+returns-in_ok-text-in-Ok-clause-told g c done =
+    let b = g.O.Object.means in
+    let w = g.O.Texted.wording in
+    let s = c.args.object.now in
+    let text = c.in_ok-text-in-Ok.text.items in
+    let calls = c.deref.result.now in
+    record {
+      calls = c.in-Ok.calls.items;
+      read = c.in-Ok.ensures.calls;
+      says = subst (λ k. SaysOnly b w k text (fold_told b s k)) c.deref.ensures.value
+          (says_only b w calls text (fold_told b s calls) c.in_ok-text-in-Ok.ensures.report c.in_ok-text-in-Ok.ensures.reads);
+    }

@@ -1,9 +1,10 @@
 use Rattle.std.proofs.Common.{◌∙◌, sym, ap, subst}
-use Rattle.std.specs.List.{AllByRecursion}
+use Rattle.std.specs.List.{All, AllByRecursion}
 use Rattle.std.specs.Option.{IsSome}
 use Rattle.onll_model.specs.declared.node.Node.{Node}
 use Rattle.onll_text.specs.Bytes.{begins_line}
 use Rattle.onll_text.specs.Lines.{trace_line, node_lines}
+use Rattle.onll_text.specs.Told.{NodeReads, StateReads}
 use Rattle.onll_text.proofs.Appending.{begins_line-line, begins_line-lines}
 use Rattle.onll_jobs.proofs.FoldSteps.{fold_operations}
 use Rattle.onll_jobs.proofs.fold.fold_script.Goals as goal
@@ -22,3 +23,10 @@ state_lines-requires g c =
     ap begins_line c.in_ok-put_nodes.ensures
     ∙ begins_line-lines c.trace_line.new.self (node_lines g.O.Object.means g.O.Texted.wording 0 c.deref.result.now)
     (ap begins_line c.in_ok-trace_line.ensures.ok ∙ begins_line-line c.put_calls.new.out (trace_line c.len.result))
+
+pub returns-clause-reads : goal.returns-clause-reads
+returns-clause-reads g c = record {
+  ends = c.in_ok-put_calls.ensures.ends;
+  nodes = subst (All (NodeReads g.O.Object.means g.O.Texted.wording)) c.in_ok-put_calls.ensures.trace c.in_ok-put_calls.ensures.nodes;
+  state = subst (StateReads g.O.Texted.wording) c.in_ok-put_calls.ensures.state c.state_reads_back.ensures;
+}

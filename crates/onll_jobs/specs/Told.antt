@@ -1,0 +1,227 @@
+use Rattle.std.specs.Prelude.{ℕ, ◌≡◌, ◌<◌, ◌≤◌, ◌^◌, ◌+◌, ◌-◌, Bool, List, [], ◌∷◌, ◌++◌, Option, Some, None, codes, decimal, length, map}
+use Rattle.std.specs.List.{All, flat_map}
+use Rattle.onll_words.specs.Texts.{line_text}
+use Rattle.onll_model.specs.declared.node.Node.{Node}
+use Rattle.onll_model.specs.declared.call.Call.{Call}
+use Rattle.onll_model.specs.declared.call.CallEnd.{CallEnd}
+use Rattle.onll_model.specs.Object.{Behaviour}
+use Rattle.onll_model.specs.Trace.{state_after}
+use Rattle.onll_model.specs.Fold.{fold_trace, fold_ends, fold_state}
+use Rattle.onll_model.specs.Segment.{Segment}
+use Rattle.onll_log.specs.declared.head.LogHead.{LogHead}
+use Rattle.onll_log.specs.Grammar.{Content, used_by, used_with}
+use Rattle.onll_core.specs.Core.{CoreThread, CoreState}
+use Rattle.onll_core.specs.Outcomes.{ends_of, script_of}
+use Rattle.onll_text.specs.Wording.{Wording}
+use Rattle.onll_text.specs.Lines.{call_lines, trace_line, node_lines, log_line, state_lines}
+use Rattle.onll_text.specs.Told.{EndsRead, NodeReads, StateReads, Told, told_lines, ToldReads, SaysOnly}
+use Rattle.onll_text.specs.declared.any_object.AnyObject.{AnyObject}
+use Rattle.onll_text.specs.declared.any_object.AnyObject.TheVariants as objects
+use Rattle.onll_text.specs.BankWording.{bank_wording}
+use Rattle.onll_text.specs.MapWording.{map_wording}
+use Rattle.onll_text.specs.QueueWording.{queue_wording}
+use Rattle.onll_text.specs.LeaseWording.{lease_wording}
+use Rattle.onll_text.specs.Script.{script_of as read_script}
+use Rattle.onll_text.specs.Init.{init_of}
+use Rattle.onll_bank.specs.Object.{bank}
+use Rattle.onll_map.specs.Object.{map_object}
+use Rattle.onll_queue.specs.Object.{queue}
+use Rattle.onll_lease.specs.Object.{lease}
+use Rattle.onll_outside.specs.Views.{StoreView, Puts}
+use Rattle.onll_jobs.specs.Fold.{fold_report}
+use Rattle.onll_jobs.specs.Reading.{Reads}
+use Rattle.onll_jobs.specs.Command.{Form, Fold, form_of}
+use Rattle.onll_jobs.specs.Seen.{Seen}
+use Rattle.onll_jobs.specs.declared.ending.Ending.{Ending}
+use Rattle.onll_jobs.specs.declared.ending.Ending.TheVariants.{Done}
+use Rattle.onll_jobs.specs.declared.ending.Exit.{Exit}
+use Rattle.onll_jobs.specs.declared.ending.Exit.TheVariants.{Said}
+use Rattle.onll_jobs.specs.RecoverJob.{Recovered, recovered_line, recover_report}
+use Rattle.onll_jobs.specs.ReplayJob.{flagged_lines, crash_line, replay_report}
+
+-- The bytes of the reports of `fold`, `recover` and `replay` determine what they say.
+
+-- ---- fold
+-- what the report of a fold says
+abbrev pub fold_told : {State Op Query Reply : Type 0} → Behaviour State Op Query Reply → State → List (Call State Op Query Reply) → Told State Op Query Reply
+fold_told b s calls = record { ends = fold_ends b s 0 calls; nodes = fold_trace b 0 calls; state = fold_state b s calls }
+
+-- nothing else that reads back is printed by its bytes
+abbrev pub FoldReportLaw : {State Op Query Reply : Type 0} → Behaviour State Op Query Reply → Wording State Op Query Reply → Type 0
+FoldReportLaw {State} {Op} {Query} {Reply} b w =
+    (s : State) (calls : List (Call State Op Query Reply)) (other : Told State Op Query Reply) → ToldReads b w calls (fold_told b s calls) → ToldReads b w calls other
+    → fold_report b w s calls ≡ flat_map line_text (told_lines b w calls other) → fold_told b s calls ≡ other
+
+-- a script is read from this file, and this text says what its fold gives, and nothing else that reads back
+pub record FoldsTo {State Op Query Reply : Type 0} (b : Behaviour State Op Query Reply) (w : Wording State Op Query Reply) (s : State) (store : StoreView) (script text : List ℕ) : Type 0 where
+  pub calls : List (Call State Op Query Reply)
+  pub read : Reads store (read_script w) script calls
+  pub says : SaysOnly b w calls text (fold_told b s calls)
+
+-- the same for an object of any kind
+abbrev pub FoldsToAny : StoreView → (script text : List ℕ) → AnyObject → Type 0
+FoldsToAny store script text (objects.Bank s) = FoldsTo bank bank_wording s store script text
+FoldsToAny store script text (objects.Map s) = FoldsTo map_object map_wording s store script text
+FoldsToAny store script text (objects.Queue s) = FoldsTo queue queue_wording s store script text
+FoldsToAny store script text (objects.Lease s) = FoldsTo lease lease_wording s store script text
+
+-- an initial state is read from the one file, and the other's script is folded on it
+pub record FoldsFiles (store : StoreView) (init script text : List ℕ) : Type 0 where
+  pub object : AnyObject
+  pub read : Reads store init_of init object
+  pub folds : FoldsToAny store script text object
+
+-- where a form is that of a fold, and the fold is done, this text is told so
+abbrev pub FormTold : StoreView → Option Form → Ending → List ℕ → Type 0
+FormTold store (Some (Fold init script)) ending text = ending ≡ Done → FoldsFiles store init script text
+FormTold store form ending text = Unit {0}
+
+-- a fold whose report was put
+pub record FoldPut (seen : Seen) (init script : List ℕ) : Type 0 where
+  pub text : List ℕ
+  pub folds : FoldsFiles seen.store init script text
+  pub put : Puts seen.sink seen.sink_after text
+
+-- a fold that is done, by its exit and by its status
+abbrev pub FoldExits : Seen → Exit → Type 0
+FoldExits seen exit = (init script : List ℕ) → form_of seen.words ≡ Some (Fold init script) → exit ≡ Said Done → FoldPut seen init script
+
+abbrev pub FoldIsTold : Seen → ℕ → Type 0
+FoldIsTold seen status = (init script : List ℕ) → form_of seen.words ≡ Some (Fold init script) → status ≡ 0 → FoldPut seen init script
+
+-- ---- recover
+-- what is said of a log with a head: its entries and its lines
+pub record HeldTold : Type 0 where
+  pub entries : ℕ
+  pub lines : ℕ
+
+-- what a report of logs says: of each log, nothing where it has no head; the trace, and the state after it
+pub record RecoverTold (State : Type 0) : Type 0 where
+  pub logs : List (Option HeldTold)
+  pub nodes : List Node
+  pub state : State
+
+abbrev pub held_line : ℕ → Option HeldTold → List (List ℕ)
+held_line t None = codes "log" ∷ decimal t ∷ codes "empty" ∷ []
+held_line t (Some held) = log_line t held.entries held.lines None
+
+-- the line of each log, from thread t on
+abbrev pub held_lines : ℕ → List (Option HeldTold) → List (List (List ℕ))
+held_lines t [] = []
+held_lines t (log ∷ logs) = held_line t log ∷ held_lines (t + 1) logs
+
+abbrev pub recover_told_lines : {State Op Query Reply : Type 0} → Behaviour State Op Query Reply → Wording State Op Query Reply → RecoverTold State → List (List (List ℕ))
+recover_told_lines b w told = held_lines 0 told.logs ++ (recovered_line (length told.nodes) ∷ (node_lines b w 0 told.nodes ++ state_lines w told.state))
+
+-- the numbers of a log are of 64 bits
+abbrev pub HeldReads : Option HeldTold → Type 0
+HeldReads None = Unit {0}
+HeldReads (Some held) = (held.entries < 2 ^ 64) × (held.lines < 2 ^ 64)
+
+-- all that is said reads back
+pub record RecoverReads {State Op Query Reply : Type 0} (b : Behaviour State Op Query Reply) (w : Wording State Op Query Reply) (told : RecoverTold State) : Type 0 where
+  pub logs : All HeldReads told.logs
+  pub nodes : All (NodeReads b w) told.nodes
+  pub state : StateReads w told.state
+
+abbrev pub held_with : Option LogHead → List Segment → Option HeldTold
+held_with None entries = None
+held_with (Some head) entries = Some (record { entries = length entries; lines = used_with (Some head) entries })
+
+abbrev pub held_of : Content → Option HeldTold
+held_of log = held_with log.head log.entries
+
+-- what the report of a recovery says, with this state
+abbrev pub found_told : {State : Type 0} → Recovered → State → RecoverTold State
+found_told r s = record { logs = map held_of r.logs; nodes = r.nodes; state = s }
+
+-- the same with the state after the trace
+abbrev pub recover_told : {State Op Query Reply : Type 0} → Behaviour State Op Query Reply → State → Recovered → RecoverTold State
+recover_told b s r = found_told r (state_after b s r.nodes)
+
+-- nothing else that reads back is printed by its bytes
+abbrev pub RecoverReportLaw : {State Op Query Reply : Type 0} → Behaviour State Op Query Reply → Wording State Op Query Reply → Type 0
+RecoverReportLaw {State} b w =
+    (s : State) (r : Recovered) (other : RecoverTold State) → RecoverReads b w (recover_told b s r) → RecoverReads b w other
+    → recover_report b w s r ≡ flat_map line_text (recover_told_lines b w other) → recover_told b s r ≡ other
+
+-- ---- replay
+-- what is said of a log: its entries, its lines, and the fences after the header's
+pub record LogTold : Type 0 where
+  pub entries : ℕ
+  pub lines : ℕ
+  pub fences : ℕ
+
+-- what a report of threads says: what became of the calls of each, the trace with its flags, the crash, the logs, how many nodes
+-- are recovered, and the state after them
+pub record RunTold (State Op Query Reply : Type 0) : Type 0 where
+  pub ends : List (List (CallEnd State Op Query Reply))
+  pub nodes : List Node
+  pub flags : List Bool
+  pub keep : ℕ
+  pub logs : List LogTold
+  pub recovered : ℕ
+  pub state : State
+
+-- the lines of the calls of each thread, from thread t on
+abbrev pub thread_lines : {State Op Query Reply : Type 0} → Wording State Op Query Reply → ℕ → List (List (Call State Op Query Reply)) → List (List (CallEnd State Op Query Reply)) → List (List (List ℕ))
+thread_lines w t (script ∷ scripts) (ends ∷ more) = call_lines w t 0 script ends ++ thread_lines w (t + 1) scripts more
+thread_lines w t scripts ends = []
+
+-- the line of each log, from thread t on
+abbrev pub counted_lines : ℕ → List LogTold → List (List (List ℕ))
+counted_lines t [] = []
+counted_lines t (log ∷ logs) = log_line t log.entries log.lines (Some log.fences) ∷ counted_lines (t + 1) logs
+
+-- the lines of all of it, for these scripts
+abbrev pub run_told_lines : {State Op Query Reply : Type 0} → Behaviour State Op Query Reply → Wording State Op Query Reply → List (List (Call State Op Query Reply)) → RunTold State Op Query Reply → List (List (List ℕ))
+run_told_lines b w scripts told =
+    (thread_lines w 0 scripts told.ends ++ (trace_line (length told.nodes) ∷ flagged_lines b w 0 told.nodes told.flags))
+    ++ (crash_line told.keep ∷ (counted_lines 0 told.logs ++ (recovered_line told.recovered ∷ state_lines w told.state)))
+
+-- the outcomes of the first calls of each script read back
+abbrev pub EachReads : {State Op Query Reply : Type 0} → Wording State Op Query Reply → List (List (Call State Op Query Reply)) → List (List (CallEnd State Op Query Reply)) → Type 0
+EachReads w [] [] = Unit {0}
+EachReads w (script ∷ scripts) (ends ∷ more) = EndsRead w script ends × EachReads w scripts more
+EachReads w scripts ends = ⊥
+
+-- the numbers of a log are of 64 bits
+pub record LogReads (log : LogTold) : Type 0 where
+  pub entries : log.entries < 2 ^ 64
+  pub lines : log.lines < 2 ^ 64
+  pub fences : log.fences < 2 ^ 64
+
+-- all that is said of these scripts' run reads back
+pub record RunReads {State Op Query Reply : Type 0} (b : Behaviour State Op Query Reply) (w : Wording State Op Query Reply) (scripts : List (List (Call State Op Query Reply))) (told : RunTold State Op Query Reply) : Type 0 where
+  pub threads : length scripts ≤ 2 ^ 64
+  pub ends : EachReads w scripts told.ends
+  pub nodes : All (NodeReads b w) told.nodes
+  pub flags : length told.flags ≡ length told.nodes
+  pub keep : told.keep < 2 ^ 64
+  pub logs : All LogReads told.logs
+  pub recovered : told.recovered < 2 ^ 64
+  pub state : StateReads w told.state
+
+-- the counts of logs and of their threads' devices
+abbrev pub counts_of : {State Op Query Reply : Type 0} → List Content → List (CoreThread State Op Query Reply) → List LogTold
+counts_of (log ∷ logs) (th ∷ ths) = record { entries = length log.entries; lines = used_by log; fences = th.device.fences - 1 } ∷ counts_of logs ths
+counts_of logs ths = []
+
+-- what the report of a replay says
+abbrev pub replay_told : {State Op Query Reply : Type 0} → Behaviour State Op Query Reply → CoreState State Op Query Reply → ℕ → Recovered → RunTold State Op Query Reply
+replay_told b c keep r = record {
+  ends = map ends_of c.threads;
+  nodes = c.trace;
+  flags = c.flags;
+  keep = keep;
+  logs = counts_of r.logs c.threads;
+  recovered = length r.nodes;
+  state = state_after b c.initial r.nodes;
+}
+
+-- nothing else that reads back is printed by its bytes
+abbrev pub ReplayReportLaw : {State Op Query Reply : Type 0} → Behaviour State Op Query Reply → Wording State Op Query Reply → Type 0
+ReplayReportLaw {State} {Op} {Query} {Reply} b w =
+    (c : CoreState State Op Query Reply) (keep : ℕ) (r : Recovered) (other : RunTold State Op Query Reply)
+    → RunReads b w (map script_of c.threads) (replay_told b c keep r) → RunReads b w (map script_of c.threads) other
+    → replay_report b w c keep r ≡ flat_map line_text (run_told_lines b w (map script_of c.threads) other) → replay_told b c keep r ≡ other

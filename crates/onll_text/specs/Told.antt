@@ -1,0 +1,103 @@
+use Rattle.std.specs.Prelude.{ℕ, ◌≡◌, ◌≢◌, ◌<◌, ◌≤◌, ◌^◌, List, [], ◌∷◌, ◌++◌, Some, Ok, codes, decimal, length}
+use Rattle.std.specs.List.{All, flat_map}
+use Rattle.onll_words.specs.Texts.{line_text, AreMeaningful}
+use Rattle.onll_model.specs.declared.node.Node.{Node}
+use Rattle.onll_model.specs.declared.call.Call.{Call}
+use Rattle.onll_model.specs.declared.call.Call.TheVariants.{Update}
+use Rattle.onll_model.specs.declared.call.CallEnd.{CallEnd}
+use Rattle.onll_model.specs.declared.call.CallEnd.TheVariants.{Answered, Running, Ordered, FenceFailed, Broken}
+use Rattle.onll_model.specs.Object.{Behaviour}
+use Rattle.onll_text.specs.Wording.{Wording}
+use Rattle.onll_text.specs.Lines.{call_lines, trace_line, node_lines, state_lines}
+
+-- The bytes of a report determine what it says: two lists of data that read back where they are printed, and are printed by
+-- the same bytes, are the same.
+
+-- ---- data that read back
+-- what became of a call: its reply reads back, and its place is a number of 64 bits
+abbrev pub EndReads : {State Op Query Reply : Type 0} → Wording State Op Query Reply → CallEnd State Op Query Reply → Type 0
+EndReads w (Answered reply place) = (w.reply_of (w.reply_words reply) ≡ Ok reply) × (place < 2 ^ 64)
+EndReads w Running = Unit {0}
+EndReads w (Ordered place) = place < 2 ^ 64
+EndReads w (FenceFailed place) = place < 2 ^ 64
+EndReads w (Broken place) = place < 2 ^ 64
+
+-- the outcomes of a script's first calls, each of which reads back
+pub record EndsRead {State Op Query Reply : Type 0} (w : Wording State Op Query Reply) (script : List (Call State Op Query Reply)) (ends : List (CallEnd State Op Query Reply)) : Type 0 where
+  pub few : length ends ≤ length script
+  pub reads : All (EndReads w) ends
+
+-- a node: its numbers are of 64 bits, and its row is that of an operation that reads back
+pub record NodeReads {State Op Query Reply : Type 0} (b : Behaviour State Op Query Reply) (w : Wording State Op Query Reply) (node : Node) : Type 0 where
+  pub thread : node.thread < 2 ^ 64
+  pub number : node.number < 2 ^ 64
+  pub op : Op
+  pub row : b.op_at node.row ≡ Some op
+  pub reads : w.call_of (w.op_words op) ≡ Ok (Update op)
+
+abbrev pub StateReads : {State Op Query Reply : Type 0} → Wording State Op Query Reply → State → Type 0
+StateReads w state = w.state_of (flat_map line_text (w.state_lines state)) ≡ Some state
+
+-- ---- one part of a report after the other
+-- the first of these lines is no call's of this thread
+abbrev pub NoCallNext : ℕ → List (List (List ℕ)) → Type 0
+NoCallNext thread [] = Unit {0}
+NoCallNext thread (ws ∷ lines) = (rest : List (List ℕ)) → ws ≢ codes "call" ∷ decimal thread ∷ rest
+
+-- the first of these lines is no node's
+abbrev pub NoNodeNext : List (List (List ℕ)) → Type 0
+NoNodeNext [] = Unit {0}
+NoNodeNext (ws ∷ lines) = (rest : List (List ℕ)) → ws ≢ codes "node" ∷ rest
+
+-- equal texts have equal lines
+abbrev pub TextToldLaw : Type 0
+TextToldLaw = (lines others : List (List (List ℕ))) → AreMeaningful lines → AreMeaningful others
+    → flat_map line_text lines ≡ flat_map line_text others → lines ≡ others
+
+-- the lines of a thread's calls determine what became of each, whatever other lines follow them
+abbrev pub CallsToldLaw : {State Op Query Reply : Type 0} → Wording State Op Query Reply → Type 0
+CallsToldLaw {State} {Op} {Query} {Reply} w =
+    (thread : ℕ) (script : List (Call State Op Query Reply)) (ends others : List (CallEnd State Op Query Reply)) (lines more : List (List (List ℕ)))
+    → EndsRead w script ends → EndsRead w script others → NoCallNext thread lines → NoCallNext thread more
+    → call_lines w thread 0 script ends ++ lines ≡ call_lines w thread 0 script others ++ more → (ends ≡ others) × (lines ≡ more)
+
+-- the lines of nodes determine these
+abbrev pub NodesToldLaw : {State Op Query Reply : Type 0} → Behaviour State Op Query Reply → Wording State Op Query Reply → Type 0
+NodesToldLaw b w =
+    (nodes others : List Node) (lines more : List (List (List ℕ))) → All (NodeReads b w) nodes → All (NodeReads b w) others → NoNodeNext lines → NoNodeNext more
+    → node_lines b w 0 nodes ++ lines ≡ node_lines b w 0 others ++ more → (nodes ≡ others) × (lines ≡ more)
+
+-- the lines of a state determine it
+abbrev pub StateToldLaw : {State Op Query Reply : Type 0} → Wording State Op Query Reply → Type 0
+StateToldLaw {State} w = (state other : State) → StateReads w state → StateReads w other → state_lines w state ≡ state_lines w other → state ≡ other
+
+-- ---- the report of one thread
+-- what a report of one thread says: what became of its calls, the trace, and the state
+pub record Told (State Op Query Reply : Type 0) : Type 0 where
+  pub ends : List (CallEnd State Op Query Reply)
+  pub nodes : List Node
+  pub state : State
+
+-- its lines, for this script
+abbrev pub told_lines : {State Op Query Reply : Type 0} → Behaviour State Op Query Reply → Wording State Op Query Reply → List (Call State Op Query Reply) → Told State Op Query Reply → List (List (List ℕ))
+told_lines b w script told =
+    call_lines w 0 0 script told.ends
+    ++ (trace_line (length told.nodes) ∷ (node_lines b w 0 told.nodes ++ state_lines w told.state))
+
+-- all that it says reads back
+pub record ToldReads {State Op Query Reply : Type 0} (b : Behaviour State Op Query Reply) (w : Wording State Op Query Reply) (script : List (Call State Op Query Reply)) (told : Told State Op Query Reply) : Type 0 where
+  pub ends : EndsRead w script told.ends
+  pub nodes : All (NodeReads b w) told.nodes
+  pub state : StateReads w told.state
+
+-- its bytes determine all that it says
+abbrev pub FoldToldLaw : {State Op Query Reply : Type 0} → Behaviour State Op Query Reply → Wording State Op Query Reply → Type 0
+FoldToldLaw {State} {Op} {Query} {Reply} b w =
+    (script : List (Call State Op Query Reply)) (told other : Told State Op Query Reply) → ToldReads b w script told → ToldReads b w script other
+    → flat_map line_text (told_lines b w script told) ≡ flat_map line_text (told_lines b w script other) → told ≡ other
+
+-- these bytes say this, for this script, and nothing else that reads back
+pub record SaysOnly {State Op Query Reply : Type 0} (b : Behaviour State Op Query Reply) (w : Wording State Op Query Reply) (script : List (Call State Op Query Reply)) (bytes : List ℕ) (told : Told State Op Query Reply) : Type 0 where
+  pub printed : bytes ≡ flat_map line_text (told_lines b w script told)
+  pub reads : ToldReads b w script told
+  pub only : (other : Told State Op Query Reply) → ToldReads b w script other → bytes ≡ flat_map line_text (told_lines b w script other) → told ≡ other

@@ -1,17 +1,16 @@
-use Rattle.std.specs.Prelude.{ℕ, ◌≡◌, ◌+◌, ◌*◌, ◌≤◌, List, length, Some, slice_get}
+use Rattle.std.specs.Prelude.{ℕ, List, length}
 use Rattle.onll_model.specs.declared.node.Node.{Node}
 use Rattle.onll_model.specs.declared.call.Call.{Call}
 use Rattle.onll_model.specs.Object.{Behaviour}
 use Rattle.onll_model.specs.Segment.{Segment}
 use Rattle.onll_log.specs.declared.head.LogHead.{LogHead}
-use Rattle.onll_core.specs.declared.returned.Current.TheVariants as currents
-use Rattle.onll_core.specs.Core.{CoreThread, CoreState}
+use Rattle.onll_core.specs.Core.{CoreState}
 use Rattle.onll_core.specs.Step.{step_of, steps_of}
 use Rattle.onll_core.specs.First.{first_core, AreFirst}
 use Rattle.onll_core.specs.Created.{created_core, IsWithinLimits}
 use Rattle.onll_core.specs.Resumed.{resumed_core, AreResumed}
 use Rattle.onll_core.specs.Consistent.{IsConsistent}
-use Rattle.onll_core.specs.Outcomes.{current_of, IsLegalCore, IsFresh}
+use Rattle.onll_core.specs.Outcomes.{IsLegalCore, IsFresh}
 use Rattle.onll_core.specs.CallTimes.{AreInTime}
 use Rattle.onll_core.specs.Returns.{OrderedReturn}
 use Rattle.onll_core.specs.Reached.{IsReached}

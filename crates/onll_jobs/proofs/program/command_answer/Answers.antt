@@ -1,8 +1,8 @@
 use Rattle.std.proofs.Common.{Some, map, subst, sym, string_bytes}
 use Rattle.std.proofs.lemmas.Result.{IfOk-weaker}
 use Rattle.std.specs.Result.{IfOk, IfErr}
-use Rattle.onll_jobs.specs.Command.{Replay, form_in}
-use Rattle.onll_jobs.specs.Job.{JobCut, JobSays}
+use Rattle.onll_jobs.specs.Command.{Show, Recover, Replay, form_in}
+use Rattle.onll_jobs.specs.Job.{JobCut}
 use Rattle.onll_jobs.specs.Says.{FormSays, job_of, writes_of}
 use Rattle.onll_jobs.specs.Writing.{SameBut}
 use Rattle.onll_jobs.specs.Told.{FormTold}
@@ -40,14 +40,14 @@ returns-in-Show-clause-told g c =
     let store = g.S.Store.seen c.args.store.now in
     let after = g.S.Store.seen c.answer-in-Show.new.store in
     subst (λ command. IfOk c.answer-in-Show.result (λ answer. FormTold store (Some (form_in command)) answer.ending answer.text.items)) (sym c.in-Show.is)
-    (IfOk-weaker c.answer-in-Show.result (λ answer. JobSays store after (show_job c.in-Show.image.now) answer.ending answer.text.items) (λ answer. Unit {0}) (λ answer h. tt) c.answer-in-Show.ensures.says)
+    (IfOk-weaker c.answer-in-Show.result (λ answer. FormSays (Some (Show c.in-Show.image.now)) store after answer.ending answer.text.items) (λ answer. Unit {0}) (λ answer h. tt) c.answer-in-Show.ensures.says)
 
 pub returns-in-Recover-clause-told : goal.returns-in-Recover-clause-told
 returns-in-Recover-clause-told g c =
     let store = g.S.Store.seen c.args.store.now in
     let after = g.S.Store.seen c.answer-in-Recover.new.store in
     subst (λ command. IfOk c.answer-in-Recover.result (λ answer. FormTold store (Some (form_in command)) answer.ending answer.text.items)) (sym c.in-Recover.is)
-    (IfOk-weaker c.answer-in-Recover.result (λ answer. JobSays store after (recover_job c.in-Recover.init.now c.in-Recover.logs.now c.in-Recover.threads) answer.ending answer.text.items) (λ answer. Unit {0}) (λ answer h. tt) c.answer-in-Recover.ensures.says)
+    (IfOk-weaker c.answer-in-Recover.result (λ answer. FormSays (Some (Recover c.in-Recover.init.now c.in-Recover.logs.now c.in-Recover.threads)) store after answer.ending answer.text.items) (λ answer. Unit {0}) (λ answer h. tt) c.answer-in-Recover.ensures.says)
 
 pub returns-in-Replay-clause-told : goal.returns-in-Replay-clause-told
 returns-in-Replay-clause-told g c =

@@ -16,4 +16,3 @@ pub mod ReplayEnds
 pub mod RecoverCrashes
 pub mod Determined
 mod FoldTold
-mod ReplayReads

@@ -131,13 +131,9 @@ held_with (Some head) entries = Some (record { entries = length entries; lines =
 abbrev pub held_of : Content → Option HeldTold
 held_of log = held_with log.head log.entries
 
--- what the report of a recovery says, with this state
-abbrev pub found_told : {State : Type 0} → Recovered → State → RecoverTold State
-found_told r s = record { logs = map held_of r.logs; nodes = r.nodes; state = s }
-
--- the same with the state after the trace
+-- what the report of a recovery says
 abbrev pub recover_told : {State Op Query Reply : Type 0} → Behaviour State Op Query Reply → State → Recovered → RecoverTold State
-recover_told b s r = found_told r (state_after b s r.nodes)
+recover_told b s r = record { logs = map held_of r.logs; nodes = r.nodes; state = state_after b s r.nodes }
 
 -- nothing else that reads back is printed by its bytes
 abbrev pub RecoverReportLaw : {State Op Query Reply : Type 0} → Behaviour State Op Query Reply → Wording State Op Query Reply → Type 0

@@ -10,7 +10,6 @@ mod images;
 mod program;
 mod recover;
 mod replay;
-mod run_reads;
 mod show;
 mod texts;
 mod told;

@@ -16,14 +16,12 @@ ghost use Rattle.onll_jobs.specs.Job.{JobEnds, JobCut, SaysNow};
 ghost use Rattle.onll_jobs.specs.Images.{images_in, reading_images};
 ghost use Rattle.onll_jobs.specs.RecoverJob.{contents_from, expected_heads, operations, operations_of, recovered, content_line, log_lines, recovered_line, lines_with, recover_on, recover_any, recover_job};
 ghost use Rattle.onll_jobs.specs.Found.{found_in};
-ghost use Rattle.onll_jobs.specs.Told.{RecoverReads, found_told};
 
 use crate::answer::Answer;
 use crate::bad_logs::{LogsFault, bad_logs};
 use crate::ending::Ending;
 use crate::fold::put_nodes;
 use crate::images::{Image, read_images};
-use crate::run_reads::recovery_reads;
 use crate::texts::{InitText, init_file};
 use onll_log::{DecodeFault, Decoded, LogHead, decode, format_of};
 use onll_merge::RecoverFault;
@@ -205,18 +203,16 @@ fn put_trace<O: Texted>(object: &O, nodes: &[Node], out: &mut Report) -> Result<
     out.state_lines(object)
 }
 
-/// The report of what logs give, with the object after it. All that it says reads back.
+/// The report of what logs give, with the object after it.
 fn report<O: Texted>(alloc: Global, object: &O, found: &Found) -> Result<Vec<u8>, NoMemory>
     requires used { AllByRecursion (λ d. used_by (content_in d) < 2 ^ 64) found.now.logs.items }
     requires rows { operations_front O.means found.now.nodes.items ≡ found.now.nodes.items }
-    ensures report { IfOk result (λ bytes. bytes.items ≡ flat_map line_text (lines_with O.means O.wording (found_in found.now) object.now)) }
-    ensures reads { OnOk result (RecoverReads O.means O.wording (found_told (found_in found.now) object.now)) }
+    ensures { IfOk result (λ bytes. bytes.items ≡ flat_map line_text (lines_with O.means O.wording (found_in found.now) object.now)) }
 {
     let mut out = Report::new(alloc);
     put_logs(&found.logs, &mut out)?;
     put_count(found.nodes.len() as u64, &mut out)?;
     put_trace(object, &found.nodes, &mut out)?;
-    recovery_reads(object, found);
     Ok(out.into_bytes())
 }
 

@@ -8,7 +8,7 @@ ghost use Rattle.onll_log.specs.Decoded.{content_in};
 ghost use Rattle.onll_merge.specs.Merge.{contents_in};
 ghost use Rattle.onll_text.specs.Bytes.{begins_line, with_lines};
 ghost use Rattle.onll_text.specs.Lines.{call_lines};
-ghost use Rattle.onll_core.specs.Outcomes.{returned_end, current_ends, script_of};
+ghost use Rattle.onll_core.specs.Outcomes.{returned_end, current_ends};
 ghost use Rattle.onll_core.specs.Crash.{images_of};
 ghost use Rattle.onll_text.specs.Schedule.{IsPlayable};
 ghost use Rattle.onll_outside.specs.Views.{SameFiles};
@@ -17,7 +17,6 @@ ghost use Rattle.onll_jobs.specs.Images.{images_in, image_names};
 ghost use Rattle.onll_jobs.specs.Job.{JobCut, JobEnds, SaysNow};
 ghost use Rattle.onll_jobs.specs.RecoverJob.{recovered};
 ghost use Rattle.onll_jobs.specs.Stop.{StopSays};
-ghost use Rattle.onll_jobs.specs.Told.{RunReads, replay_told};
 ghost use Rattle.onll_jobs.specs.Writing.{SameBut};
 ghost use Rattle.onll_jobs.specs.ReplayJob.{begun_lines, flagged_lines, crash_line, fenced_lines, run_lines, crash_lines, replay_report, crash_says, crash_job, played, AreRead, ScriptsStop, schedule_job, replay_on, replay_any, replay_job};
 
@@ -26,7 +25,6 @@ use crate::bad_logs::{LogsFault, bad_logs};
 use crate::ending::Ending;
 use crate::images::{Image, write_images};
 use crate::recover::{Found, find, put_count};
-use crate::run_reads::run_reads;
 use crate::texts::{init_file, schedule_file, script_file};
 use onll_core::{Core, Current, Returned};
 use onll_log::Decoded;
@@ -170,8 +168,7 @@ fn put_crashed<O: Texted + Drop>(
     out.state_lines(object)
 }
 
-/// The report of a core that crashed, of what was found then, and of the object after the nodes that were found. All that it
-/// says reads back.
+/// The report of a core that crashed, of what was found then, and of the object after the nodes that were found.
 #[tactic(auto, using(onll_text::proofs::Appending::beginning))]
 fn report<O: Texted + Drop>(
     alloc: Global,
@@ -184,13 +181,11 @@ fn report<O: Texted + Drop>(
     requires threads { length found.now.logs.items ≡ length core.now.threads }
     requires used { AllByRecursion (λ d. used_by (content_in d) < 2 ^ 64) found.now.logs.items }
     requires state { object.now ≡ state_after O.means core.now.initial found.now.nodes.items }
-    ensures report { IfOk result (λ bytes. bytes.items ≡ replay_report O.means O.wording core.now keep (found_in found.now)) }
-    ensures reads { OnOk result (RunReads O.means O.wording (map script_of core.now.threads) (replay_told O.means core.now keep (found_in found.now))) }
+    ensures { IfOk result (λ bytes. bytes.items ≡ replay_report O.means O.wording core.now keep (found_in found.now)) }
 {
     let mut out = Report::new(alloc);
     put_run(core, &mut out)?;
     put_crashed(core, keep, found, object, &mut out)?;
-    run_reads(core, keep, found, object);
     Ok(out.into_bytes())
 }
 

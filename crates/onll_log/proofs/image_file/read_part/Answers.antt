@@ -1,4 +1,4 @@
-use Rattle.std.proofs.Common.{◌≤◌, length, sym, arith}
+use Rattle.std.proofs.Common.{sym, arith}
 use Rattle.std.proofs.lemmas.List.{length-take-le, take_all}
 use Rattle.onll_log.specs.ImageFile.{longest_image}
 use Rattle.onll_log.proofs.image_file.read_part.Goals as goal

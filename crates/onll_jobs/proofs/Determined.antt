@@ -16,12 +16,12 @@ use Rattle.onll_core.specs.Core.{CoreThread, CoreState}
 use Rattle.onll_core.specs.Outcomes.{ends_of, script_of}
 use Rattle.onll_text.specs.Wording.{Wording}
 use Rattle.onll_text.specs.Lines.{call_words, end_words, call_line, call_lines, trace_line, node_line, node_lines, log_line, state_lines}
-use Rattle.onll_text.specs.Told.{NodeReads, NoCallNext, NoNodeNext}
+use Rattle.onll_text.specs.Reports.{NodeReads, NoCallNext, NoNodeNext}
 use Rattle.onll_text.proofs.LineWords.{node_line_in_words, log_line_in_words}
-use Rattle.onll_text.proofs.Determined.{text_told, AreMeaningful-append, line_same, line_none, calls_told, nodes_told, nodes_meaningful, flagged_line_told, no_node_next, state_told, calls_meaningful, state_meaningful}
+use Rattle.onll_text.proofs.Determined.{text_determined, AreMeaningful-append, line_same, line_none, calls_determined, nodes_determined, nodes_meaningful, flagged_line_determined, no_node_next, state_determined, calls_meaningful, state_meaningful}
 use Rattle.onll_jobs.specs.RecoverJob.{Recovered, content_line, log_lines, recovered_line}
 use Rattle.onll_jobs.specs.ReplayJob.{begun_lines, flagged_lines, crash_line, fenced_lines, replay_report}
-use Rattle.onll_jobs.specs.Told.{HeldTold, RecoverTold, held_line, held_lines, recover_told_lines, HeldReads, RecoverReads, held_with, held_of, recover_told, RecoverReportLaw, LogTold, RunTold, thread_lines, counted_lines, run_told_lines, EachReads, LogReads, RunReads, counts_of, replay_told, ReplayReportLaw}
+use Rattle.onll_jobs.specs.Reports.{HeldData, RecoverData, held_line, held_lines, recover_data_lines, HeldReads, RecoverReads, held_with, held_of, recover_data, RecoverReportLaw, LogData, RunData, thread_lines, counted_lines, run_data_lines, EachReads, LogReads, RunReads, counts_of, replay_data, ReplayReportLaw}
 use Rattle.onll_jobs.proofs.ReplaySteps.{crash_in_words}
 use Rattle.onll_jobs.proofs.RecoverSteps.{recovered_in_words}
 
@@ -31,7 +31,7 @@ abbrev NoLogNext : List (List (List ℕ)) → Type 0
 NoLogNext [] = Unit {0}
 NoLogNext (ws ∷ lines) = (rest : List (List ℕ)) → ws ≢ codes "log" ∷ rest
 
-log_same : (a b : LogTold) → a.entries ≡ b.entries → a.lines ≡ b.lines → a.fences ≡ b.fences → a ≡ b
+log_same : (a b : LogData) → a.entries ≡ b.entries → a.lines ≡ b.lines → a.fences ≡ b.fences → a ≡ b
 log_same a b e₁ e₂ e₃ =
     ap (λ (n : ℕ). record { entries = n; lines = a.lines; fences = a.fences }) e₁ ∙ ap (λ (n : ℕ). record { entries = b.entries; lines = n; fences = a.fences }) e₂
     ∙ ap (λ (n : ℕ). record { entries = b.entries; lines = b.lines; fences = n }) e₃
@@ -39,93 +39,93 @@ log_same a b e₁ e₂ e₃ =
 first_number : (m n : ℕ) (ws vs : List (List ℕ)) → m < 2 ^ 64 → n < 2 ^ 64 → decimal m ∷ ws ≡ decimal n ∷ vs → m ≡ n
 first_number m n ws vs g h e = decimal_injective m n g h (line_same (decimal m) (decimal n) ws vs e).0
 
-abbrev counted_line : ℕ → LogTold → List (List ℕ)
+abbrev counted_line : ℕ → LogData → List (List ℕ)
 counted_line t log = log_line t log.entries log.lines (Some log.fences)
 
-log_told : (t : ℕ) (log other : LogTold) → LogReads log → LogReads other → counted_line t log ≡ counted_line t other → log ≡ other
-log_told t log other g h e =
+log_determined : (t : ℕ) (log other : LogData) → LogReads log → LogReads other → counted_line t log ≡ counted_line t other → log ≡ other
+log_determined t log other g h e =
     log_same log other
     (first_number log.entries other.entries (codes "lines" ∷ decimal log.lines ∷ codes "fences" ∷ decimal log.fences ∷ []) (codes "lines" ∷ decimal other.lines ∷ codes "fences" ∷ decimal other.fences ∷ []) g.entries h.entries (ap (drop 3) e))
     (first_number log.lines other.lines (codes "fences" ∷ decimal log.fences ∷ []) (codes "fences" ∷ decimal other.fences ∷ []) g.lines h.lines (ap (drop 5) e))
     (first_number log.fences other.fences [] [] g.fences h.fences (ap (drop 7) e))
 
-no_log_next : (t : ℕ) (log : LogTold) (lines more : List (List (List ℕ))) → NoLogNext more → counted_line t log ∷ lines ≡ more → ⊥
+no_log_next : (t : ℕ) (log : LogData) (lines more : List (List (List ℕ))) → NoLogNext more → counted_line t log ∷ lines ≡ more → ⊥
 no_log_next t log lines [] h e = line_none (counted_line t log) lines e
 no_log_next t log lines (ws ∷ more) h e =
     h (decimal t ∷ codes "entries" ∷ decimal log.entries ∷ codes "lines" ∷ decimal log.lines ∷ codes "fences" ∷ decimal log.fences ∷ []) (sym (line_same (counted_line t log) ws lines more e).0)
 
-logs_told : (t : ℕ) (logs others : List LogTold) (lines more : List (List (List ℕ))) → All LogReads logs → All LogReads others → NoLogNext lines → NoLogNext more
+logs_determined : (t : ℕ) (logs others : List LogData) (lines more : List (List (List ℕ))) → All LogReads logs → All LogReads others → NoLogNext lines → NoLogNext more
     → counted_lines t logs ++ lines ≡ counted_lines t others ++ more → (logs ≡ others) × (lines ≡ more)
-logs_told t [] [] lines more g h u v e = (refl, e)
-logs_told t [] (m ∷ others) lines more g h u v e = absurd (no_log_next t m (counted_lines (t + 1) others ++ more) lines u (sym e))
-logs_told t (l ∷ logs) [] lines more g h u v e = absurd (no_log_next t l (counted_lines (t + 1) logs ++ lines) more v e)
-logs_told t (l ∷ logs) (m ∷ others) lines more g h u v e =
+logs_determined t [] [] lines more g h u v e = (refl, e)
+logs_determined t [] (m ∷ others) lines more g h u v e = absurd (no_log_next t m (counted_lines (t + 1) others ++ more) lines u (sym e))
+logs_determined t (l ∷ logs) [] lines more g h u v e = absurd (no_log_next t l (counted_lines (t + 1) logs ++ lines) more v e)
+logs_determined t (l ∷ logs) (m ∷ others) lines more g h u v e =
     let parts = line_same (counted_line t l) (counted_line t m) (counted_lines (t + 1) logs ++ lines) (counted_lines (t + 1) others ++ more) e in
-    let rest = logs_told (t + 1) logs others lines more (All-tail LogReads l logs g) (All-tail LogReads m others h) u v parts.1 in
-    (ap (λ (x : LogTold). x ∷ logs) (log_told t l m (All-head LogReads l logs g) (All-head LogReads m others h) parts.0) ∙ ap (λ (xs : List LogTold). m ∷ xs) rest.0, rest.1)
+    let rest = logs_determined (t + 1) logs others lines more (All-tail LogReads l logs g) (All-tail LogReads m others h) u v parts.1 in
+    (ap (λ (x : LogData). x ∷ logs) (log_determined t l m (All-head LogReads l logs g) (All-head LogReads m others h) parts.0) ∙ ap (λ (xs : List LogData). m ∷ xs) rest.0, rest.1)
 
-logs_meaningful : (t : ℕ) (logs : List LogTold) → AreMeaningful (counted_lines t logs)
+logs_meaningful : (t : ℕ) (logs : List LogData) → AreMeaningful (counted_lines t logs)
 logs_meaningful t [] = tt
 logs_meaningful t (l ∷ logs) = (log_line_in_words t l.entries l.lines (Some l.fences), refl, logs_meaningful (t + 1) logs)
 
 -- ---- the logs of a recovery
 -- a log's line says whether it has a head, and its numbers
-held_told : (t : ℕ) (log other : Option HeldTold) → HeldReads log → HeldReads other → held_line t log ≡ held_line t other → log ≡ other
-held_told t None None g h e = refl
-held_told t None (Some o) g h e = cc e
-held_told t (Some l) None g h e = cc e
-held_told t (Some l) (Some o) g h e =
+held_determined : (t : ℕ) (log other : Option HeldData) → HeldReads log → HeldReads other → held_line t log ≡ held_line t other → log ≡ other
+held_determined t None None g h e = refl
+held_determined t None (Some o) g h e = cc e
+held_determined t (Some l) None g h e = cc e
+held_determined t (Some l) (Some o) g h e =
     ap Some (
     held_same l o
     (first_number l.entries o.entries (codes "lines" ∷ decimal l.lines ∷ []) (codes "lines" ∷ decimal o.lines ∷ []) g.0 h.0 (ap (drop 3) e))
     (first_number l.lines o.lines [] [] g.1 h.1 (ap (drop 5) e))
     )
   where
-    held_same : (a b : HeldTold) → a.entries ≡ b.entries → a.lines ≡ b.lines → a ≡ b
+    held_same : (a b : HeldData) → a.entries ≡ b.entries → a.lines ≡ b.lines → a ≡ b
     held_same a b e₁ e₂ = ap (λ (n : ℕ). record { entries = n; lines = a.lines }) e₁ ∙ ap (λ (n : ℕ). record { entries = b.entries; lines = n }) e₂
 
-held_begins : (t : ℕ) (log : Option HeldTold) → held_line t log ≡ codes "log" ∷ drop 1 (held_line t log)
+held_begins : (t : ℕ) (log : Option HeldData) → held_line t log ≡ codes "log" ∷ drop 1 (held_line t log)
 held_begins t None = refl
 held_begins t (Some l) = refl
 
-no_held_next : (t : ℕ) (log : Option HeldTold) (lines more : List (List (List ℕ))) → NoLogNext more → held_line t log ∷ lines ≡ more → ⊥
+no_held_next : (t : ℕ) (log : Option HeldData) (lines more : List (List (List ℕ))) → NoLogNext more → held_line t log ∷ lines ≡ more → ⊥
 no_held_next t log lines [] h e = line_none (held_line t log) lines e
 no_held_next t log lines (ws ∷ more) h e = h (drop 1 (held_line t log)) (sym (line_same (held_line t log) ws lines more e).0 ∙ held_begins t log)
 
-helds_told : (t : ℕ) (logs others : List (Option HeldTold)) (lines more : List (List (List ℕ))) → All HeldReads logs → All HeldReads others → NoLogNext lines → NoLogNext more
+helds_determined : (t : ℕ) (logs others : List (Option HeldData)) (lines more : List (List (List ℕ))) → All HeldReads logs → All HeldReads others → NoLogNext lines → NoLogNext more
     → held_lines t logs ++ lines ≡ held_lines t others ++ more → (logs ≡ others) × (lines ≡ more)
-helds_told t [] [] lines more g h u v e = (refl, e)
-helds_told t [] (m ∷ others) lines more g h u v e = absurd (no_held_next t m (held_lines (t + 1) others ++ more) lines u (sym e))
-helds_told t (l ∷ logs) [] lines more g h u v e = absurd (no_held_next t l (held_lines (t + 1) logs ++ lines) more v e)
-helds_told t (l ∷ logs) (m ∷ others) lines more g h u v e =
+helds_determined t [] [] lines more g h u v e = (refl, e)
+helds_determined t [] (m ∷ others) lines more g h u v e = absurd (no_held_next t m (held_lines (t + 1) others ++ more) lines u (sym e))
+helds_determined t (l ∷ logs) [] lines more g h u v e = absurd (no_held_next t l (held_lines (t + 1) logs ++ lines) more v e)
+helds_determined t (l ∷ logs) (m ∷ others) lines more g h u v e =
     let parts = line_same (held_line t l) (held_line t m) (held_lines (t + 1) logs ++ lines) (held_lines (t + 1) others ++ more) e in
-    let rest = helds_told (t + 1) logs others lines more (All-tail HeldReads l logs g) (All-tail HeldReads m others h) u v parts.1 in
-    (ap (λ (x : Option HeldTold). x ∷ logs) (held_told t l m (All-head HeldReads l logs g) (All-head HeldReads m others h) parts.0) ∙ ap (λ (xs : List (Option HeldTold)). m ∷ xs) rest.0, rest.1)
+    let rest = helds_determined (t + 1) logs others lines more (All-tail HeldReads l logs g) (All-tail HeldReads m others h) u v parts.1 in
+    (ap (λ (x : Option HeldData). x ∷ logs) (held_determined t l m (All-head HeldReads l logs g) (All-head HeldReads m others h) parts.0) ∙ ap (λ (xs : List (Option HeldData)). m ∷ xs) rest.0, rest.1)
 
-held_in_words : (t : ℕ) (log : Option HeldTold) → AreWords (held_line t log)
+held_in_words : (t : ℕ) (log : Option HeldData) → AreWords (held_line t log)
 held_in_words t None = (record { some = refl; bytes = refl }, (IsWord-decimal t, (record { some = refl; bytes = refl }, tt)))
 held_in_words t (Some l) = log_line_in_words t l.entries l.lines None
 
-held_says : (t : ℕ) (log : Option HeldTold) → says_something (held_line t log) ≡ true
+held_says : (t : ℕ) (log : Option HeldData) → says_something (held_line t log) ≡ true
 held_says t None = refl
 held_says t (Some l) = refl
 
-helds_meaningful : (t : ℕ) (logs : List (Option HeldTold)) → AreMeaningful (held_lines t logs)
+helds_meaningful : (t : ℕ) (logs : List (Option HeldData)) → AreMeaningful (held_lines t logs)
 helds_meaningful t [] = tt
 helds_meaningful t (l ∷ logs) = (held_in_words t l, held_says t l, helds_meaningful (t + 1) logs)
 
-content-told : (t : ℕ) (head : Option LogHead) (entries : List Segment) → content_line t head entries ≡ held_line t (held_with head entries)
-content-told t None entries = refl
-content-told t (Some head) entries = refl
+content-data : (t : ℕ) (head : Option LogHead) (entries : List Segment) → content_line t head entries ≡ held_line t (held_with head entries)
+content-data t None entries = refl
+content-data t (Some head) entries = refl
 
-logs-told : (t : ℕ) (logs : List Content) → log_lines t logs ≡ held_lines t (map held_of logs)
-logs-told t [] = refl
-logs-told t (log ∷ logs) =
-    ap (λ ws. ws ∷ log_lines (t + 1) logs) (content-told t log.head log.entries) ∙ ap (λ ls. held_line t (held_of log) ∷ ls) (logs-told (t + 1) logs)
+logs-data : (t : ℕ) (logs : List Content) → log_lines t logs ≡ held_lines t (map held_of logs)
+logs-data t [] = refl
+logs-data t (log ∷ logs) =
+    ap (λ ws. ws ∷ log_lines (t + 1) logs) (content-data t log.head log.entries) ∙ ap (λ ls. held_line t (held_of log) ∷ ls) (logs-data (t + 1) logs)
 
-recover_same : {State : Type 0} (a b : RecoverTold State) → a.logs ≡ b.logs → a.nodes ≡ b.nodes → a.state ≡ b.state → a ≡ b
+recover_same : {State : Type 0} (a b : RecoverData State) → a.logs ≡ b.logs → a.nodes ≡ b.nodes → a.state ≡ b.state → a ≡ b
 recover_same {State} a b e₁ e₂ e₃ =
-    ap (λ (v : List (Option HeldTold)). record { logs = v; nodes = a.nodes; state = a.state }) e₁ ∙ ap (λ (v : List Node). record { logs = b.logs; nodes = v; state = a.state }) e₂
+    ap (λ (v : List (Option HeldData)). record { logs = v; nodes = a.nodes; state = a.state }) e₁ ∙ ap (λ (v : List Node). record { logs = b.logs; nodes = v; state = a.state }) e₂
     ∙ ap (λ (v : State). record { logs = b.logs; nodes = b.nodes; state = v }) e₃
 
 -- the first of these lines is no call's
@@ -150,21 +150,21 @@ module _ {State Op Query Reply : Type 0} where
   later_next w t u ([] ∷ scripts) ((x ∷ es) ∷ ends) lines lt few h = later_next w t (u + 1) scripts ends lines (omega arith) (omega arith) h
   later_next w t u ((c ∷ s) ∷ scripts) ((x ∷ es) ∷ ends) lines lt few h = λ rest e. other_thread w t u c x rest lt (omega arith) e
 
-  threads_told : (w : Wording State Op Query Reply) (t : ℕ) (scripts : List (List (Call State Op Query Reply))) (ends others : List (List (CallEnd State Op Query Reply))) (lines more : List (List (List ℕ)))
+  threads_determined : (w : Wording State Op Query Reply) (t : ℕ) (scripts : List (List (Call State Op Query Reply))) (ends others : List (List (CallEnd State Op Query Reply))) (lines more : List (List (List ℕ)))
       → t + length scripts ≤ 2 ^ 64 → EachReads w scripts ends → EachReads w scripts others → NoCall lines → NoCall more
       → thread_lines w t scripts ends ++ lines ≡ thread_lines w t scripts others ++ more → (ends ≡ others) × (lines ≡ more)
-  threads_told w t [] [] [] lines more few g h u v e = (refl, e)
-  threads_told w t [] (es ∷ ends) others lines more few g h u v e = absurd g
-  threads_told w t [] [] (fs ∷ others) lines more few g h u v e = absurd h
-  threads_told w t (s ∷ scripts) [] others lines more few g h u v e = absurd g
-  threads_told w t (s ∷ scripts) (es ∷ ends) [] lines more few g h u v e = absurd h
-  threads_told w t (s ∷ scripts) (es ∷ ends) (fs ∷ others) lines more few g h u v e =
+  threads_determined w t [] [] [] lines more few g h u v e = (refl, e)
+  threads_determined w t [] (es ∷ ends) others lines more few g h u v e = absurd g
+  threads_determined w t [] [] (fs ∷ others) lines more few g h u v e = absurd h
+  threads_determined w t (s ∷ scripts) [] others lines more few g h u v e = absurd g
+  threads_determined w t (s ∷ scripts) (es ∷ ends) [] lines more few g h u v e = absurd h
+  threads_determined w t (s ∷ scripts) (es ∷ ends) (fs ∷ others) lines more few g h u v e =
       let left : List (List (List ℕ)) = thread_lines w (t + 1) scripts ends ++ lines in
       let right : List (List (List ℕ)) = thread_lines w (t + 1) scripts others ++ more in
       let same = sym (append_assoc (call_lines w t 0 s es) (thread_lines w (t + 1) scripts ends) lines) ∙ e ∙ append_assoc (call_lines w t 0 s fs) (thread_lines w (t + 1) scripts others) more in
-      let first = calls_told w t 0 s es fs left right g.0.few h.0.few g.0.reads h.0.reads
+      let first = calls_determined w t 0 s es fs left right g.0.few h.0.few g.0.reads h.0.reads
       (later_next w t (t + 1) scripts ends lines (omega arith) (omega arith) (u t)) (later_next w t (t + 1) scripts others more (omega arith) (omega arith) (v t)) same in
-      let rest = threads_told w (t + 1) scripts ends others lines more (omega arith) g.1 h.1 u v first.1 in
+      let rest = threads_determined w (t + 1) scripts ends others lines more (omega arith) g.1 h.1 u v first.1 in
       (ap (λ (x : List (CallEnd State Op Query Reply)). x ∷ ends) first.0 ∙ ap (λ (xs : List (List (CallEnd State Op Query Reply))). fs ∷ xs) rest.0, rest.1)
 
   threads_meaningful : (w : Wording State Op Query Reply) (t : ℕ) (scripts : List (List (Call State Op Query Reply))) (ends : List (List (CallEnd State Op Query Reply))) → AreMeaningful (thread_lines w t scripts ends)
@@ -174,24 +174,24 @@ module _ {State Op Query Reply : Type 0} where
   threads_meaningful w t (s ∷ scripts) (es ∷ ends) = AreMeaningful-append (call_lines w t 0 s es) (thread_lines w (t + 1) scripts ends) (calls_meaningful w t 0 s es) (threads_meaningful w (t + 1) scripts ends)
 
   -- ---- the trace with its flags
-  flagged_told : (b : Behaviour State Op Query Reply) (w : Wording State Op Query Reply) (p : ℕ) (nodes others : List Node) (flags marks : List Bool) (lines more : List (List (List ℕ)))
+  flagged_determined : (b : Behaviour State Op Query Reply) (w : Wording State Op Query Reply) (p : ℕ) (nodes others : List Node) (flags marks : List Bool) (lines more : List (List (List ℕ)))
       → length flags ≡ length nodes → length marks ≡ length others → All (NodeReads b w) nodes → All (NodeReads b w) others → NoNodeNext lines → NoNodeNext more
       → flagged_lines b w p nodes flags ++ lines ≡ flagged_lines b w p others marks ++ more → (nodes ≡ others) × (flags ≡ marks) × (lines ≡ more)
-  flagged_told b w p [] [] [] [] lines more i j g h u v e = (refl, refl, e)
-  flagged_told b w p [] others (x ∷ flags) marks lines more i j g h u v e = absurd (omega arith)
-  flagged_told b w p (n ∷ nodes) others [] marks lines more i j g h u v e = absurd (omega arith)
-  flagged_told b w p [] [] [] (y ∷ marks) lines more i j g h u v e = absurd (omega arith)
-  flagged_told b w p [] (m ∷ others) [] [] lines more i j g h u v e = absurd (omega arith)
-  flagged_told b w p [] (m ∷ others) [] (y ∷ marks) lines more i j g h u v e =
+  flagged_determined b w p [] [] [] [] lines more i j g h u v e = (refl, refl, e)
+  flagged_determined b w p [] others (x ∷ flags) marks lines more i j g h u v e = absurd (omega arith)
+  flagged_determined b w p (n ∷ nodes) others [] marks lines more i j g h u v e = absurd (omega arith)
+  flagged_determined b w p [] [] [] (y ∷ marks) lines more i j g h u v e = absurd (omega arith)
+  flagged_determined b w p [] (m ∷ others) [] [] lines more i j g h u v e = absurd (omega arith)
+  flagged_determined b w p [] (m ∷ others) [] (y ∷ marks) lines more i j g h u v e =
       absurd (no_node_next b w (p + 1) m (Some y) (flagged_lines b w (p + 1) others marks ++ more) lines u (sym e))
-  flagged_told b w p (n ∷ nodes) [] (x ∷ flags) [] lines more i j g h u v e =
+  flagged_determined b w p (n ∷ nodes) [] (x ∷ flags) [] lines more i j g h u v e =
       absurd (no_node_next b w (p + 1) n (Some x) (flagged_lines b w (p + 1) nodes flags ++ lines) more v e)
-  flagged_told b w p (n ∷ nodes) [] (x ∷ flags) (y ∷ marks) lines more i j g h u v e = absurd (omega arith)
-  flagged_told b w p (n ∷ nodes) (m ∷ others) (x ∷ flags) [] lines more i j g h u v e = absurd (omega arith)
-  flagged_told b w p (n ∷ nodes) (m ∷ others) (x ∷ flags) (y ∷ marks) lines more i j g h u v e =
+  flagged_determined b w p (n ∷ nodes) [] (x ∷ flags) (y ∷ marks) lines more i j g h u v e = absurd (omega arith)
+  flagged_determined b w p (n ∷ nodes) (m ∷ others) (x ∷ flags) [] lines more i j g h u v e = absurd (omega arith)
+  flagged_determined b w p (n ∷ nodes) (m ∷ others) (x ∷ flags) (y ∷ marks) lines more i j g h u v e =
       let parts = line_same (node_line b w (p + 1) n (Some x)) (node_line b w (p + 1) m (Some y)) (flagged_lines b w (p + 1) nodes flags ++ lines) (flagged_lines b w (p + 1) others marks ++ more) e in
-      let first = flagged_line_told b w (p + 1) n m x y (All-head (NodeReads b w) n nodes g) (All-head (NodeReads b w) m others h) parts.0 in
-      let rest = flagged_told b w (p + 1) nodes others flags marks lines more (omega arith) (omega arith) (All-tail (NodeReads b w) n nodes g) (All-tail (NodeReads b w) m others h) u v parts.1 in (
+      let first = flagged_line_determined b w (p + 1) n m x y (All-head (NodeReads b w) n nodes g) (All-head (NodeReads b w) m others h) parts.0 in
+      let rest = flagged_determined b w (p + 1) nodes others flags marks lines more (omega arith) (omega arith) (All-tail (NodeReads b w) n nodes g) (All-tail (NodeReads b w) m others h) u v parts.1 in (
         ap (λ (z : Node). z ∷ nodes) first.0 ∙ ap (λ (zs : List Node). m ∷ zs) rest.0,
         ap (λ (z : Bool). z ∷ flags) first.1 ∙ ap (λ (zs : List Bool). y ∷ zs) rest.1,
         rest.2,
@@ -204,92 +204,92 @@ module _ {State Op Query Reply : Type 0} where
   flagged_meaningful b w p (n ∷ nodes) (x ∷ flags) = (node_line_in_words b w (p + 1) n (Some x), refl, flagged_meaningful b w (p + 1) nodes flags)
 
   -- ---- the report of a recovery
-  recover_meaningful : (b : Behaviour State Op Query Reply) (w : Wording State Op Query Reply) (told : RecoverTold State) → AreMeaningful (recover_told_lines b w told)
-  recover_meaningful b w told =
-      let ending : List (List (List ℕ)) = node_lines b w 0 told.nodes ++ state_lines w told.state in
-      AreMeaningful-append (held_lines 0 told.logs) (recovered_line (length told.nodes) ∷ ending) (helds_meaningful 0 told.logs) (
-        recovered_in_words (length told.nodes),
+  recover_meaningful : (b : Behaviour State Op Query Reply) (w : Wording State Op Query Reply) (said : RecoverData State) → AreMeaningful (recover_data_lines b w said)
+  recover_meaningful b w said =
+      let ending : List (List (List ℕ)) = node_lines b w 0 said.nodes ++ state_lines w said.state in
+      AreMeaningful-append (held_lines 0 said.logs) (recovered_line (length said.nodes) ∷ ending) (helds_meaningful 0 said.logs) (
+        recovered_in_words (length said.nodes),
         refl,
-        AreMeaningful-append (node_lines b w 0 told.nodes) (state_lines w told.state) (nodes_meaningful b w 0 told.nodes) (state_meaningful w told.state),
+        AreMeaningful-append (node_lines b w 0 said.nodes) (state_lines w said.state) (nodes_meaningful b w 0 said.nodes) (state_meaningful w said.state),
       )
 
-  recover_told_once : (b : Behaviour State Op Query Reply) (w : Wording State Op Query Reply) (told other : RecoverTold State) → RecoverReads b w told → RecoverReads b w other
-      → flat_map line_text (recover_told_lines b w told) ≡ flat_map line_text (recover_told_lines b w other) → told ≡ other
-  recover_told_once b w told other g h e =
-      let ending : RecoverTold State → List (List (List ℕ)) = λ r. node_lines b w 0 r.nodes ++ state_lines w r.state in
-      let rest : RecoverTold State → List (List (List ℕ)) = λ r. recovered_line (length r.nodes) ∷ ending r in
-      let lines = text_told (recover_told_lines b w told) (recover_told_lines b w other) (recover_meaningful b w told) (recover_meaningful b w other) e in
-      let logs = helds_told 0 told.logs other.logs (rest told) (rest other) g.logs h.logs (λ ws d. cc d) (λ ws d. cc d) lines in
-      let counts = line_same (recovered_line (length told.nodes)) (recovered_line (length other.nodes)) (ending told) (ending other) logs.1 in
-      let nodes = nodes_told b w 0 told.nodes other.nodes (state_lines w told.state) (state_lines w other.state) g.nodes h.nodes (λ ws d. cc d) (λ ws d. cc d) counts.1 in
-      recover_same told other logs.0 nodes.0 (state_told w told.state other.state g.state h.state nodes.1)
+  recover_determined_once : (b : Behaviour State Op Query Reply) (w : Wording State Op Query Reply) (said other : RecoverData State) → RecoverReads b w said → RecoverReads b w other
+      → flat_map line_text (recover_data_lines b w said) ≡ flat_map line_text (recover_data_lines b w other) → said ≡ other
+  recover_determined_once b w said other g h e =
+      let ending : RecoverData State → List (List (List ℕ)) = λ r. node_lines b w 0 r.nodes ++ state_lines w r.state in
+      let rest : RecoverData State → List (List (List ℕ)) = λ r. recovered_line (length r.nodes) ∷ ending r in
+      let lines = text_determined (recover_data_lines b w said) (recover_data_lines b w other) (recover_meaningful b w said) (recover_meaningful b w other) e in
+      let logs = helds_determined 0 said.logs other.logs (rest said) (rest other) g.logs h.logs (λ ws d. cc d) (λ ws d. cc d) lines in
+      let counts = line_same (recovered_line (length said.nodes)) (recovered_line (length other.nodes)) (ending said) (ending other) logs.1 in
+      let nodes = nodes_determined b w 0 said.nodes other.nodes (state_lines w said.state) (state_lines w other.state) g.nodes h.nodes (λ ws d. cc d) (λ ws d. cc d) counts.1 in
+      recover_same said other logs.0 nodes.0 (state_determined w said.state other.state g.state h.state nodes.1)
 
   pub recover_determined : (b : Behaviour State Op Query Reply) (w : Wording State Op Query Reply) → RecoverReportLaw b w
   recover_determined b w s r other g h e =
       let ending : List (List (List ℕ)) = recovered_line (length r.nodes) ∷ (node_lines b w 0 r.nodes ++ state_lines w (state_after b s r.nodes)) in
-      recover_told_once b w (recover_told b s r) other g h (sym (ap (λ ls. flat_map line_text (ls ++ ending)) (logs-told 0 r.logs)) ∙ e)
+      recover_determined_once b w (recover_data b s r) other g h (sym (ap (λ ls. flat_map line_text (ls ++ ending)) (logs-data 0 r.logs)) ∙ e)
 
   -- ---- the report of a replay
-  run_meaningful : (b : Behaviour State Op Query Reply) (w : Wording State Op Query Reply) (scripts : List (List (Call State Op Query Reply))) (told : RunTold State Op Query Reply) → AreMeaningful (run_told_lines b w scripts told)
-  run_meaningful b w scripts told =
-      let flagged = flagged_lines b w 0 told.nodes told.flags in
-      let ending = recovered_line told.recovered ∷ state_lines w told.state in
-      AreMeaningful-append (thread_lines w 0 scripts told.ends ++ (trace_line (length told.nodes) ∷ flagged)) (crash_line told.keep ∷ (counted_lines 0 told.logs ++ ending))
+  run_meaningful : (b : Behaviour State Op Query Reply) (w : Wording State Op Query Reply) (scripts : List (List (Call State Op Query Reply))) (said : RunData State Op Query Reply) → AreMeaningful (run_data_lines b w scripts said)
+  run_meaningful b w scripts said =
+      let flagged = flagged_lines b w 0 said.nodes said.flags in
+      let ending = recovered_line said.recovered ∷ state_lines w said.state in
+      AreMeaningful-append (thread_lines w 0 scripts said.ends ++ (trace_line (length said.nodes) ∷ flagged)) (crash_line said.keep ∷ (counted_lines 0 said.logs ++ ending))
       (
-      AreMeaningful-append (thread_lines w 0 scripts told.ends) (trace_line (length told.nodes) ∷ flagged) (threads_meaningful w 0 scripts told.ends)
-      ((record { some = refl; bytes = refl }, (IsWord-decimal (length told.nodes), tt)), refl, flagged_meaningful b w 0 told.nodes told.flags)
+      AreMeaningful-append (thread_lines w 0 scripts said.ends) (trace_line (length said.nodes) ∷ flagged) (threads_meaningful w 0 scripts said.ends)
+      ((record { some = refl; bytes = refl }, (IsWord-decimal (length said.nodes), tt)), refl, flagged_meaningful b w 0 said.nodes said.flags)
       ) (
-        crash_in_words told.keep,
+        crash_in_words said.keep,
         refl,
-        AreMeaningful-append (counted_lines 0 told.logs) ending (logs_meaningful 0 told.logs) (recovered_in_words told.recovered, refl, state_meaningful w told.state),
+        AreMeaningful-append (counted_lines 0 said.logs) ending (logs_meaningful 0 said.logs) (recovered_in_words said.recovered, refl, state_meaningful w said.state),
       )
 
-  run_same : (a b : RunTold State Op Query Reply) → a.ends ≡ b.ends → a.nodes ≡ b.nodes → a.flags ≡ b.flags → a.keep ≡ b.keep → a.logs ≡ b.logs → a.recovered ≡ b.recovered → a.state ≡ b.state → a ≡ b
+  run_same : (a b : RunData State Op Query Reply) → a.ends ≡ b.ends → a.nodes ≡ b.nodes → a.flags ≡ b.flags → a.keep ≡ b.keep → a.logs ≡ b.logs → a.recovered ≡ b.recovered → a.state ≡ b.state → a ≡ b
   run_same a b e₁ e₂ e₃ e₄ e₅ e₆ e₇ =
       ap (λ (v : List (List (CallEnd State Op Query Reply))). record { ends = v; nodes = a.nodes; flags = a.flags; keep = a.keep; logs = a.logs; recovered = a.recovered; state = a.state }) e₁
       ∙ ap (λ (v : List Node). record { ends = b.ends; nodes = v; flags = a.flags; keep = a.keep; logs = a.logs; recovered = a.recovered; state = a.state }) e₂
       ∙ ap (λ (v : List Bool). record { ends = b.ends; nodes = b.nodes; flags = v; keep = a.keep; logs = a.logs; recovered = a.recovered; state = a.state }) e₃
       ∙ ap (λ (v : ℕ). record { ends = b.ends; nodes = b.nodes; flags = b.flags; keep = v; logs = a.logs; recovered = a.recovered; state = a.state }) e₄
-      ∙ ap (λ (v : List LogTold). record { ends = b.ends; nodes = b.nodes; flags = b.flags; keep = b.keep; logs = v; recovered = a.recovered; state = a.state }) e₅
+      ∙ ap (λ (v : List LogData). record { ends = b.ends; nodes = b.nodes; flags = b.flags; keep = b.keep; logs = v; recovered = a.recovered; state = a.state }) e₅
       ∙ ap (λ (v : ℕ). record { ends = b.ends; nodes = b.nodes; flags = b.flags; keep = b.keep; logs = b.logs; recovered = v; state = a.state }) e₆
       ∙ ap (λ (v : State). record { ends = b.ends; nodes = b.nodes; flags = b.flags; keep = b.keep; logs = b.logs; recovered = b.recovered; state = v }) e₇
 
-  pub run_told : (b : Behaviour State Op Query Reply) (w : Wording State Op Query Reply) (scripts : List (List (Call State Op Query Reply))) (told other : RunTold State Op Query Reply)
-      → RunReads b w scripts told → RunReads b w scripts other → flat_map line_text (run_told_lines b w scripts told) ≡ flat_map line_text (run_told_lines b w scripts other) → told ≡ other
-  run_told b w scripts told other g h e =
-      let ending : RunTold State Op Query Reply → List (List (List ℕ)) = λ r. recovered_line r.recovered ∷ state_lines w r.state in
-      let crash : RunTold State Op Query Reply → List (List (List ℕ)) = λ r. crash_line r.keep ∷ (counted_lines 0 r.logs ++ ending r) in
-      let flagged : RunTold State Op Query Reply → List (List (List ℕ)) = λ r. flagged_lines b w 0 r.nodes r.flags in
-      let trace : RunTold State Op Query Reply → List (List (List ℕ)) = λ r. trace_line (length r.nodes) ∷ flagged r in
-      let lines = text_told (run_told_lines b w scripts told) (run_told_lines b w scripts other) (run_meaningful b w scripts told) (run_meaningful b w scripts other) e in
-      let same = sym (append_assoc (thread_lines w 0 scripts told.ends) (trace told) (crash told)) ∙ lines ∙ append_assoc (thread_lines w 0 scripts other.ends) (trace other) (crash other) in
-      let calls = threads_told w 0 scripts told.ends other.ends (trace told ++ crash told) (trace other ++ crash other) (omega (arith, g.threads)) g.ends h.ends (λ t rest d. cc d) (λ t rest d. cc d) same in
-      let traces = line_same (trace_line (length told.nodes)) (trace_line (length other.nodes)) (flagged told ++ crash told) (flagged other ++ crash other) calls.1 in
-      let nodes = flagged_told b w 0 told.nodes other.nodes told.flags other.flags (crash told) (crash other) g.flags h.flags g.nodes h.nodes (λ rest d. cc d) (λ rest d. cc d) traces.1 in
-      let crashes = line_same (crash_line told.keep) (crash_line other.keep) (counted_lines 0 told.logs ++ ending told) (counted_lines 0 other.logs ++ ending other) nodes.2 in
-      let logs = logs_told 0 told.logs other.logs (ending told) (ending other) g.logs h.logs (λ rest d. cc d) (λ rest d. cc d) crashes.1 in
-      let endings = line_same (recovered_line told.recovered) (recovered_line other.recovered) (state_lines w told.state) (state_lines w other.state) logs.1 in
-      run_same told other calls.0 nodes.0 nodes.1 (first_number told.keep other.keep [] [] g.keep h.keep (ap (drop 1) crashes.0)) logs.0
-      (first_number told.recovered other.recovered [] [] g.recovered h.recovered (ap (drop 1) endings.0)) (state_told w told.state other.state g.state h.state endings.1)
+  pub run_determined : (b : Behaviour State Op Query Reply) (w : Wording State Op Query Reply) (scripts : List (List (Call State Op Query Reply))) (said other : RunData State Op Query Reply)
+      → RunReads b w scripts said → RunReads b w scripts other → flat_map line_text (run_data_lines b w scripts said) ≡ flat_map line_text (run_data_lines b w scripts other) → said ≡ other
+  run_determined b w scripts said other g h e =
+      let ending : RunData State Op Query Reply → List (List (List ℕ)) = λ r. recovered_line r.recovered ∷ state_lines w r.state in
+      let crash : RunData State Op Query Reply → List (List (List ℕ)) = λ r. crash_line r.keep ∷ (counted_lines 0 r.logs ++ ending r) in
+      let flagged : RunData State Op Query Reply → List (List (List ℕ)) = λ r. flagged_lines b w 0 r.nodes r.flags in
+      let trace : RunData State Op Query Reply → List (List (List ℕ)) = λ r. trace_line (length r.nodes) ∷ flagged r in
+      let lines = text_determined (run_data_lines b w scripts said) (run_data_lines b w scripts other) (run_meaningful b w scripts said) (run_meaningful b w scripts other) e in
+      let same = sym (append_assoc (thread_lines w 0 scripts said.ends) (trace said) (crash said)) ∙ lines ∙ append_assoc (thread_lines w 0 scripts other.ends) (trace other) (crash other) in
+      let calls = threads_determined w 0 scripts said.ends other.ends (trace said ++ crash said) (trace other ++ crash other) (omega (arith, g.threads)) g.ends h.ends (λ t rest d. cc d) (λ t rest d. cc d) same in
+      let traces = line_same (trace_line (length said.nodes)) (trace_line (length other.nodes)) (flagged said ++ crash said) (flagged other ++ crash other) calls.1 in
+      let nodes = flagged_determined b w 0 said.nodes other.nodes said.flags other.flags (crash said) (crash other) g.flags h.flags g.nodes h.nodes (λ rest d. cc d) (λ rest d. cc d) traces.1 in
+      let crashes = line_same (crash_line said.keep) (crash_line other.keep) (counted_lines 0 said.logs ++ ending said) (counted_lines 0 other.logs ++ ending other) nodes.2 in
+      let logs = logs_determined 0 said.logs other.logs (ending said) (ending other) g.logs h.logs (λ rest d. cc d) (λ rest d. cc d) crashes.1 in
+      let endings = line_same (recovered_line said.recovered) (recovered_line other.recovered) (state_lines w said.state) (state_lines w other.state) logs.1 in
+      run_same said other calls.0 nodes.0 nodes.1 (first_number said.keep other.keep [] [] g.keep h.keep (ap (drop 1) crashes.0)) logs.0
+      (first_number said.recovered other.recovered [] [] g.recovered h.recovered (ap (drop 1) endings.0)) (state_determined w said.state other.state g.state h.state endings.1)
 
-  begun-told : (w : Wording State Op Query Reply) (t : ℕ) (ths : List (CoreThread State Op Query Reply)) → begun_lines w t ths ≡ thread_lines w t (map script_of ths) (map ends_of ths)
-  begun-told w t [] = refl
-  begun-told w t (th ∷ ths) = ap (λ ls. call_lines w t 0 th.script (ends_of th) ++ ls) (begun-told w (t + 1) ths)
+  begun-said : (w : Wording State Op Query Reply) (t : ℕ) (ths : List (CoreThread State Op Query Reply)) → begun_lines w t ths ≡ thread_lines w t (map script_of ths) (map ends_of ths)
+  begun-said w t [] = refl
+  begun-said w t (th ∷ ths) = ap (λ ls. call_lines w t 0 th.script (ends_of th) ++ ls) (begun-said w (t + 1) ths)
 
-  fenced-told : (t : ℕ) (logs : List Content) (ths : List (CoreThread State Op Query Reply)) → fenced_lines t logs ths ≡ counted_lines t (counts_of logs ths)
-  fenced-told t [] [] = refl
-  fenced-told t [] (th ∷ ths) = refl
-  fenced-told t (log ∷ logs) [] = refl
-  fenced-told t (log ∷ logs) (th ∷ ths) = ap (λ ls. log_line t (length log.entries) (used_by log) (Some (th.device.fences - 1)) ∷ ls) (fenced-told (t + 1) logs ths)
+  fenced-said : (t : ℕ) (logs : List Content) (ths : List (CoreThread State Op Query Reply)) → fenced_lines t logs ths ≡ counted_lines t (counts_of logs ths)
+  fenced-said t [] [] = refl
+  fenced-said t [] (th ∷ ths) = refl
+  fenced-said t (log ∷ logs) [] = refl
+  fenced-said t (log ∷ logs) (th ∷ ths) = ap (λ ls. log_line t (length log.entries) (used_by log) (Some (th.device.fences - 1)) ∷ ls) (fenced-said (t + 1) logs ths)
 
-  replay_report-told : (b : Behaviour State Op Query Reply) (w : Wording State Op Query Reply) (c : CoreState State Op Query Reply) (keep : ℕ) (r : Recovered)
-      → replay_report b w c keep r ≡ flat_map line_text (run_told_lines b w (map script_of c.threads) (replay_told b c keep r))
-  replay_report-told b w c keep r =
+  replay_report-said : (b : Behaviour State Op Query Reply) (w : Wording State Op Query Reply) (c : CoreState State Op Query Reply) (keep : ℕ) (r : Recovered)
+      → replay_report b w c keep r ≡ flat_map line_text (run_data_lines b w (map script_of c.threads) (replay_data b c keep r))
+  replay_report-said b w c keep r =
       let trace : List (List (List ℕ)) = trace_line (length c.trace) ∷ flagged_lines b w 0 c.trace c.flags in
       let ending : List (List (List ℕ)) = recovered_line (length r.nodes) ∷ state_lines w (state_after b c.initial r.nodes) in
-      ap (λ ls. flat_map line_text ((ls ++ trace) ++ (crash_line keep ∷ (fenced_lines 0 r.logs c.threads ++ ending)))) (begun-told w 0 c.threads)
-      ∙ ap (λ ls. flat_map line_text ((thread_lines w 0 (map script_of c.threads) (map ends_of c.threads) ++ trace) ++ (crash_line keep ∷ (ls ++ ending)))) (fenced-told 0 r.logs c.threads)
+      ap (λ ls. flat_map line_text ((ls ++ trace) ++ (crash_line keep ∷ (fenced_lines 0 r.logs c.threads ++ ending)))) (begun-said w 0 c.threads)
+      ∙ ap (λ ls. flat_map line_text ((thread_lines w 0 (map script_of c.threads) (map ends_of c.threads) ++ trace) ++ (crash_line keep ∷ (ls ++ ending)))) (fenced-said 0 r.logs c.threads)
 
   pub replay_determined : (b : Behaviour State Op Query Reply) (w : Wording State Op Query Reply) → ReplayReportLaw b w
   replay_determined b w c keep r other g h e =
-      run_told b w (map script_of c.threads) (replay_told b c keep r) other g h (sym (replay_report-told b w c keep r) ∙ e)
+      run_determined b w (map script_of c.threads) (replay_data b c keep r) other g h (sym (replay_report-said b w c keep r) ∙ e)

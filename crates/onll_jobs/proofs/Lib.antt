@@ -15,4 +15,4 @@ pub mod Crashes
 pub mod ReplayEnds
 pub mod RecoverCrashes
 pub mod Determined
-mod FoldTold
+mod FoldDetermined

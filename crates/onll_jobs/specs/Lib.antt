@@ -15,4 +15,4 @@ pub mod ShowJob
 pub mod Stop
 pub mod Writing
 pub mod Durable
-pub mod Told
+pub mod Reports

@@ -10,21 +10,16 @@ use onll_merge::RecoverFault;
 use onll_text::{Piece, Report};
 use onll_words::NoMemory;
 use std::alloc::{AllocFailed, Global};
-use thiserror::Error;
 
 /// Why logs give no state. Logs are numbered from 0, places from 1.
-#[derive(Clone, Copy, Debug, PartialEq, Eq, Error)]
+#[derive(Clone, Copy, Debug, PartialEq, Eq)]
 pub enum LogsFault {
     /// An image is no log.
-    #[error("image {log} is no log")]
     NotLog { log: u64 },
     /// The logs are not those of one run.
-    #[error("{0}")]
     NotMerged(RecoverFault),
     /// The row of a place is no operation of the object.
-    #[error("the row of place {place} is no operation")]
     NotOperation { place: u64 },
-    #[error("out of memory")]
     NoMemory,
 }
 

@@ -3,13 +3,13 @@ ghost use Rattle.std.specs.List.{AllByRecursion};
 ghost use Rattle.onll_model.specs.Fold.{fold_trace, fold_ends, fold_state};
 ghost use Rattle.onll_text.specs.Bytes.{begins_line, with_lines};
 ghost use Rattle.onll_text.specs.Lines.{call_lines, node_lines};
-ghost use Rattle.onll_text.specs.Told.{EndsRead, NodeReads, ToldReads};
+ghost use Rattle.onll_text.specs.Reports.{EndsRead, NodeReads, FoldDataReads};
 ghost use Rattle.onll_outside.specs.Views.{SameFiles};
 ghost use Rattle.onll_jobs.specs.Fold.{fold_report};
 ghost use Rattle.onll_jobs.specs.FoldJob.{script_job, script_job_on, fold_job};
 ghost use Rattle.onll_jobs.specs.Job.{JobEnds, JobCut};
 ghost use Rattle.onll_jobs.specs.declared.ending.Ending.TheVariants.{Done};
-ghost use Rattle.onll_jobs.specs.Told.{fold_told, FoldsTo, FoldsToAny, FoldsFiles};
+ghost use Rattle.onll_jobs.specs.Reports.{fold_data, FoldsTo, FoldsToAny, FoldsFiles};
 
 use crate::answer::Answer;
 use crate::ending::Ending;
@@ -104,7 +104,7 @@ fn fold_script<O: Texted>(
     script: &[Call<O>],
 ) -> Result<Vec<u8>, NoMemory>
     ensures report { IfOk result (λ bytes. bytes.items ≡ fold_report O.means O.wording object.old script.now) }
-    ensures reads { OnOk result (ToldReads O.means O.wording script.now (fold_told O.means object.old script.now)) }
+    ensures reads { OnOk result (FoldDataReads O.means O.wording script.now (fold_data O.means object.old script.now)) }
 {
     let mut out = Report::new(alloc);
     let mut trace = Vec::new(alloc);
@@ -127,7 +127,7 @@ fn fold_object<O: Texted, S: Store>(
         IfOk result (λ answer. JobEnds (S.seen store.old) (S.seen store.new) job answer.ending answer.text.items) }
     ensures cut { let job = script_job O.means O.wording object.old script.now in
         IfErr result (λ e. JobCut (S.seen store.old) (S.seen store.new) job) }
-    ensures told { IfOk result (λ answer. answer.ending ≡ Done → FoldsTo O.means O.wording object.old (S.seen store.old) script.now answer.text.items) }
+    ensures determined { IfOk result (λ answer. answer.ending ≡ Done → FoldsTo O.means O.wording object.old (S.seen store.old) script.now answer.text.items) }
     ensures same { SameFiles (S.seen store.old) (S.seen store.new) }
 {
     match script_file::<O, S>(alloc, script, store) {
@@ -151,7 +151,7 @@ fn fold_any<S: Store>(
 ) -> Result<Answer, NoMemory>
     ensures says { IfOk result (λ answer. JobEnds (S.seen store.old) (S.seen store.new) (script_job_on script.now object) answer.ending answer.text.items) }
     ensures cut { IfErr result (λ e. JobCut (S.seen store.old) (S.seen store.new) (script_job_on script.now object)) }
-    ensures told { IfOk result (λ answer. answer.ending ≡ Done → FoldsToAny (S.seen store.old) script.now answer.text.items object) }
+    ensures determined { IfOk result (λ answer. answer.ending ≡ Done → FoldsToAny (S.seen store.old) script.now answer.text.items object) }
     ensures same { SameFiles (S.seen store.old) (S.seen store.new) }
 {
     match object {
@@ -171,7 +171,7 @@ pub(crate) fn answer<S: Store>(
 ) -> Result<Answer, NoMemory>
     ensures says { IfOk result (λ answer. JobEnds (S.seen store.old) (S.seen store.new) (fold_job init.now script.now) answer.ending answer.text.items) }
     ensures cut { IfErr result (λ e. JobCut (S.seen store.old) (S.seen store.new) (fold_job init.now script.now)) }
-    ensures told { IfOk result (λ answer. answer.ending ≡ Done → FoldsFiles (S.seen store.old) init.now script.now answer.text.items) }
+    ensures determined { IfOk result (λ answer. answer.ending ≡ Done → FoldsFiles (S.seen store.old) init.now script.now answer.text.items) }
     ensures same { SameFiles (S.seen store.old) (S.seen store.new) }
 {
     match init_file(alloc, init, store) {

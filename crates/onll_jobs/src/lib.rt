@@ -10,10 +10,10 @@ mod images;
 mod program;
 mod recover;
 mod replay;
+mod report_laws;
 mod show;
 mod texts;
-mod told;
 
 pub use ending::{Ending, Exit};
 pub use program::onll;
-pub use told::{fold_report_law, recover_report_law, replay_report_law};
+pub use report_laws::{recover_report_law, replay_report_law};

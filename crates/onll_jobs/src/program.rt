@@ -9,7 +9,7 @@ ghost use Rattle.onll_jobs.specs.Says.{job_of, writes_of, FormSays, ExitSays, En
 ghost use Rattle.onll_jobs.specs.Job.{JobCut, Decides};
 ghost use Rattle.onll_jobs.specs.Durable.{ReplayIsDurable, RecoversCrashes};
 ghost use Rattle.onll_jobs.specs.Printed.{usage_text};
-ghost use Rattle.onll_jobs.specs.Told.{FormTold, FoldExits, FoldIsTold};
+ghost use Rattle.onll_jobs.specs.Reports.{FormDetermined, FoldExits, FoldIsDetermined};
 
 use crate::answer::{Answer, usage};
 use crate::command::Command;
@@ -28,7 +28,7 @@ fn command_answer<S: Store>(
     requires { IsCommand command }
     ensures says { let form = form_in command.entry in
         IfOk result (λ answer. FormSays (Some form) (S.seen store.old) (S.seen store.new) answer.ending answer.text.items) }
-    ensures told { IfOk result (λ answer. FormTold (S.seen store.old) (Some (form_in command.entry)) answer.ending answer.text.items) }
+    ensures determined { IfOk result (λ answer. FormDetermined (S.seen store.old) (Some (form_in command.entry)) answer.ending answer.text.items) }
     ensures cut { IfErr result (λ e. JobCut (S.seen store.old) (S.seen store.new) (job_of (Some (form_in command.entry)))) }
     ensures files { SameBut (writes_of (Some (form_in command.entry))) (S.seen store.old) (S.seen store.new) }
 {
@@ -53,8 +53,8 @@ fn command_answer<S: Store>(
 fn answer_to<S: Store>(alloc: Global, words: &[String], store: &mut S) -> Result<Answer, NoMemory>
     ensures says { let form = form_of (map string_bytes words.now) in
         IfOk result (λ answer. FormSays form (S.seen store.old) (S.seen store.new) answer.ending answer.text.items) }
-    ensures told { let form = form_of (map string_bytes words.now) in
-        IfOk result (λ answer. FormTold (S.seen store.old) form answer.ending answer.text.items) }
+    ensures determined { let form = form_of (map string_bytes words.now) in
+        IfOk result (λ answer. FormDetermined (S.seen store.old) form answer.ending answer.text.items) }
     ensures cut { IfErr result (λ e. JobCut (S.seen store.old) (S.seen store.new) (job_of (form_of (map string_bytes words.now)))) }
     ensures files { SameBut (writes_of (form_of (map string_bytes words.now))) (S.seen store.old) (S.seen store.new) }
 {
@@ -79,7 +79,7 @@ fn put<K: Sink>(out: &mut K, answer: &Answer) -> Exit
 fn run<S: Store, K: Sink>(alloc: Global, words: &[String], store: &mut S, out: &mut K) -> Exit
     ensures says { let seen = seen_by (map string_bytes words.now) (S.seen store.old) (S.seen store.new) (K.held out.old) (K.held out.new) in
         ExitSays seen result }
-    ensures told { let seen = seen_by (map string_bytes words.now) (S.seen store.old) (S.seen store.new) (K.held out.old) (K.held out.new) in
+    ensures determined { let seen = seen_by (map string_bytes words.now) (S.seen store.old) (S.seen store.new) (K.held out.old) (K.held out.new) in
         FoldExits seen result }
     ensures files { SameBut (writes_of (form_of (map string_bytes words.now))) (S.seen store.old) (S.seen store.new) }
 {
@@ -123,8 +123,8 @@ pub fn onll<S: Store, K: Sink>(alloc: Global, words: &[String], store: &mut S, o
 
     // What a fold prints says what became of the calls that the files hold, the trace and the state, and nothing else that reads
     // back is printed by its bytes.
-    ensures told { let seen = seen_by (map string_bytes words.now) (S.seen store.old) (S.seen store.new) (K.held out.old) (K.held out.new) in
-        FoldIsTold seen result }
+    ensures determined { let seen = seen_by (map string_bytes words.now) (S.seen store.old) (S.seen store.new) (K.held out.old) (K.held out.new) in
+        FoldIsDetermined seen result }
 
     // What a replay prints is one run of scripts every run of which is durable at each step: one legal history in real time, an
     // update that fences once, a read that never does, and, whatever a crash leaves, logs that recover to a prefix which holds

@@ -16,4 +16,4 @@ pub mod LeaseText
 pub mod LeaseWording
 pub mod Init
 pub mod ReadBack
-pub mod Told
+pub mod Reports

@@ -12,12 +12,12 @@ mod queue;
 mod read_back;
 mod reason;
 mod report;
+mod report_laws;
 mod schedule;
 mod script;
 #[cfg(test)]
 mod tests;
 mod texted;
-mod told;
 mod words;
 
 pub use any_object::{AnyObject, Kind};
@@ -25,7 +25,7 @@ pub use init::read_init;
 pub use read_back::{bank_reads_back, lease_reads_back, map_reads_back, queue_reads_back};
 pub use reason::{Reason, TextFault};
 pub use report::{Piece, Report};
+pub use report_laws::{end_reads_back, fold_determined_law, node_reads_back, parts_determined_law};
 pub use schedule::{MOST_STEPS, Schedule, Turns, read_schedule};
 pub use script::{LONGEST_TEXT, read_script};
 pub use texted::Texted;
-pub use told::{end_reads_back, fold_told_law, node_reads_back, parts_told_law};

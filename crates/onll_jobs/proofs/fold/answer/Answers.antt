@@ -4,8 +4,8 @@ use Rattle.onll_text.specs.Init.{init_of}
 use Rattle.onll_jobs.specs.FoldJob.{script_job_on, fold_job}
 use Rattle.onll_jobs.proofs.Onwards.{on_whole, says_on, stopped}
 use Rattle.onll_jobs.specs.declared.ending.Ending.TheVariants.{Done}
-use Rattle.onll_jobs.specs.Told.{FoldsToAny, FoldsFiles}
-use Rattle.onll_jobs.proofs.FoldTold.{folds_before}
+use Rattle.onll_jobs.specs.Reports.{FoldsToAny, FoldsFiles}
+use Rattle.onll_jobs.proofs.FoldDetermined.{folds_before}
 use Rattle.onll_jobs.proofs.fold.answer.Goals as goal
 
 pub returns-in-Ok-clause-says : goal.returns-in-Ok-clause-says
@@ -22,8 +22,8 @@ returns-in-Err-clause-says g c =
     stopped (g.S.Store.seen c.args.store.now) (g.S.Store.seen c.init_file.new.store) c.args.init.now init_of (λ _. script_job_on c.args.script.now)
     c.in-Err.stop c.answer.result c.in-Err.ensures.same c.answer.ensures c.in-Err.ensures.stop
 
-pub returns-in-Ok-clause-told : goal.returns-in-Ok-clause-told
-returns-in-Ok-clause-told g c =
+pub returns-in-Ok-clause-determined : goal.returns-in-Ok-clause-determined
+returns-in-Ok-clause-determined g c =
     let store = g.S.Store.seen c.args.store.now in
     let mid = g.S.Store.seen c.init_file.new.store in
     let script = c.args.script.now in
@@ -35,4 +35,4 @@ returns-in-Ok-clause-told g c =
       read = record { bytes = c.in-Ok.read.text.items; held = c.in-Ok.ensures.object.held; accepted = c.in-Ok.ensures.object.accepted };
       folds = folds_before store mid script answer.text.items c.in-Ok.read.object c.in-Ok.ensures.same (h e);
     })
-    c.fold_any.ensures.told
+    c.fold_any.ensures.determined

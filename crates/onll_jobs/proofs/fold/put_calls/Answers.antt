@@ -5,7 +5,7 @@ use Rattle.std.proofs.lemmas.List.{drop_more, drop_all}
 use Rattle.onll_model.specs.Fold.{fold_trace, fold_ends, fold_state}
 use Rattle.onll_text.specs.Bytes.{with_lines}
 use Rattle.onll_text.specs.Lines.{call_line, call_lines}
-use Rattle.onll_text.specs.Told.{EndReads}
+use Rattle.onll_text.specs.Reports.{EndReads}
 use Rattle.onll_jobs.proofs.FoldSteps.{begins_after, call_done, length-fold_ends}
 use Rattle.onll_jobs.proofs.fold.put_calls.Goals as goal
 

@@ -3,7 +3,7 @@ use Rattle.std.specs.List.{All}
 use Rattle.onll_model.specs.Fold.{fold_trace, fold_ends, fold_state}
 use Rattle.onll_text.specs.Bytes.{begins_line, with_lines}
 use Rattle.onll_text.specs.Lines.{call_lines}
-use Rattle.onll_text.specs.Told.{EndReads, NodeReads}
+use Rattle.onll_text.specs.Reports.{EndReads, NodeReads}
 use Rattle.onll_jobs.proofs.fold.put_calls.Given as goal
 
 -- what is done and what the calls that are left make is what all calls make

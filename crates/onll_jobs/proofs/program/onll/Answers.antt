@@ -3,7 +3,7 @@ use Rattle.onll_jobs.specs.declared.ending.Ending.TheVariants.{Done, Refused, Ba
 use Rattle.onll_jobs.specs.Seen.{seen_by}
 use Rattle.onll_jobs.specs.Durable.{RecoversCrashes}
 use Rattle.onll_jobs.proofs.ExitCauses.{said_of, usage_of, failed_of, no_memory_of, count_of, decided_exactly}
-use Rattle.onll_jobs.proofs.FoldTold.{exit_done}
+use Rattle.onll_jobs.proofs.FoldDetermined.{exit_done}
 use Rattle.onll_jobs.proofs.ReplayEnds.{replay_not_bad, replay_durable}
 use Rattle.onll_jobs.proofs.RecoverCrashes.{recovers_crashes}
 use Rattle.onll_jobs.proofs.program.onll.Goals as goal
@@ -50,5 +50,5 @@ returns-clause-recovers g c init schedule logs scripts form e =
     let seen = seen_by (map string_bytes c.args.words.now) (g.S.Store.seen c.args.store.now) (g.S.Store.seen c.run.new.store) (g.K.Sink.held c.args.out.now) (g.K.Sink.held c.run.new.out) in
     replay_not_bad seen init schedule logs scripts form (said_of seen c.run.result BadLog (λ e. omega arith) (sym c.status.ensures ∙ e) c.run.ensures.says)
 
-pub returns-clause-told : goal.returns-clause-told
-returns-clause-told g c init script form e = c.run.ensures.told init script form (exit_done c.run.result (sym c.status.ensures ∙ e))
+pub returns-clause-determined : goal.returns-clause-determined
+returns-clause-determined g c init script form e = c.run.ensures.determined init script form (exit_done c.run.result (sym c.status.ensures ∙ e))

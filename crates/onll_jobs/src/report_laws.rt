@@ -1,14 +1,8 @@
 //! What the reports say is determined by their bytes, for every object.
 
-ghost use Rattle.onll_jobs.specs.Told.{FoldReportLaw, RecoverReportLaw, ReplayReportLaw};
+ghost use Rattle.onll_jobs.specs.Reports.{RecoverReportLaw, ReplayReportLaw};
 
 use onll_text::Texted;
-
-/// The bytes of a report of `fold` determine the outcomes of its script's calls, the trace and the state: nothing else that
-/// reads back is printed so.
-pub fn fold_report_law<O: Texted>()
-    ensures { FoldReportLaw O.means O.wording }
-{}
 
 /// The bytes of a report of `recover` determine what is said of each log, the trace and the state.
 pub fn recover_report_law<O: Texted>()

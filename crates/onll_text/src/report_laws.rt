@@ -1,7 +1,7 @@
 //! What a report says is determined by its bytes, for every object.
 
 ghost use Rattle.std.specs.Prelude.{◌<◌, ◌^◌, IsSome};
-ghost use Rattle.onll_text.specs.Told.{EndReads, NodeReads, TextToldLaw, CallsToldLaw, NodesToldLaw, StateToldLaw, FoldToldLaw};
+ghost use Rattle.onll_text.specs.Reports.{EndReads, NodeReads, TextDeterminedLaw, CallsDeterminedLaw, NodesDeterminedLaw, StateDeterminedLaw, FoldDeterminedLaw};
 
 use crate::texted::Texted;
 use onll_model::{CallEnd, Node};
@@ -41,16 +41,16 @@ pub fn node_reads_back<O: Texted>(node: Node)
 
 /// The parts of a report are one to one: lines of words and their text, the outcomes of a script's calls and their lines,
 /// nodes and theirs, a state and its.
-pub fn parts_told_law<O: Texted>()
-    ensures texts { TextToldLaw }
-    ensures calls { CallsToldLaw O.wording }
-    ensures nodes { NodesToldLaw O.means O.wording }
-    ensures state { StateToldLaw O.wording }
+pub fn parts_determined_law<O: Texted>()
+    ensures texts { TextDeterminedLaw }
+    ensures calls { CallsDeterminedLaw O.wording }
+    ensures nodes { NodesDeterminedLaw O.means O.wording }
+    ensures state { StateDeterminedLaw O.wording }
 {}
 
 /// The bytes of a report of one thread, as `fold` prints it, determine the outcomes of its script's calls, the trace and the
 /// state. Each outcome and each node that a program has reads back (`end_reads_back`, `node_reads_back`), and each state
 /// (`state_reads_back` of `Texted`).
-pub fn fold_told_law<O: Texted>()
-    ensures { FoldToldLaw O.means O.wording }
+pub fn fold_determined_law<O: Texted>()
+    ensures { FoldDeterminedLaw O.means O.wording }
 {}

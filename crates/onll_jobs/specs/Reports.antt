@@ -14,7 +14,7 @@ use Rattle.onll_core.specs.Core.{CoreThread, CoreState}
 use Rattle.onll_core.specs.Outcomes.{ends_of, script_of}
 use Rattle.onll_text.specs.Wording.{Wording}
 use Rattle.onll_text.specs.Lines.{call_lines, trace_line, node_lines, log_line, state_lines}
-use Rattle.onll_text.specs.Told.{EndsRead, NodeReads, StateReads, Told, told_lines, ToldReads, SaysOnly}
+use Rattle.onll_text.specs.Reports.{EndsRead, NodeReads, StateReads, FoldData, SaysOnly}
 use Rattle.onll_text.specs.declared.any_object.AnyObject.{AnyObject}
 use Rattle.onll_text.specs.declared.any_object.AnyObject.TheVariants as objects
 use Rattle.onll_text.specs.BankWording.{bank_wording}
@@ -28,7 +28,6 @@ use Rattle.onll_map.specs.Object.{map_object}
 use Rattle.onll_queue.specs.Object.{queue}
 use Rattle.onll_lease.specs.Object.{lease}
 use Rattle.onll_outside.specs.Views.{StoreView, Puts}
-use Rattle.onll_jobs.specs.Fold.{fold_report}
 use Rattle.onll_jobs.specs.Reading.{Reads}
 use Rattle.onll_jobs.specs.Command.{Form, Fold, form_of}
 use Rattle.onll_jobs.specs.Seen.{Seen}
@@ -43,20 +42,14 @@ use Rattle.onll_jobs.specs.ReplayJob.{flagged_lines, crash_line, replay_report}
 
 -- ---- fold
 -- what the report of a fold says
-abbrev pub fold_told : {State Op Query Reply : Type 0} → Behaviour State Op Query Reply → State → List (Call State Op Query Reply) → Told State Op Query Reply
-fold_told b s calls = record { ends = fold_ends b s 0 calls; nodes = fold_trace b 0 calls; state = fold_state b s calls }
-
--- nothing else that reads back is printed by its bytes
-abbrev pub FoldReportLaw : {State Op Query Reply : Type 0} → Behaviour State Op Query Reply → Wording State Op Query Reply → Type 0
-FoldReportLaw {State} {Op} {Query} {Reply} b w =
-    (s : State) (calls : List (Call State Op Query Reply)) (other : Told State Op Query Reply) → ToldReads b w calls (fold_told b s calls) → ToldReads b w calls other
-    → fold_report b w s calls ≡ flat_map line_text (told_lines b w calls other) → fold_told b s calls ≡ other
+abbrev pub fold_data : {State Op Query Reply : Type 0} → Behaviour State Op Query Reply → State → List (Call State Op Query Reply) → FoldData State Op Query Reply
+fold_data b s calls = record { ends = fold_ends b s 0 calls; nodes = fold_trace b 0 calls; state = fold_state b s calls }
 
 -- a script is read from this file, and this text says what its fold gives, and nothing else that reads back
 pub record FoldsTo {State Op Query Reply : Type 0} (b : Behaviour State Op Query Reply) (w : Wording State Op Query Reply) (s : State) (store : StoreView) (script text : List ℕ) : Type 0 where
   pub calls : List (Call State Op Query Reply)
   pub read : Reads store (read_script w) script calls
-  pub says : SaysOnly b w calls text (fold_told b s calls)
+  pub says : SaysOnly b w calls text (fold_data b s calls)
 
 -- the same for an object of any kind
 abbrev pub FoldsToAny : StoreView → (script text : List ℕ) → AnyObject → Type 0
@@ -71,10 +64,10 @@ pub record FoldsFiles (store : StoreView) (init script text : List ℕ) : Type 0
   pub read : Reads store init_of init object
   pub folds : FoldsToAny store script text object
 
--- where a form is that of a fold, and the fold is done, this text is told so
-abbrev pub FormTold : StoreView → Option Form → Ending → List ℕ → Type 0
-FormTold store (Some (Fold init script)) ending text = ending ≡ Done → FoldsFiles store init script text
-FormTold store form ending text = Unit {0}
+-- where a form is that of a fold, and the fold is done, this text says what it gives, and nothing else
+abbrev pub FormDetermined : StoreView → Option Form → Ending → List ℕ → Type 0
+FormDetermined store (Some (Fold init script)) ending text = ending ≡ Done → FoldsFiles store init script text
+FormDetermined store form ending text = Unit {0}
 
 -- a fold whose report was put
 pub record FoldPut (seen : Seen) (init script : List ℕ) : Type 0 where
@@ -86,76 +79,76 @@ pub record FoldPut (seen : Seen) (init script : List ℕ) : Type 0 where
 abbrev pub FoldExits : Seen → Exit → Type 0
 FoldExits seen exit = (init script : List ℕ) → form_of seen.words ≡ Some (Fold init script) → exit ≡ Said Done → FoldPut seen init script
 
-abbrev pub FoldIsTold : Seen → ℕ → Type 0
-FoldIsTold seen status = (init script : List ℕ) → form_of seen.words ≡ Some (Fold init script) → status ≡ 0 → FoldPut seen init script
+abbrev pub FoldIsDetermined : Seen → ℕ → Type 0
+FoldIsDetermined seen status = (init script : List ℕ) → form_of seen.words ≡ Some (Fold init script) → status ≡ 0 → FoldPut seen init script
 
 -- ---- recover
 -- what is said of a log with a head: its entries and its lines
-pub record HeldTold : Type 0 where
+pub record HeldData : Type 0 where
   pub entries : ℕ
   pub lines : ℕ
 
 -- what a report of logs says: of each log, nothing where it has no head; the trace, and the state after it
-pub record RecoverTold (State : Type 0) : Type 0 where
-  pub logs : List (Option HeldTold)
+pub record RecoverData (State : Type 0) : Type 0 where
+  pub logs : List (Option HeldData)
   pub nodes : List Node
   pub state : State
 
-abbrev pub held_line : ℕ → Option HeldTold → List (List ℕ)
+abbrev pub held_line : ℕ → Option HeldData → List (List ℕ)
 held_line t None = codes "log" ∷ decimal t ∷ codes "empty" ∷ []
 held_line t (Some held) = log_line t held.entries held.lines None
 
 -- the line of each log, from thread t on
-abbrev pub held_lines : ℕ → List (Option HeldTold) → List (List (List ℕ))
+abbrev pub held_lines : ℕ → List (Option HeldData) → List (List (List ℕ))
 held_lines t [] = []
 held_lines t (log ∷ logs) = held_line t log ∷ held_lines (t + 1) logs
 
-abbrev pub recover_told_lines : {State Op Query Reply : Type 0} → Behaviour State Op Query Reply → Wording State Op Query Reply → RecoverTold State → List (List (List ℕ))
-recover_told_lines b w told = held_lines 0 told.logs ++ (recovered_line (length told.nodes) ∷ (node_lines b w 0 told.nodes ++ state_lines w told.state))
+abbrev pub recover_data_lines : {State Op Query Reply : Type 0} → Behaviour State Op Query Reply → Wording State Op Query Reply → RecoverData State → List (List (List ℕ))
+recover_data_lines b w said = held_lines 0 said.logs ++ (recovered_line (length said.nodes) ∷ (node_lines b w 0 said.nodes ++ state_lines w said.state))
 
 -- the numbers of a log are of 64 bits
-abbrev pub HeldReads : Option HeldTold → Type 0
+abbrev pub HeldReads : Option HeldData → Type 0
 HeldReads None = Unit {0}
 HeldReads (Some held) = (held.entries < 2 ^ 64) × (held.lines < 2 ^ 64)
 
 -- all that is said reads back
-pub record RecoverReads {State Op Query Reply : Type 0} (b : Behaviour State Op Query Reply) (w : Wording State Op Query Reply) (told : RecoverTold State) : Type 0 where
-  pub logs : All HeldReads told.logs
-  pub nodes : All (NodeReads b w) told.nodes
-  pub state : StateReads w told.state
+pub record RecoverReads {State Op Query Reply : Type 0} (b : Behaviour State Op Query Reply) (w : Wording State Op Query Reply) (said : RecoverData State) : Type 0 where
+  pub logs : All HeldReads said.logs
+  pub nodes : All (NodeReads b w) said.nodes
+  pub state : StateReads w said.state
 
-abbrev pub held_with : Option LogHead → List Segment → Option HeldTold
+abbrev pub held_with : Option LogHead → List Segment → Option HeldData
 held_with None entries = None
 held_with (Some head) entries = Some (record { entries = length entries; lines = used_with (Some head) entries })
 
-abbrev pub held_of : Content → Option HeldTold
+abbrev pub held_of : Content → Option HeldData
 held_of log = held_with log.head log.entries
 
 -- what the report of a recovery says
-abbrev pub recover_told : {State Op Query Reply : Type 0} → Behaviour State Op Query Reply → State → Recovered → RecoverTold State
-recover_told b s r = record { logs = map held_of r.logs; nodes = r.nodes; state = state_after b s r.nodes }
+abbrev pub recover_data : {State Op Query Reply : Type 0} → Behaviour State Op Query Reply → State → Recovered → RecoverData State
+recover_data b s r = record { logs = map held_of r.logs; nodes = r.nodes; state = state_after b s r.nodes }
 
 -- nothing else that reads back is printed by its bytes
 abbrev pub RecoverReportLaw : {State Op Query Reply : Type 0} → Behaviour State Op Query Reply → Wording State Op Query Reply → Type 0
 RecoverReportLaw {State} b w =
-    (s : State) (r : Recovered) (other : RecoverTold State) → RecoverReads b w (recover_told b s r) → RecoverReads b w other
-    → recover_report b w s r ≡ flat_map line_text (recover_told_lines b w other) → recover_told b s r ≡ other
+    (s : State) (r : Recovered) (other : RecoverData State) → RecoverReads b w (recover_data b s r) → RecoverReads b w other
+    → recover_report b w s r ≡ flat_map line_text (recover_data_lines b w other) → recover_data b s r ≡ other
 
 -- ---- replay
 -- what is said of a log: its entries, its lines, and the fences after the header's
-pub record LogTold : Type 0 where
+pub record LogData : Type 0 where
   pub entries : ℕ
   pub lines : ℕ
   pub fences : ℕ
 
 -- what a report of threads says: what became of the calls of each, the trace with its flags, the crash, the logs, how many nodes
 -- are recovered, and the state after them
-pub record RunTold (State Op Query Reply : Type 0) : Type 0 where
+pub record RunData (State Op Query Reply : Type 0) : Type 0 where
   pub ends : List (List (CallEnd State Op Query Reply))
   pub nodes : List Node
   pub flags : List Bool
   pub keep : ℕ
-  pub logs : List LogTold
+  pub logs : List LogData
   pub recovered : ℕ
   pub state : State
 
@@ -165,15 +158,15 @@ thread_lines w t (script ∷ scripts) (ends ∷ more) = call_lines w t 0 script 
 thread_lines w t scripts ends = []
 
 -- the line of each log, from thread t on
-abbrev pub counted_lines : ℕ → List LogTold → List (List (List ℕ))
+abbrev pub counted_lines : ℕ → List LogData → List (List (List ℕ))
 counted_lines t [] = []
 counted_lines t (log ∷ logs) = log_line t log.entries log.lines (Some log.fences) ∷ counted_lines (t + 1) logs
 
 -- the lines of all of it, for these scripts
-abbrev pub run_told_lines : {State Op Query Reply : Type 0} → Behaviour State Op Query Reply → Wording State Op Query Reply → List (List (Call State Op Query Reply)) → RunTold State Op Query Reply → List (List (List ℕ))
-run_told_lines b w scripts told =
-    (thread_lines w 0 scripts told.ends ++ (trace_line (length told.nodes) ∷ flagged_lines b w 0 told.nodes told.flags))
-    ++ (crash_line told.keep ∷ (counted_lines 0 told.logs ++ (recovered_line told.recovered ∷ state_lines w told.state)))
+abbrev pub run_data_lines : {State Op Query Reply : Type 0} → Behaviour State Op Query Reply → Wording State Op Query Reply → List (List (Call State Op Query Reply)) → RunData State Op Query Reply → List (List (List ℕ))
+run_data_lines b w scripts said =
+    (thread_lines w 0 scripts said.ends ++ (trace_line (length said.nodes) ∷ flagged_lines b w 0 said.nodes said.flags))
+    ++ (crash_line said.keep ∷ (counted_lines 0 said.logs ++ (recovered_line said.recovered ∷ state_lines w said.state)))
 
 -- the outcomes of the first calls of each script read back
 abbrev pub EachReads : {State Op Query Reply : Type 0} → Wording State Op Query Reply → List (List (Call State Op Query Reply)) → List (List (CallEnd State Op Query Reply)) → Type 0
@@ -182,30 +175,30 @@ EachReads w (script ∷ scripts) (ends ∷ more) = EndsRead w script ends × Eac
 EachReads w scripts ends = ⊥
 
 -- the numbers of a log are of 64 bits
-pub record LogReads (log : LogTold) : Type 0 where
+pub record LogReads (log : LogData) : Type 0 where
   pub entries : log.entries < 2 ^ 64
   pub lines : log.lines < 2 ^ 64
   pub fences : log.fences < 2 ^ 64
 
 -- all that is said of these scripts' run reads back
-pub record RunReads {State Op Query Reply : Type 0} (b : Behaviour State Op Query Reply) (w : Wording State Op Query Reply) (scripts : List (List (Call State Op Query Reply))) (told : RunTold State Op Query Reply) : Type 0 where
+pub record RunReads {State Op Query Reply : Type 0} (b : Behaviour State Op Query Reply) (w : Wording State Op Query Reply) (scripts : List (List (Call State Op Query Reply))) (said : RunData State Op Query Reply) : Type 0 where
   pub threads : length scripts ≤ 2 ^ 64
-  pub ends : EachReads w scripts told.ends
-  pub nodes : All (NodeReads b w) told.nodes
-  pub flags : length told.flags ≡ length told.nodes
-  pub keep : told.keep < 2 ^ 64
-  pub logs : All LogReads told.logs
-  pub recovered : told.recovered < 2 ^ 64
-  pub state : StateReads w told.state
+  pub ends : EachReads w scripts said.ends
+  pub nodes : All (NodeReads b w) said.nodes
+  pub flags : length said.flags ≡ length said.nodes
+  pub keep : said.keep < 2 ^ 64
+  pub logs : All LogReads said.logs
+  pub recovered : said.recovered < 2 ^ 64
+  pub state : StateReads w said.state
 
 -- the counts of logs and of their threads' devices
-abbrev pub counts_of : {State Op Query Reply : Type 0} → List Content → List (CoreThread State Op Query Reply) → List LogTold
+abbrev pub counts_of : {State Op Query Reply : Type 0} → List Content → List (CoreThread State Op Query Reply) → List LogData
 counts_of (log ∷ logs) (th ∷ ths) = record { entries = length log.entries; lines = used_by log; fences = th.device.fences - 1 } ∷ counts_of logs ths
 counts_of logs ths = []
 
 -- what the report of a replay says
-abbrev pub replay_told : {State Op Query Reply : Type 0} → Behaviour State Op Query Reply → CoreState State Op Query Reply → ℕ → Recovered → RunTold State Op Query Reply
-replay_told b c keep r = record {
+abbrev pub replay_data : {State Op Query Reply : Type 0} → Behaviour State Op Query Reply → CoreState State Op Query Reply → ℕ → Recovered → RunData State Op Query Reply
+replay_data b c keep r = record {
   ends = map ends_of c.threads;
   nodes = c.trace;
   flags = c.flags;
@@ -218,6 +211,6 @@ replay_told b c keep r = record {
 -- nothing else that reads back is printed by its bytes
 abbrev pub ReplayReportLaw : {State Op Query Reply : Type 0} → Behaviour State Op Query Reply → Wording State Op Query Reply → Type 0
 ReplayReportLaw {State} {Op} {Query} {Reply} b w =
-    (c : CoreState State Op Query Reply) (keep : ℕ) (r : Recovered) (other : RunTold State Op Query Reply)
-    → RunReads b w (map script_of c.threads) (replay_told b c keep r) → RunReads b w (map script_of c.threads) other
-    → replay_report b w c keep r ≡ flat_map line_text (run_told_lines b w (map script_of c.threads) other) → replay_told b c keep r ≡ other
+    (c : CoreState State Op Query Reply) (keep : ℕ) (r : Recovered) (other : RunData State Op Query Reply)
+    → RunReads b w (map script_of c.threads) (replay_data b c keep r) → RunReads b w (map script_of c.threads) other
+    → replay_report b w c keep r ≡ flat_map line_text (run_data_lines b w (map script_of c.threads) other) → replay_data b c keep r ≡ other

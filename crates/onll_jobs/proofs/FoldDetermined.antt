@@ -15,7 +15,7 @@ use Rattle.onll_queue.specs.Object.{queue}
 use Rattle.onll_lease.specs.Object.{lease}
 use Rattle.onll_outside.specs.Views.{StoreView, SameFiles}
 use Rattle.onll_jobs.specs.Reading.{Reads}
-use Rattle.onll_jobs.specs.Told.{FoldsTo, FoldsToAny, FormTold, FoldExits}
+use Rattle.onll_jobs.specs.Reports.{FoldsTo, FoldsToAny, FormDetermined, FoldExits}
 use Rattle.onll_jobs.specs.Seen.{Seen}
 use Rattle.onll_jobs.specs.Command.{form_of}
 use Rattle.onll_jobs.specs.Exits.{PutExits}
@@ -40,15 +40,15 @@ folds_before store mid script text (objects.Queue s) same f = folds_to_before qu
 folds_before store mid script text (objects.Lease s) same f = folds_to_before lease lease_wording s store mid script text same f
 
 -- the exits of a text that is put
-pub put_told : (seen : Seen) (ending : Ending) (text : List ℕ) (exit : Exit) → FormTold seen.store (form_of seen.words) ending text → PutExits seen.sink seen.sink_after ending text exit → FoldExits seen exit
-put_told seen ending text (Said said) h p init script form e =
+pub put_determined : (seen : Seen) (ending : Ending) (text : List ℕ) (exit : Exit) → FormDetermined seen.store (form_of seen.words) ending text → PutExits seen.sink seen.sink_after ending text exit → FoldExits seen exit
+put_determined seen ending text (Said said) h p init script form e =
     let done : ending ≡ Done = sym p.0 ∙ said_done said e in
-    record { text = text; folds = subst (λ f. FormTold seen.store f ending text) form h done; put = p.1 }
+    record { text = text; folds = subst (λ f. FormDetermined seen.store f ending text) form h done; put = p.1 }
   where
     said_done : (said : Ending) → Said said ≡ Said Done → said ≡ Done
     said_done s d = cc
-put_told seen ending text SinkFault h p init script form e = cc e
-put_told seen ending text NoMemory h p init script form e = cc e
+put_determined seen ending text SinkFault h p init script form e = cc e
+put_determined seen ending text NoMemory h p init script form e = cc e
 
 pub exit_done : (exit : Exit) → exit_status exit ≡ 0 → exit ≡ Said Done
 exit_done (Said Done) e = refl

@@ -50,54 +50,54 @@ NoNodeNext [] = Unit {0}
 NoNodeNext (ws ∷ lines) = (rest : List (List ℕ)) → ws ≢ codes "node" ∷ rest
 
 -- equal texts have equal lines
-abbrev pub TextToldLaw : Type 0
-TextToldLaw = (lines others : List (List (List ℕ))) → AreMeaningful lines → AreMeaningful others
+abbrev pub TextDeterminedLaw : Type 0
+TextDeterminedLaw = (lines others : List (List (List ℕ))) → AreMeaningful lines → AreMeaningful others
     → flat_map line_text lines ≡ flat_map line_text others → lines ≡ others
 
 -- the lines of a thread's calls determine what became of each, whatever other lines follow them
-abbrev pub CallsToldLaw : {State Op Query Reply : Type 0} → Wording State Op Query Reply → Type 0
-CallsToldLaw {State} {Op} {Query} {Reply} w =
+abbrev pub CallsDeterminedLaw : {State Op Query Reply : Type 0} → Wording State Op Query Reply → Type 0
+CallsDeterminedLaw {State} {Op} {Query} {Reply} w =
     (thread : ℕ) (script : List (Call State Op Query Reply)) (ends others : List (CallEnd State Op Query Reply)) (lines more : List (List (List ℕ)))
     → EndsRead w script ends → EndsRead w script others → NoCallNext thread lines → NoCallNext thread more
     → call_lines w thread 0 script ends ++ lines ≡ call_lines w thread 0 script others ++ more → (ends ≡ others) × (lines ≡ more)
 
 -- the lines of nodes determine these
-abbrev pub NodesToldLaw : {State Op Query Reply : Type 0} → Behaviour State Op Query Reply → Wording State Op Query Reply → Type 0
-NodesToldLaw b w =
+abbrev pub NodesDeterminedLaw : {State Op Query Reply : Type 0} → Behaviour State Op Query Reply → Wording State Op Query Reply → Type 0
+NodesDeterminedLaw b w =
     (nodes others : List Node) (lines more : List (List (List ℕ))) → All (NodeReads b w) nodes → All (NodeReads b w) others → NoNodeNext lines → NoNodeNext more
     → node_lines b w 0 nodes ++ lines ≡ node_lines b w 0 others ++ more → (nodes ≡ others) × (lines ≡ more)
 
 -- the lines of a state determine it
-abbrev pub StateToldLaw : {State Op Query Reply : Type 0} → Wording State Op Query Reply → Type 0
-StateToldLaw {State} w = (state other : State) → StateReads w state → StateReads w other → state_lines w state ≡ state_lines w other → state ≡ other
+abbrev pub StateDeterminedLaw : {State Op Query Reply : Type 0} → Wording State Op Query Reply → Type 0
+StateDeterminedLaw {State} w = (state other : State) → StateReads w state → StateReads w other → state_lines w state ≡ state_lines w other → state ≡ other
 
 -- ---- the report of one thread
 -- what a report of one thread says: what became of its calls, the trace, and the state
-pub record Told (State Op Query Reply : Type 0) : Type 0 where
+pub record FoldData (State Op Query Reply : Type 0) : Type 0 where
   pub ends : List (CallEnd State Op Query Reply)
   pub nodes : List Node
   pub state : State
 
 -- its lines, for this script
-abbrev pub told_lines : {State Op Query Reply : Type 0} → Behaviour State Op Query Reply → Wording State Op Query Reply → List (Call State Op Query Reply) → Told State Op Query Reply → List (List (List ℕ))
-told_lines b w script told =
-    call_lines w 0 0 script told.ends
-    ++ (trace_line (length told.nodes) ∷ (node_lines b w 0 told.nodes ++ state_lines w told.state))
+abbrev pub fold_data_lines : {State Op Query Reply : Type 0} → Behaviour State Op Query Reply → Wording State Op Query Reply → List (Call State Op Query Reply) → FoldData State Op Query Reply → List (List (List ℕ))
+fold_data_lines b w script said =
+    call_lines w 0 0 script said.ends
+    ++ (trace_line (length said.nodes) ∷ (node_lines b w 0 said.nodes ++ state_lines w said.state))
 
 -- all that it says reads back
-pub record ToldReads {State Op Query Reply : Type 0} (b : Behaviour State Op Query Reply) (w : Wording State Op Query Reply) (script : List (Call State Op Query Reply)) (told : Told State Op Query Reply) : Type 0 where
-  pub ends : EndsRead w script told.ends
-  pub nodes : All (NodeReads b w) told.nodes
-  pub state : StateReads w told.state
+pub record FoldDataReads {State Op Query Reply : Type 0} (b : Behaviour State Op Query Reply) (w : Wording State Op Query Reply) (script : List (Call State Op Query Reply)) (said : FoldData State Op Query Reply) : Type 0 where
+  pub ends : EndsRead w script said.ends
+  pub nodes : All (NodeReads b w) said.nodes
+  pub state : StateReads w said.state
 
 -- its bytes determine all that it says
-abbrev pub FoldToldLaw : {State Op Query Reply : Type 0} → Behaviour State Op Query Reply → Wording State Op Query Reply → Type 0
-FoldToldLaw {State} {Op} {Query} {Reply} b w =
-    (script : List (Call State Op Query Reply)) (told other : Told State Op Query Reply) → ToldReads b w script told → ToldReads b w script other
-    → flat_map line_text (told_lines b w script told) ≡ flat_map line_text (told_lines b w script other) → told ≡ other
+abbrev pub FoldDeterminedLaw : {State Op Query Reply : Type 0} → Behaviour State Op Query Reply → Wording State Op Query Reply → Type 0
+FoldDeterminedLaw {State} {Op} {Query} {Reply} b w =
+    (script : List (Call State Op Query Reply)) (said other : FoldData State Op Query Reply) → FoldDataReads b w script said → FoldDataReads b w script other
+    → flat_map line_text (fold_data_lines b w script said) ≡ flat_map line_text (fold_data_lines b w script other) → said ≡ other
 
 -- these bytes say this, for this script, and nothing else that reads back
-pub record SaysOnly {State Op Query Reply : Type 0} (b : Behaviour State Op Query Reply) (w : Wording State Op Query Reply) (script : List (Call State Op Query Reply)) (bytes : List ℕ) (told : Told State Op Query Reply) : Type 0 where
-  pub printed : bytes ≡ flat_map line_text (told_lines b w script told)
-  pub reads : ToldReads b w script told
-  pub only : (other : Told State Op Query Reply) → ToldReads b w script other → bytes ≡ flat_map line_text (told_lines b w script other) → told ≡ other
+pub record SaysOnly {State Op Query Reply : Type 0} (b : Behaviour State Op Query Reply) (w : Wording State Op Query Reply) (script : List (Call State Op Query Reply)) (bytes : List ℕ) (said : FoldData State Op Query Reply) : Type 0 where
+  pub printed : bytes ≡ flat_map line_text (fold_data_lines b w script said)
+  pub reads : FoldDataReads b w script said
+  pub only : (other : FoldData State Op Query Reply) → FoldDataReads b w script other → bytes ≡ flat_map line_text (fold_data_lines b w script other) → said ≡ other

@@ -45,6 +45,19 @@ folds() {
     prints "$1/report" fold "examples/$1/$2" "examples/$1/$3"
 }
 
+# Runs the program with these words, and compares its status and all that it prints with the first two.
+ends() {
+    status=$1
+    text=$2
+    shift 2
+    said=$(cd "$folder" && "$top/onll" "$@"; echo "status $?")
+    if [ "$said" != "$text
+status $status" ]; then
+        echo "onll $* says: $said" >&2
+        failed=1
+    fi
+}
+
 folds transfer bank script
 folds payroll accounts payday
 folds directory names changes
@@ -59,5 +72,33 @@ compare crash/out.1
 prints crash/shown.0 show examples/crash/out.0
 prints crash/shown.1 show examples/crash/out.1
 prints crash/report recover examples/crash/bank examples/crash/out 2
+
+usage='usage: onll fold INIT SCRIPT
+       onll show IMAGE
+       onll recover INIT LOGS T
+       onll replay INIT SCHEDULE LOGS SCRIPT..
+       onll run INIT LOGS SCRIPT..
+       onll make T N SEED'
+ends 2 "$usage"
+ends 2 "$usage" fold examples/transfer/bank examples/transfer/script examples/transfer/script
+ends 3 'refused examples/transfer/script 1 unknown object' \
+    fold examples/transfer/script examples/transfer/script
+ends 3 'refused examples/payroll/accounts 2 unknown word' \
+    replay examples/crash/bank examples/crash/plan examples/crash/out \
+    examples/crash/first examples/payroll/accounts
+echo 'no log' > "$folder/examples/crash/bad.0"
+ends 4 'log 0 not a log' recover examples/crash/bank examples/crash/bad 1
+ends 4 'not a log' show examples/crash/plan
+ends 5 'read fault examples/none' fold examples/transfer/bank examples/none
+ends 6 'write fault examples/none/out.0' replay examples/crash/bank examples/crash/plan \
+    examples/none/out examples/crash/first examples/crash/second
+
+# A full disk under the output: nothing is printed, and the status says so.
+(cd "$folder" && "$top/onll" fold examples/transfer/bank examples/transfer/script) > /dev/full
+status=$?
+if [ $status != 6 ]; then
+    echo "a full output ends with $status" >&2
+    failed=1
+fi
 
 exit $failed

@@ -12,3 +12,4 @@ pub mod Events
 pub mod FrameLaws
 pub mod Looks
 pub mod RealTime
+pub mod Register

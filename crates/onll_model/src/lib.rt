@@ -7,6 +7,8 @@ mod laws;
 mod node;
 mod object;
 mod recovered;
+#[cfg(test)]
+mod tests;
 mod turn;
 
 pub use call::{Call, CallEnd};

@@ -1,6 +1,7 @@
 use Rattle.std.proofs.Common.{ℕ, Bool, true, false, List, [], ◌∷◌, ◌≡◌, ◌==◌, ◌&&◌, Some, None, cond, length, refl, ap, arith}
 use Rattle.std.proofs.lemmas.Bool.Decides.{nat_tests}
 use Rattle.onll_words.specs.declared.line.OpRow.{OpRow}
+use Rattle.onll_words.proofs.RowWords.{one_argument}
 use Rattle.onll_queue.specs.Items.{Items}
 use Rattle.onll_queue.specs.declared.operation.QueueOp.{QueueOp}
 use Rattle.onll_queue.specs.declared.operation.QueueOp.TheVariants.{Push, Pop}
@@ -13,18 +14,7 @@ pub op_of_its_row : (op : QueueOp) → queue_op_at (queue_row op) ≡ Some op
 op_of_its_row (Push x) = refl
 op_of_its_row Pop = refl
 
--- the words of a push, where the test of its words holds
-push_words : (k a b c d e f : ℕ) → (k == 1 && (b == 0) && (c == 0) && (d == 0) && (e == 0) && (f == 0)) ≡ true → 1 ∷ a ∷ 0 ∷ 0 ∷ 0 ∷ 0 ∷ 0 ∷ [] ≡ k ∷ a ∷ b ∷ c ∷ d ∷ e ∷ f ∷ []
-push_words k a b c d e f h =
-    let hk : k ≡ 1 = grind (arith, nat_tests) in
-    let hb : b ≡ 0 = grind (arith, nat_tests) in
-    let hc : c ≡ 0 = grind (arith, nat_tests) in
-    let hd : d ≡ 0 = grind (arith, nat_tests) in
-    let he : e ≡ 0 = grind (arith, nat_tests) in
-    let hf : f ≡ 0 = grind (arith, nat_tests) in
-    cc
-
--- the same of a pop
+-- the words of a pop, where the test of its words holds
 pop_words : (k a b c d e f : ℕ) → (k == 2 && (a == 0) && (b == 0) && (c == 0) && (d == 0) && (e == 0) && (f == 0)) ≡ true → 2 ∷ 0 ∷ 0 ∷ 0 ∷ 0 ∷ 0 ∷ 0 ∷ [] ≡ k ∷ a ∷ b ∷ c ∷ d ∷ e ∷ f ∷ []
 pop_words k a b c d e f h =
     let hk : k ≡ 2 = grind (arith, nat_tests) in
@@ -48,7 +38,7 @@ words_of_its_op : (ws : List ℕ) (op : QueueOp) → op_of_words ws ≡ Some op 
 words_of_its_op (k ∷ a ∷ b ∷ c ∷ d ∷ e ∷ f ∷ []) op h =
     by_tests (k == 1 && (b == 0) && (c == 0) && (d == 0) && (e == 0) && (f == 0)) (k == 2 && (a == 0) && (b == 0) && (c == 0) && (d == 0) && (e == 0) && (f == 0))
     (k ∷ a ∷ b ∷ c ∷ d ∷ e ∷ f ∷ []) (Push a) Pop op
-    (push_words k a b c d e f) (pop_words k a b c d e f) h
+    (one_argument 1 k a b c d e f) (pop_words k a b c d e f) h
 words_of_its_op _ op h = cc
 
 pub row_of_its_op : (row : OpRow) (op : QueueOp) → queue_op_at row ≡ Some op → queue_row op ≡ row

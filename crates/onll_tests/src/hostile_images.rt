@@ -89,7 +89,7 @@ const HOSTILE_IMAGES: &[Recovery<'static>] = &[
         init: b"bank 1\n",
         images: &[Image {
             name: "out.0",
-            lines: &[OBJECT_0_HEAD, OBJECT_5_HEAD, OLD_ONE_AT_1, DEPOSIT_5],
+            lines: &[OBJECT_5_HEAD, OLD_ONE_AT_1, DEPOSIT_5],
             length: 192,
         }],
         threads: "1",

@@ -292,12 +292,13 @@ const ACCEPTED: &[Case<'static>] = &[
     ),
 ];
 
-const LONG: &[LongCase<'static>] = &[
+/// Texts that are as long as one can be, or longer.
+const LONGEST_TEXTS: &[LongCase<'static>] = &[
     LongCase {
         name: "a comment as long as a text can be",
         start: b"",
-        piece: b"#",
-        count: LONGEST,
+        piece: b"################",
+        count: LONGEST / 16,
         end: b"",
         status: 3,
         output: "refused i 0 missing\n",
@@ -305,8 +306,8 @@ const LONG: &[LongCase<'static>] = &[
     LongCase {
         name: "a comment that is too long",
         start: b"",
-        piece: b"#",
-        count: LONGEST,
+        piece: b"################",
+        count: LONGEST / 16,
         end: b"#",
         status: 3,
         output: "refused i 0 too long\n",
@@ -314,8 +315,8 @@ const LONG: &[LongCase<'static>] = &[
     LongCase {
         name: "too long behind a line to be refused",
         start: b"bank 0\n",
-        piece: b"#",
-        count: LONGEST,
+        piece: b"################",
+        count: LONGEST / 16,
         end: b"",
         status: 3,
         output: "refused i 0 too long\n",
@@ -323,8 +324,8 @@ const LONG: &[LongCase<'static>] = &[
     LongCase {
         name: "a bank as long as a text can be",
         start: b"bank 1\naccount 0 5\n",
-        piece: b"#",
-        count: LONGEST - 19,
+        piece: b"###",
+        count: (LONGEST - 19) / 3,
         end: b"",
         status: 0,
         output: "trace 0\nstate\nbank 1\naccount 0 5\n",
@@ -332,17 +333,21 @@ const LONG: &[LongCase<'static>] = &[
     LongCase {
         name: "a bank that is too long by a line end",
         start: b"bank 1\naccount 0 5\n",
-        piece: b"#",
-        count: LONGEST - 19,
+        piece: b"###",
+        count: (LONGEST - 19) / 3,
         end: b"\n",
         status: 3,
         output: "refused i 0 too long\n",
     },
+];
+
+/// Texts of a line or a word of many bytes.
+const LONG_LINES: &[LongCase<'static>] = &[
     LongCase {
         name: "a line of blanks before a bank",
         start: b"",
         piece: b" ",
-        count: 1_000_000,
+        count: 100_000,
         end: b"\nbank 1\naccount 0 5\n",
         status: 0,
         output: "trace 0\nstate\nbank 1\naccount 0 5\n",
@@ -351,7 +356,7 @@ const LONG: &[LongCase<'static>] = &[
         name: "blanks before a bank",
         start: b"",
         piece: b" ",
-        count: 1_000_000,
+        count: 100_000,
         end: b"bank 1\naccount 0 5\n",
         status: 0,
         output: "trace 0\nstate\nbank 1\naccount 0 5\n",
@@ -360,7 +365,7 @@ const LONG: &[LongCase<'static>] = &[
         name: "a line of blanks before a refused one",
         start: b"",
         piece: b" ",
-        count: 1_000_000,
+        count: 100_000,
         end: b"\nbank 0\n",
         status: 3,
         output: "refused i 2 out of range\n",
@@ -369,16 +374,16 @@ const LONG: &[LongCase<'static>] = &[
         name: "many empty lines before a refused one",
         start: b"",
         piece: b"\n",
-        count: 1_000_000,
+        count: 100_000,
         end: b"bank 0\n",
         status: 3,
-        output: "refused i 1000001 out of range\n",
+        output: "refused i 100001 out of range\n",
     },
     LongCase {
         name: "a word of many bytes",
         start: b"bank ",
         piece: b"1",
-        count: 1_000_000,
+        count: 100_000,
         end: b"\n",
         status: 3,
         output: "refused i 1 bad number\n",
@@ -402,8 +407,17 @@ fn accepted_initial_states(rt: HostRuntime) -> Result<(), Fail> {
 }
 
 #[test]
-fn long_initial_states(rt: HostRuntime) -> Result<(), Fail> {
-    for case in LONG {
+fn longest_initial_states(rt: HostRuntime) -> Result<(), Fail> {
+    for case in LONGEST_TEXTS {
+        let init = case.text(rt.alloc())?;
+        fold(rt.alloc(), &init, b"")?.expect(&rt, case.name, case.status, case.output);
+    }
+    Ok(())
+}
+
+#[test]
+fn long_lines_of_initial_states(rt: HostRuntime) -> Result<(), Fail> {
+    for case in LONG_LINES {
         let init = case.text(rt.alloc())?;
         fold(rt.alloc(), &init, b"")?.expect(&rt, case.name, case.status, case.output);
     }

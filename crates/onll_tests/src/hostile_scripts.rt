@@ -225,12 +225,13 @@ const ACCEPTED: &[Case<'static>] = &[
     ),
 ];
 
-const LONG: &[LongCase<'static>] = &[
+/// Texts that are as long as one can be, or longer.
+const LONGEST_TEXTS: &[LongCase<'static>] = &[
     LongCase {
         name: "a comment as long as a text can be",
         start: b"",
-        piece: b"#",
-        count: LONGEST,
+        piece: b"################",
+        count: LONGEST / 16,
         end: b"",
         status: 0,
         output: "trace 0\nstate\nbank 1\naccount 0 0\n",
@@ -238,8 +239,8 @@ const LONG: &[LongCase<'static>] = &[
     LongCase {
         name: "as many empty lines as there can be",
         start: b"",
-        piece: b"\n",
-        count: LONGEST,
+        piece: b"\n\n\n\n\n\n\n\n\n\n\n\n\n\n\n\n",
+        count: LONGEST / 16,
         end: b"",
         status: 0,
         output: "trace 0\nstate\nbank 1\naccount 0 0\n",
@@ -247,8 +248,8 @@ const LONG: &[LongCase<'static>] = &[
     LongCase {
         name: "a comment that is too long",
         start: b"",
-        piece: b"#",
-        count: LONGEST,
+        piece: b"################",
+        count: LONGEST / 16,
         end: b"#",
         status: 3,
         output: "refused s 0 too long\n",
@@ -256,8 +257,8 @@ const LONG: &[LongCase<'static>] = &[
     LongCase {
         name: "too long behind a line to be refused",
         start: b"deposit 0\n",
-        piece: b"#",
-        count: LONGEST,
+        piece: b"################",
+        count: LONGEST / 16,
         end: b"",
         status: 3,
         output: "refused s 0 too long\n",
@@ -265,8 +266,8 @@ const LONG: &[LongCase<'static>] = &[
     LongCase {
         name: "calls as long as a text can be",
         start: b"deposit 0 5\n",
-        piece: b"#",
-        count: LONGEST - 12,
+        piece: b"####",
+        count: (LONGEST - 12) / 4,
         end: b"",
         status: 0,
         output: "call 0 1 deposit 0 5 -> ok at 1\ntrace 1\nnode 1 0 1 deposit 0 5\nstate\nbank 1\naccount 0 5\n",
@@ -274,17 +275,21 @@ const LONG: &[LongCase<'static>] = &[
     LongCase {
         name: "calls that are too long by a line end",
         start: b"deposit 0 5\n",
-        piece: b"#",
-        count: LONGEST - 12,
+        piece: b"####",
+        count: (LONGEST - 12) / 4,
         end: b"\n",
         status: 3,
         output: "refused s 0 too long\n",
     },
+];
+
+/// Texts of a line or a word of many bytes.
+const LONG_LINES: &[LongCase<'static>] = &[
     LongCase {
         name: "a line of blanks before a call",
         start: b"",
         piece: b" ",
-        count: 1_000_000,
+        count: 100_000,
         end: b"\ntotal\n",
         status: 0,
         output: "call 0 1 total -> 0 at 0\ntrace 0\nstate\nbank 1\naccount 0 0\n",
@@ -293,7 +298,7 @@ const LONG: &[LongCase<'static>] = &[
         name: "blanks before a call",
         start: b"",
         piece: b" ",
-        count: 1_000_000,
+        count: 100_000,
         end: b"total\n",
         status: 0,
         output: "call 0 1 total -> 0 at 0\ntrace 0\nstate\nbank 1\naccount 0 0\n",
@@ -302,7 +307,7 @@ const LONG: &[LongCase<'static>] = &[
         name: "a line of blanks before a refused one",
         start: b"",
         piece: b" ",
-        count: 1_000_000,
+        count: 100_000,
         end: b"\ndeposit 0\n",
         status: 3,
         output: "refused s 2 wrong count\n",
@@ -311,7 +316,7 @@ const LONG: &[LongCase<'static>] = &[
         name: "a word of many bytes",
         start: b"deposit 0 ",
         piece: b"1",
-        count: 1_000_000,
+        count: 100_000,
         end: b"\n",
         status: 3,
         output: "refused s 1 bad number\n",
@@ -419,8 +424,17 @@ fn accepted_scripts(rt: HostRuntime) -> Result<(), Fail> {
 }
 
 #[test]
-fn long_scripts(rt: HostRuntime) -> Result<(), Fail> {
-    for case in LONG {
+fn longest_scripts(rt: HostRuntime) -> Result<(), Fail> {
+    for case in LONGEST_TEXTS {
+        let script = case.text(rt.alloc())?;
+        fold(rt.alloc(), b"bank 1\n", &script)?.expect(&rt, case.name, case.status, case.output);
+    }
+    Ok(())
+}
+
+#[test]
+fn long_lines_of_scripts(rt: HostRuntime) -> Result<(), Fail> {
+    for case in LONG_LINES {
         let script = case.text(rt.alloc())?;
         fold(rt.alloc(), b"bank 1\n", &script)?.expect(&rt, case.name, case.status, case.output);
     }

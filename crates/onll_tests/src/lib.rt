@@ -21,6 +21,8 @@ mod large;
 #[cfg(test)]
 mod leases;
 #[cfg(test)]
+mod limits;
+#[cfg(test)]
 mod maps;
 #[cfg(test)]
 mod queues;
@@ -32,3 +34,5 @@ mod replays;
 mod shows;
 #[cfg(test)]
 mod worked;
+#[cfg(test)]
+mod written_logs;

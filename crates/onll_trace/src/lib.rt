@@ -13,5 +13,5 @@ mod view;
 mod words;
 
 pub use close::NotClosed;
-pub use laws::rule_law;
+pub use laws::{rule_law, step_law};
 pub use trace::{Ended, Link, Post, Spot, Trace, TraceNote};

@@ -14,7 +14,7 @@ use Rattle.onll_trace.specs.Views.{Hand, View, note_of, without_first, only_firs
 use Rattle.onll_trace.specs.Rule.{Shows, name_at, row_at, count_of, newcomers}
 use Rattle.onll_trace.specs.Hands.{with_note, drafted_row}
 use Rattle.onll_trace.specs.Plays.{Mine, base_in, own_row, Looked, Drafted, Read, Flagged, Linked, Settled, FlagSet as OwnFlagSet, Recalled}
-use Rattle.onll_trace.specs.Passes.{MayAsk, MayLook}
+use Rattle.onll_trace.specs.Spots.{MayAsk, MayLook}
 
 -- Each atomic step is an event on the frame that the table shows, or two of its thread, or leaves the frame as it is.
 

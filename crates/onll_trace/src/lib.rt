@@ -4,6 +4,7 @@
 mod close;
 mod create;
 mod laws;
+mod layout;
 mod look;
 mod notes;
 mod reads;

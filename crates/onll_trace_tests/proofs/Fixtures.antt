@@ -1,17 +1,17 @@
-use Rattle.std.proofs.Common.{◌≡◌, ℕ, zero, suc, ◌+◌, ◌-◌, ◌<◌, ◌≤◌, List, [], ◌∷◌, ◌++◌, length, map, replicate, Some, None, sym, refl, ap, ◌∙◌, subst, ◌⊎◌, inl, inr, arith, length-append}
-use Rattle.std.specs.List.{AllByRecursion, slice_get, Contains}
+use Rattle.std.proofs.Common.{◌≡◌, ℕ, zero, suc, ◌+◌, ◌-◌, ◌<◌, ◌≤◌, List, [], ◌∷◌, ◌++◌, length, map, Some, sym, refl, ap, ◌∙◌, subst, inl, inr, arith, length-append}
+use Rattle.std.specs.List.{slice_get, Contains}
 use Rattle.onll_words.specs.declared.line.OpRow.{OpRow}
 use Rattle.onll_model.specs.declared.node.Node.{Node}
 use Rattle.onll_model.specs.declared.mark.Mark.{Mark}
 use Rattle.onll_model.specs.Segment.{Segment, Covers, nodes_between}
 use Rattle.onll_model.specs.Marks.{marked}
-use Rattle.onll_model.specs.Frames.{Rest, IsSoundSegment, fenced_segments, resumed_frame}
+use Rattle.onll_model.specs.Frames.{IsSoundSegment, fenced_segments, resumed_frame}
 use Rattle.onll_model.specs.FrameLaws.{IsResumable}
 use Rattle.onll_model.proofs.FirstFrames.{resumed_sound}
 use Rattle.onll_model.proofs.Lists.{at_end, at_before, same_some, some_not_none}
-use Rattle.onll_trace.specs.Plans.{Plan, CanResume, HasRooms}
+use Rattle.onll_trace.specs.Plans.{CanResume, HasRooms}
 use Rattle.onll_trace.specs.Rule.{count_of}
-use Rattle.onll_trace.specs.Spots.{TraceView, SpotView, IsOf, AreNew, HasRoom, fresh_spot}
+use Rattle.onll_trace.specs.Spots.{TraceView, SpotView, AreNew, HasRoom, fresh_spot}
 use Rattle.onll_trace.specs.Closing.{AreAll}
 use Rattle.onll_trace_tests.specs.Orders.{AreBoth, IsReady}
 

@@ -1,20 +1,19 @@
-use Rattle.std.proofs.Common.{◌≡◌, ◌≢◌, ℕ, suc, ◌+◌, ◌-◌, ◌<◌, ◌≤◌, ◌==◌, Bool, true, false, List, [], ◌∷◌, ◌++◌, length, take, Option, Some, None, sym, refl, ap, ◌∙◌, subst, arith, eq-eqb, ne_eqb, length-append}
+use Rattle.std.proofs.Common.{◌≡◌, ◌≢◌, ℕ, ◌+◌, ◌-◌, ◌<◌, ◌≤◌, ◌==◌, Bool, true, false, List, [], ◌∷◌, ◌++◌, length, sym, refl, ap, ◌∙◌, subst, arith, eq-eqb, ne_eqb, length-append}
 use Rattle.std.specs.Prelude.{if◌then◌else◌}
 use mathlib.Core.Logic.{dite, ◌↔◌}
 use mathlib.Core.List.{IsPrefix}
 use native.Mathlib.Decide.{ℕ_discrete}
 use Rattle.onll_words.specs.declared.line.OpRow.{OpRow}
 use Rattle.onll_model.specs.declared.node.Node.{Node}
-use Rattle.onll_model.specs.Frames.{Thread, Activity, Rest, Loaded, Walk, Logging, Fenced, Asking}
+use Rattle.onll_model.specs.Frames.{Thread, Activity, Loaded, Walk, Logging, Fenced, Asking}
 use Rattle.onll_model.specs.Events.{doing, resting_at, logging, linking, asking, at_set_flag, at_unset_flag, after_fence, LoadsNext, MayLoad}
 use Rattle.onll_trace.specs.declared.trace.Post.{Post}
 use Rattle.onll_trace.specs.Plans.{Plan}
-use Rattle.onll_trace.specs.Views.{Look, Hand}
 use Rattle.onll_trace.specs.Rule.{name_at, count_of}
-use Rattle.onll_trace.specs.Hands.{after_look, after_flag, after_link, after_loss, after_settle, after_set_flag, after_learn, with_draft, tail_loaded, own_node, flag_set, learning, failed_first}
+use Rattle.onll_trace.specs.Hands.{after_look, after_flag, after_settle, after_set_flag, with_draft, tail_loaded, own_node, flag_set, failed_first}
 use Rattle.onll_trace.specs.Spots.{TraceView, SpotView, IsOf, MayDraft, MayLook, MayAsk, HasRoom, HasMet, HasMetAbove, HasLooked, HasMoved, IsLawful, base_of, activity_of, becoming, linked, learnt, NoteView, HasLearnt}
 use Rattle.onll_trace.proofs.Lists.{name_prefix}
-use Rattle.onll_trace_tests.specs.Orders.{IsReady, HasFront, HasTried, IsWalking, IsLogging}
+use Rattle.onll_trace_tests.specs.Orders.{IsReady, HasFront, IsWalking, IsLogging}
 
 -- From the contracts of a trace to what a caller keeps.
 

@@ -1,5 +1,5 @@
 -- What a caller keeps of a spot from one step of an update to the next.
-use Rattle.std.specs.Prelude.{ℕ, [], ◌∷◌, ◌≡◌, ◌≢◌, ◌↔◌, ◌+◌, List, None}
+use Rattle.std.specs.Prelude.{ℕ, [], ◌≡◌, ◌≢◌, ◌↔◌, ◌+◌, None}
 use Rattle.onll_model.specs.Frames.{Rest, Loaded, Walk, Logging}
 use Rattle.onll_trace.specs.declared.trace.Post.{Post}
 use Rattle.onll_trace.specs.declared.trace.Link.{Link}

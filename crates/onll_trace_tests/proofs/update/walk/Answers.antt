@@ -2,7 +2,7 @@ use Rattle.std.proofs.Common.{rules, ◌≡◌, ◌∙◌, Bool, ap, sym, subst}
 use mathlib.Core.Logic.{◌↔◌}
 use Rattle.onll_trace.specs.Hands.{after_flag}
 use Rattle.onll_trace.specs.Spots.{SpotView, IsOf, HasMet, base_of, becoming}
-use Rattle.onll_trace_tests.proofs.Ordering.{walk_above, walk_next, walk_on, walk_ends, walk_over}
+use Rattle.onll_trace_tests.proofs.Ordering.{walk_above, walk_next, walk_on}
 use Rattle.onll_trace_tests.proofs.update.walk.Goals as goal
 
 pub loop-post-init : goal.loop-post-init

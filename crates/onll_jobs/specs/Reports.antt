@@ -14,7 +14,7 @@ use Rattle.onll_core.specs.Core.{CoreThread, CoreState}
 use Rattle.onll_core.specs.Outcomes.{ends_of, script_of}
 use Rattle.onll_text.specs.Wording.{Wording}
 use Rattle.onll_text.specs.Lines.{call_lines, trace_line, node_lines, log_line, state_lines}
-use Rattle.onll_text.specs.Reports.{EndsRead, NodeReads, StateReads, FoldData, SaysOnly}
+use Rattle.onll_text.specs.Reports.{EndsRead, NodeReads, StateReads, FoldData, fold_data_lines, FoldDataReads, SaysOnly}
 use Rattle.onll_text.specs.declared.any_object.AnyObject.{AnyObject}
 use Rattle.onll_text.specs.declared.any_object.AnyObject.TheVariants as objects
 use Rattle.onll_text.specs.BankWording.{bank_wording}
@@ -49,7 +49,7 @@ fold_data b s calls = record { ends = fold_ends b s 0 calls; nodes = fold_trace 
 pub record FoldsTo {State Op Query Reply : Type 0} (b : Behaviour State Op Query Reply) (w : Wording State Op Query Reply) (s : State) (store : StoreView) (script text : List ℕ) : Type 0 where
   pub calls : List (Call State Op Query Reply)
   pub read : Reads store (read_script w) script calls
-  pub says : SaysOnly b w calls text (fold_data b s calls)
+  pub says : SaysOnly (fold_data_lines b w calls) (FoldDataReads b w calls) text (fold_data b s calls)
 
 -- the same for an object of any kind
 abbrev pub FoldsToAny : StoreView → (script text : List ℕ) → AnyObject → Type 0

@@ -1,4 +1,4 @@
-use Rattle.std.proofs.Common.{ℕ, zero, suc, List, ◌≡◌, ◌⊎◌, inl, inr, Option, Some, None, Result, Ok, Err, refl, sym, ap, ◌∙◌, subst, arith}
+use Rattle.std.proofs.Common.{ℕ, zero, suc, List, ◌≡◌, ◌<◌, ◌⊎◌, inl, inr, Option, Some, None, Result, Ok, Err, refl, sym, ap, ◌∙◌, subst, arith}
 use Rattle.onll_outside.specs.Views.{Puts}
 use Rattle.onll_text.specs.declared.any_object.AnyObject.{AnyObject}
 use Rattle.onll_text.specs.declared.any_object.AnyObject.TheVariants as objects
@@ -32,9 +32,9 @@ use Rattle.onll_jobs.specs.Images.{reading_images}
 use Rattle.onll_jobs.specs.RecoverJob.{Recovered, recovered, found_says, recover_any}
 use Rattle.onll_jobs.specs.FoldJob.{script_job, script_job_on}
 use Rattle.onll_jobs.specs.Exits.{PutExits}
-use Rattle.onll_jobs.specs.Says.{job_of, Allows, PutWhole, OutOfMemory, SinkFailed, ExitSays, NoneRose, SaysThis}
+use Rattle.onll_jobs.specs.Says.{job_of, Allows, PutWhole, OutOfMemory, SinkFailed, ExitSays, NothingFailed, NoneRose, SaysThis}
 use Rattle.onll_jobs.proofs.Onwards.{ends_cut}
-use Rattle.onll_jobs.proofs.Jobs.{decided, never_says, reading_never, reading_whole_never}
+use Rattle.onll_jobs.proofs.Jobs.{TellsFault, nothing_failed, decided, never_says, reading_never, reading_whole_never}
 use Rattle.onll_jobs.proofs.ImageFiles.{reading_images_never}
 use Rattle.onll_jobs.proofs.ReplayEnds.{replay_not_usage}
 
@@ -138,6 +138,27 @@ usage_put w (Some form) e h = absurd (form_not_usage w form e h)
 
 pub usage_of : (w : Seen) (x : Exit) → exit_status x ≡ 2 → ExitSays w x → (form_of w.words ≡ None) × Puts w.sink w.sink_after usage_text
 usage_of w x h s = usage_put w (form_of w.words) refl (said_of w x Usage (λ e. omega arith) h s)
+
+good_below : (n : ℕ) → (n ≡ 0) ⊎ (n ≡ 2) ⊎ (n ≡ 3) ⊎ (n ≡ 4) → n < 5
+good_below n (inl h) = omega arith
+good_below n (inr (inl h)) = omega arith
+good_below n (inr (inr (inl h))) = omega arith
+good_below n (inr (inr (inr h))) = omega arith
+
+tells_none : (e : Ending) → status_of e < 5 → TellsFault e → ⊥
+tells_none Done h t = t
+tells_none Usage h t = t
+tells_none Refused h t = t
+tells_none BadLog h t = t
+tells_none ReadFault h t = omega arith
+tells_none WriteFault h t = omega arith
+
+-- a good status says that nothing failed
+pub none_failed_of : (w : Seen) (x : Exit) (status : ℕ) → status ≡ exit_status x → (status ≡ 0) ⊎ (status ≡ 2) ⊎ (status ≡ 3) ⊎ (status ≡ 4) → ExitSays w x → NothingFailed w
+none_failed_of w (Said e) status is good h =
+    record { store = nothing_failed w.store w.store_after (job_of (form_of w.words)) e h.text (tells_none e (subst (λ n. n < 5) is (good_below status good))) h.allowed; sink = h.count }
+none_failed_of w SinkFault status is good h = absurd (let below = good_below status good in omega (arith, is))
+none_failed_of w NoMemory status is good h = absurd (let below = good_below status good in omega (arith, is))
 
 -- the sink's count stays but where the status says that the sink failed
 pub count_of : (w : Seen) (x : Exit) → ExitSays w x → (exit_status x ≡ 6) ⊎ (w.sink_after.faults ≡ w.sink.faults)

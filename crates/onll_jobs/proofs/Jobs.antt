@@ -31,7 +31,7 @@ cannot_write store after name Usage text h = absurd h
 cannot_write store after name Refused text h = absurd h
 cannot_write store after name BadLog text h = absurd h
 cannot_write store after name ReadFault text h = absurd h
-cannot_write store after name WriteFault text h = h.rose
+cannot_write store after name WriteFault text h = h.failed.rose
 
 -- where no count rose, the told files decide how the job ends
 pub decided : (store after : StoreView) (job : Job) (ending e : Ending) (text t : List ℕ) → (Rose store.faults after.faults → ⊥) → Decides store job ending text → JobEnds store after job e t → (e ≡ ending) × (t ≡ text)
@@ -42,6 +42,36 @@ decided store after (Read name next) ending e text t none d (inr h) =
     decided store after (next d.0) ending e text t none d.1.1 (subst (λ bytes. JobEnds store after (next bytes) e t) same h.1.1)
 decided store after (Write name bytes next) ending e text t none d (inl h) = absurd (none (cannot_write store after name e t h))
 decided store after (Write name bytes next) ending e text t none d (inr h) = decided (written store name bytes) after next ending e text t none d h
+
+-- ---- endings that tell of a fault
+abbrev pub TellsFault : Ending → Type 0
+TellsFault ReadFault = Unit {0}
+TellsFault WriteFault = Unit {0}
+TellsFault ending = ⊥
+
+cannot_tells : (store after : StoreView) (name : List ℕ) (ending : Ending) (text : List ℕ) → CannotRead store after name ending text → TellsFault ending
+cannot_tells store after name Done text h = absurd h
+cannot_tells store after name Usage text h = absurd h
+cannot_tells store after name Refused text h = absurd h
+cannot_tells store after name BadLog text h = absurd h
+cannot_tells store after name ReadFault text h = tt
+cannot_tells store after name WriteFault text h = absurd h
+
+cannot_write_tells : (store after : StoreView) (name : List ℕ) (ending : Ending) (text : List ℕ) → CannotWrite store after name ending text → TellsFault ending
+cannot_write_tells store after name Done text h = absurd h
+cannot_write_tells store after name Usage text h = absurd h
+cannot_write_tells store after name Refused text h = absurd h
+cannot_write_tells store after name BadLog text h = absurd h
+cannot_write_tells store after name ReadFault text h = absurd h
+cannot_write_tells store after name WriteFault text h = tt
+
+-- a job that ends otherwise ends where nothing failed
+pub nothing_failed : (store after : StoreView) (job : Job) (ending : Ending) (text : List ℕ) → (TellsFault ending → ⊥) → JobEnds store after job ending text → SameFaults store after
+nothing_failed store after (Say e t) ending text sound h = h.3
+nothing_failed store after (Read name next) ending text sound (inl h) = absurd (sound (cannot_tells store after name ending text h.0))
+nothing_failed store after (Read name next) ending text sound (inr h) = nothing_failed store after (next h.0) ending text sound h.1.1
+nothing_failed store after (Write name bytes next) ending text sound (inl h) = absurd (sound (cannot_write_tells store after name ending text h))
+nothing_failed store after (Write name bytes next) ending text sound (inr h) = nothing_failed (written store name bytes) after next ending text sound h
 
 pub files_stay : (store after : StoreView) → SameFiles store after → FilesStay store after
 files_stay store after same = record { tells = same.tells; file = λ tells. same.file }

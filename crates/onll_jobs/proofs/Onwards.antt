@@ -19,7 +19,7 @@ use Rattle.onll_jobs.specs.declared.answer.Stop.TheVariants as stops
 use Rattle.onll_jobs.specs.Stop.{StopSays}
 use Rattle.onll_jobs.specs.Reading.{Reads, ReadsWhole, HoldsImage, Stops}
 use Rattle.onll_jobs.specs.Images.{image_name, images_in, image_bytes, image_names, writing_images, ImagesStop, ImagesCut}
-use Rattle.onll_jobs.specs.Writing.{FilesStay, OthersStay, SameBut, HasWritten, CannotWrite, written}
+use Rattle.onll_jobs.specs.Writing.{FilesStay, OthersStay, SameBut, HasWritten, CannotWrite, WriteFailed, WriteStops, written}
 use Rattle.onll_jobs.specs.Job.{Job, Say, Read, Write, JobEnds, JobCut, GoesOn, SaysNow, on_value, reading, reading_whole}
 use Rattle.onll_jobs.proofs.Jobs.{files_stay, cannot_from, stopped_says}
 use Rattle.onll_jobs.proofs.Stops.{StopSays-weaker}
@@ -29,11 +29,17 @@ use Rattle.onll_jobs.proofs.Stops.{StopSays-weaker}
 stay_more : (store mid after : StoreView) → FilesStay store mid → FilesStay mid after → FilesStay store after
 stay_more store mid after first then_ = record { tells = then_.tells ∙ first.tells; file = λ tells name. then_.file (first.tells ∙ tells) name ∙ first.file tells name }
 
+faults_more : (store mid after : StoreView) → SameFaults store mid → SameFaults mid after → SameFaults store after
+faults_more store mid after first then_ = (then_.0 ∙ first.0, then_.1 ∙ first.1)
+
 others_more : (store mid after : StoreView) (name : List ℕ) → FilesStay store mid → OthersStay name mid after → OthersStay name store after
 others_more store mid after name first then_ = record { tells = then_.tells ∙ first.tells; file = λ tells other differs. then_.file (first.tells ∙ tells) other differs ∙ first.file tells other }
 
 written_stays : (store mid : StoreView) (name bytes : List ℕ) → FilesStay store mid → FilesStay (written store name bytes) (written mid name bytes)
 written_stays store mid name bytes h = record { tells = h.tells; file = λ tells other. ap (λ o. cond {A = Option (List ℕ)} (bytes_eq other name) (Some bytes) o) (h.file tells other) }
+
+write_failed_from : (store mid after : StoreView) (name : List ℕ) → FilesStay store mid → SameFaults store mid → WriteFailed mid after name → WriteFailed store after name
+write_failed_from store mid after name files same h = record { rose = subst (λ n. Rose n after.faults) same.0 h.rose; last = h.last; others = others_more store mid after name files h.others }
 
 cannot_write_from : (store mid after : StoreView) (name : List ℕ) (ending : Ending) (text : List ℕ) → FilesStay store mid → SameFaults store mid → CannotWrite mid after name ending text → CannotWrite store after name ending text
 cannot_write_from store mid after name Done text files same h = absurd h
@@ -42,11 +48,11 @@ cannot_write_from store mid after name Refused text files same h = absurd h
 cannot_write_from store mid after name BadLog text files same h = absurd h
 cannot_write_from store mid after name ReadFault text files same h = absurd h
 cannot_write_from store mid after name WriteFault text files same h =
-    record { rose = subst (λ n. Rose n after.faults) same.0 h.rose; last = h.last; line = h.line; others = others_more store mid after name files h.others }
+    record { failed = write_failed_from store mid after name files same h.failed; line = h.line }
 
 -- what a job does from a store it does from the store before, where neither files nor faults changed
 pub ends_from : (store mid after : StoreView) (job : Job) (ending : Ending) (text : List ℕ) → FilesStay store mid → SameFaults store mid → JobEnds mid after job ending text → JobEnds store after job ending text
-ends_from store mid after (Say e t) ending text files faults h = (h.0, h.1, stay_more store mid after files h.2)
+ends_from store mid after (Say e t) ending text files faults h = (h.0, h.1, stay_more store mid after files h.2, faults_more store mid after faults h.3)
 ends_from store mid after (Read name next) ending text files faults (inl h) = inl (cannot_from store mid after name ending text faults h.0, stay_more store mid after files h.1)
 ends_from store mid after (Read name next) ending text files faults (inr h) =
     inr (h.0, ((λ tells. sym (files.file tells name) ∙ h.1.0 (files.tells ∙ tells)), ends_from store mid after (next h.0) ending text files faults h.1.1))
@@ -58,29 +64,32 @@ ends_from store mid after (Write name bytes next) ending text files faults (inr 
 pub stay_cut : (store after : StoreView) (job : Job) → FilesStay store after → JobCut store after job
 stay_cut store after (Say e t) h = h
 stay_cut store after (Read name next) h = inl h
-stay_cut store after (Write name bytes next) h = inl (record { tells = h.tells; file = λ tells other differs. h.file tells other })
+stay_cut store after (Write name bytes next) h = inl (inl h)
 
-cut_from : (store mid after : StoreView) (job : Job) → FilesStay store mid → JobCut mid after job → JobCut store after job
-cut_from store mid after (Say e t) files h = stay_more store mid after files h
-cut_from store mid after (Read name next) files (inl h) = inl (stay_more store mid after files h)
-cut_from store mid after (Read name next) files (inr h) = inr (h.0, ((λ tells. sym (files.file tells name) ∙ h.1.0 (files.tells ∙ tells)), cut_from store mid after (next h.0) files h.1.1))
-cut_from store mid after (Write name bytes next) files (inl h) = inl (others_more store mid after name files h)
-cut_from store mid after (Write name bytes next) files (inr h) = inr (cut_from (written store name bytes) (written mid name bytes) after next (written_stays store mid name bytes files) h)
+cut_from : (store mid after : StoreView) (job : Job) → FilesStay store mid → SameFaults store mid → JobCut mid after job → JobCut store after job
+cut_from store mid after (Say e t) files faults h = stay_more store mid after files h
+cut_from store mid after (Read name next) files faults (inl h) = inl (stay_more store mid after files h)
+cut_from store mid after (Read name next) files faults (inr h) =
+    inr (h.0, ((λ tells. sym (files.file tells name) ∙ h.1.0 (files.tells ∙ tells)), cut_from store mid after (next h.0) files faults h.1.1))
+cut_from store mid after (Write name bytes next) files faults (inl (inl h)) = inl (inl (stay_more store mid after files h))
+cut_from store mid after (Write name bytes next) files faults (inl (inr h)) = inl (inr (write_failed_from store mid after name files faults h))
+cut_from store mid after (Write name bytes next) files faults (inr h) =
+    inr (cut_from (written store name bytes) (written mid name bytes) after next (written_stays store mid name bytes files) faults h)
 
-cannot_write_others : (store after : StoreView) (name : List ℕ) (ending : Ending) (text : List ℕ) → CannotWrite store after name ending text → OthersStay name store after
-cannot_write_others store after name Done text h = absurd h
-cannot_write_others store after name Usage text h = absurd h
-cannot_write_others store after name Refused text h = absurd h
-cannot_write_others store after name BadLog text h = absurd h
-cannot_write_others store after name ReadFault text h = absurd h
-cannot_write_others store after name WriteFault text h = h.others
+cannot_write_failed : (store after : StoreView) (name : List ℕ) (ending : Ending) (text : List ℕ) → CannotWrite store after name ending text → WriteFailed store after name
+cannot_write_failed store after name Done text h = absurd h
+cannot_write_failed store after name Usage text h = absurd h
+cannot_write_failed store after name Refused text h = absurd h
+cannot_write_failed store after name BadLog text h = absurd h
+cannot_write_failed store after name ReadFault text h = absurd h
+cannot_write_failed store after name WriteFault text h = h.failed
 
 -- a job that ended may have stopped there
 pub ends_cut : (store after : StoreView) (job : Job) (ending : Ending) (text : List ℕ) → JobEnds store after job ending text → JobCut store after job
 ends_cut store after (Say e t) ending text h = h.2
 ends_cut store after (Read name next) ending text (inl h) = inl h.1
 ends_cut store after (Read name next) ending text (inr h) = inr (h.0, (h.1.0, ends_cut store after (next h.0) ending text h.1.1))
-ends_cut store after (Write name bytes next) ending text (inl h) = inl (cannot_write_others store after name ending text h)
+ends_cut store after (Write name bytes next) ending text (inl h) = inl (inr (cannot_write_failed store after name ending text h))
 ends_cut store after (Write name bytes next) ending text (inr h) = inr (ends_cut (written store name bytes) after next ending text h)
 
 -- whatever the error
@@ -94,7 +103,7 @@ stayed store after job r same = on_any_error r (stay_cut store after job (files_
 
 -- what is said at once
 pub now_ends : (store : StoreView) (job : Job) (ending : Ending) (text : List ℕ) → SaysNow job ending text → JobEnds store store job ending text
-now_ends store (Say e t) ending text h = (h.0, h.1, record { tells = refl; file = λ tells name. refl })
+now_ends store (Say e t) ending text h = (h.0, h.1, record { tells = refl; file = λ tells name. refl }, (refl, refl))
 now_ends store (Read name next) ending text h = absurd h
 now_ends store (Write name bytes next) ending text h = absurd h
 
@@ -129,7 +138,7 @@ on_read store mid name next bytes held same faults =
     let files = files_stay store mid same in
     record {
       ends = λ after ending text h. inr (bytes, (held, ends_from store mid after (next bytes) ending text files faults h));
-      cut = λ after h. inr (bytes, (held, cut_from store mid after (next bytes) files h));
+      cut = λ after h. inr (bytes, (held, cut_from store mid after (next bytes) files faults h));
     }
 
 pub on_image : (store mid : StoreView) (name : List ℕ) (next : List (List ℕ) → Job) (lines : List (List ℕ)) → HoldsImage store name lines → SameFiles store mid → SameFaults store mid
@@ -152,7 +161,7 @@ pub stopped_ends : {A : Type 0} (store after : StoreView) (name : List ℕ) (gra
 stopped_ends store after name grammar next Done text same h = absurd h
 stopped_ends store after name grammar next Usage text same h = absurd h
 stopped_ends store after name grammar next Refused text same h =
-    inr (h.bytes, (h.held, subst (λ v. JobEnds store after (on_value name (next h.bytes) v) Refused text) (sym h.outside) (refl, h.line, files_stay store after same)))
+    inr (h.0.bytes, (h.0.held, subst (λ v. JobEnds store after (on_value name (next h.0.bytes) v) Refused text) (sym h.0.outside) (refl, h.0.line, files_stay store after same, h.1)))
 stopped_ends store after name grammar next BadLog text same h = absurd h
 stopped_ends store after name grammar next ReadFault text same h = inl (h, files_stay store after same)
 stopped_ends store after name grammar next WriteFault text same h = absurd h
@@ -216,7 +225,7 @@ write_leaves old new name bytes held others = record { tells = others.tells; fil
 pub on_write : (store mid : StoreView) (name bytes : List ℕ) (next : Job) → HasWritten store mid name bytes → GoesOn store mid (Write name bytes next) next
 on_write store mid name bytes next h = record {
   ends = λ after ending text k. inr (ends_from (written store name bytes) mid after next ending text h.files h.faults k);
-  cut = λ after k. inr (cut_from (written store name bytes) mid after next h.files k);
+  cut = λ after k. inr (cut_from (written store name bytes) mid after next h.files h.faults k);
 }
 
 pub others_stay : (name : List ℕ) (old new : StoreView) → SameOthers name old new → OthersStay name old new
@@ -260,8 +269,8 @@ wrote_stopped store mid after logs images image i s h same so stop =
     (λ ending text k next. (so.on next).ends after ending text
     (subst (λ l. JobEnds mid after (writing_images logs i (images_in l) next) ending text) (sym (drop_more images i image h)) (inl k))) stop
 
--- the next image is written in part, if at all
+-- the next image is not written
 pub wrote_cut : (store mid new : StoreView) (logs : List ℕ) (images : List (List Line)) (image : List Line) (i : ℕ) → i < length images → image ≡ get_or images i image
-    → WroteSo store mid logs images i → SameOthers (image_name logs i) mid new → ImagesCut store new logs (images_in images)
-wrote_cut store mid new logs images image i h same so others next =
-    (so.on next).cut new (subst (λ l. JobCut mid new (writing_images logs i (images_in l) next)) (sym (drop_more images i image h)) (inl (others_stay (image_name logs i) mid new others)))
+    → WroteSo store mid logs images i → WriteStops mid new (image_name logs i) → ImagesCut store new logs (images_in images)
+wrote_cut store mid new logs images image i h same so stops next =
+    (so.on next).cut new (subst (λ l. JobCut mid new (writing_images logs i (images_in l) next)) (sym (drop_more images i image h)) (inl stops))

@@ -28,7 +28,7 @@ use Rattle.onll_text.specs.Init.{init_of}
 use Rattle.onll_text.specs.Script.{script_of}
 use Rattle.onll_text.specs.Schedule.{schedule_of}
 use Rattle.onll_text.proofs.FewCalls.{few_calls}
-use Rattle.onll_outside.specs.Views.{StoreView}
+use Rattle.onll_outside.specs.Views.{StoreView, SameFaults}
 use Rattle.onll_jobs.specs.declared.ending.Ending.{Ending}
 use Rattle.onll_jobs.specs.declared.ending.Ending.TheVariants.{Done, Usage, Refused, BadLog, ReadFault, WriteFault}
 use Rattle.onll_jobs.specs.declared.bad_logs.LogsFault.{LogsFault}
@@ -135,7 +135,7 @@ module _ (after : StoreView) (ending : Ending) (text : List ℕ) (said : IsSaid 
     module _ (code : ℕ) (is : (1 ≤ code) × (code ≤ 4)) (init : List ℕ) (s : State) (schedule logs : List ℕ) (names : List (List ℕ)) (few : length names ≤ 16) where
       -- what a crash says of a core that was played
       crash_ends : (c : CoreState State Op Query Reply) (keep : ℕ) (store' : StoreView) (found : Result Recovered LogsFault) (r : Recovered) → found ≡ Ok r → JobEnds store' after (crash_says b w c keep found) ending text
-          → (ending ≡ Done) × (text ≡ replay_report b w c keep r) × FilesStay store' after
+          → (ending ≡ Done) × (text ≡ replay_report b w c keep r) × FilesStay store' after × SameFaults store' after
       crash_ends c keep store' found r e h = subst (λ (x : Result Recovered LogsFault). JobEnds store' after (crash_says b w c keep x) ending text) e h
 
       on_ends : JobEnds store after (replay_on b w code init schedule logs names s) ending text → (ending ≡ Done) × HasReplayed b w code init s store after schedule logs names text

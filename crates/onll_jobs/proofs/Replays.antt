@@ -87,7 +87,7 @@ module _ {State Op Query Reply : Type 0} (b : Behaviour State Op Query Reply) (w
       subst (λ l. JobCut store mid (writing_images logs 0 l (crash_says b w c keep (recovered b code init l)))) e
       ((written next).cut mid (stay_cut mid mid next (record { tells = refl; file = λ tells name. refl })))
 
-  -- one was written in part, if at all
+  -- one was not written
   pub crash_cut_short : (c : CoreState State Op Query Reply) (keep : ℕ) (store after : StoreView) (images : List (List (List ℕ))) → images ≡ images_of keep c.threads
       → ImagesCut store after logs images → JobCut store after (crash_job b w code init logs c keep)
   crash_cut_short c keep store after images e h =

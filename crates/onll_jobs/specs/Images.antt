@@ -50,7 +50,8 @@ AreWritten store after logs images = (next : Job) → GoesOn store after (writin
 abbrev pub ImagesStop : StoreView → StoreView → List ℕ → List (List (List ℕ)) → Ending → List ℕ → Type 0
 ImagesStop store after logs images ending text = (next : Job) → JobEnds store after (writing_images logs 0 images next) ending text
 
--- some of these images were written, the last of them perhaps in part, and every job that writes them may stop so
+-- the first of these images were written, the rest are as they were but for one whose write failed, and every job that writes
+-- them may stop so
 abbrev pub ImagesCut : StoreView → StoreView → List ℕ → List (List (List ℕ)) → Type 0
 ImagesCut store after logs images = (next : Job) → JobCut store after (writing_images logs 0 images next)
 

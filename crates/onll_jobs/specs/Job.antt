@@ -1,11 +1,11 @@
 use Rattle.std.specs.Prelude.{ℕ, List, ◌≡◌, ◌⊎◌, Result, Ok, Err}
 use Rattle.onll_text.specs.Refusal.{Refusal}
-use Rattle.onll_outside.specs.Views.{StoreView, Holds}
+use Rattle.onll_outside.specs.Views.{StoreView, Holds, SameFaults}
 use Rattle.onll_jobs.specs.declared.ending.Ending.{Ending}
 use Rattle.onll_jobs.specs.declared.ending.Ending.TheVariants.{Refused}
 use Rattle.onll_jobs.specs.Printed.{refusal_text}
 use Rattle.onll_jobs.specs.Reading.{CannotRead, IsTold}
-use Rattle.onll_jobs.specs.Writing.{CannotWrite, FilesStay, OthersStay, written}
+use Rattle.onll_jobs.specs.Writing.{CannotWrite, FilesStay, WriteStops, written}
 
 -- What a call does, up to the text that it puts: it reads files by their names, each after what the ones before it held, makes
 -- bytes the files of names, and then says a text.
@@ -15,19 +15,19 @@ pub data Job : Type 0 where
   Write : (name bytes : List ℕ) → Job → Job
 
 -- The job may end so, and leave the store so: each file that it reads holds some bytes, which it goes on with, or can't be
--- read; each that it writes is written, or can't be. No other file changes.
+-- read; each that it writes is written, or can't be. No other file changes. Where it says its text, no call of the store failed.
 abbrev pub JobEnds : StoreView → StoreView → Job → Ending → List ℕ → Type 0
-JobEnds store after (Say e t) ending text = (ending ≡ e) × (text ≡ t) × FilesStay store after
+JobEnds store after (Say e t) ending text = (ending ≡ e) × (text ≡ t) × FilesStay store after × SameFaults store after
 JobEnds store after (Read name next) ending text =
     (CannotRead store after name ending text × FilesStay store after) ⊎ ((bytes : List ℕ) × (Holds store name bytes × JobEnds store after (next bytes) ending text))
 JobEnds store after (Write name bytes next) ending text = CannotWrite store after name ending text ⊎ JobEnds (written store name bytes) after next ending text
 
--- The job may stop early, and leave the store so: it read files and wrote files up to one that may be written in part. No other file
--- changes.
+-- The job may stop early, and leave the store so: it read files and wrote files, each of them whole, up to one that is as it was,
+-- unless a write of it failed. No other file changes.
 abbrev pub JobCut : StoreView → StoreView → Job → Type 0
 JobCut store after (Say e t) = FilesStay store after
 JobCut store after (Read name next) = FilesStay store after ⊎ ((bytes : List ℕ) × (Holds store name bytes × JobCut store after (next bytes)))
-JobCut store after (Write name bytes next) = OthersStay name store after ⊎ JobCut (written store name bytes) after next
+JobCut store after (Write name bytes next) = WriteStops store after name ⊎ JobCut (written store name bytes) after next
 
 -- whatever the other job does from this store, the job may do from the store before
 pub record GoesOn (store mid : StoreView) (job next : Job) : Type 0 where

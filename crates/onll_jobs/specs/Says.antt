@@ -1,5 +1,5 @@
 use Rattle.std.specs.Prelude.{ℕ, List, [], length, ◌≡◌, ◌⊎◌, Option, Some, None}
-use Rattle.onll_outside.specs.Views.{StoreView, Puts, PutsFront, Rose}
+use Rattle.onll_outside.specs.Views.{StoreView, SameFaults, Puts, PutsFront, Rose}
 use Rattle.onll_jobs.specs.declared.ending.Ending.{Ending}
 use Rattle.onll_jobs.specs.declared.ending.Ending.TheVariants.{Usage}
 use Rattle.onll_jobs.specs.declared.ending.Exit.{Exit}
@@ -54,7 +54,7 @@ abbrev pub PutNothing : Seen → Type 0
 PutNothing seen = seen.sink_after.taken ≡ seen.sink.taken
 
 -- memory could not be had: nothing was put, or some of the first of a text that is allowed; and of the files that the words
--- write the first were written, and perhaps a part of the next
+-- write the first were written and the rest are as they were, but for one whose write failed
 pub record OutOfMemory (seen : Seen) : Type 0 where
   pub taken : PutSome seen ⊎ PutNothing seen
   pub files : JobCut seen.store seen.store_after (job_of (form_of seen.words))
@@ -64,6 +64,11 @@ pub record OutOfMemory (seen : Seen) : Type 0 where
 pub record SinkFailed (seen : Seen) : Type 0 where
   pub some : PutSome seen
   pub rose : Rose seen.sink.faults seen.sink_after.faults
+
+-- neither the store's count of faults nor its last fault changed, nor the sink's count
+pub record NothingFailed (seen : Seen) : Type 0 where
+  pub store : SameFaults seen.store seen.store_after
+  pub sink : seen.sink_after.faults ≡ seen.sink.faults
 
 -- what a call says by its exit
 abbrev pub ExitSays : Seen → Exit → Type 0

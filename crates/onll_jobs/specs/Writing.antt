@@ -1,4 +1,4 @@
-use Rattle.std.specs.Prelude.{ℕ, List, ◌≡◌, true, Some, if◌then◌else◌}
+use Rattle.std.specs.Prelude.{ℕ, List, ◌≡◌, ◌⊎◌, true, Some, if◌then◌else◌}
 use Rattle.std.specs.List.{AllByRecursion}
 use Rattle.std.specs.Str.{bytes_eq}
 use Rattle.onll_outside.specs.Views.{StoreView, SameFaults, Rose}
@@ -33,13 +33,20 @@ pub record HasWritten (old new : StoreView) (name bytes : List ℕ) : Type 0 whe
   pub files : FilesStay (written old name bytes) new
   pub faults : SameFaults old new
 
--- the file can't be written: the store's count rose and this write is its last fault; this line says so, and no other file
--- changed
-pub record Unwritten (store after : StoreView) (name text : List ℕ) : Type 0 where
+-- a write of the file failed: the store's count rose and this write is its last fault; no other file changed
+pub record WriteFailed (store after : StoreView) (name : List ℕ) : Type 0 where
   pub rose : Rose store.faults after.faults
   pub last : after.last ≡ Some (record { kind = kinds.Write; name = name })
-  pub line : text ≡ write_fault_text name
   pub others : OthersStay name store after
+
+-- the file can't be written: a write of it failed, and this line says so
+pub record Unwritten (store after : StoreView) (name text : List ℕ) : Type 0 where
+  pub failed : WriteFailed store after name
+  pub line : text ≡ write_fault_text name
+
+-- a write of the file gave nothing: the file is as it was, or the write failed
+abbrev pub WriteStops : StoreView → StoreView → List ℕ → Type 0
+WriteStops store after name = FilesStay store after ⊎ WriteFailed store after name
 
 -- a write of the file fails, and the call ends so
 abbrev pub CannotWrite : StoreView → StoreView → List ℕ → Ending → List ℕ → Type 0

@@ -3,7 +3,7 @@ ghost use Rattle.onll_outside.specs.Views.{SameFiles, SameOthers, SameFaults};
 ghost use Rattle.onll_pmem.specs.Pmem.{words_of};
 ghost use Rattle.onll_jobs.specs.Reading.{HoldsImage, CannotRead};
 ghost use Rattle.onll_jobs.specs.Images.{image_name, images_in, ImagesRead, ImagesUnread, image_bytes, image_names, AreWritten, ImagesStop, ImagesCut};
-ghost use Rattle.onll_jobs.specs.Writing.{SameBut, HasWritten, CannotWrite};
+ghost use Rattle.onll_jobs.specs.Writing.{SameBut, HasWritten, CannotWrite, WriteStops};
 ghost use Rattle.onll_jobs.specs.Stop.{StopSays};
 
 use crate::answer::Stop;
@@ -126,6 +126,7 @@ fn write_image<S: Store>(
 ) -> Result<(), Stop>
     ensures written { OnOk result (HasWritten (S.seen store.old) (S.seen store.new) (image_name logs.now thread) (image_bytes (words_of image.now))) }
     ensures stop { IfErr result (λ stop. StopSays stop (CannotWrite (S.seen store.old) (S.seen store.new) (image_name logs.now thread))) }
+    ensures cut { IfErr result (λ stop. WriteStops (S.seen store.old) (S.seen store.new) (image_name logs.now thread)) }
     ensures others { SameOthers (image_name logs.now thread) (S.seen store.old) (S.seen store.new) }
 {
     let name = image_name(alloc, logs, thread)?;

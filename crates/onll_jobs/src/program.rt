@@ -5,7 +5,7 @@ ghost use Rattle.onll_jobs.specs.Command.{form_of, form_in, Replay, IsCommand};
 ghost use Rattle.onll_jobs.specs.Exits.{PutExits};
 ghost use Rattle.onll_jobs.specs.Seen.{seen_by};
 ghost use Rattle.onll_jobs.specs.Writing.{SameBut};
-ghost use Rattle.onll_jobs.specs.Says.{job_of, writes_of, FormSays, ExitSays, Ended, PutWhole, OutOfMemory, SinkFailed, NoneRose, SaysThis};
+ghost use Rattle.onll_jobs.specs.Says.{job_of, writes_of, FormSays, ExitSays, Ended, PutWhole, OutOfMemory, SinkFailed, NothingFailed, NoneRose, SaysThis};
 ghost use Rattle.onll_jobs.specs.Job.{JobCut, Decides};
 ghost use Rattle.onll_jobs.specs.Durable.{ReplayIsDurable, RecoversCrashes};
 ghost use Rattle.onll_jobs.specs.Printed.{usage_text};
@@ -112,6 +112,10 @@ pub fn onll<S: Store, K: Sink>(alloc: Global, words: &[String], store: &mut S, o
         result ≡ 6 → SinkFailed seen ⊎ PutWhole seen Ending.WriteFault }
     ensures no_memory { let seen = seen_by (map string_bytes words.now) (S.seen store.old) (S.seen store.new) (K.held out.old) (K.held out.new) in
         result ≡ 9 → OutOfMemory seen }
+
+    // A good ending says that nothing failed, also where no file is told.
+    ensures nothing_failed { let seen = seen_by (map string_bytes words.now) (S.seen store.old) (S.seen store.new) (K.held out.old) (K.held out.new) in
+        (result ≡ 0) ⊎ (result ≡ 2) ⊎ (result ≡ 3) ⊎ (result ≡ 4) → NothingFailed seen }
 
     // Where the sink fails, the status says so, whatever else was found.
     ensures sink_count { (result ≡ 6) ⊎ ((K.held out.new).faults ≡ (K.held out.old).faults) }

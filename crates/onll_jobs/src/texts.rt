@@ -7,7 +7,7 @@ ghost use Rattle.onll_text.specs.Init.{init_of};
 ghost use Rattle.onll_text.specs.Script.{script_of};
 ghost use Rattle.onll_jobs.specs.Reading.{IsCut, Reads, ReadsWhole, HoldsImage, CannotRead, Stops};
 ghost use Rattle.onll_text.specs.Schedule.{schedule_of, IsPlayable};
-ghost use Rattle.onll_jobs.specs.Writing.{HasWritten, CannotWrite};
+ghost use Rattle.onll_jobs.specs.Writing.{HasWritten, CannotWrite, WriteStops};
 ghost use Rattle.onll_jobs.specs.Stop.{StopSays};
 
 use crate::answer::Stop;
@@ -136,6 +136,7 @@ pub(crate) fn write_file<S: Store>(
 ) -> Result<(), Stop>
     ensures written { OnOk result (HasWritten (S.seen store.old) (S.seen store.new) name.now bytes.now) }
     ensures stop { IfErr result (λ stop. StopSays stop (CannotWrite (S.seen store.old) (S.seen store.new) name.now)) }
+    ensures cut { IfErr result (λ stop. WriteStops (S.seen store.old) (S.seen store.new) name.now) }
     ensures others { SameOthers name.now (S.seen store.old) (S.seen store.new) }
 {
     match store.write(alloc, name, bytes) {

@@ -1,4 +1,4 @@
-ghost use Rattle.std.specs.Prelude.{◌≡◌, None};
+ghost use Rattle.std.specs.Prelude.{◌≡◌, None, string_bytes};
 ghost use Rattle.onll_outside.specs.Views.{CountOf};
 ghost use Rattle.onll_outside.specs.Faults.{Raises};
 
@@ -40,16 +40,32 @@ impl Faults {
         }
     }
 
+    /// How many calls failed.
+    pub(crate) fn count(&self) -> u64
+        ensures { result ≡ self.now.count }
+    {
+        self.count
+    }
+
+    /// Counts a fault, which is then the last one. It takes no memory.
+    pub(crate) fn raise_named(&mut self, kind: FaultKind, name: String) -> OutsideFault
+        ensures failed { result ≡ OutsideFault.Failed }
+        ensures raises { Raises (record { kind = kind; name = string_bytes name }) self.old self.new result }
+        ensures counts { CountOf result self.old.count self.new.count }
+    {
+        self.count = self.count.saturating_add(1);
+        self.last = Some(Failure { kind, name });
+        OutsideFault::Failed
+    }
+
     /// Counts a fault, which is then the last one, unless there is no memory to keep its name.
     pub(crate) fn raise(&mut self, alloc: Global, kind: FaultKind, name: &str) -> OutsideFault
         ensures raises { Raises (record { kind = kind; name = name.now }) self.old self.new result }
         ensures counts { CountOf result self.old.count self.new.count }
     {
-        let Ok(name) = String::from_str(alloc, name) else {
-            return OutsideFault::NoMemory;
-        };
-        self.count = self.count.saturating_add(1);
-        self.last = Some(Failure { kind, name });
-        OutsideFault::Failed
+        match String::from_str(alloc, name) {
+            Ok(name) => self.raise_named(kind, name),
+            Err(_) => OutsideFault::NoMemory,
+        }
     }
 }

@@ -4,7 +4,7 @@ ghost use Rattle.onll_outside.specs.Faults.{FaultsSeen, untold};
 use crate::faults::Faults;
 use crate::{FaultKind, OutsideFault, Store};
 use std::alloc::Global;
-use std::io::{ErrorKind, Read};
+use std::io::{ErrorKind, Read, Write};
 use std::marker::Model;
 use std::rt::Files;
 use std::{fs, io};
@@ -52,11 +52,20 @@ impl<R: Files + Drop> Store for FileStore<R> {
         }
     }
 
+    // Memory for the fault's name is taken before the file is opened. A system that has no memory once the
+    // file is open has emptied it, which is a fault.
     fn write(&mut self, alloc: Global, name: &str, bytes: &[u8]) -> Result<(), OutsideFault> {
-        match fs::write(&self.files, name, bytes) {
+        let Ok(kept) = String::from_str(alloc, name) else {
+            return Err(OutsideFault::NoMemory);
+        };
+        let mut file = match fs::create(&self.files, name) {
+            Ok(file) => file,
+            Err(e) if e.kind() == ErrorKind::OutOfMemory => return Err(OutsideFault::NoMemory),
+            Err(_) => return Err(self.faults.raise_named(FaultKind::Write, kept)),
+        };
+        match file.write_all(bytes) {
             Ok(()) => Ok(()),
-            Err(e) if e.kind() == ErrorKind::OutOfMemory => Err(OutsideFault::NoMemory),
-            Err(_) => Err(self.faults.raise(alloc, FaultKind::Write, name)),
+            Err(_) => Err(self.faults.raise_named(FaultKind::Write, kept)),
         }
     }
 }

@@ -40,6 +40,13 @@ impl MemSink {
     {
         &self.taken
     }
+
+    /// How many of its puts failed.
+    pub fn faults(&self) -> u64
+        ensures { result ≡ self.now.faults }
+    {
+        self.faults
+    }
 }
 
 impl Sink for MemSink {

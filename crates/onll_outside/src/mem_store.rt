@@ -113,6 +113,13 @@ impl MemStore {
         find(&self.files, name).map(|file| file.bytes.as_slice())
     }
 
+    /// How many of its calls failed.
+    pub fn faults(&self) -> u64
+        ensures { result ≡ self.now.faults }
+    {
+        self.faults.count()
+    }
+
     /// Counts a call, and tells whether it is to fail.
     fn begin_call(&mut self) -> bool
         ensures fails { result ≡ call_fails self.old }
@@ -146,6 +153,7 @@ impl Store for MemStore {
     fn write(&mut self, alloc: Global, name: &str, bytes: &[u8]) -> Result<(), OutsideFault>
         ensures written { OnOk result (Holds (store_of self.new) name.now bytes.now) }
         ensures others { SameOthers name.now (store_of self.old) (store_of self.new) }
+        ensures kept { IfErr result (λ e. e ≡ OutsideFault.NoMemory → SameFiles (store_of self.old) (store_of self.new)) }
         ensures faults { FaultsOf (record { kind = FaultKind.Write; name = name.now }) (store_of self.old) (store_of self.new) result }
         ensures exact { MemWrites self.old self.new name.now bytes.now result }
     {

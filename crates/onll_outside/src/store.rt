@@ -1,4 +1,4 @@
-ghost use Rattle.std.specs.Prelude.{IfOk, OnOk};
+ghost use Rattle.std.specs.Prelude.{◌≡◌, IfOk, IfErr, OnOk};
 ghost use Rattle.onll_outside.specs.Views.{StoreView, SameFiles, SameOthers, Holds, Gives, FaultsOf};
 
 use crate::OutsideFault;
@@ -28,9 +28,11 @@ pub trait Store {
         ensures same { SameFiles (seen self.old) (seen self.new) }
         ensures faults { FaultsOf (record { kind = FaultKind.Read; name = name.now }) (seen self.old) (seen self.new) result };
 
-    /// Makes these bytes the file `name`. A write that fails may leave anything in that file.
+    /// Makes these bytes the file `name`. A write that fails may leave anything in that file; where memory
+    /// can't be had, the file is as it was.
     fn write(&mut self, alloc: Global, name: &str, bytes: &[u8]) -> Result<(), OutsideFault>
         ensures written { OnOk result (Holds (seen self.new) name.now bytes.now) }
         ensures others { SameOthers name.now (seen self.old) (seen self.new) }
+        ensures kept { IfErr result (λ e. e ≡ OutsideFault.NoMemory → SameFiles (seen self.old) (seen self.new)) }
         ensures faults { FaultsOf (record { kind = FaultKind.Write; name = name.now }) (seen self.old) (seen self.new) result };
 }

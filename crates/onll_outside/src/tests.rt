@@ -57,6 +57,7 @@ fn a_store_in_memory(rt: HostRuntime) -> Result<(), Fail> {
     }
     assert_eq!(rt; store.file("i").ok_or("gone")?, b"balances 3".as_slice());
     assert!(rt; store.file("t").is_none());
+    assert_eq!(rt; (store.faults(), sink.faults()), (3, 0));
     Ok(())
 }
 
@@ -68,6 +69,7 @@ fn a_sink_in_memory(rt: HostRuntime) -> Result<(), Fail> {
     assert_eq!(rt; sink.put(b"two "), Err(OutsideFault::Failed));
     assert_eq!(rt; sink.put(b"three"), Ok(()));
     assert_eq!(rt; sink.taken(), b"one three".as_slice());
+    assert_eq!(rt; sink.faults(), 1);
     Ok(())
 }
 

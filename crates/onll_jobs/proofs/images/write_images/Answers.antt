@@ -15,4 +15,4 @@ loop-thread-preserved g c =
 pub returns-in_err-write_image-clause-cut : goal.returns-in_err-write_image-clause-cut
 returns-in_err-write_image-clause-cut g c =
     on_any_error c.from_residual.result (wrote_cut (g.S.Store.seen c.args.store.now) (g.S.Store.seen c.loop-thread.store) (g.S.Store.seen c.write_image.new.store) c.args.logs.now c.args.images.now c.index-images-thread.result c.loop-thread.thread (omega arith)
-    c.index-images-thread.is c.loop-thread.invariant c.write_image.ensures.others)
+    c.index-images-thread.is c.loop-thread.invariant c.in_err-write_image.ensures.cut)

@@ -2,7 +2,7 @@ use Rattle.std.proofs.Common.{map, string_bytes, sym, arith, subst, ◌∙◌}
 use Rattle.onll_jobs.specs.declared.ending.Ending.TheVariants.{Done, Refused, BadLog, ReadFault}
 use Rattle.onll_jobs.specs.Seen.{seen_by}
 use Rattle.onll_jobs.specs.Durable.{RecoversCrashes}
-use Rattle.onll_jobs.proofs.ExitCauses.{said_of, usage_of, failed_of, no_memory_of, count_of, decided_exactly}
+use Rattle.onll_jobs.proofs.ExitCauses.{said_of, none_failed_of, usage_of, failed_of, no_memory_of, count_of, decided_exactly}
 use Rattle.onll_jobs.proofs.FoldDetermined.{exit_done}
 use Rattle.onll_jobs.proofs.ReplayEnds.{replay_not_bad, replay_durable}
 use Rattle.onll_jobs.proofs.RecoverCrashes.{recovers_crashes}
@@ -22,6 +22,9 @@ returns-clause-unread g c e = said_of (seen_by (map string_bytes c.args.words.no
 
 pub returns-clause-usage : goal.returns-clause-usage
 returns-clause-usage g c e = usage_of (seen_by (map string_bytes c.args.words.now) (g.S.Store.seen c.args.store.now) (g.S.Store.seen c.run.new.store) (g.K.Sink.held c.args.out.now) (g.K.Sink.held c.run.new.out)) c.run.result (sym c.status.ensures ∙ e) c.run.ensures.says
+
+pub returns-clause-nothing_failed : goal.returns-clause-nothing_failed
+returns-clause-nothing_failed g c good = none_failed_of (seen_by (map string_bytes c.args.words.now) (g.S.Store.seen c.args.store.now) (g.S.Store.seen c.run.new.store) (g.K.Sink.held c.args.out.now) (g.K.Sink.held c.run.new.out)) c.run.result c.status.result c.status.ensures good c.run.ensures.says
 
 pub returns-clause-failed : goal.returns-clause-failed
 returns-clause-failed g c e = failed_of (seen_by (map string_bytes c.args.words.now) (g.S.Store.seen c.args.store.now) (g.S.Store.seen c.run.new.store) (g.K.Sink.held c.args.out.now) (g.K.Sink.held c.run.new.out)) c.run.result (sym c.status.ensures ∙ e) c.run.ensures.says

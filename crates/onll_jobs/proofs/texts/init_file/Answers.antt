@@ -17,4 +17,4 @@ returns-in-Err-Refused-clause-stop g c =
     let cut = c.in-Ok.ensures.text in
     stops_refused store (g.S.Store.seen c.read_text.new.store) init_of c.args.name.now c.in-Ok.text.items c.in-Err-Refused.line c.in-Err-Refused.reason c.refused.result
     cut (init_of-cut store c.args.name.now c.in-Ok.text.items cut)
-    (sym (ap init_of c.deref.ensures.value) ∙ (rw c.in-Err-Refused.field-0-is at c.in-Err-Refused.ensures)) c.refused.ensures
+    (sym (ap init_of c.deref.ensures.value) ∙ (rw c.in-Err-Refused.field-0-is at c.in-Err-Refused.ensures)) c.in-Ok.ensures.faults c.refused.ensures

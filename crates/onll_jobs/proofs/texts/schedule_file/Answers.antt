@@ -17,4 +17,4 @@ returns-in-Err-Refused-clause-stop g c =
     let cut = c.in-Ok.ensures.text in
     stops_refused store (g.S.Store.seen c.read_text.new.store) (schedule_of c.args.threads) c.args.name.now c.in-Ok.text.items c.in-Err-Refused.line c.in-Err-Refused.reason c.refused.result
     cut (schedule_of-cut c.args.threads store c.args.name.now c.in-Ok.text.items cut)
-    (sym (ap (schedule_of c.args.threads) c.deref.ensures.value) ∙ (rw c.in-Err-Refused.field-0-is at c.in-Err-Refused.ensures.schedule)) c.refused.ensures
+    (sym (ap (schedule_of c.args.threads) c.deref.ensures.value) ∙ (rw c.in-Err-Refused.field-0-is at c.in-Err-Refused.ensures.schedule)) c.in-Ok.ensures.faults c.refused.ensures

@@ -19,4 +19,4 @@ returns-in-Err-Refused-clause-stop g c =
     let cut = c.in-Ok.ensures.text in
     stops_refused store (g.S.Store.seen c.read_text.new.store) (script_of w) c.args.name.now c.in-Ok.text.items c.in-Err-Refused.line c.in-Err-Refused.reason c.refused.result
     cut (script_of-cut w store c.args.name.now c.in-Ok.text.items cut)
-    (sym (ap (script_of w) c.deref.ensures.value) ∙ (rw c.in-Err-Refused.field-0-is at c.in-Err-Refused.ensures.calls)) c.refused.ensures
+    (sym (ap (script_of w) c.deref.ensures.value) ∙ (rw c.in-Err-Refused.field-0-is at c.in-Err-Refused.ensures.calls)) c.in-Ok.ensures.faults c.refused.ensures

@@ -35,10 +35,10 @@ use Rattle.onll_jobs.specs.declared.ending.Exit.TheVariants.{Said, SinkFault, No
 use Rattle.onll_jobs.specs.Reading.{Reads, HoldsImage}
 use Rattle.onll_jobs.specs.Images.{image_name, image_bytes, images_in, reading_images, writing_images}
 use Rattle.onll_jobs.specs.Writing.{written}
-use Rattle.onll_jobs.specs.Job.{Job, Say, JobEnds, on_value}
+use Rattle.onll_jobs.specs.Job.{Say, JobEnds, on_value}
 use Rattle.onll_jobs.specs.ReplayJob.{played, reading_scripts}
 use Rattle.onll_jobs.specs.Durable.{ReadScripts}
-use Rattle.onll_jobs.specs.Determined.{FoldsTo, FoldsToAny, HoldImages, RecoversLogs, CrashesTo, PlaysTo, ReplaysTo, ReplaysToAny, FormDetermined, DeterminedPut, ExitDetermined}
+use Rattle.onll_jobs.specs.Determined.{FoldsTo, FoldsToAny, HoldImages, RecoversLogs, CrashesTo, PlaysTo, ReplaysTo, ReplaysToAny, FormDetermined, ExitDetermined}
 use Rattle.onll_jobs.specs.Seen.{Seen}
 use Rattle.onll_jobs.specs.Command.{form_of}
 use Rattle.onll_jobs.specs.Exits.{PutExits}

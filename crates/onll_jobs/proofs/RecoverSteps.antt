@@ -13,36 +13,13 @@ use Rattle.onll_log.specs.declared.decoded.Decoded.{Decoded}
 use Rattle.onll_log.specs.Head.{head_for}
 use Rattle.onll_log.specs.Grammar.{Content, format_in, used_by}
 use Rattle.onll_log.specs.Decoded.{content_in}
-use Rattle.onll_merge.specs.declared.fault.RecoverFault.{RecoverFault}
-use Rattle.onll_merge.specs.declared.fault.RecoverFault.TheVariants as merging
 use Rattle.onll_jobs.specs.declared.bad_logs.LogsFault.{LogsFault}
-use Rattle.onll_jobs.specs.declared.bad_logs.LogsFault.TheVariants.{NotLog, NotMerged, NotOperation, NoMemory}
 use Rattle.onll_jobs.specs.Images.{images_in}
-use Rattle.onll_jobs.specs.RecoverJob.{merging_words, fault_words, expected_heads, content_line, recovered_line}
+use Rattle.onll_jobs.specs.RecoverJob.{expected_heads, content_line, recovered_line}
 
 -- The parts of a recovery, as they are done one after the other.
 
 -- ---- words
-pub merging_in_words : (fault : RecoverFault) → AreWords (merging_words fault)
-merging_in_words (merging.NotThisRun log) =
-    (record { some = refl; bytes = refl }, (IsWord-decimal log, (record { some = refl; bytes = refl }, (record { some = refl; bytes = refl }, (record { some = refl; bytes = refl }, (record { some = refl; bytes = refl }, tt))))))
-merging_in_words (merging.Disorder log entry) =
-    (record { some = refl; bytes = refl }, (IsWord-decimal log, (record { some = refl; bytes = refl }, (IsWord-decimal entry, (record { some = refl; bytes = refl }, tt)))))
-merging_in_words (merging.Clash place log other) =
-    (record { some = refl; bytes = refl }, (IsWord-decimal place, (record { some = refl; bytes = refl }, (record { some = refl; bytes = refl }, (record { some = refl; bytes = refl }, (IsWord-decimal log, (record { some = refl; bytes = refl }, (IsWord-decimal other, tt))))))))
-merging_in_words (merging.Gap place) = (record { some = refl; bytes = refl }, (IsWord-decimal place, (record { some = refl; bytes = refl }, tt)))
-merging_in_words (merging.Stray place thread number wanted) =
-    (record { some = refl; bytes = refl }, (IsWord-decimal place, (record { some = refl; bytes = refl }, (IsWord-decimal thread, (record { some = refl; bytes = refl }, (IsWord-decimal number, (record { some = refl; bytes = refl }, (IsWord-decimal wanted, tt))))))))
-merging_in_words merging.NoMemory = (record { some = refl; bytes = refl }, tt)
-
-pub fault_in_words : (fault : LogsFault) → AreWords (fault_words fault)
-fault_in_words (NotLog log) =
-    (record { some = refl; bytes = refl }, (IsWord-decimal log, (record { some = refl; bytes = refl }, (record { some = refl; bytes = refl }, (record { some = refl; bytes = refl }, tt)))))
-fault_in_words (NotMerged fault) = merging_in_words fault
-fault_in_words (NotOperation place) =
-    (record { some = refl; bytes = refl }, (IsWord-decimal place, (record { some = refl; bytes = refl }, (record { some = refl; bytes = refl }, (record { some = refl; bytes = refl }, tt)))))
-fault_in_words NoMemory = (record { some = refl; bytes = refl }, tt)
-
 pub empty_in_words : (thread : ℕ) → AreWords (content_line thread None [])
 empty_in_words thread = (record { some = refl; bytes = refl }, (IsWord-decimal thread, (record { some = refl; bytes = refl }, tt)))
 

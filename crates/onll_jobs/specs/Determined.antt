@@ -3,7 +3,6 @@ use Rattle.onll_model.specs.declared.call.Call.{Call}
 use Rattle.onll_model.specs.Object.{Behaviour}
 use Rattle.onll_log.specs.Grammar.{Content, content_of}
 use Rattle.onll_core.specs.Core.{CoreState}
-use Rattle.onll_core.specs.Outcomes.{script_of}
 use Rattle.onll_core.specs.Crash.{images_of}
 use Rattle.onll_bank.specs.Object.{bank}
 use Rattle.onll_map.specs.Object.{map_object}

@@ -34,23 +34,23 @@ use Rattle.onll_jobs.specs.Images.{reading_images}
 -- What `recover INIT LOGS T` does: it says the trace and the state that the logs of one run give.
 
 -- ---- the refusals
--- why logs do not merge
-abbrev pub merging_words : RecoverFault → List (List ℕ)
-merging_words (merging.NotThisRun log) = codes "log" ∷ decimal log ∷ codes "not" ∷ codes "of" ∷ codes "this" ∷ codes "run" ∷ []
-merging_words (merging.Disorder log entry) = codes "log" ∷ decimal log ∷ codes "entry" ∷ decimal entry ∷ codes "disorder" ∷ []
-merging_words (merging.Clash place log other) =
-    codes "place" ∷ decimal place ∷ codes "differs" ∷ codes "in" ∷ codes "logs" ∷ decimal log ∷ codes "and" ∷ decimal other ∷ []
-merging_words (merging.Gap place) = codes "place" ∷ decimal place ∷ codes "missing" ∷ []
-merging_words (merging.Stray place thread number wanted) =
-    codes "place" ∷ decimal place ∷ codes "thread" ∷ decimal thread ∷ codes "number" ∷ decimal number ∷ codes "wanted" ∷ decimal wanted ∷ []
-merging_words merging.NoMemory = codes "memory" ∷ []
+-- the line that says why logs do not merge; want of memory, which no merge gives, has none
+abbrev pub merging_line : RecoverFault → List ℕ
+merging_line (merging.NotThisRun log) = line_text (codes "log" ∷ decimal log ∷ codes "not" ∷ codes "of" ∷ codes "this" ∷ codes "run" ∷ [])
+merging_line (merging.Disorder log entry) = line_text (codes "log" ∷ decimal log ∷ codes "entry" ∷ decimal entry ∷ codes "disorder" ∷ [])
+merging_line (merging.Clash place log other) =
+    line_text (codes "place" ∷ decimal place ∷ codes "differs" ∷ codes "in" ∷ codes "logs" ∷ decimal log ∷ codes "and" ∷ decimal other ∷ [])
+merging_line (merging.Gap place) = line_text (codes "place" ∷ decimal place ∷ codes "missing" ∷ [])
+merging_line (merging.Stray place thread number wanted) =
+    line_text (codes "place" ∷ decimal place ∷ codes "thread" ∷ decimal thread ∷ codes "number" ∷ decimal number ∷ codes "wanted" ∷ decimal wanted ∷ [])
+merging_line merging.NoMemory = []
 
--- why logs give no state; want of memory is never said
-abbrev pub fault_words : LogsFault → List (List ℕ)
-fault_words (NotLog log) = codes "log" ∷ decimal log ∷ codes "not" ∷ codes "a" ∷ codes "log" ∷ []
-fault_words (NotMerged fault) = merging_words fault
-fault_words (NotOperation place) = codes "place" ∷ decimal place ∷ codes "not" ∷ codes "an" ∷ codes "operation" ∷ []
-fault_words NoMemory = codes "memory" ∷ []
+-- the line that says why logs give no state; want of memory, which no images give, has none
+abbrev pub fault_line : LogsFault → List ℕ
+fault_line (NotLog log) = line_text (codes "log" ∷ decimal log ∷ codes "not" ∷ codes "a" ∷ codes "log" ∷ [])
+fault_line (NotMerged fault) = merging_line fault
+fault_line (NotOperation place) = line_text (codes "place" ∷ decimal place ∷ codes "not" ∷ codes "an" ∷ codes "operation" ∷ [])
+fault_line NoMemory = []
 
 -- ---- what the images hold
 -- a log before those that follow; the first that is no log is the fault
@@ -122,7 +122,7 @@ recover_report b w s r = flat_map line_text (lines_with b w r (state_after b s r
 -- ---- the job
 abbrev pub found_says : {State Op Query Reply : Type 0} → Behaviour State Op Query Reply → Wording State Op Query Reply → State → Result Recovered LogsFault → Job
 found_says b w s (Ok r) = Say Done (recover_report b w s r)
-found_says b w s (Err fault) = Say BadLog (line_text (fault_words fault))
+found_says b w s (Err fault) = Say BadLog (fault_line fault)
 
 -- what is said of these images, over an object of this code whose initial state these bytes say
 abbrev pub recover_on : {State Op Query Reply : Type 0} → Behaviour State Op Query Reply → Wording State Op Query Reply → ℕ → List ℕ → State → List (List (List ℕ)) → Job

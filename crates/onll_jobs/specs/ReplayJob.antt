@@ -35,7 +35,7 @@ use Rattle.onll_outside.specs.Views.{StoreView}
 use Rattle.onll_jobs.specs.declared.ending.Ending.{Ending}
 use Rattle.onll_jobs.specs.Job.{Job, Say, reading, reading_whole, JobEnds, GoesOn}
 use Rattle.onll_jobs.specs.Images.{writing_images}
-use Rattle.onll_jobs.specs.RecoverJob.{Recovered, recovered, fault_words, recovered_line}
+use Rattle.onll_jobs.specs.RecoverJob.{Recovered, recovered, fault_line, recovered_line}
 
 -- What `replay INIT SCHEDULE LOGS SCRIPT..` does: it plays a schedule on the step core, crashes it, writes the images, and says
 -- the run and what recovery finds.
@@ -77,7 +77,7 @@ replay_report b w c keep r = flat_map line_text (run_lines b w c ++ crash_lines 
 -- ---- the job
 abbrev pub crash_says : {State Op Query Reply : Type 0} → Behaviour State Op Query Reply → Wording State Op Query Reply → CoreState State Op Query Reply → ℕ → Result Recovered LogsFault → Job
 crash_says b w c keep (Ok r) = Say Done (replay_report b w c keep r)
-crash_says b w c keep (Err fault) = Say BadLog (line_text (fault_words fault))
+crash_says b w c keep (Err fault) = Say BadLog (fault_line fault)
 
 -- a core of an object of this code, whose initial state these bytes say, crashes: its images are written, and then recovered
 abbrev pub crash_job : {State Op Query Reply : Type 0} → Behaviour State Op Query Reply → Wording State Op Query Reply → ℕ → List ℕ → List ℕ → CoreState State Op Query Reply → ℕ → Job

@@ -10,7 +10,7 @@ use Rattle.onll_model.specs.Segment.{Segment}
 use Rattle.onll_log.specs.declared.head.LogHead.{LogHead}
 use Rattle.onll_log.specs.Grammar.{Content, used_by, used_with}
 use Rattle.onll_core.specs.Core.{CoreThread, CoreState}
-use Rattle.onll_core.specs.Outcomes.{ends_of, script_of}
+use Rattle.onll_core.specs.Outcomes.{ends_of}
 use Rattle.onll_text.specs.Wording.{Wording}
 use Rattle.onll_text.specs.Lines.{call_lines, trace_line, node_lines, log_line, state_lines}
 use Rattle.onll_text.specs.Reports.{EndsRead, NodeReads, StateReads, FoldData}

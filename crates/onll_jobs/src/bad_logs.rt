@@ -1,7 +1,6 @@
 ghost use Rattle.std.specs.Prelude.{◌≡◌, ◌++◌, true, IfOk, OnOk};
-ghost use Rattle.onll_words.specs.Texts.{line_text};
 ghost use Rattle.onll_text.specs.Bytes.{begins_line};
-ghost use Rattle.onll_jobs.specs.RecoverJob.{merging_words, fault_words};
+ghost use Rattle.onll_jobs.specs.RecoverJob.{merging_line, fault_line};
 ghost use Rattle.onll_jobs.specs.declared.bad_logs.LogsFault.TheVariants.{NoMemory};
 
 use crate::answer::Answer;
@@ -34,7 +33,7 @@ impl<T: Drop> From<AllocFailed<T>> for LogsFault {
 /// The line of logs that do not merge.
 fn put_merging(fault: RecoverFault, out: &mut Report) -> Result<(), NoMemory>
     requires { begins_line out.old ≡ true }
-    ensures { OnOk result (out.new ≡ out.old ++ line_text (merging_words fault)) }
+    ensures { OnOk result (out.new ≡ out.old ++ merging_line fault) }
 {
     match fault {
         RecoverFault::NotThisRun { log } => out.line(&[
@@ -89,7 +88,7 @@ fn put_merging(fault: RecoverFault, out: &mut Report) -> Result<(), NoMemory>
 /// The line of logs that give no state.
 fn put_fault(fault: LogsFault, out: &mut Report) -> Result<(), NoMemory>
     requires { begins_line out.old ≡ true }
-    ensures { OnOk result (out.new ≡ out.old ++ line_text (fault_words fault)) }
+    ensures { OnOk result (out.new ≡ out.old ++ fault_line fault) }
 {
     match fault {
         LogsFault::NotLog { log } => out.line(&[
@@ -113,7 +112,7 @@ fn put_fault(fault: LogsFault, out: &mut Report) -> Result<(), NoMemory>
 
 /// The answer for logs that give no state.
 pub(crate) fn bad_logs(alloc: Global, fault: LogsFault) -> Result<Answer, NoMemory>
-    ensures { IfOk result (λ answer. (answer.ending ≡ Ending.BadLog) × (answer.text.items ≡ line_text (fault_words fault))) }
+    ensures { IfOk result (λ answer. (answer.ending ≡ Ending.BadLog) × (answer.text.items ≡ fault_line fault)) }
 {
     let mut out = Report::new(alloc);
     put_fault(fault, &mut out)?;

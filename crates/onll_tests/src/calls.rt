@@ -20,11 +20,13 @@ pub(crate) struct Program<'a> {
     pub(crate) failing_puts: &'a [u64],
 }
 
-/// How a call ended: its status, and what the sink had taken then.
+/// How a call ended: its status, what the sink had taken then, and whether the store or the sink counted
+/// a fault.
 #[derive(Drop)]
 pub(crate) struct Outcome {
     status: u8,
     taken: Vec<u8>,
+    failed: bool,
 }
 
 fn words_of(alloc: Global, texts: &[&str]) -> Result<Vec<String>, AllocError> {
@@ -78,9 +80,15 @@ impl<'a> Program<'a> {
         let words = words_of(alloc, self.words)?;
         let failing_puts = Vec::from_slice(alloc, self.failing_puts)?;
         let mut sink = MemSink::new(alloc, failing_puts);
+        let faults = store.faults();
         let status = onll_jobs::onll(alloc, &words, store, &mut sink);
         let taken = Vec::from_slice(alloc, sink.taken())?;
-        Ok(Outcome { status, taken })
+        let failed = store.faults() != faults || sink.faults() != 0;
+        Ok(Outcome {
+            status,
+            taken,
+            failed,
+        })
     }
 
     /// Runs the program over a store and a sink of its own.
@@ -102,9 +110,15 @@ pub(crate) fn fold(alloc: Global, init: &[u8], script: &[u8]) -> Result<Outcome,
 }
 
 impl Outcome {
+    /// Asserts the status, and that a fault was counted exactly where the status tells one.
+    fn expect_status(&self, rt: &impl Abort, case: &str, status: u8) {
+        assert_eq!(rt; self.status, status, "{case}");
+        assert_eq!(rt; self.failed, matches!(status, 5 | 6), "{case}: faults");
+    }
+
     /// Asserts the status, and that the output has this line.
     pub(crate) fn expect_line(&self, rt: &impl Abort, case: &str, status: u8, line: &str) {
-        assert_eq!(rt; self.status, status, "{case}");
+        self.expect_status(rt, case, status);
         let taken = str::from_utf8(&self.taken).unwrap_or("no text");
         assert!(rt;
             taken.lines().any(|said| said == line),
@@ -114,7 +128,7 @@ impl Outcome {
 
     /// Asserts the status and the whole text of a case. A failure shows the first line that differs.
     pub(crate) fn expect(&self, rt: &impl Abort, case: &str, status: u8, text: &str) {
-        assert_eq!(rt; self.status, status, "{case}");
+        self.expect_status(rt, case, status);
         let taken = str::from_utf8(&self.taken).unwrap_or("no text");
         let mut wanted = text.lines();
         for line in taken.lines() {

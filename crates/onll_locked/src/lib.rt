@@ -1,0 +1,9 @@
+//! The reference under one lock: the construction done one call at a time, as the plainest thing that meets the same report.
+#![tactic(auto)]
+
+mod ends;
+mod locked;
+mod progress;
+
+pub use ends::{LockedEnd, Next};
+pub use locked::Locked;

@@ -27,7 +27,7 @@ module _ {State Op Query Reply : Type 0} where
   failed_more (FenceFailed place ∷ ends) e = refl
   failed_more (Broken place ∷ ends) e = failed_more ends e
 
-  no_places : (calls : List (Call State Op Query Reply)) → places_in {State = State} {Op = Op} {Query = Query} {Reply = Reply} calls [] ≡ []
+  pub no_places : (calls : List (Call State Op Query Reply)) → places_in {State = State} {Op = Op} {Query = Query} {Reply = Reply} calls [] ≡ []
   no_places [] = refl
   no_places (c ∷ calls) = refl
 

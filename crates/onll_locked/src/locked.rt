@@ -3,6 +3,7 @@ ghost use Rattle.std.specs.List.{All};
 ghost use Rattle.onll_model.specs.declared.call.Call.TheVariants.{Update, Ask};
 ghost use Rattle.onll_model.specs.Calls.{updates_in};
 ghost use Rattle.onll_model.specs.Trace.{state_after};
+ghost use Rattle.onll_model.specs.Segment.{nodes_between};
 ghost use Rattle.onll_log.specs.Log.{LogState};
 ghost use Rattle.onll_locked.specs.Locked.{first_thread, first_state, next_call, failed_at, IsUpdate};
 ghost use Rattle.onll_locked.specs.DoNext.{IsLogOf, IsNewest, EndsSo, after_end, HasDone};
@@ -29,6 +30,14 @@ fn newest_available(flags: &[bool]) -> u64
         place -= 1;
     }
     place as u64
+}
+
+/// The nodes of the places above this one.
+fn window(trace: &[Node], below: u64) -> &[Node]
+    requires { below ≤ length trace.now }
+    ensures { result.now ≡ nodes_between trace.now below (length trace.now) }
+{
+    &trace[below as usize..]
 }
 
 /// What a call whose update has ended so comes to.
@@ -180,7 +189,8 @@ impl<O: Object + Drop> Locked<O> {
         requires next { IfSome (slice_get self.old.threads thread) (λ th. (next_call th ≡ Some (Update op)) × (failed_at th.ends ≡ None)) }
         requires there { thread < length self.old.threads }
         requires log { IsLogOf self.old thread log.old (length (P.means log.old.device).read) }
-        ensures { IfSome (slice_get self.old.threads thread) (λ th. HasDone O.means self.old thread th self.new log.old log.new (P.means log.old.device) (P.means log.new.device) result) }
+        ensures done { IfSome (slice_get self.old.threads thread) (λ th. HasDone O.means self.old thread th self.new log.old log.new (P.means log.old.device) (P.means log.new.device) result) }
+        ensures ready { IsLogOf self.new thread log.new (length (P.means log.new.device).read) }
     {
         let below = newest_available(&self.flags);
         let progress = &mut self.threads[thread as usize];
@@ -192,7 +202,7 @@ impl<O: Object + Drop> Locked<O> {
         self.trace.push_reserved(node);
         let reply = self.object.apply(op);
         let place = self.trace.len() as u64;
-        let fenced = log.append(place, &self.trace[below as usize..]).is_ok();
+        let fenced = log.append(place, window(&self.trace, below)).is_ok();
         self.flags.push_reserved(fenced);
         progress.order(LockedEnd::of_update(place, reply, fenced));
         next_of_update(place, fenced)

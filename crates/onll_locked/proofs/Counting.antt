@@ -53,4 +53,3 @@ below_most k (suc n) xs h = let a = below_most k n xs (λ t l. h t (omega arith)
 -- no more nodes than each thread's together
 pub few_in_all : (k n : ℕ) (xs : List Node) → ((t : ℕ) → t < n → count_by (is_of_thread t) xs ≤ k) → AllByRecursion (λ (x : Node). x.thread < n) xs → length xs ≤ k * n
 few_in_all k n xs h low = let a = below_most k n xs h in let b = below_all n xs low in omega arith
-

@@ -1,4 +1,4 @@
-use Rattle.std.proofs.Common.{◌≡◌, ◌≢◌, ℕ, zero, suc, ◌+◌, ◌-◌, ◌*◌, ◌<◌, ◌≤◌, ◌⊎◌, ⊎_elim, Bool, true, false, List, [], ◌∷◌, ◌++◌, length, take, drop, map, set, count_by, Option, Some, None, option_to_list, refl, sym, ap, ◌∙◌, subst, arith, append-nil, length-append, true≢false}
+use Rattle.std.proofs.Common.{◌≡◌, ◌≢◌, ℕ, suc, ◌+◌, ◌-◌, ◌*◌, ◌<◌, ◌≤◌, ⊎_elim, Bool, true, false, List, [], ◌∷◌, ◌++◌, length, take, drop, map, set, count_by, Option, Some, None, option_to_list, refl, sym, ap, ◌∙◌, subst, arith, append-nil, length-append, true≢false}
 use Rattle.std.specs.Prelude.{◌↔◌, IfSome}
 use Rattle.std.specs.List.{AllByRecursion, slice_get}
 use Rattle.std.specs.Option.{option_or}
@@ -7,14 +7,13 @@ use Rattle.onll_words.specs.declared.line.OpRow.{OpRow}
 use Rattle.onll_model.specs.declared.node.Node.{Node}
 use Rattle.onll_model.specs.declared.call.Call.{Call}
 use Rattle.onll_model.specs.declared.call.Call.TheVariants.{Update, Ask}
-use Rattle.onll_model.specs.declared.call.CallEnd.{CallEnd}
 use Rattle.onll_model.specs.Object.{Behaviour}
 use Rattle.onll_model.specs.Calls.{updates_in}
 use Rattle.onll_model.specs.Trace.{node_at, is_of_thread, state_after, after_row, reply_after, answer_after}
 use Rattle.onll_model.specs.Legal.{place_in, at_place, placed_updates, placed_rows, EachEnd, HasReply, HasAnswer, IsLegalThread}
 use Rattle.onll_model.specs.Frames.{is_available}
 use Rattle.onll_model.specs.Events.{next_node}
-use Rattle.onll_model.proofs.Lists.{same_some, some_not_none, inside, present, at_set, all_append, all_map, all_at, take_before, take_all}
+use Rattle.onll_model.proofs.Lists.{same_some, some_not_none, inside, present, at_set, all_append, all_map, take_before, take_all}
 use Rattle.onll_model.proofs.States.{state_after-append}
 use Rattle.onll_model.proofs.Traces.{node_place, node_snoc, count_own, count_other, numbered_longer}
 use Rattle.onll_model.proofs.Flags.{flag_before, available_low}
@@ -22,9 +21,9 @@ use Rattle.onll_model.proofs.Ends.{each_end_more, placed_update, placed_ask, row
 use Rattle.onll_log.specs.Encoding.{CanHold}
 use Rattle.onll_locked.specs.declared.ends.LockedEnd.{LockedEnd}
 use Rattle.onll_locked.specs.declared.ends.LockedEnd.TheVariants.{Answered, FenceFailed, Broken}
-use Rattle.onll_locked.specs.Locked.{LockedThread, LockedState, end_of, ends_of, script_of, next_call, failed_in, failed_at, places_of, places_in, own_places, last_in, updates_left, update_end, HasNoNode, HasNode}
+use Rattle.onll_locked.specs.Locked.{LockedThread, LockedState, end_of, ends_of, script_of, next_call, failed_in, failed_at, places_of, own_places, last_in, updates_left, update_end, HasNoNode, HasNode}
 use Rattle.onll_locked.specs.DoNext.{with_end, after_end, after_node, EndsSo}
-use Rattle.onll_locked.specs.Kept.{EachLocked, FlagsTell, AgreeCounts, IsWithin, KeepsThread, KeepsLocked, IsLegalLocked}
+use Rattle.onll_locked.specs.Kept.{EachLocked, AgreeCounts, IsWithin, KeepsThread, KeepsLocked, IsLegalLocked}
 use Rattle.onll_locked.proofs.Places.{last_more, failed_more, places_more, left_update, left_ask}
 use Rattle.onll_locked.proofs.Reports.{end_more, next_is, within_longer, reads_order, updates_order, MayEnd, legal_other, legal_more, legal_end, all_legal}
 use Rattle.onll_locked.proofs.Counting.{few_in_all}
@@ -94,20 +93,26 @@ module _ {State Op Query Reply : Type 0} (b : Behaviour State Op Query Reply) wh
     own_end (Some (Update op)) (FenceFailed place) is so = absurd so
     own_end (Some (Update op)) (Broken place) is so =
         let e : LockedEnd State Op Query Reply = Broken place in
-        let next = next_is th.script th.ends (Update op) is in
-        (own_ended e (Some (Update op)) is (Update op) is refl refl
-        (legal_end b c.initial c.trace t th.script th.ends mine.legal mine.within (Update op) e is (placed_update b th.script (ends_of th) op (end_of e) next ∙ append-nil (placed_updates b th.script (ends_of th))) tt tt
-        (updates_order (length c.trace) op (end_of e) th.script (ends_of th) tt mine.within) (subst (λ (z : Option ℕ). MayEnd z (Update op) e) (sym so) refl))
-        tt (left_less e (Some (Update op)) is (Update op) is), refl, (refl, refl))
+        let next = next_is th.script th.ends (Update op) is in (
+          own_ended e (Some (Update op)) is (Update op) is refl refl
+              (legal_end b c.initial c.trace t th.script th.ends mine.legal mine.within (Update op) e is (placed_update b th.script (ends_of th) op (end_of e) next ∙ append-nil (placed_updates b th.script (ends_of th))) tt tt
+              (updates_order (length c.trace) op (end_of e) th.script (ends_of th) tt mine.within) (subst (λ (z : Option ℕ). MayEnd z (Update op) e) (sym so) refl))
+              tt (left_less e (Some (Update op)) is (Update op) is),
+          refl,
+          (refl, refl),
+        )
     own_end (Some (Ask query)) (Answered place reply) is so =
         let e : LockedEnd State Op Query Reply = Answered place reply in
         let next = next_is th.script th.ends (Ask query) is in
         let high = so.0 in
-        let all : take place c.trace ≡ c.trace = ap (λ (n : ℕ). take n c.trace) high ∙ take_all c.trace in
-        (own_ended e (Some (Ask query)) is (Ask query) is refl refl
-        (legal_end b c.initial c.trace t th.script th.ends mine.legal mine.within (Ask query) e is (placed_ask b th.script (ends_of th) query (end_of e) next) tt (omega arith, omega arith, so.1 ∙ ap (λ (l : List Node). answer_after b c.initial l query) (sym all))
-        (reads_order (length c.trace) query reply place th.script (ends_of th) (omega arith) mine.within) (may (failed_at th.ends)))
-        (omega arith) (left_less e (Some (Ask query)) is (Ask query) is), refl, (refl, refl))
+        let all : take place c.trace ≡ c.trace = ap (λ (n : ℕ). take n c.trace) high ∙ take_all c.trace in (
+          own_ended e (Some (Ask query)) is (Ask query) is refl refl
+              (legal_end b c.initial c.trace t th.script th.ends mine.legal mine.within (Ask query) e is (placed_ask b th.script (ends_of th) query (end_of e) next) tt (omega arith, omega arith, so.1 ∙ ap (λ (l : List Node). answer_after b c.initial l query) (sym all))
+              (reads_order (length c.trace) query reply place th.script (ends_of th) (omega arith) mine.within) (may (failed_at th.ends)))
+              (omega arith) (left_less e (Some (Ask query)) is (Ask query) is),
+          refl,
+          (refl, refl),
+        )
       where
         may : (z : Option ℕ) → MayEnd {State = State} {Op = Op} {Query = Query} {Reply = Reply} z (Ask query) (Answered place reply)
         may None = tt
@@ -225,9 +230,10 @@ module _ {State Op Query Reply : Type 0} (b : Behaviour State Op Query Reply) wh
 
       own_flags : (flag : Bool) (p : ℕ) (x : Node) → node_at longer p ≡ Some x → x.thread ≡ t → (is_available (c.flags ++ flag ∷ []) p ≡ false) ↔ (failed_at (th.ends ++ end flag ∷ []) ≡ Some p)
       own_flags flag p x here own = ⊎_elim
-          (λ (e : node_at c.trace p ≡ Some x). let low = (node_place c.trace p x e).1 in
-          (λ h. some_not_none p (sym ((k.flags_tell t th at p x e own).0 (sym (flags_before flag p low) ∙ h)) ∙ whole),
-          λ h. absurd (end_old flag p low (sym (failed_now flag) ∙ h))))
+          (λ (e : node_at c.trace p ≡ Some x). let low = (node_place c.trace p x e).1 in (
+            λ h. some_not_none p (sym ((k.flags_tell t th at p x e own).0 (sym (flags_before flag p low) ∙ h)) ∙ whole),
+            λ h. absurd (end_old flag p low (sym (failed_now flag) ∙ h)),
+          ))
           (λ (e : (p ≡ suc (length c.trace)) × (node ≡ x)). let both = end_flag flag p e.0 in let same = ap (is_available (c.flags ++ flag ∷ [])) e.0 ∙ flag_here flag in
           (λ h. failed_now flag ∙ both.0 (sym same ∙ h), λ h. same ∙ both.1 (sym (failed_now flag) ∙ h)))
           (node_snoc c.trace node x p here)

@@ -5,3 +5,5 @@ pub mod Keeping
 pub mod Updates
 pub mod Made
 pub mod Firsts
+pub mod Ready
+pub mod Merged

@@ -1,13 +1,13 @@
-use Rattle.std.proofs.Common.{◌≡◌, ℕ, suc, ◌+◌, ◌*◌, ◌<◌, ◌≤◌, Bool, true, false, List, [], ◌∷◌, ◌++◌, length, set, get_or, Option, Some, None, Result, refl, sym, ap, ◌∙◌, subst, arith, count_by}
+use Rattle.std.proofs.Common.{◌≡◌, ℕ, ◌+◌, ◌<◌, ◌≤◌, Bool, true, false, List, [], ◌∷◌, ◌++◌, length, set, get_or, Option, Some, None, Result, refl, sym, ap, ◌∙◌, subst, arith}
 use Rattle.std.specs.Prelude.{IfSome, is_ok}
 use Rattle.std.specs.List.{slice_get}
 use Rattle.onll_words.specs.declared.line.OpRow.{OpRow}
 use Rattle.onll_model.specs.declared.node.Node.{Node}
 use Rattle.onll_model.specs.declared.call.Call.TheVariants.{Update}
 use Rattle.onll_model.specs.Object.{Behaviour}
-use Rattle.onll_model.specs.Trace.{state_after, reply_after}
+use Rattle.onll_model.specs.Trace.{reply_after}
 use Rattle.onll_model.specs.Segment.{nodes_between}
-use Rattle.onll_model.specs.Events.{next_node, window}
+use Rattle.onll_model.specs.Events.{next_node}
 use Rattle.onll_pmem.specs.declared.pmem.FenceFailed.{FenceFailed}
 use Rattle.onll_pmem.specs.Pmem.{DeviceView}
 use Rattle.onll_log.specs.Log.{LogState}

@@ -1,14 +1,13 @@
-use Rattle.std.proofs.Common.{◌≡◌, ℕ, zero, suc, ◌+◌, ◌≤◌, ◌<◌, ◌⊎◌, Bool, true, false, List, [], ◌∷◌, ◌++◌, length, drop, map, Option, Some, None, option_to_list, refl, sym, ap, ◌∙◌, subst, arith, append-nil, append_assoc, length-append}
+use Rattle.std.proofs.Common.{◌≡◌, ℕ, zero, suc, ◌+◌, ◌≤◌, ◌<◌, List, [], ◌∷◌, ◌++◌, length, drop, Option, Some, None, refl, sym, ap, ◌∙◌, subst, arith, append-nil, append_assoc, length-append}
 use Rattle.std.specs.List.{slice_get}
 use Rattle.std.specs.Option.{option_or}
 use Rattle.onll_model.specs.declared.call.Call.{Call}
 use Rattle.onll_model.specs.declared.call.Call.TheVariants.{Update, Ask}
 use Rattle.onll_model.specs.Calls.{updates_in}
-use Rattle.onll_model.specs.Legal.{place_in}
 use Rattle.onll_model.proofs.Lists.{same_some, some_not_none, inside}
 use Rattle.onll_locked.specs.declared.ends.LockedEnd.{LockedEnd}
 use Rattle.onll_locked.specs.declared.ends.LockedEnd.TheVariants.{Answered, FenceFailed, Broken}
-use Rattle.onll_locked.specs.Locked.{LockedThread, end_of, failed_in, failed_at, places_of, places_in, own_places, last_in, HasNode, HasNoNode, next_call}
+use Rattle.onll_locked.specs.Locked.{LockedThread, failed_in, failed_at, places_of, places_in, own_places, last_in, HasNode, HasNoNode, next_call}
 use Rattle.onll_locked.specs.DoNext.{with_end}
 use Rattle.onll_locked.specs.Kept.{KeepsProgress}
 

@@ -1,4 +1,4 @@
-use Rattle.std.proofs.Common.{◌≡◌, ◌≢◌, ℕ, zero, suc, ◌+◌, ◌-◌, ◌<◌, ◌≤◌, List, [], ◌∷◌, ◌++◌, length, take, drop, map, Option, Some, None, refl, sym, ap, ◌∙◌, subst, arith, append-nil, length-append}
+use Rattle.std.proofs.Common.{◌≡◌, ◌≢◌, ℕ, suc, ◌+◌, ◌-◌, ◌<◌, ◌≤◌, List, [], ◌∷◌, ◌++◌, length, map, Option, Some, None, refl, sym, ap, ◌∙◌, subst, arith, append-nil, length-append}
 use Rattle.std.specs.Prelude.{IfSome}
 use Rattle.std.specs.List.{slice_get}
 use Rattle.std.specs.Option.{option_or}
@@ -15,7 +15,7 @@ use Rattle.onll_model.proofs.Lists.{take_before, same_some, some_not_none}
 use Rattle.onll_model.proofs.Ends.{each_end_more, each_later_more, each_end_map, rows_other}
 use Rattle.onll_locked.specs.declared.ends.LockedEnd.{LockedEnd}
 use Rattle.onll_locked.specs.declared.ends.LockedEnd.TheVariants.{Answered, FenceFailed, Broken}
-use Rattle.onll_locked.specs.Locked.{LockedThread, end_of, failed_in, failed_at, ends_of, script_of}
+use Rattle.onll_locked.specs.Locked.{LockedThread, end_of, failed_at, ends_of, script_of}
 use Rattle.onll_locked.specs.Kept.{IsWithin}
 
 -- A thread's part of the report, with one outcome more, and with a longer trace.

@@ -1,4 +1,4 @@
-use Rattle.std.proofs.Common.{◌≡◌, ◌≢◌, ℕ, zero, suc, ◌+◌, ◌-◌, ◌*◌, ◌<◌, ◌≤◌, ◌⊎◌, ⊎_elim, Bool, true, false, List, [], ◌∷◌, ◌++◌, length, take, drop, set, get_or, Option, Some, None, Result, Ok, Err, refl, sym, ap, ◌∙◌, subst, arith, length-append, true≢false}
+use Rattle.std.proofs.Common.{◌≡◌, ◌≢◌, ℕ, zero, suc, ◌+◌, ◌-◌, ◌*◌, ◌<◌, ◌≤◌, ⊎_elim, Bool, true, false, List, [], ◌∷◌, ◌++◌, length, take, get_or, Option, Some, None, Result, Ok, Err, refl, sym, ap, ◌∙◌, subst, arith, true≢false}
 use Rattle.std.specs.Prelude.{IfSome, OnOk, OnErr, is_ok, is_err, is_some}
 use Rattle.std.specs.List.{All, AllByRecursion, slice_get}
 use Rattle.std.specs.Option.{option_or}
@@ -6,16 +6,13 @@ use Rattle.std.proofs.lemmas.List.{length-set}
 use Rattle.std.proofs.lemmas.List.Elements.{All-from_recursion}
 use Rattle.std.proofs.lemmas.Option.{slice_get_read}
 use mathlib.Core.Logic.{dite}
-use Rattle.onll_words.specs.declared.line.OpRow.{OpRow}
 use Rattle.onll_model.specs.declared.node.Node.{Node}
-use Rattle.onll_model.specs.declared.call.Call.{Call}
 use Rattle.onll_model.specs.declared.call.Call.TheVariants.{Update}
 use Rattle.onll_model.specs.Object.{Behaviour}
-use Rattle.onll_model.specs.Trace.{node_at, state_after, reply_after}
+use Rattle.onll_model.specs.Trace.{node_at, reply_after}
 use Rattle.onll_model.specs.Segment.{Segment, nodes_between, last_place}
-use Rattle.onll_model.specs.Frames.{is_available}
 use Rattle.onll_model.specs.Events.{next_node, window}
-use Rattle.onll_model.proofs.Lists.{same_some, some_not_none, inside, present, set_here, set_else, at_window, length_window, all_at, all_from, all_take, all_drop, all_append}
+use Rattle.onll_model.proofs.Lists.{same_some, some_not_none, present, set_here, at_window, length_window, all_at, all_take, all_drop, all_append}
 use Rattle.onll_model.proofs.Traces.{node_place, node_snoc, few_nodes}
 use Rattle.onll_model.proofs.Flags.{available_low}
 use Rattle.onll_model.proofs.Segments.{last_snoc}
@@ -28,11 +25,11 @@ use Rattle.onll_locked.specs.declared.ends.LockedEnd.{LockedEnd}
 use Rattle.onll_locked.specs.declared.ends.LockedEnd.TheVariants as ended
 use Rattle.onll_locked.specs.declared.ends.Next.{Next}
 use Rattle.onll_locked.specs.declared.ends.Next.TheVariants as nexts
-use Rattle.onll_locked.specs.Locked.{LockedThread, LockedState, next_call, failed_in, failed_at, own_places, last_in, updates_left, places_of, update_end, HasNode}
-use Rattle.onll_locked.specs.DoNext.{with_end, after_end, after_node, IsLogOf, IsNewest, IsLogged, IsAnswered, HasDone, EndsSo}
-use Rattle.onll_locked.specs.Kept.{KeepsThread, KeepsLocked}
-use Rattle.onll_locked.proofs.Places.{last_more, failed_more, places_more, next_inside}
-use Rattle.onll_locked.proofs.Keeping.{kept_node, kept_end, end_free, node_fits, one_more, short, fewer, few_own, end_has_node}
+use Rattle.onll_locked.specs.Locked.{LockedThread, LockedState, next_call, failed_in, failed_at, own_places, last_in, updates_left, places_of, update_end}
+use Rattle.onll_locked.specs.DoNext.{with_end, after_node, IsLogOf, IsNewest, IsLogged, IsAnswered, HasDone}
+use Rattle.onll_locked.specs.Kept.{KeepsLocked}
+use Rattle.onll_locked.proofs.Places.{last_more, failed_more, places_more}
+use Rattle.onll_locked.proofs.Keeping.{node_fits, one_more, short, fewer}
 
 -- What an update under the lock finds and leaves.
 
@@ -169,7 +166,9 @@ module _ {State Op Query Reply : Type 0} (b : Behaviour State Op Query Reply) (n
         logged =
             let last = said_of (λ (z : LockedThread State Op Query Reply). last_place 0 log.entries ≡ last_in 0 (own_places z)) (slice_get c.threads t) th at ready.last in
             let low = last_low in
-            record { below = below; newest = newest; head = appended.head; entries = appended.entries; above = omega arith; fences = appended.fences; lines = appended.lines }
+            let high = below_low in
+            let s = size in
+            record { below = below; newest = newest; own = omega arith; head = appended.head; entries = appended.entries; above = omega arith; fences = appended.fences; lines = appended.lines }
 
         -- what the call has done, by its answer
         pub has_done : (next : Next) → (fenced ≡ true → next ≡ nexts.Answered) → (fenced ≡ false → next ≡ nexts.FenceFailed (length c.trace + 1)) → HasDone b c t th after log log' was is' next

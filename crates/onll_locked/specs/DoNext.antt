@@ -63,6 +63,7 @@ pub record IsNewest (flags : List Bool) (place : ℕ) : Type 0 where
 pub record IsLogged {Device : Type 0} (flags : List Bool) (trace : List Node) (old new : LogState Device) (was is : DeviceView) : Type 0 where
   pub below : ℕ
   pub newest : IsNewest flags below
+  pub own : below < length trace
   pub head : new.head ≡ old.head
   pub entries : new.entries ≡ old.entries ++ window trace below (length trace) ∷ []
   pub above : last_place 0 old.entries ≤ below

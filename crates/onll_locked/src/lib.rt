@@ -2,8 +2,10 @@
 #![tactic(auto)]
 
 mod ends;
+mod laws;
 mod locked;
 mod progress;
 
 pub use ends::{LockedEnd, Next};
+pub use laws::{answer_law, whole_laws};
 pub use locked::Locked;

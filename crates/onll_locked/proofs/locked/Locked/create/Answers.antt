@@ -1,4 +1,4 @@
-use Rattle.std.proofs.Common.{◌∙◌, sym}
+use Rattle.std.proofs.Common.{◌∙◌}
 use Rattle.onll_locked.proofs.Firsts.{created_keeps}
 use Rattle.onll_locked.proofs.locked.Locked.create.Goals as goal
 

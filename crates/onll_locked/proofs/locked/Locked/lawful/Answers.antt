@@ -1,7 +1,6 @@
-use Rattle.std.proofs.Common.{◌≡◌, subst}
+use Rattle.std.proofs.Common.{subst}
 use Rattle.onll_locked.specs.Kept.{IsLegalLocked, EachLocked, AgreeCounts}
 use Rattle.onll_locked.proofs.Keeping.{keeps_legal, keeps_counts}
-use Rattle.onll_locked.proofs.Made.{reads}
 use Rattle.onll_locked.proofs.locked.Locked.lawful.Goals as goal
 
 pub returns-clause-legal : goal.returns-clause-legal

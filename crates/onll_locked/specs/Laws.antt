@@ -1,6 +1,8 @@
-use Rattle.std.specs.Prelude.{◌≡◌, ℕ, ◌<◌, ◌↔◌, List, [], Some, None, Ok, slice_get, slice_set}
+use Rattle.std.specs.Prelude.{◌≡◌, ℕ, ◌+◌, ◌*◌, ◌<◌, ◌≤◌, ◌↔◌, false, List, [], length, Some, None, Ok, slice_get, slice_set}
 use Rattle.onll_model.specs.declared.node.Node.{Node}
+use Rattle.onll_model.specs.declared.call.Call.{Call}
 use Rattle.onll_model.specs.Object.{Behaviour}
+use Rattle.onll_model.specs.Calls.{updates_in}
 use Rattle.onll_pmem.specs.Pmem.{DeviceView}
 use Rattle.onll_log.specs.declared.head.LogHead.{LogHead}
 use Rattle.onll_log.specs.Grammar.{Content}
@@ -9,8 +11,8 @@ use Rattle.onll_merge.specs.Merge.{merge}
 use Rattle.onll_merge.specs.Laws.{HeadsFit}
 use Rattle.onll_locked.specs.declared.ends.Next.{Next}
 use Rattle.onll_locked.specs.declared.ends.Next.TheVariants.{Done, FenceFailed, Broken}
-use Rattle.onll_locked.specs.Locked.{LockedThread, LockedState, next_call, failed_at, IsUpdate}
-use Rattle.onll_locked.specs.DoNext.{HasDone}
+use Rattle.onll_locked.specs.Locked.{LockedThread, LockedState, first_state, next_call, failed_at, IsUpdate}
+use Rattle.onll_locked.specs.DoNext.{IsLogOf, HasDone}
 use Rattle.onll_locked.specs.Whole.{HoldWhole, AreEmpty, content_read}
 
 -- Laws of what a call does, whatever code does it.
@@ -38,3 +40,10 @@ module _ {State Op Query Reply : Type 0} (b : Behaviour State Op Query Reply) (D
 
   abbrev pub AnswerLaw : Type 0
   AnswerLaw = (c new : LockedState State Op Query Reply) (t : ℕ) (th : LockedThread State Op Query Reply) (log log' : LogState Device) (was is : DeviceView) (next : Next) → HasDone b c t th new log log' was is next → AnswersSo c new t th was is next
+
+-- A log of a run's head that has no entry, isn't broken and has lines for all updates of the thread's script is the thread's
+-- before any call.
+abbrev pub FirstLogLaw : Type 0 → Type 0 → Type 0 → Type 0 → Type 0 → Type 0
+FirstLogLaw State Op Query Reply Device = (initial : State) (scripts : List (List (Call State Op Query Reply))) (script : List (Call State Op Query Reply)) (t : ℕ) (log : LogState Device) (lines : ℕ)
+    → slice_get scripts t ≡ Some script → log.head.thread ≡ t → log.head.threads ≡ length scripts → log.entries ≡ [] → log.broken ≡ false → 1 + (length scripts + 1) * updates_in script ≤ lines
+    → IsLogOf (first_state initial scripts) t log lines

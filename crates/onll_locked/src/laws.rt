@@ -1,4 +1,4 @@
-ghost use Rattle.onll_locked.specs.Laws.{BegunLaw, MergedLaw, KeptLaw, AnswerLaw};
+ghost use Rattle.onll_locked.specs.Laws.{BegunLaw, MergedLaw, KeptLaw, AnswerLaw, FirstLogLaw};
 
 use onll_model::Object;
 use onll_pmem::Pmem;
@@ -14,4 +14,9 @@ pub fn whole_laws<O: Object, P: Pmem>()
 /// When a call is answered with Done, Broken and FenceFailed.
 pub fn answer_law<O: Object, P: Pmem>()
     ensures answers { AnswerLaw O.means P }
+{}
+
+/// A new log with lines for all updates of a thread's script is one that the thread's first call takes.
+pub fn first_log_law<O: Object, P: Pmem>()
+    ensures first { FirstLogLaw O O.Op O.Query O.Reply P }
 {}

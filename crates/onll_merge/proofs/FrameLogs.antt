@@ -78,7 +78,7 @@ within_log : (trace : List Node) (ss : List Segment) → AllByRecursion (Agrees 
 within_log trace [] a = omega arith
 within_log trace (s ∷ ss) a = let here = a.0.in_trace in let rest = within_log trace ss a.1 in omega arith
 
-within_logs : (trace : List Node) (logs : List Content) → EachSegment (Agrees trace) logs → top_of logs ≤ length trace
+pub within_logs : (trace : List Node) (logs : List Content) → EachSegment (Agrees trace) logs → top_of logs ≤ length trace
 within_logs trace [] a = omega arith
 within_logs trace (c ∷ cs) a = let here = within_log trace c.entries a.0 in let rest = within_logs trace cs a.1 in omega arith
 

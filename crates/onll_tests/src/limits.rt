@@ -1,6 +1,6 @@
 //! How many bytes of a file each command reads at most: a longer file isn't read whole.
 
-ghost use Rattle.std.proofs.Common.{refl};
+ghost use Rattle.std.specs.Prelude.{refl};
 ghost use Rattle.onll_outside.specs.MemStore.{store_of};
 
 use crate::calls::{Program, words_of};

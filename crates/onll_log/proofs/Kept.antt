@@ -1,23 +1,28 @@
 -- A log over a device: what making it leaves, and what an append leaves.
-use Rattle.std.proofs.Common.{ℕ, suc, ◌≡◌, ◌+◌, ◌-◌, ◌*◌, ◌^◌, ◌<◌, ◌≤◌, Bool, true, false, true≢false, List, [], ◌∷◌, ◌++◌, length, sym, refl, ap, ◌∙◌, subst, arith, append-nil, length-append, Result, Ok, Err}
-use Rattle.std.specs.Prelude.{OnOk, OnErr, Option, is_err}
+use Rattle.std.proofs.Common.{ℕ, zero, suc, ◌≡◌, ◌+◌, ◌-◌, ◌*◌, ◌^◌, ◌<◌, ◌≤◌, Bool, true, false, true≢false, List, [], ◌∷◌, ◌++◌, length, get_or, drop, sym, refl, ap, ◌∙◌, subst, arith, append-nil, length-append, Result, Ok, Err}
+use Rattle.std.specs.Prelude.{OnOk, OnErr, Option, Some, is_err}
 use Rattle.std.specs.List.{All}
-use Rattle.std.proofs.lemmas.List.{length-replicate, get_or-append_right, get_or-replicate, take_at}
+use Rattle.std.proofs.lemmas.List.{length-map, length-replicate, get_or-append_right, get_or-replicate, take_at}
 use Rattle.std.proofs.lemmas.List.Elements.{recursion_from_All}
 use Rattle.onll_model.specs.declared.node.Node.{Node}
-use Rattle.onll_model.specs.Segment.{Segment, Rises, last_place}
+use Rattle.onll_model.specs.Segment.{Segment, last_place}
 use Rattle.onll_pmem.specs.Device.{line_at, zero_line, zero_lines, AllBacked, FillsLines}
-use Rattle.onll_pmem.specs.Pmem.{Told, DeviceView, told_fenced, ToldLines, ToldBacked, ToldSettled}
+use Rattle.onll_pmem.specs.Pmem.{Told, DeviceView, EightWords, told_fenced, ToldLines, ToldBacked, ToldSettled}
 use Rattle.onll_pmem.proofs.Devices.{AllBacked-even, KeepsTold-backed, ToldBacked-fence, ToldSettled-fence}
 use Rattle.onll_log.specs.declared.head.LogHead.{LogHead}
 use Rattle.onll_log.specs.Head.{FitsHead, head_line}
 use Rattle.onll_log.specs.Encoding.{CanHold, FitsNode, FitsEntry, FitEntries, entry_line, entry_lines, log_lines, node_lines}
-use Rattle.onll_log.specs.Grammar.{lines_in}
-use Rattle.onll_log.specs.Torn.{log_image}
-use Rattle.onll_log.specs.Log.{entries_read, free_of, but_last, placed_lines, Puts, HoldsLog, KeepsLog, IsClean, HasHeader, IsMade, Appends}
+use Rattle.onll_log.specs.declared.decoded.Decoded.{Decoded}
+use Rattle.onll_log.specs.declared.decoded.Entry.{Entry}
+use Rattle.onll_log.specs.Decoded.{segment_in, segments_in, content_in}
+use Rattle.onll_log.specs.Grammar.{content_of, are_zero_lines, lines_in, used_with, used_by}
+use Rattle.onll_log.specs.Written.{IsWritten}
+use Rattle.onll_log.specs.Torn.{IsLine, Holds, log_image}
+use Rattle.onll_log.specs.Log.{entries_read, free_of, but_last, placed_lines, Puts, HoldsLog, KeepsLog, EndsInZeros, IsClean, HasHeader, IsMade, Appends}
 use Rattle.onll_log.proofs.Lines.{AreLines-entry_lines}
 use Rattle.onll_log.proofs.Encoded.{entries_from-entries_lines, entries_from-zero_lines, length-entry_lines, length-log_lines, FitEntries-append}
 use Rattle.onll_log.proofs.Torn.{log_image-more}
+use Rattle.onll_log.proofs.Written.{IsWritten-Holds, log_image-Holds}
 use Rattle.onll_log.proofs.Placed.{placed_lines-zeros, FillsLines-zeros, line_at-placed, length-placed_lines}
 
 -- ---- logs as read
@@ -37,10 +42,6 @@ line_at-log_image head ss zeros line after before =
 pub lines_in-more : (ss : List Segment) (s : Segment) → lines_in (ss ++ s ∷ []) ≡ lines_in ss + suc (length s.nodes)
 lines_in-more [] s = omega arith
 lines_in-more (r ∷ ss) s = let h = lines_in-more ss s in omega arith
-
-pub Rises-more : (last : ℕ) (ss : List Segment) (s : Segment) → Rises last ss → last_place last ss + length s.nodes ≤ s.place → Rises last (ss ++ s ∷ [])
-Rises-more last [] s r l = (l, tt)
-Rises-more last (r ∷ ss) s rs l = (rs.0, Rises-more r.place ss s rs.1 l)
 
 pub last_place-more : (last : ℕ) (ss : List Segment) (s : Segment) → last_place last (ss ++ s ∷ []) ≡ s.place
 last_place-more last [] s = refl
@@ -100,7 +101,6 @@ KeepsLog-made old new head f few lines m a =
       holds = record {
         fits = f;
         fit = tt;
-        rises = tt;
         within = omega arith;
         read = m.header.read ∙ ap (log_image head []) to;
         settled = λ _. m.settled;
@@ -111,6 +111,63 @@ KeepsLog-made old new head f few lines m a =
       count_is = refl;
       last_is = refl;
       backed = a;
+      few = omega arith;
+      fewer = omega arith;
+    })
+
+-- ---- a log is opened
+-- lines that hold a log, with zeros after it
+pub IsLog-opened : (read : List (List ℕ)) (log : Decoded) (head : LogHead) → EightWords read → log.head ≡ Some head → content_of read ≡ Some (content_in log) → EndsInZeros read (content_in log)
+    → IsWritten read head (segments_in log.entries) × ((used_by (content_in log) ≡ 1 + lines_in (segments_in log.entries)) × (read ≡ log_image head (segments_in log.entries) (free_of (length read) (segments_in log.entries))))
+IsLog-opened read log head eight h found zeros =
+    let ss : List Segment = segments_in log.entries in
+    let eights = recursion_from_All IsLine read eight in
+    let used : used_by (content_in log) ≡ 1 + lines_in ss = ap (λ (o : Option LogHead). used_with o ss) h in
+    let holds : Holds read head ss = found ∙ ap (λ (o : Option LogHead). Some (record { head = o; entries = ss })) h in (
+      IsWritten-Holds read head ss eights holds,
+      (used, log_image-Holds read head ss eights holds (subst (λ (n : ℕ). are_zero_lines (drop n read) ≡ true) used zeros)),
+    )
+
+pub used-opened : (read : List (List ℕ)) (log : Decoded) (head : LogHead) → EightWords read → log.head ≡ Some head → content_of read ≡ Some (content_in log) → EndsInZeros read (content_in log) → used_by (content_in log) ≤ length read
+used-opened read log head eight h found zeros =
+    let ss : List Segment = segments_in log.entries in let o = IsLog-opened read log head eight h found zeros in let used = o.1.0 in
+    let len = length-log_lines head ss in let all = ap length o.0.lines ∙ length-append (log_lines head ss) (drop (used_with (Some head) ss) read) in omega arith
+
+pub last_place-last : (es : List Entry) (first k : ℕ) (d : Entry) → length es ≡ suc k → last_place first (segments_in es) ≡ (get_or es k d).place
+last_place-last [] first k d l = absurd (omega arith)
+last_place-last (e ∷ []) first zero d l = refl
+last_place-last (e ∷ f ∷ es) first zero d l = absurd (omega arith)
+last_place-last (e ∷ []) first (suc k) d l = absurd (omega arith)
+last_place-last (e ∷ f ∷ es) first (suc k) d l = last_place-last (f ∷ es) e.place k d (omega arith)
+
+pub entries_read-opened : (read : List (List ℕ)) (log : Decoded) (head : LogHead) → EightWords read → log.head ≡ Some head → content_of read ≡ Some (content_in log) → EndsInZeros read (content_in log)
+    → entries_read head read ≡ segments_in log.entries
+entries_read-opened read log head eight h found zeros =
+    let ss : List Segment = segments_in log.entries in let o = IsLog-opened read log head eight h found zeros in
+    ap (entries_read head) o.1.1 ∙ entries_read-log_image head ss (free_of (length read) ss) o.0.fit_entries
+
+pub KeepsLog-opened : (d : DeviceView) (log : Decoded) (head : LogHead) (used count last : ℕ) → EightWords d.read → length d.read < 2 ^ 64 → ToldLines d.told d.read → d.fences < 2 ^ 32 → ToldSettled d.told d.read
+    → log.head ≡ Some head → content_of d.read ≡ Some (content_in log) → EndsInZeros d.read (content_in log)
+    → used ≡ used_by (content_in log) → count ≡ length log.entries → last ≡ last_place 0 (segments_in log.entries)
+    → KeepsLog d head (entries_read head d.read) used count last 0 false
+KeepsLog-opened d log head used count last eight lines told few settled h found zeros u n l =
+    let ss : List Segment = segments_in log.entries in let o = IsLog-opened d.read log head eight h found zeros in let used_is = o.1.0 in
+    let len : length (log_lines head ss) ≡ 1 + lines_in ss = length-log_lines head ss in
+    let all = ap length o.0.lines ∙ length-append (log_lines head ss) (drop (used_with (Some head) ss) d.read) in
+    subst (λ (ts : List Segment). KeepsLog d head ts used count last 0 false) (sym (entries_read-opened d.read log head eight h found zeros)) (record {
+      holds = record {
+        fits = o.0.fits_head;
+        fit = o.0.fit_entries;
+        within = omega arith;
+        read = o.1.1;
+        settled = λ _. settled;
+        pending = λ e. absurd (true≢false (sym e));
+      };
+      lines = lines;
+      used_is = u ∙ used_is;
+      count_is = n ∙ sym (length-map log.entries segment_in);
+      last_is = l;
+      backed = ToldBacked-settled d.told d.read told settled;
       few = omega arith;
       fewer = omega arith;
     })
@@ -185,10 +242,10 @@ broke (Ok x) P h e = absurd (true≢false (sym e))
 broke (Err x) P h e = h
 
 pub KeepsLog-more : {T E : Type 0} (r : Result T E) (old mid new : DeviceView) (head : LogHead) (ss : List Segment) (s : Segment) (used count last fences : ℕ) (broken : Bool)
-    → KeepsLog old head ss used count last fences false → FitsEntry head.threads s → last_place 0 ss + length s.nodes ≤ s.place → length s.nodes + 1 ≤ free_of (length old.read) ss
+    → KeepsLog old head ss used count last fences false → FitsEntry head.threads s → length s.nodes + 1 ≤ free_of (length old.read) ss
     → Appends old new (1 + lines_in ss) (entry_lines head (length ss) s) → Fenced r old mid new → broken ≡ is_err r
     → KeepsLog new head (entries_read head new.read) (used + (1 + length s.nodes)) (count + 1) s.place (fences + 1) broken
-KeepsLog-more r old mid new head ss s used count last fences broken k f after room a fenced b =
+KeepsLog-more r old mid new head ss s used count last fences broken k f room a fenced b =
     let h = k.holds in let within = h.within in let more = lines_in-more ss s in let used_is = k.used_is in let count_is = k.count_is in let few = k.few in let fewer = k.fewer in
     let len = a.count in let longer = length-append ss (s ∷ []) in let lines = k.lines in let once = a.fences in
     let read : new.read ≡ log_image head (ss ++ s ∷ []) (free_of (length new.read) (ss ++ s ∷ [])) =
@@ -199,7 +256,6 @@ KeepsLog-more r old mid new head ss s used count last fences broken k f after ro
       holds = record {
         fits = h.fits;
         fit = FitEntries-append head.threads ss (s ∷ []) h.fit (f, tt);
-        rises = Rises-more 0 ss s h.rises after;
         within = omega arith;
         read = read;
         settled = λ e. whole r (ToldSettled new.told new.read) (settled-Fenced r old mid new fenced) (sym b ∙ e);
@@ -223,17 +279,17 @@ pub record Appended {T E : Type 0} (r : Result T E) (old new : DeviceView) (head
   pub pending : OnErr r (ToldSettled new.told old.read)
 
 pub Appended-entry : {T E : Type 0} (r : Result T E) (old mid new : DeviceView) (head : LogHead) (ss : List Segment) (s : Segment) (used count last fences : ℕ) (was broken : Bool) (first : List ℕ)
-    → KeepsLog old head ss used count last fences was → was ≡ false → FitsEntry head.threads s → last_place 0 ss + length s.nodes ≤ s.place → length s.nodes + 1 ≤ free_of (length old.read) ss
+    → KeepsLog old head ss used count last fences was → was ≡ false → FitsEntry head.threads s → length s.nodes + 1 ≤ free_of (length old.read) ss
     → first ≡ entry_line head (count + 1 - 1) s → Puts old mid used (first ∷ node_lines s.nodes)
     → new.read ≡ mid.read → new.fences ≡ mid.fences + 1 → OnOk r (new.told ≡ told_fenced mid.told mid.read) → OnErr r (new.told ≡ mid.told) → broken ≡ is_err r
     → Appended r old new head ss s used count fences broken
-Appended-entry r old mid new head ss s used count last fences was broken first k w f after room line p read fenced durable kept b =
+Appended-entry r old mid new head ss s used count last fences was broken first k w f room line p read fenced durable kept b =
     let kept_log : KeepsLog old head ss used count last fences false = subst (KeepsLog old head ss used count last fences) w k in
     let puts = Puts-entry old mid head ss s used count first k.used_is k.count_is line p in
     let a = Appends-written old mid new head ss s kept_log.holds f room puts read fenced in
     let d : Fenced r old mid new = record { durable = durable; kept = kept; read = read; backed = p.backed k.backed; pending = p.fenced old.read (kept_log.holds.settled refl) } in
     record {
-      keeps = KeepsLog-more r old mid new head ss s used count last fences broken kept_log f after room a d b;
+      keeps = KeepsLog-more r old mid new head ss s used count last fences broken kept_log f room a d b;
       entries = entries_read-Appends old new head ss s kept_log.holds f room a;
       lines = a;
       settled = settled-Fenced r old mid new d;

@@ -1,5 +1,5 @@
 -- Remains of an entry stay no entry, whatever words of them are wiped.
-use Rattle.std.proofs.Common.{ℕ, ◌≡◌, List, [], ◌∷◌, ◌++◌, length, drop, sym, refl, ap, ◌∙◌, subst, ⊎_elim, ◌⊎◌, inl, inr}
+use Rattle.std.proofs.Common.{ℕ, zero, suc, true, ◌≡◌, List, [], ◌∷◌, ◌++◌, length, take, drop, sym, refl, ap, ◌∙◌, subst, ⊎_elim, ◌⊎◌, inl, inr}
 use Rattle.std.specs.Prelude.{Some}
 use Rattle.std.proofs.lemmas.List.{take-append-drop, drop_at}
 use Rattle.onll_pmem.specs.Device.{zero_lines, FillsWords, FillsLines, Mixed}
@@ -7,10 +7,10 @@ use Rattle.onll_pmem.proofs.Mixes.{FillsLines-then}
 use Rattle.onll_model.specs.Segment.{Segment}
 use Rattle.onll_log.specs.declared.head.LogHead.{LogHead}
 use Rattle.onll_log.specs.Encoding.{entry_lines, log_lines, FitsEntry}
-use Rattle.onll_log.specs.Grammar.{used_with}
+use Rattle.onll_log.specs.Grammar.{are_zero_lines, used_with}
 use Rattle.onll_log.specs.Torn.{AreLines, log_image, Holds}
-use Rattle.onll_log.specs.Remains.{unused, HasRemains, IsWiped}
-use Rattle.onll_log.proofs.Encoded.{length-log_lines}
+use Rattle.onll_log.specs.Remains.{unused, HasRemains, IsWiped, IsCut}
+use Rattle.onll_log.proofs.Encoded.{length-log_lines, content_of-log_lines}
 use Rattle.onll_log.proofs.Torn.{Holds-among, Mixed-front, Among-mixed, log_image-more}
 use Rattle.onll_log.proofs.Written.{IsWritten-Holds, take-used}
 
@@ -47,6 +47,18 @@ Holds-wiped head ss image wiped eights h r i =
     (λ (t : Holds (log_lines head ss ++ unused head ss wiped) head ss). t)
     (λ (t : unused head ss wiped ≡ whole). absurd (a.torn (FillsLines-both (unused head ss image) whole a.among (subst (λ (l : List (List ℕ)). FillsLines l (unused head ss image)) t i.rest))))
     (Holds-among head ss s zeros (unused head ss wiped) w.fits_head a.format w.fit_entries a.fits (FillsLines-then (unused head ss wiped) (unused head ss image) whole i.rest a.among)))
+
+-- the used lines and zeros hold what the image held
+are_zero_lines-zero_lines : (count : ℕ) → are_zero_lines (zero_lines count) ≡ true
+are_zero_lines-zero_lines zero = refl
+are_zero_lines-zero_lines (suc count) = are_zero_lines-zero_lines count
+
+pub IsCut-Holds : (head : LogHead) (ss : List Segment) (image : List (List ℕ)) (zeros : ℕ) → AreLines image → Holds image head ss → IsCut head ss (take (used_with (Some head) ss) image ++ zero_lines zeros)
+IsCut-Holds head ss image zeros eights h = let w = IsWritten-Holds image head ss eights h in
+    subst (λ (l : List (List ℕ)). IsCut head ss (l ++ zero_lines zeros)) (sym (take-used image head ss eights h)) (record {
+      holds = content_of-log_lines head ss zeros w.fits_head w.fit_entries;
+      rest = ap are_zero_lines (drop_at (log_lines head ss) (zero_lines zeros) (used_with (Some head) ss) (length-log_lines head ss)) ∙ are_zero_lines-zero_lines zeros;
+    })
 
 -- between a log and that log with an entry of format 2 more, what isn't the whole has remains
 pub HasRemains-Mixed : (head : LogHead) (ss : List Segment) (s : Segment) (n k : ℕ) (image : List (List ℕ)) → head.format ≡ 2 → FitsEntry head.threads s

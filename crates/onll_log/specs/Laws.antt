@@ -5,11 +5,11 @@ use Rattle.onll_model.specs.Segment.{Segment}
 use Rattle.onll_log.specs.declared.head.LogHead.{LogHead}
 use Rattle.onll_log.specs.Head.{head_line, head_of, is_head, FitsHead}
 use Rattle.onll_log.specs.Encoding.{entry_lines, entries_lines, log_lines, FitsEntry, FitEntries}
-use Rattle.onll_log.specs.Grammar.{entries_from, content_of, lines_in}
+use Rattle.onll_log.specs.Grammar.{entries_from, content_of, lines_in, used_with}
 use Rattle.onll_log.specs.MaskBits.{AreMasks}
 use Rattle.onll_log.specs.Written.{IsWritten, IsEmptyLog}
 use Rattle.onll_log.specs.Append.{written_front}
-use Rattle.onll_log.specs.Remains.{HasRemains, IsWiped}
+use Rattle.onll_log.specs.Remains.{HasRemains, IsWiped, IsCut}
 use Rattle.onll_log.specs.Torn.{AreLines, Among, log_image, Holds, TornOrWhole}
 
 -- ---- what is encoded is read back
@@ -87,6 +87,10 @@ LeavesLaw = (head : LogHead) (ss : List Segment) (s : Segment) (before after : �
 -- whatever words of remains are wiped, the entries stay
 abbrev pub WipedLaw : Type 0
 WipedLaw = (head : LogHead) (ss : List Segment) (image wiped : List (List ℕ)) → AreLines image → Holds image head ss → HasRemains head ss image → IsWiped head ss image wiped → Holds wiped head ss
+
+-- the used lines of any image and then zeros hold what it holds, and nothing stands after it
+abbrev pub CutLaw : Type 0
+CutLaw = (head : LogHead) (ss : List Segment) (image : List (List ℕ)) (zeros : ℕ) → AreLines image → Holds image head ss → IsCut head ss (take (used_with (Some head) ss) image ++ zero_lines zeros)
 
 -- ---- what is read was written
 -- an image holds a head and entries exactly where they are written in it, whatever stands after them

@@ -1,5 +1,5 @@
-use Rattle.std.specs.Prelude.{◌≡◌, ◌≢◌, ℕ, ◌+◌, ◌-◌, ◌^◌, ◌<◌, ◌≤◌, ◌⊎◌, Bool, true, false, List, [], ◌++◌, length, take, drop}
-use Rattle.onll_model.specs.Segment.{Segment, Rises, last_place}
+use Rattle.std.specs.Prelude.{◌≡◌, ◌≢◌, ℕ, ◌+◌, ◌-◌, ◌^◌, ◌<◌, ◌≤◌, ◌⊎◌, Bool, true, false, List, [], ◌++◌, length, take, drop, Option, Some, None}
+use Rattle.onll_model.specs.Segment.{Segment, last_place}
 use Rattle.onll_pmem.specs.Device.{line_at, zero_line, zero_lines, FillsLines}
 use Rattle.onll_pmem.specs.Pmem.{DeviceView, ToldBacked, ToldSettled}
 use Rattle.onll_log.specs.declared.head.LogHead.{LogHead}
@@ -7,7 +7,7 @@ use Rattle.onll_log.specs.declared.cause.MakeCause.{MakeCause}
 use Rattle.onll_log.specs.declared.cause.MakeCause.TheVariants.{Small, Dirty, FenceFailed}
 use Rattle.onll_log.specs.Head.{FitsHead}
 use Rattle.onll_log.specs.Encoding.{FitEntries}
-use Rattle.onll_log.specs.Grammar.{entries_from, lines_in}
+use Rattle.onll_log.specs.Grammar.{Content, entries_from, are_zero_lines, lines_in, used_by}
 use Rattle.onll_log.specs.Torn.{log_image}
 
 -- The log of one thread over a device.
@@ -40,7 +40,6 @@ placed_lines read from lines = take from read ++ (lines ++ drop (from + length l
 pub record HoldsLog (d : DeviceView) (head : LogHead) (ss : List Segment) (broken : Bool) : Type 0 where
   pub fits : FitsHead head
   pub fit : FitEntries head.threads ss
-  pub rises : Rises 0 ss
   pub within : 1 + lines_in ss ≤ length d.read
   pub read : d.read ≡ log_image head ss (free_of (length d.read) ss)
   pub settled : broken ≡ false → ToldSettled d.told d.read
@@ -64,6 +63,16 @@ pub record Puts (old new : DeviceView) (from : ℕ) (lines : List (List ℕ)) : 
   pub faults : new.faults ≡ old.faults
   pub backed : ToldBacked old.told old.read → ToldBacked new.told new.read
   pub fenced : (durable : List (List ℕ)) → ToldSettled old.told durable → ToldSettled new.told durable
+
+-- ---- what opening a log finds
+-- a head of format 2
+abbrev pub IsNewest : Option LogHead → Type 0
+IsNewest None = ⊥
+IsNewest (Some head) = head.format ≡ 2
+
+-- only zeros stand after the lines that are used by what these lines hold
+abbrev pub EndsInZeros : List (List ℕ) → Content → Type 0
+EndsInZeros read c = are_zero_lines (drop (used_by c) read) ≡ true
 
 -- ---- what making a log finds
 -- the first line that isn't zero

@@ -4,7 +4,8 @@ use Rattle.onll_model.specs.Segment.{Segment}
 use Rattle.onll_log.specs.declared.head.LogHead.{LogHead}
 use Rattle.onll_log.specs.Encoding.{entry_lines, FitsEntry}
 use Rattle.onll_log.specs.Grammar.{used_with}
-use Rattle.onll_log.specs.Torn.{Among}
+use Rattle.onll_log.specs.Torn.{Among, Holds}
+use Rattle.onll_log.specs.Log.{EndsInZeros}
 
 -- What an append that came to no end leaves after the used lines of an image.
 
@@ -26,3 +27,8 @@ HasRemains head ss image = (s : Segment) × (zeros : ℕ) × AreRemainsOf head s
 pub record IsWiped (head : LogHead) (ss : List Segment) (image wiped : List (List ℕ)) : Type 0 where
   pub used : take (used_with (Some head) ss) wiped ≡ take (used_with (Some head) ss) image
   pub rest : FillsLines (unused head ss wiped) (unused head ss image)
+
+-- lines hold a log, and only zeros after it
+pub record IsCut (head : LogHead) (ss : List Segment) (lines : List (List ℕ)) : Type 0 where
+  pub holds : Holds lines head ss
+  pub rest : EndsInZeros lines (record { head = Some head; entries = ss })

@@ -39,7 +39,7 @@ pub fn is_zero(line: &Line) -> bool
 }
 
 /// Whether all words of lines are zero.
-fn are_zero(lines: &[Line]) -> bool
+pub fn are_zero(lines: &[Line]) -> bool
     ensures { result ≡ are_zero_lines (words_of lines.now) }
 {
     for line in lines {

@@ -1,6 +1,6 @@
 //! What the grammar of logs promises, whatever code reads and writes them.
 
-ghost use Rattle.onll_log.specs.Laws.{HeadLaw, EntriesLaw, ZerosLaw, ContentLaw, EmptyLaw, MoreLaw, EightLaw, LinesLaw, WrittenLaw, NoHeadLaw, MasksLaw, TornLaw, PartLaw, CrashLaw, FrontLaw, AppendLaw, LeavesLaw, WipedLaw};
+ghost use Rattle.onll_log.specs.Laws.{HeadLaw, EntriesLaw, ZerosLaw, ContentLaw, EmptyLaw, MoreLaw, EightLaw, LinesLaw, WrittenLaw, NoHeadLaw, MasksLaw, TornLaw, PartLaw, CrashLaw, FrontLaw, AppendLaw, LeavesLaw, WipedLaw, CutLaw};
 
 /// What is encoded is read back, in either format.
 pub fn encoded_laws()
@@ -38,4 +38,5 @@ pub fn torn_laws()
 pub fn remains_laws()
     ensures leaves { LeavesLaw }
     ensures wiped { WipedLaw }
+    ensures cut { CutLaw }
 {}

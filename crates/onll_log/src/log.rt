@@ -1,15 +1,17 @@
-ghost use Rattle.std.specs.Prelude.{◌≡◌, ℕ, ◌+◌, ◌-◌, ◌*◌, ◌^◌, ◌<◌, ◌≤◌, ◌⊎◌, List, [], ◌∷◌, ◌++◌, length, take, drop, true, false, is_err, IfNone, IfSome, IfOk, IfErr, OnOk, OnErr};
+ghost use Rattle.std.specs.Prelude.{◌≡◌, ℕ, ◌+◌, ◌-◌, ◌*◌, ◌^◌, ◌<◌, ◌≤◌, ◌⊎◌, List, [], ◌∷◌, ◌++◌, length, take, drop, true, false, is_err, IfNone, IfSome, IfOk, IfErr, OnOk, OnErr, Some};
 ghost use Rattle.std.specs.List.{All};
 ghost use Rattle.onll_model.specs.Segment.{Segment, last_place};
 ghost use Rattle.onll_pmem.specs.Device.{line_at, zero_line, zero_lines, FillsLines};
 ghost use Rattle.onll_pmem.specs.Pmem.{ToldBacked, ToldSettled};
 ghost use Rattle.onll_log.specs.Head.{FitsHead};
+ghost use Rattle.onll_log.specs.Decoded.{segments_in, content_in};
 ghost use Rattle.onll_log.specs.Encoding.{node_lines, entry_lines, CanHold};
-ghost use Rattle.onll_log.specs.Grammar.{lines_in};
+ghost use Rattle.onll_log.specs.Grammar.{content_of, lines_in};
 ghost use Rattle.onll_log.specs.Torn.{log_image};
-ghost use Rattle.onll_log.specs.Log.{free_of, HoldsLog, Puts, IsDirty, IsClean, IsMade, IsPending, NotMade, Appends};
+ghost use Rattle.onll_log.specs.Log.{free_of, IsNewest, EndsInZeros, HoldsLog, Puts, IsDirty, IsClean, IsMade, IsPending, NotMade, Appends};
 
 use crate::cause::MakeCause;
+use crate::decoded::{Decoded, Entry};
 use crate::entry::entry_head;
 use crate::head::LogHead;
 use crate::image::is_zero;
@@ -66,6 +68,16 @@ fn put_entry<P: Pmem>(device: &mut P, from: u64, first: Line, nodes: &[Node])
 {
     put(device, from, first);
     put_nodes(device, from + 1, nodes);
+}
+
+/// The place of the last of these entries, 0 where there is none.
+fn last_of(entries: &[Entry]) -> u64
+    ensures { result ≡ last_place 0 (segments_in entries.now) }
+{
+    match entries.last() {
+        Some(entry) => entry.place,
+        None => 0,
+    }
 }
 
 /// No log was made. The device is handed back.
@@ -163,7 +175,36 @@ impl<P: Pmem> ThreadLog<P> {
         }
     }
 
-    /// The head that the log was made with.
+    /// Goes on in the log that a device holds, with no fence. Where a crash tore its last entry, what is left of it was wiped before.
+    pub fn open(device: P, log: &Decoded) -> ThreadLog<P>
+        requires found { content_of (P.means device).read ≡ Some (content_in log.now) }
+        requires format { IsNewest log.now.head }
+        requires rest { EndsInZeros (P.means device).read (content_in log.now) }
+        requires few { (P.means device).fences < 2 ^ 32 }
+        requires settled { ToldSettled (P.means device).told (P.means device).read }
+        ensures head { log.now.head ≡ Some result.head }
+        ensures entries { result.entries ≡ segments_in log.now.entries }
+        ensures fences { result.fences ≡ 0 }
+        ensures whole { result.broken ≡ false }
+        ensures device { result.device ≡ device }
+    {
+        let Some(head) = log.head else { unreachable!() };
+        let lines = device.lines();
+        let used = log.used();
+        prove!(used <= lines);
+        let entries = log.entries.as_slice();
+        ThreadLog {
+            device,
+            head,
+            used,
+            entries: entries.len() as u64,
+            last: last_of(entries),
+            fences: 0,
+            broken: false,
+        }
+    }
+
+    /// The head of the log.
     pub fn head(&self) -> LogHead
         ensures { result ≡ self.now.head }
     {

@@ -1,8 +1,11 @@
-ghost use Rattle.std.specs.Prelude.{◌≡◌, ◌≤◌, ◌<◌, length};
+ghost use Rattle.std.specs.Prelude.{◌≡◌, ◌≤◌, ◌<◌, length, drop};
+ghost use Rattle.onll_pmem.specs.Pmem.{words_of};
+ghost use Rattle.onll_log.specs.Grammar.{are_zero_lines};
 ghost use Rattle.onll_log.specs.Head.{FitsHead};
 
 use super::*;
-use onll_model::Node;
+use crate::image::are_zero;
+use onll_model::{Node, node_line};
 use onll_pmem::{FenceFailed, MemPmem, Pmem};
 use onll_words::{Line, OpRow};
 use std::alloc::Global;
@@ -173,6 +176,80 @@ fn an_append_whose_fence_fails_is_pending(rt: HostRuntime) -> Result<(), Fail> {
         holds(&rt, alloc, &log, 1, 0, 1)?;
         holds(&rt, alloc, &log, u64::MAX, 1, 4)?;
     }
+    Ok(())
+}
+
+/// Whether only zeros stand after the first lines.
+fn ends_in_zeros(lines: &[Line], used: usize) -> bool
+    requires { used ≤ length lines.now }
+    ensures { result ≡ are_zero_lines (drop used (words_of lines.now)) }
+{
+    let (_, rest) = lines.split_at(used);
+    are_zero(rest)
+}
+
+/// Appends the two nodes where a log is for them and has room.
+fn append_both(log: &mut ThreadLog<MemPmem>) -> bool {
+    let threads = log.head().threads;
+    if log.broken() || threads != 2 || log.last_place() != 0 || log.free_lines() < 3 {
+        return false;
+    }
+    log.append(2, &NODES).is_ok()
+}
+
+/// Goes on in the log of format 2 that these lines hold, if nothing stands after it.
+fn opened(alloc: Global, lines: Vec<Line>) -> Result<Option<ThreadLog<MemPmem>>, Fail> {
+    let Ok(decoded) = decode(alloc, &lines) else {
+        return Err("not decoded".into());
+    };
+    let used = decoded.used() as usize;
+    if decoded.head.is_none_or(|head| head.format != 2) || !ends_in_zeros(&lines, used) {
+        return Ok(None);
+    }
+    if lines.len() > 8 {
+        return Err("more lines than the tests have".into());
+    }
+    let device = MemPmem::of_image(alloc, lines, Vec::new(alloc))?;
+    Ok(Some(ThreadLog::open(device, &decoded)))
+}
+
+/// The first lines of an image, and zeros in the place of the others.
+fn cut(alloc: Global, image: &[Line], used: usize) -> Result<Vec<Line>, Fail> {
+    let mut lines = Vec::new(alloc);
+    for (i, line) in image.iter().enumerate() {
+        lines.push(if i < used { *line } else { Line { w: [0; 8] } })?;
+    }
+    Ok(lines)
+}
+
+#[test]
+fn a_log_goes_on_after_a_crash(rt: HostRuntime) -> Result<(), Fail> {
+    let alloc = rt.alloc();
+    let torn = appended(alloc, 2, vec![in alloc; 2]?)?.0;
+    let image = torn.device().image(alloc, 1)?;
+    assert!(rt; opened(alloc, cut(alloc, &image, 8)?)?.is_none());
+    let mut log = opened(alloc, cut(alloc, &image, 1)?)?.ok_or("no log")?;
+    assert_eq!(rt; log.head(), torn.head());
+    assert_eq!(rt; (log.entries(), log.last_place(), log.fences()), (0, 0, 0));
+    assert!(rt; append_both(&mut log));
+    assert_eq!(rt; (log.entries(), log.last_place(), log.fences()), (1, 2, 1));
+    assert_eq!(rt; log.device().fences(), 1);
+    holds(&rt, alloc, &log, 0, 1, 4)
+}
+
+#[test]
+fn a_log_whose_places_do_not_rise_goes_on(rt: HostRuntime) -> Result<(), Fail> {
+    let alloc = rt.alloc();
+    let head = LogHead::new(1, 2, 1, BANK);
+    let [first, second] = [node_line(NODES[0]), node_line(NODES[1])];
+    let one = entry_head(head, 1, 2, &NODES);
+    let two = entry_head(head, 2, 2, &NODES);
+    let lines = Vec::from_slice(
+        alloc,
+        &[head.line(), one, first, second, two, first, second],
+    )?;
+    let log = opened(alloc, lines)?.ok_or("no log")?;
+    assert_eq!(rt; (log.entries(), log.last_place(), log.fences()), (2, 2, 0));
     Ok(())
 }
 

@@ -1,6 +1,6 @@
-ghost use Rattle.std.specs.Prelude.{◌≡◌, ℕ, ◌+◌, ◌-◌, ◌^◌, ◌<◌, ◌≤◌, not, is_ok, length, IfOk, OnOk, OnErr};
-ghost use Rattle.onll_pmem.specs.Device.{new_device, image_of, IsImage, zero_lines, line_at, FillsWords, settled, Write, WriteBack, Fence, FailedFence};
-ghost use Rattle.onll_pmem.specs.Pmem.{words_of};
+ghost use Rattle.std.specs.Prelude.{◌≡◌, ℕ, ◌+◌, ◌-◌, ◌^◌, ◌<◌, ◌≤◌, not, is_ok, true, refl, length, IfOk, OnOk, OnErr};
+ghost use Rattle.onll_pmem.specs.Device.{new_device, fenced_device, image_of, IsImage, zero_lines, line_at, FillsWords, settled, Write, WriteBack, Fence, FailedFence};
+ghost use Rattle.onll_pmem.specs.Pmem.{words_of, EightWords};
 ghost use Rattle.onll_pmem.specs.Memory.{MemoryState, fails, faults_in_le, stepped, memory_view, EvenBut};
 
 use crate::image::kept_lines;
@@ -15,6 +15,26 @@ fn zeros(alloc: Global, lines: usize) -> Result<Vec<Line>, AllocError>
 {
     let zeros = vec![in alloc; Line { w: [0; 8] }; lines]?;
     Ok(zeros)
+}
+
+/// The line of this number.
+fn line_of(lines: &[Line], line: usize) -> Line
+    requires { line < length lines.now }
+    ensures { result.w ≡ line_at (words_of lines.now) line }
+{
+    lines[line]
+}
+
+/// The same lines once more.
+fn copied(alloc: Global, lines: &[Line]) -> Result<Vec<Line>, AllocError>
+    ensures same { IfOk result (λ v. words_of v.items ≡ words_of lines.now) }
+    ensures eight { IfOk result (λ v. EightWords (words_of v.items)) }
+{
+    let mut copy = Vec::with_capacity(alloc, lines.len())?;
+    for i in 0..lines.len() {
+        copy.push(line_of(lines, i))?;
+    }
+    Ok(copy)
 }
 
 /// Whether the fence of this number fails.
@@ -89,6 +109,34 @@ impl MemPmem {
         MemPmem::try_new(alloc, lines as usize, failing).map_err(|_| NoMemory)
     }
 
+    fn try_of_image(
+        alloc: Global,
+        lines: Vec<Line>,
+        failing: Vec<u64>,
+    ) -> Result<MemPmem, AllocError>
+        requires { length lines.items ≤ 1000000 }
+        ensures { IfOk result (λ m. m ≡ record { device = fenced_device (words_of lines.items); failing = failing.items }) }
+    {
+        let count = lines.len();
+        Ok(MemPmem {
+            fenced: copied(alloc, &lines)?,
+            read: lines,
+            backed: vec![in alloc; false; count]?,
+            waiting: Waiting::new(alloc, count)?,
+            failing,
+            fences: 0,
+            faults: 0,
+        })
+    }
+
+    /// A device of these lines, all of them fenced, as after a crash. Its fences fail that have these numbers, from 1.
+    pub fn of_image(alloc: Global, lines: Vec<Line>, failing: Vec<u64>) -> Result<MemPmem, NoMemory>
+        requires { length lines.items ≤ 1000000 }
+        ensures { IfOk result (λ m. m ≡ record { device = fenced_device (words_of lines.items); failing = failing.items }) }
+    {
+        MemPmem::try_of_image(alloc, lines, failing).map_err(|_| NoMemory)
+    }
+
     /// What a crash leaves: a pending word, one that reads otherwise than it is fenced, is as it reads where `keep` has
     /// the bit of its number modulo 64, and else as fenced. Pending words are numbered from 0 by line and then by word.
     pub fn image(&self, alloc: Global, keep: u64) -> Result<Vec<Line>, NoMemory>
@@ -102,12 +150,14 @@ impl MemPmem {
 impl Pmem for MemPmem {
     ghost means = { memory_view };
 
+    ghost tells = { true };
+
     fn lines(&self) -> u64 {
         self.read.len() as u64
     }
 
     fn read(&self, line: u64) -> Line {
-        self.read[line as usize]
+        line_of(&self.read, line as usize)
     }
 
     fn write(&mut self, line: u64, value: Line)
@@ -158,4 +208,6 @@ impl Pmem for MemPmem {
     }
 
     ghost few_faults = { λ device. faults_in_le device.failing device.device.fences };
+
+    ghost told_by_type = { λ device. refl };
 }

@@ -1,6 +1,6 @@
-ghost use Rattle.std.specs.Prelude.{◌≡◌, ℕ, ◌+◌, ◌-◌, ◌^◌, ◌<◌, ◌≤◌, length, slice_set, OnOk, OnErr};
+ghost use Rattle.std.specs.Prelude.{◌≡◌, ℕ, ◌+◌, ◌-◌, ◌^◌, ◌<◌, ◌≤◌, Bool, is_some, length, slice_set, OnOk, OnErr};
 ghost use Rattle.onll_pmem.specs.Device.{line_at, FillsWords};
-ghost use Rattle.onll_pmem.specs.Pmem.{DeviceView, told_written, told_backed, told_fenced, ToldLines};
+ghost use Rattle.onll_pmem.specs.Pmem.{DeviceView, told_written, told_backed, told_fenced, ToldLines, EightWords};
 
 use onll_words::Line;
 use thiserror::Error;
@@ -15,8 +15,12 @@ pub struct FenceFailed;
 pub trait Pmem {
     ghost means: { Self → DeviceView };
 
-    /// How many lines there are. A device that tells which lines are written back tells it of each line.
+    /// Whether devices of this type tell their fenced words.
+    ghost tells: { Bool };
+
+    /// How many lines there are, each of eight words. A device that tells which lines are written back tells it of each line.
     fn lines(&self) -> u64
+        ensures eight { EightWords (means self.now).read }
         ensures lines { result ≡ length (means self.now).read }
         ensures told { ToldLines (means self.now).told (means self.now).read };
 
@@ -61,4 +65,6 @@ pub trait Pmem {
         ensures { result ≡ (means self.now).faults };
 
     ghost few_faults: { (device : Self) → (means device).faults ≤ (means device).fences };
+
+    ghost told_by_type: { (device : Self) → is_some (means device).told ≡ tells };
 }

@@ -18,7 +18,7 @@ invariant_of-self g c = let r = rw (← c.self.view_is) at c.requires in
     let f = c.fence-fenced.ensures in
     (Appended-entry c.fence-fenced.result (g.P.Pmem.means c.self.inside.device) (g.P.Pmem.means c.put_entry.new.device) (g.P.Pmem.means c.fence-fenced.new.self) c.self.inside.head
     (entries_read c.self.inside.head (g.P.Pmem.means c.self.inside.device).read) s c.self.inside.used c.self.inside.entries c.self.inside.last c.self.inside.fences
-    c.self.inside.broken c.is_err-self-inside.result c.entry_head-first.result.w c.self.invariant r.whole fits r.after r.room c.entry_head-first.ensures c.put_entry.ensures.lines
+    c.self.inside.broken c.is_err-self-inside.result c.entry_head-first.result.w c.self.invariant r.whole fits r.room c.entry_head-first.ensures c.put_entry.ensures.lines
     f.read f.fences f.durable f.kept c.is_err-self-inside.ensures.value).keeps
 
 pub returns : goal.returns
@@ -28,7 +28,7 @@ returns g c = let r = rw (← c.self.view_is) at c.requires in
     let f = c.fence-fenced.ensures in let p = c.put_entry.ensures.lines.faults in
     let a = Appended-entry c.fence-fenced.result (g.P.Pmem.means c.self.inside.device) (g.P.Pmem.means c.put_entry.new.device) (g.P.Pmem.means c.fence-fenced.new.self) c.self.inside.head
     (entries_read c.self.inside.head (g.P.Pmem.means c.self.inside.device).read) s c.self.inside.used c.self.inside.entries c.self.inside.last c.self.inside.fences
-    c.self.inside.broken c.is_err-self-inside.result c.entry_head-first.result.w c.self.invariant r.whole fits r.after r.room c.entry_head-first.ensures c.put_entry.ensures.lines
+    c.self.inside.broken c.is_err-self-inside.result c.entry_head-first.result.w c.self.invariant r.whole fits r.room c.entry_head-first.ensures c.put_entry.ensures.lines
     f.read f.fences f.durable f.kept c.is_err-self-inside.ensures.value in
     rw (← c.self.view_is) (record {
       head = refl;

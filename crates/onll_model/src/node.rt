@@ -17,6 +17,17 @@ pub struct Node {
     pub row: OpRow,
 }
 
+/// A blank, for places of a list that hold no node yet.
+impl Default for Node {
+    fn default() -> Node {
+        Node {
+            thread: 0,
+            number: 0,
+            row: OpRow { w: [0; 7] },
+        }
+    }
+}
+
 impl Node {
     /// The one number, 1 to 65,536, that stands for the thread and the number in a log.
     pub fn name(&self) -> u64

@@ -6,14 +6,14 @@ use std::alloc::Global;
 
 /// A deterministic sequential object. It reserves its capacity when it is made, so its calls take no memory.
 pub trait Object: Sized {
-    /// An operation, which may change the object.
-    type Op: Copy;
+    /// An operation, which may change the object. Threads hand calls and replies to each other.
+    type Op: Copy + Send + Sync;
 
     /// A query, which changes nothing.
-    type Query: Copy;
+    type Query: Copy + Send + Sync;
 
     /// What an operation or a query gives back.
-    type Reply: Copy;
+    type Reply: Copy + Send + Sync;
 
     /// The object's code in a log's header, 1 to 4.
     const CODE: u64;

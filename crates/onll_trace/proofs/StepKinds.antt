@@ -1,7 +1,7 @@
-use Rattle.std.proofs.Common.{◌≡◌, ℕ, suc, ◌+◌, ◌-◌, ◌==◌, Bool, List, ◌∷◌, [], ◌++◌, length, Option, Some, sym, refl, ap, ◌∙◌, subst, arith, eq-eqb}
+use Rattle.std.proofs.Common.{◌≡◌, ℕ, suc, ◌+◌, ◌-◌, Bool, ◌∷◌, [], ◌++◌, length, Option, Some, sym, refl, ap, ◌∙◌, subst, arith, eq-eqb}
 use Rattle.std.specs.Prelude.{if◌then◌else◌}
 use Rattle.std.specs.List.{slice_get}
-use Rattle.onll_model.specs.Frames.{Frame, Thread, Activity, Walk, Asking}
+use Rattle.onll_model.specs.Frames.{Frame, Thread, Walk, Asking}
 use Rattle.onll_model.specs.Events.{FlagUnset, after, after_by, at_unset_flag, doing, logging, resting_at}
 use Rattle.onll_model.proofs.Lists.{set_here}
 use Rattle.onll_trace.specs.StepLaw.{StepLaw}

@@ -1,42 +1,42 @@
-use Rattle.std.proofs.Common.{◌≡◌, ℕ, zero, suc, ◌+◌, ◌-◌, ◌<◌, ◌≤◌, List, [], ◌∷◌, ◌++◌, length, map, replicate, Some, None, sym, refl, ap, ◌∙◌, subst, ◌⊎◌, inl, inr, arith, length-append}
-use Rattle.std.specs.List.{AllByRecursion, slice_get, Contains}
+use Rattle.std.proofs.Common.{◌≡◌, ℕ, zero, suc, ◌+◌, ◌-◌, ◌<◌, ◌≤◌, List, [], ◌∷◌, ◌++◌, length, map, Some, sym, refl, ap, ◌∙◌, subst, inl, inr, arith, length-append}
+use Rattle.std.specs.List.{slice_get, Contains}
 use Rattle.onll_words.specs.declared.line.OpRow.{OpRow}
 use Rattle.onll_model.specs.declared.node.Node.{Node}
 use Rattle.onll_model.specs.declared.mark.Mark.{Mark}
 use Rattle.onll_model.specs.Segment.{Segment, Covers, nodes_between}
 use Rattle.onll_model.specs.Marks.{marked}
-use Rattle.onll_model.specs.Frames.{Rest, IsSoundSegment, fenced_segments, resumed_frame}
+use Rattle.onll_model.specs.Frames.{IsSoundSegment, fenced_segments, resumed_frame}
 use Rattle.onll_model.specs.FrameLaws.{IsResumable}
 use Rattle.onll_model.proofs.FirstFrames.{resumed_sound}
 use Rattle.onll_model.proofs.Lists.{at_end, at_before, same_some, some_not_none}
-use Rattle.onll_trace.specs.Plans.{Plan, CanResume, HasRooms}
+use Rattle.onll_trace.specs.Plans.{CanResume, HasRooms}
 use Rattle.onll_trace.specs.Rule.{count_of}
-use Rattle.onll_trace.specs.Passes.{Board, Pass, IsOf, AreNew, HasRoom, new_pass}
+use Rattle.onll_trace.specs.Spots.{TraceView, SpotView, AreNew, HasRoom, fresh_spot}
 use Rattle.onll_trace.specs.Closing.{AreAll}
 use Rattle.onll_trace_tests.specs.Orders.{AreBoth, IsReady}
 
 -- The spots of a trace of two threads.
 
 -- the spots of a trace of two threads that have made no step, taken from the end
-module _ (b : Board) (ps rest none : List Pass) (first second : Pass) (zeroth one_more : List Segment) (threads : b.plan.threads ≡ 2) (logs : b.plan.logs ≡ zeroth ∷ one_more ∷ []) (new : AreNew b ps) (last : ps ≡ rest ++ second ∷ []) (before : rest ≡ none ++ first ∷ []) where
+module _ (b : TraceView) (ps rest none : List SpotView) (first second : SpotView) (zeroth one_more : List Segment) (threads : b.plan.threads ≡ 2) (logs : b.plan.logs ≡ zeroth ∷ one_more ∷ []) (new : AreNew b ps) (last : ps ≡ rest ++ second ∷ []) (before : rest ≡ none ++ first ∷ []) where
   two : length ps ≡ 2
   two = new.count ∙ ap (λ (l : List (List Segment)). length l) logs
 
   one : length rest ≡ 1
   one = let n = ap length last in let t = two in omega (arith, length-append rest (second ∷ []))
 
-  pub first_is : first ≡ new_pass b 0 zeroth
+  pub first_is : first ≡ fresh_spot b 0 zeroth
   first_is = let n = ap length before in let o = one in let z : length none ≡ 0 = omega (arith, length-append none (first ∷ [])) in
-      let at_rest : slice_get rest 0 ≡ Some first = ap (slice_get rest) (sym z) ∙ (ap (λ (xs : List Pass). slice_get xs (length none)) before ∙ at_end none first) in
+      let at_rest : slice_get rest 0 ≡ Some first = ap (slice_get rest) (sym z) ∙ (ap (λ (xs : List SpotView). slice_get xs (length none)) before ∙ at_end none first) in
       let low : 0 < length rest = omega arith in
-      let at_ps : slice_get ps 0 ≡ Some first = ap (λ (xs : List Pass). slice_get xs 0) last ∙ (at_before rest (second ∷ []) 0 low ∙ at_rest) in
-      same_some first (new_pass b 0 zeroth) (sym at_ps ∙ new.each 0 zeroth (ap (λ (l : List (List Segment)). slice_get l 0) logs))
+      let at_ps : slice_get ps 0 ≡ Some first = ap (λ (xs : List SpotView). slice_get xs 0) last ∙ (at_before rest (second ∷ []) 0 low ∙ at_rest) in
+      same_some first (fresh_spot b 0 zeroth) (sym at_ps ∙ new.each 0 zeroth (ap (λ (l : List (List Segment)). slice_get l 0) logs))
 
-  pub second_is : second ≡ new_pass b 1 one_more
-  second_is = let at_ps : slice_get ps 1 ≡ Some second = ap (slice_get ps) (sym one) ∙ (ap (λ (xs : List Pass). slice_get xs (length rest)) last ∙ at_end rest second) in
-      same_some second (new_pass b 1 one_more) (sym at_ps ∙ new.each 1 one_more (ap (λ (l : List (List Segment)). slice_get l 1) logs))
+  pub second_is : second ≡ fresh_spot b 1 one_more
+  second_is = let at_ps : slice_get ps 1 ≡ Some second = ap (slice_get ps) (sym one) ∙ (ap (λ (xs : List SpotView). slice_get xs (length rest)) last ∙ at_end rest second) in
+      same_some second (fresh_spot b 1 one_more) (sym at_ps ∙ new.each 1 one_more (ap (λ (l : List (List Segment)). slice_get l 1) logs))
 
-  ready : (t : ℕ) (ss : List Segment) (p : Pass) → p ≡ new_pass b t ss → IsReady b p
+  ready : (t : ℕ) (ss : List Segment) (p : SpotView) → p ≡ fresh_spot b t ss → IsReady b p
   ready t ss p e = subst (IsReady b) (sym e) record { of = record { table = refl; plan = refl }; rests = refl; free = refl; bare = refl }
 
   pub new_ready : IsReady b first × IsReady b second
@@ -47,7 +47,7 @@ module _ (b : Board) (ps rest none : List Pass) (first second : Pass) (zeroth on
     two = threads;
     first = new_ready.0.of;
     second = new_ready.1.of;
-    threads = (ap (λ (p : Pass). p.me.thread) first_is, ap (λ (p : Pass). p.me.thread) second_is);
+    threads = (ap (λ (p : SpotView). p.me.thread) first_is, ap (λ (p : SpotView). p.me.thread) second_is);
   }
 
   -- a thread has a row left that has one for more nodes than the base has of it
@@ -58,10 +58,10 @@ module _ (b : Board) (ps rest none : List Pass) (first second : Pass) (zeroth on
       zero_more : {m n : ℕ} → m < n → m + 0 < n
       zero_more l = omega arith
 
-pub are_all : (b : Board) (first second : Pass) → AreBoth b first second → AreAll b (second ∷ first ∷ [])
+pub are_all : (b : TraceView) (first second : SpotView) → AreBoth b first second → AreAll b (second ∷ first ∷ [])
 are_all b first second a = record { of = (a.second, (a.first, tt)); count = sym a.two; each = λ t low. found t (let two = a.two in omega arith) }
   where
-    found : (t : ℕ) → t < 2 → Contains (map (λ (p : Pass). p.me.thread) (second ∷ first ∷ [])) t
+    found : (t : ℕ) → t < 2 → Contains (map (λ (p : SpotView). p.me.thread) (second ∷ first ∷ [])) t
     found zero low = let at : 1 < 2 = omega arith in (1, at, a.threads.0)
     found (suc zero) low = let at : 0 < 2 = omega arith in (0, at, a.threads.1)
     found (suc (suc t)) low = absurd (omega arith)

@@ -1,21 +1,21 @@
 -- What a caller keeps of a spot from one step of an update to the next.
-use Rattle.std.specs.Prelude.{ℕ, [], ◌∷◌, ◌≡◌, ◌≢◌, ◌↔◌, ◌+◌, List, None}
+use Rattle.std.specs.Prelude.{ℕ, [], ◌≡◌, ◌≢◌, ◌↔◌, ◌+◌, None}
 use Rattle.onll_model.specs.Frames.{Rest, Loaded, Walk, Logging}
 use Rattle.onll_trace.specs.declared.trace.Post.{Post}
 use Rattle.onll_trace.specs.declared.trace.Link.{Link}
 use Rattle.onll_trace.specs.declared.trace.Link.TheVariants.{Linked, Moved}
 use Rattle.onll_trace.specs.Rule.{name_at}
-use Rattle.onll_trace.specs.Passes.{Board, Pass, IsOf, IsLawful, IsDrafted, HasMet, base_of, activity_of}
+use Rattle.onll_trace.specs.Spots.{TraceView, SpotView, IsOf, IsLawful, IsDrafted, HasMet, base_of, activity_of}
 
 -- the spot's thread rests, no fence of it has failed, and nothing is drafted
-pub record IsReady (b : Board) (p : Pass) : Type 0 where
+pub record IsReady (b : TraceView) (p : SpotView) : Type 0 where
   pub of : IsOf b p
   pub rests : activity_of p ≡ Rest
   pub free : p.me.part.stuck ≡ None
   pub bare : p.me.draft ≡ []
 
 -- a row is drafted, and its look has found this front
-pub record HasFront (b : Board) (p : Pass) (front : Post) : Type 0 where
+pub record HasFront (b : TraceView) (p : SpotView) (front : Post) : Type 0 where
   pub of : IsOf b p
   pub free : p.me.part.stuck ≡ None
   pub drafted : IsDrafted p
@@ -25,7 +25,7 @@ pub record HasFront (b : Board) (p : Pass) (front : Post) : Type 0 where
   pub lawful : IsLawful p
 
 -- the own node is linked, and the walk has come down to this post; at the base it has ended
-pub record IsWalking (b : Board) (t : ℕ) (p : Pass) (post : Post) : Type 0 where
+pub record IsWalking (b : TraceView) (t : ℕ) (p : SpotView) (post : Post) : Type 0 where
   pub of : IsOf b p
   pub thread : p.me.thread ≡ t
   pub free : p.me.part.stuck ≡ None
@@ -36,7 +36,7 @@ pub record IsWalking (b : Board) (t : ℕ) (p : Pass) (post : Post) : Type 0 whe
   pub over : post.name ≡ 0 → (top : ℕ) × (n : ℕ) × (activity_of p ≡ Logging top n)
 
 -- the walk has ended, and the window is to be logged
-pub record IsLogging (b : Board) (t : ℕ) (p : Pass) : Type 0 where
+pub record IsLogging (b : TraceView) (t : ℕ) (p : SpotView) : Type 0 where
   pub of : IsOf b p
   pub thread : p.me.thread ≡ t
   pub free : p.me.part.stuck ≡ None
@@ -44,12 +44,12 @@ pub record IsLogging (b : Board) (t : ℕ) (p : Pass) : Type 0 where
   pub logs : (top : ℕ) × (n : ℕ) × (activity_of p ≡ Logging top n)
 
 -- what an exchange leaves
-abbrev pub HasTried : Board → Post → Pass → Link → Type 0
+abbrev pub HasTried : TraceView → Post → SpotView → Link → Type 0
 HasTried b front p (Linked place) = IsWalking b p.me.thread p front × (place ≡ front.place + 1)
 HasTried b front p (Moved loaded found) = IsReady b p
 
 -- both spots of a trace of two threads
-pub record AreBoth (b : Board) (p q : Pass) : Type 0 where
+pub record AreBoth (b : TraceView) (p q : SpotView) : Type 0 where
   pub two : b.plan.threads ≡ 2
   pub first : IsOf b p
   pub second : IsOf b q

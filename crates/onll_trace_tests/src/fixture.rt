@@ -1,6 +1,6 @@
 //! Traces of two threads, opened and closed.
 ghost use Rattle.std.specs.Prelude.{◌≡◌, ◌≤◌, ◌+◌, [], IfSome};
-ghost use Rattle.onll_trace.specs.Passes.{HasRoom};
+ghost use Rattle.onll_trace.specs.Spots.{HasRoom};
 ghost use Rattle.onll_trace_tests.specs.Orders.{AreBoth, IsReady};
 
 use onll_model::{Mark, Node};

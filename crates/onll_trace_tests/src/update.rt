@@ -1,7 +1,7 @@
 //! A thread's steps on a trace, from a draft to its flag.
 ghost use Rattle.std.specs.Prelude.{◌≡◌, ◌≤◌, ◌<◌, [], length};
 ghost use mathlib.Core.List.{IsPrefix};
-ghost use Rattle.onll_trace.specs.Passes.{IsOf, HasRoom};
+ghost use Rattle.onll_trace.specs.Spots.{IsOf, HasRoom};
 ghost use Rattle.onll_trace_tests.specs.Orders.{IsReady, HasFront, HasTried, IsWalking, IsLogging};
 
 use onll_trace::{Link, Post, Spot, Trace};

@@ -1,9 +1,10 @@
 //! The end of a shared object.
 
 ghost use Rattle.std.specs.Prelude.{◌≡◌, ◌++◌, ◌+◌, ◌<◌, ◌≤◌, [], length, map, reverse, IfOk, IfErr, vec_capacity};
-ghost use Rattle.onll_trace.specs.Closing.{AreAll, HasEnded};
-ghost use Rattle.onll_shared.specs.Passes.{spot_of, log_of};
-ghost use Rattle.onll_shared.specs.Ends.{RestView, AreReady, joined, log_in};
+ghost use Rattle.std.specs.List.{AllByRecursion};
+ghost use Rattle.onll_trace.specs.Closing.{AreAll};
+ghost use Rattle.onll_shared.specs.Passes.{IsTied, spot_of, log_of};
+ghost use Rattle.onll_shared.specs.Ends.{RestView, AreReady, HasClosed, joined, log_in};
 
 use crate::onll::Onll;
 use crate::pass::Pass;
@@ -148,14 +149,15 @@ fn logs_of<O: Object + Drop, P: Pmem + Drop>(
 
 impl<O: Object + Drop> Onll<O> {
     #[tactic(auto, using(crate::proofs::Ending::joined_spots, crate::proofs::Ending::joined_logs, crate::proofs::Ending::ready_long, crate::proofs::Ending::joined_long))]
-    /// Gives the trace and the logs. Want of memory hands all back.
+    /// Gives the trace and the logs, in the order of the passes. Want of memory hands all back.
     pub fn close<P: Pmem + Drop>(
         self,
         alloc: Global,
         mut passes: Vec<Pass<O, P>>,
     ) -> Result<Closed<P>, Unclosed<O, P>>
-        requires { AreAll self.board (map spot_of passes.items) }
-        ensures trace { IfOk result (λ closed. HasEnded self.board (map spot_of passes.items) closed.trace.items) }
+        requires all { AreAll self.trace (map spot_of passes.items) }
+        requires tied { AllByRecursion (IsTied O.means P.means self) passes.items }
+        ensures closed { IfOk result (λ closed. HasClosed self.trace passes.items closed.trace.items) }
         ensures logs { IfOk result (λ closed. closed.logs.items ≡ map log_of passes.items) }
         ensures unchanged { IfErr result (λ unclosed. (unclosed.object ≡ self) × (unclosed.passes.items ≡ passes.items)) }
     {

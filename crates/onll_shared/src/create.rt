@@ -8,7 +8,7 @@ ghost use Rattle.onll_trace.specs.Plans.{CanResume, base_place, new_plan};
 ghost use Rattle.onll_shared.specs.Starts.{AreLogs, AreMade, HasBegun, entries_of, HasRoomFor};
 
 use crate::onll::Onll;
-use crate::pass::Pass;
+use crate::pass::{Pass, log_facts};
 use crate::walk::apply_row;
 use arrayvec::ArrayVec;
 use onll_log::ThreadLog;
@@ -57,7 +57,7 @@ fn make_passes<O: Object + Drop, P: Pmem + Drop>(
     requires spots { length spots.items ≡ length rooms.now }
     requires logs { length logs.items ≡ length rooms.now }
     requires plan { HasRoomFor trace.now.plan spots.items }
-    ensures { IfOk result (λ passes. AreMade replica.now (base_place trace.now.plan) spots.items logs.items rooms.now passes.items) }
+    ensures { IfOk result (λ passes. AreMade P.means replica.now (base_place trace.now.plan) spots.items logs.items rooms.now passes.items) }
 {
     let nodes = trace.nodes() * trace.threads();
     let base = trace.base();
@@ -67,6 +67,7 @@ fn make_passes<O: Object + Drop, P: Pmem + Drop>(
             unreachable!()
         };
         spot.facts();
+        log_facts(&log);
         let room = rooms[spots.len()];
         let pass = make_pass(alloc, replica, spot, log, base, room, nodes)?;
         passes.push(pass)?;
@@ -92,7 +93,7 @@ fn fold_base<O: Object>(object: &mut O, base: &[Node])
 }
 
 impl<O: Object + Drop> Onll<O> {
-    /// A shared object, and a pass for each log. The logs have no entry.
+    /// A shared object, and a pass for each log. The logs have no entry, and heads of the newest format.
     pub fn create<P: Pmem + Drop>(
         alloc: Global,
         object: O,
@@ -103,8 +104,8 @@ impl<O: Object + Drop> Onll<O> {
         requires nodes { (1 ≤ nodes) × (nodes ≤ 4096) }
         requires logs { AreLogs logs.items }
         requires none { AllByRecursion (λ log. log.entries ≡ []) logs.items }
-        ensures object { IfOk result (λ r. (r.0.first ≡ object) × (r.0.board.plan ≡ new_plan (length logs.items) nodes)) }
-        ensures passes { IfOk result (λ r. HasBegun O.means r.0 logs.items (replicate (length logs.items) nodes) r.1.items) }
+        ensures object { IfOk result (λ r. (r.0.first ≡ object) × (r.0.trace.plan ≡ new_plan (length logs.items) nodes)) }
+        ensures passes { IfOk result (λ r. HasBegun O.means P.means r.0 logs.items (replicate (length logs.items) nodes) r.1.items) }
     {
         let count = logs.len();
         let rooms = equal_rooms(alloc, count, nodes)?;
@@ -133,8 +134,8 @@ impl<O: Object + Drop> Onll<O> {
         requires resume { CanResume base.now marks.now rooms.now }
         requires logs { AreLogs logs.items }
         requires entries { map entries_of logs.items ≡ marked (length rooms.now) base.now marks.now }
-        ensures object { IfOk result (λ r. (r.0.first ≡ object) × (r.0.board.plan.base ≡ base.now)) }
-        ensures passes { IfOk result (λ r. HasBegun O.means r.0 logs.items rooms.now r.1.items) }
+        ensures object { IfOk result (λ r. (r.0.first ≡ object) × (r.0.trace.plan.base ≡ base.now)) }
+        ensures passes { IfOk result (λ r. HasBegun O.means P.means r.0 logs.items rooms.now r.1.items) }
     {
         let (trace, spots) = Trace::resume(alloc, base, marks, rooms)?;
         let mut replica = object.copy(alloc)?;

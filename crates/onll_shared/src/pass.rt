@@ -1,5 +1,6 @@
 ghost use Rattle.std.specs.Prelude.{◌≡◌, ◌+◌, ◌≤◌, ◌<◌, ◌^◌, ℕ, length};
-ghost use Rattle.onll_trace.specs.Passes.{IsOf, base_of};
+ghost use Rattle.onll_log.specs.Log.{HoldsLog};
+ghost use Rattle.onll_trace.specs.Spots.{IsOf, base_of};
 ghost use Rattle.onll_shared.specs.Walks.{Met};
 ghost use Rattle.onll_shared.specs.Passes.{caught_up, answered};
 
@@ -41,6 +42,13 @@ impl<O: Object, P: Pmem> Model for Pass<O, P> {
     ghost view = { λ p. record { spot = p.spot; log = p.log; replica = p.replica; at = p.at; room = p.room; broken = p.broken } };
 
     ghost invariant = { λ p. IsReady p.spot p.seen p.list.items (vec_capacity p.list) };
+}
+
+/// Does nothing. It tells what holds of every log.
+pub(crate) fn log_facts<P: Pmem>(log: &ThreadLog<P>)
+    ensures { HoldsLog (P.means log.now.device) log.now.head log.now.entries log.now.broken }
+{
+    let _ = log.device();
 }
 
 impl<O: Object, P: Pmem> Pass<O, P> {

@@ -1,15 +1,16 @@
 //! The stages of an update.
 
 ghost use Rattle.std.specs.Prelude.{◌≡◌, ◌+◌, ◌≤◌, ◌<◌, ℕ, length};
-ghost use Rattle.onll_trace.specs.Passes.{IsOf, MayDraft};
+ghost use Rattle.onll_trace.specs.Spots.{IsOf, MayDraft};
 ghost use Rattle.onll_shared.specs.Updates.{LinkTried, MayLog, LogTried};
 
 use crate::calls::TryFault;
-use crate::gate::{Gate, Point};
+use crate::pass::log_facts;
 use crate::walk::walk;
 use arrayvec::ArrayVec;
 use onll_log::ThreadLog;
 use onll_model::Node;
+use onll_outside::{Gate, Point};
 use onll_pmem::{FenceFailed, Pmem};
 use onll_trace::{Link, Post, Spot, Trace};
 use onll_words::OpRow;
@@ -52,7 +53,9 @@ pub(crate) fn log_window<P: Pmem, G: Gate>(
     walk(trace, spot, window, front);
     gate.at(spot, Point::Walked);
     window.as_mut_slice().reverse();
-    log.append(front.place + 1, window.as_slice())?;
+    let logged = log.append(front.place + 1, window.as_slice());
+    log_facts(log);
+    logged?;
     trace.settle(spot);
     gate.at(spot, Point::Fenced);
     trace.set_flag(spot);

@@ -3,7 +3,7 @@
 ghost use Rattle.std.specs.Prelude.{◌≡◌, ◌+◌, ◌-◌, ◌*◌, ◌<◌, ◌≤◌, ℕ, [], length, reverse, vec_capacity};
 ghost use Rattle.onll_model.specs.Segment.{nodes_between};
 ghost use Rattle.onll_model.specs.Trace.{state_after, after_row};
-ghost use Rattle.onll_trace.specs.Passes.{IsOf, base_of};
+ghost use Rattle.onll_trace.specs.Spots.{IsOf, base_of};
 ghost use Rattle.onll_shared.specs.Walks.{BeginsWalk, IsWalked, Asks, Found, Met};
 
 use arrayvec::ArrayVec;

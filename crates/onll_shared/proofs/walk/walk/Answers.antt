@@ -1,7 +1,7 @@
 use Rattle.std.proofs.Common.{◌≡◌, ◌++◌, ◌∷◌, [], Some, Bool, refl, sym, ap, ◌∙◌, subst, arith}
 use Rattle.onll_model.specs.Trace.{node_at}
 use Rattle.onll_trace.specs.Hands.{after_flag}
-use Rattle.onll_trace.specs.Passes.{Pass, IsOf, IsLawful, base_of, becoming}
+use Rattle.onll_trace.specs.Spots.{SpotView, IsOf, IsLawful, base_of, becoming}
 use Rattle.onll_shared.specs.Walks.{Met}
 use Rattle.onll_shared.proofs.Walking.{WalksOn, walk_starts, walk_goes_on}
 use Rattle.onll_shared.proofs.walk.walk.Goals as goal
@@ -12,10 +12,10 @@ loop-post-init c = record { of = c.requires.of; on = walk_starts c.args.spot.now
 pub loop-post-preserved : goal.loop-post-preserved
 loop-post-preserved c =
     let same : c.before-post.new.spot ≡ c.flag.new.spot = c.before-post.ensures.same ∙ c.node.ensures.same in
-    let s : Pass = c.loop-post.spot in
+    let s : SpotView = c.loop-post.spot in
     let e = c.flag.ensures.flagged ∙ ap (λ (q : Bool). becoming s s.known (after_flag (base_of s) s.known s.me q)) c.if-flag.false in
-    let at = subst (λ (v : Pass). node_at v.known c.loop-post.post.place ≡ Some c.node.result) (sym same) c.node.ensures.node in
-    let met = subst (λ (v : Pass). Met v c.before-post.result) (sym c.before-post.ensures.same) c.before-post.ensures.met in
+    let at = subst (λ (v : SpotView). node_at v.known c.loop-post.post.place ≡ Some c.node.result) (sym same) c.node.ensures.node in
+    let met = subst (λ (v : SpotView). Met v c.before-post.result) (sym c.before-post.ensures.same) c.before-post.ensures.met in
     let on = walk_goes_on c.args.spot.now c.args.front.place s c.loop-post.post c.loop-post.window.items c.before-post.new.spot c.node.result c.before-post.result
     c.loop-post.invariant.on c.loop-post-test.true (same ∙ e) (subst IsLawful (sym same) c.flag.ensures.lawful) at c.before-post.ensures.place met in
     record {

@@ -1,4 +1,4 @@
-use Rattle.onll_trace.specs.Passes.{IsOf}
+use Rattle.onll_trace.specs.Spots.{IsOf}
 use Rattle.onll_shared.proofs.Walking.{WalksOn}
 use Rattle.onll_shared.proofs.walk.walk.Given as goal
 

@@ -28,8 +28,8 @@ SAYS = re.compile(
     r"|fmt::Result|io::Result|Stop|NotClosed|Fail\b"
 )
 
-# A growing call that is proved not to fail, since there is room: the answer for no room is proved unreachable.
-HAS_ROOM = re.compile(r"[^;]*?\bErr\(_\) => unreachable!\(\)")
+# A growing call that is proved not to fail, since there is room: the other answer is proved unreachable.
+HAS_ROOM = re.compile(r"[^;]*?(\bErr\(_\) => unreachable!\(\)|\belse \{\s*unreachable!\(\))")
 
 HEAD = re.compile(r"\bfn\s+([a-z_0-9]+)\s*(<[^{;]*?>)?\s*\(")
 
@@ -91,7 +91,7 @@ def main():
             if "alloc" in signature or "HostRuntime" in signature or SAYS.search(signature):
                 continue
             for call in GROWING.finditer(body):
-                own = body[: call.start()].endswith("self")
+                own = body[: call.start()].endswith(("self", "log"))
                 if not own and not HAS_ROOM.match(body, call.end()):
                     growing.append(f"{path.relative_to(TOP)}: {name}: {call.group(0)}")
     for line in growing:

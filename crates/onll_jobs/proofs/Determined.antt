@@ -1,4 +1,4 @@
-use Rattle.std.proofs.Common.{ℕ, Bool, true, ◌≡◌, ◌≢◌, ◌+◌, ◌-◌, ◌<◌, ◌≤◌, ◌^◌, List, [], ◌∷◌, ◌++◌, Option, Some, None, codes, decimal, length, map, drop, refl, sym, ap, ◌∙◌, arith, append_assoc}
+use Rattle.std.proofs.Common.{ℕ, Bool, true, ◌≡◌, ◌≢◌, ◌+◌, ◌-◌, ◌<◌, ◌≤◌, ◌^◌, List, [], ◌∷◌, ◌++◌, Option, Some, None, codes, decimal, length, map, drop, refl, sym, ap, ◌∙◌, subst, arith, append_assoc}
 use Rattle.std.specs.List.{All, flat_map}
 use Rattle.std.proofs.lemmas.Fmt.{decimal_injective}
 use Rattle.std.proofs.lemmas.List.Elements.{All-head, All-tail}
@@ -16,12 +16,12 @@ use Rattle.onll_core.specs.Core.{CoreThread, CoreState}
 use Rattle.onll_core.specs.Outcomes.{ends_of, script_of}
 use Rattle.onll_text.specs.Wording.{Wording}
 use Rattle.onll_text.specs.Lines.{call_words, end_words, call_line, call_lines, trace_line, node_line, node_lines, log_line, state_lines}
-use Rattle.onll_text.specs.Reports.{NodeReads, NoCallNext, NoNodeNext}
+use Rattle.onll_text.specs.Reports.{NodeReads, NoCallNext, NoNodeNext, SaysOnly}
 use Rattle.onll_text.proofs.LineWords.{node_line_in_words, log_line_in_words}
-use Rattle.onll_text.proofs.Determined.{text_determined, AreMeaningful-append, line_same, line_none, calls_determined, nodes_determined, nodes_meaningful, flagged_line_determined, no_node_next, state_determined, calls_meaningful, state_meaningful}
-use Rattle.onll_jobs.specs.RecoverJob.{Recovered, content_line, log_lines, recovered_line}
+use Rattle.onll_text.proofs.Determined.{text_determined, AreMeaningful-append, line_same, line_none, calls_determined, nodes_determined, nodes_meaningful, flagged_line_determined, no_node_next, state_determined, calls_meaningful, state_meaningful, says_only}
+use Rattle.onll_jobs.specs.RecoverJob.{Recovered, content_line, log_lines, recovered_line, lines_with}
 use Rattle.onll_jobs.specs.ReplayJob.{begun_lines, flagged_lines, crash_line, fenced_lines, replay_report}
-use Rattle.onll_jobs.specs.Reports.{HeldData, RecoverData, held_line, held_lines, recover_data_lines, HeldReads, RecoverReads, held_with, held_of, recover_data, RecoverReportLaw, LogData, RunData, thread_lines, counted_lines, run_data_lines, EachReads, LogReads, RunReads, counts_of, replay_data, ReplayReportLaw}
+use Rattle.onll_jobs.specs.Reports.{HeldData, RecoverData, held_line, held_lines, recover_data_lines, HeldReads, RecoverReads, held_with, held_of, found_data, recover_data, LogData, RunData, thread_lines, counted_lines, run_data_lines, EachReads, LogReads, RunReads, counts_of, replay_data}
 use Rattle.onll_jobs.proofs.ReplaySteps.{crash_in_words}
 use Rattle.onll_jobs.proofs.RecoverSteps.{recovered_in_words}
 
@@ -213,9 +213,9 @@ module _ {State Op Query Reply : Type 0} where
         AreMeaningful-append (node_lines b w 0 said.nodes) (state_lines w said.state) (nodes_meaningful b w 0 said.nodes) (state_meaningful w said.state),
       )
 
-  recover_determined_once : (b : Behaviour State Op Query Reply) (w : Wording State Op Query Reply) (said other : RecoverData State) → RecoverReads b w said → RecoverReads b w other
+  recover_determined : (b : Behaviour State Op Query Reply) (w : Wording State Op Query Reply) (said other : RecoverData State) → RecoverReads b w said → RecoverReads b w other
       → flat_map line_text (recover_data_lines b w said) ≡ flat_map line_text (recover_data_lines b w other) → said ≡ other
-  recover_determined_once b w said other g h e =
+  recover_determined b w said other g h e =
       let ending : RecoverData State → List (List (List ℕ)) = λ r. node_lines b w 0 r.nodes ++ state_lines w r.state in
       let rest : RecoverData State → List (List (List ℕ)) = λ r. recovered_line (length r.nodes) ∷ ending r in
       let lines = text_determined (recover_data_lines b w said) (recover_data_lines b w other) (recover_meaningful b w said) (recover_meaningful b w other) e in
@@ -223,11 +223,6 @@ module _ {State Op Query Reply : Type 0} where
       let counts = line_same (recovered_line (length said.nodes)) (recovered_line (length other.nodes)) (ending said) (ending other) logs.1 in
       let nodes = nodes_determined b w 0 said.nodes other.nodes (state_lines w said.state) (state_lines w other.state) g.nodes h.nodes (λ ws d. cc d) (λ ws d. cc d) counts.1 in
       recover_same said other logs.0 nodes.0 (state_determined w said.state other.state g.state h.state nodes.1)
-
-  pub recover_determined : (b : Behaviour State Op Query Reply) (w : Wording State Op Query Reply) → RecoverReportLaw b w
-  recover_determined b w s r other g h e =
-      let ending : List (List (List ℕ)) = recovered_line (length r.nodes) ∷ (node_lines b w 0 r.nodes ++ state_lines w (state_after b s r.nodes)) in
-      recover_determined_once b w (recover_data b s r) other g h (sym (ap (λ ls. flat_map line_text (ls ++ ending)) (logs-data 0 r.logs)) ∙ e)
 
   -- ---- the report of a replay
   run_meaningful : (b : Behaviour State Op Query Reply) (w : Wording State Op Query Reply) (scripts : List (List (Call State Op Query Reply))) (said : RunData State Op Query Reply) → AreMeaningful (run_data_lines b w scripts said)
@@ -254,7 +249,7 @@ module _ {State Op Query Reply : Type 0} where
       ∙ ap (λ (v : ℕ). record { ends = b.ends; nodes = b.nodes; flags = b.flags; keep = b.keep; logs = b.logs; recovered = v; state = a.state }) e₆
       ∙ ap (λ (v : State). record { ends = b.ends; nodes = b.nodes; flags = b.flags; keep = b.keep; logs = b.logs; recovered = b.recovered; state = v }) e₇
 
-  pub run_determined : (b : Behaviour State Op Query Reply) (w : Wording State Op Query Reply) (scripts : List (List (Call State Op Query Reply))) (said other : RunData State Op Query Reply)
+  run_determined : (b : Behaviour State Op Query Reply) (w : Wording State Op Query Reply) (scripts : List (List (Call State Op Query Reply))) (said other : RunData State Op Query Reply)
       → RunReads b w scripts said → RunReads b w scripts other → flat_map line_text (run_data_lines b w scripts said) ≡ flat_map line_text (run_data_lines b w scripts other) → said ≡ other
   run_determined b w scripts said other g h e =
       let ending : RunData State Op Query Reply → List (List (List ℕ)) = λ r. recovered_line r.recovered ∷ state_lines w r.state in
@@ -290,6 +285,16 @@ module _ {State Op Query Reply : Type 0} where
       ap (λ ls. flat_map line_text ((ls ++ trace) ++ (crash_line keep ∷ (fenced_lines 0 r.logs c.threads ++ ending)))) (begun-said w 0 c.threads)
       ∙ ap (λ ls. flat_map line_text ((thread_lines w 0 (map script_of c.threads) (map ends_of c.threads) ++ trace) ++ (crash_line keep ∷ (ls ++ ending)))) (fenced-said 0 r.logs c.threads)
 
-  pub replay_determined : (b : Behaviour State Op Query Reply) (w : Wording State Op Query Reply) → ReplayReportLaw b w
-  replay_determined b w c keep r other g h e =
-      run_determined b w (map script_of c.threads) (replay_data b c keep r) other g h (sym (replay_report-said b w c keep r) ∙ e)
+  -- ---- what is printed says this and nothing else
+  pub recover_says : (b : Behaviour State Op Query Reply) (w : Wording State Op Query Reply) (s state : State) (r : Recovered) (text : List ℕ) → state ≡ state_after b s r.nodes
+      → text ≡ flat_map line_text (lines_with b w r state) → RecoverReads b w (found_data r state) → SaysOnly (recover_data_lines b w) (RecoverReads b w) text (recover_data b s r)
+  recover_says b w s state r text after e h =
+      let ending : List (List (List ℕ)) = recovered_line (length r.nodes) ∷ (node_lines b w 0 r.nodes ++ state_lines w (state_after b s r.nodes)) in
+      says_only (recover_data_lines b w) (RecoverReads b w) (recover_determined b w) text (recover_data b s r)
+      (e ∙ ap (λ (x : State). flat_map line_text (lines_with b w r x)) after ∙ ap (λ ls. flat_map line_text (ls ++ ending)) (logs-data 0 r.logs))
+      (subst (λ (x : State). RecoverReads b w (found_data r x)) after h)
+
+  pub replay_says : (b : Behaviour State Op Query Reply) (w : Wording State Op Query Reply) (c : CoreState State Op Query Reply) (keep : ℕ) (r : Recovered) (text : List ℕ) → text ≡ replay_report b w c keep r
+      → RunReads b w (map script_of c.threads) (replay_data b c keep r) → SaysOnly (run_data_lines b w (map script_of c.threads)) (RunReads b w (map script_of c.threads)) text (replay_data b c keep r)
+  replay_says b w c keep r text e h =
+      says_only (run_data_lines b w (map script_of c.threads)) (RunReads b w (map script_of c.threads)) (run_determined b w (map script_of c.threads)) text (replay_data b c keep r) (e ∙ replay_report-said b w c keep r) h

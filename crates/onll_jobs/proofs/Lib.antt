@@ -15,4 +15,6 @@ pub mod Crashes
 pub mod ReplayEnds
 pub mod RecoverCrashes
 pub mod Determined
-mod FoldDetermined
+mod FormsDetermined
+mod ShowDetermined
+mod PrintedReads

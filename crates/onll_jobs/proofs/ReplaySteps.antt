@@ -104,10 +104,10 @@ module _ {State Op Query Reply : Type 0} where
 
 -- ---- the threads
 module _ {State Op Query Reply : Type 0} where
-  if_at : (P : CoreThread State Op Query Reply → Type 0) (ths : List (CoreThread State Op Query Reply)) (t : ℕ) (th : CoreThread State Op Query Reply) → slice_get ths t ≡ Some th → IfSome (slice_get ths t) P → P th
+  pub if_at : (P : CoreThread State Op Query Reply → Type 0) (ths : List (CoreThread State Op Query Reply)) (t : ℕ) (th : CoreThread State Op Query Reply) → slice_get ths t ≡ Some th → IfSome (slice_get ths t) P → P th
   if_at P ths t th e h = subst (λ (o : Option (CoreThread State Op Query Reply)). IfSome o P) e h
 
-  thread_at : (ths : List (CoreThread State Op Query Reply)) (t : ℕ) → t < length ths → (th : CoreThread State Op Query Reply) × (slice_get ths t ≡ Some th) × (drop t ths ≡ th ∷ drop (suc t) ths)
+  pub thread_at : (ths : List (CoreThread State Op Query Reply)) (t : ℕ) → t < length ths → (th : CoreThread State Op Query Reply) × (slice_get ths t ≡ Some th) × (drop t ths ≡ th ∷ drop (suc t) ths)
   thread_at [] t h = absurd (omega arith)
   thread_at (th ∷ ths) zero h = (th, refl, refl)
   thread_at (x ∷ ths) (suc t) h = thread_at ths t (omega arith)

@@ -9,7 +9,7 @@ use Rattle.onll_log.specs.declared.decoded.Entry.{Entry}
 use Rattle.onll_log.specs.Decoded.{segment_in, segments_in}
 use Rattle.onll_text.specs.Bytes.{begins_line, with_word, with_words, with_lines}
 use Rattle.onll_text.proofs.Appending.{with_words-line, with_lines-one, with_lines-append}
-use Rattle.onll_jobs.specs.ShowJob.{object_name, head_words, row_line, row_lines, entry_words, entry_lines, entries_lines, count_words, content_lines}
+use Rattle.onll_jobs.specs.ShowJob.{object_name, head_line, head_words, row_line, row_lines, entry_words, entry_lines, entries_lines, count_words, content_lines}
 
 -- The lines that `show` prints, as their words are put.
 
@@ -22,11 +22,14 @@ name_is_word false false false = record { some = refl; bytes = refl }
 pub IsWord-object_name : (code : ℕ) → IsWord (object_name code)
 IsWord-object_name code = name_is_word (code == 1) (code == 2) (code == 3)
 
-pub head_in_words : (head : LogHead) → AreWords (head_words head)
-head_in_words head = (
+pub head_line_in_words : (thread threads object : ℕ) → AreWords (head_line thread threads object)
+head_line_in_words thread threads object = (
   record { some = refl; bytes = refl },
-  (record { some = refl; bytes = refl }, (IsWord-decimal head.thread, (record { some = refl; bytes = refl }, (IsWord-decimal head.threads, (record { some = refl; bytes = refl }, (IsWord-object_name head.object, tt)))))),
+  (record { some = refl; bytes = refl }, (IsWord-decimal thread, (record { some = refl; bytes = refl }, (IsWord-decimal threads, (record { some = refl; bytes = refl }, (IsWord-object_name object, tt)))))),
 )
+
+pub head_in_words : (head : LogHead) → AreWords (head_words head)
+head_in_words head = head_line_in_words head.thread head.threads head.object
 
 pub entry_in_words : (number : ℕ) (s : Segment) → AreWords (entry_words number s)
 entry_in_words number s = (
@@ -42,7 +45,7 @@ numbers_in_words : (numbers : List ℕ) → AreWords (map decimal numbers)
 numbers_in_words [] = tt
 numbers_in_words (n ∷ ns) = (IsWord-decimal n, numbers_in_words ns)
 
-row_in_words : (place : ℕ) (node : Node) → AreWords (row_line place node)
+pub row_in_words : (place : ℕ) (node : Node) → AreWords (row_line place node)
 row_in_words place node =
     (record { some = refl; bytes = refl }, (IsWord-decimal place, (IsWord-decimal node.thread, (IsWord-decimal node.number, numbers_in_words node.row.w))))
 

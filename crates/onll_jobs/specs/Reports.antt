@@ -1,6 +1,5 @@
 use Rattle.std.specs.Prelude.{ℕ, ◌≡◌, ◌<◌, ◌≤◌, ◌^◌, ◌+◌, ◌-◌, Bool, List, [], ◌∷◌, ◌++◌, Option, Some, None, codes, decimal, length, map}
-use Rattle.std.specs.List.{All, flat_map}
-use Rattle.onll_words.specs.Texts.{line_text}
+use Rattle.std.specs.List.{All}
 use Rattle.onll_model.specs.declared.node.Node.{Node}
 use Rattle.onll_model.specs.declared.call.Call.{Call}
 use Rattle.onll_model.specs.declared.call.CallEnd.{CallEnd}
@@ -11,76 +10,66 @@ use Rattle.onll_model.specs.Segment.{Segment}
 use Rattle.onll_log.specs.declared.head.LogHead.{LogHead}
 use Rattle.onll_log.specs.Grammar.{Content, used_by, used_with}
 use Rattle.onll_core.specs.Core.{CoreThread, CoreState}
-use Rattle.onll_core.specs.Outcomes.{ends_of, script_of}
+use Rattle.onll_core.specs.Outcomes.{ends_of}
 use Rattle.onll_text.specs.Wording.{Wording}
 use Rattle.onll_text.specs.Lines.{call_lines, trace_line, node_lines, log_line, state_lines}
-use Rattle.onll_text.specs.Reports.{EndsRead, NodeReads, StateReads, FoldData, SaysOnly}
-use Rattle.onll_text.specs.declared.any_object.AnyObject.{AnyObject}
-use Rattle.onll_text.specs.declared.any_object.AnyObject.TheVariants as objects
-use Rattle.onll_text.specs.BankWording.{bank_wording}
-use Rattle.onll_text.specs.MapWording.{map_wording}
-use Rattle.onll_text.specs.QueueWording.{queue_wording}
-use Rattle.onll_text.specs.LeaseWording.{lease_wording}
-use Rattle.onll_text.specs.Script.{script_of as read_script}
-use Rattle.onll_text.specs.Init.{init_of}
-use Rattle.onll_bank.specs.Object.{bank}
-use Rattle.onll_map.specs.Object.{map_object}
-use Rattle.onll_queue.specs.Object.{queue}
-use Rattle.onll_lease.specs.Object.{lease}
-use Rattle.onll_outside.specs.Views.{StoreView, Puts}
-use Rattle.onll_jobs.specs.Reading.{Reads}
-use Rattle.onll_jobs.specs.Command.{Form, Fold, form_of}
-use Rattle.onll_jobs.specs.Seen.{Seen}
-use Rattle.onll_jobs.specs.declared.ending.Ending.{Ending}
-use Rattle.onll_jobs.specs.declared.ending.Ending.TheVariants.{Done}
-use Rattle.onll_jobs.specs.declared.ending.Exit.{Exit}
-use Rattle.onll_jobs.specs.declared.ending.Exit.TheVariants.{Said}
-use Rattle.onll_jobs.specs.RecoverJob.{Recovered, recovered_line, recover_report}
-use Rattle.onll_jobs.specs.ReplayJob.{flagged_lines, crash_line, replay_report}
+use Rattle.onll_text.specs.Reports.{EndsRead, NodeReads, StateReads, FoldData}
+use Rattle.onll_jobs.specs.ShowJob.{head_line, entries_lines, count_words}
+use Rattle.onll_jobs.specs.RecoverJob.{Recovered, recovered_line}
+use Rattle.onll_jobs.specs.ReplayJob.{flagged_lines, crash_line}
 
--- The bytes of the reports of `fold`, `recover` and `replay` determine what they say.
+-- What the reports of the commands say: the data of each, the lines that say them, and when they read back where they are printed.
 
 -- ---- fold
 -- what the report of a fold says
 abbrev pub fold_data : {State Op Query Reply : Type 0} → Behaviour State Op Query Reply → State → List (Call State Op Query Reply) → FoldData State Op Query Reply
 fold_data b s calls = record { ends = fold_ends b s 0 calls; nodes = fold_trace b 0 calls; state = fold_state b s calls }
 
--- a script is read from this file, and this text says what its fold gives, and nothing else that reads back
-pub record FoldsTo {State Op Query Reply : Type 0} (b : Behaviour State Op Query Reply) (w : Wording State Op Query Reply) (s : State) (store : StoreView) (script text : List ℕ) : Type 0 where
-  pub calls : List (Call State Op Query Reply)
-  pub read : Reads store (read_script w) script calls
-  pub says : SaysOnly b w calls text (fold_data b s calls)
+-- ---- show
+-- what is said of a log with a head: the head, the entries with their places, counts and rows, and the lines that they use
+pub record ShownLog : Type 0 where
+  pub thread : ℕ
+  pub threads : ℕ
+  pub object : ℕ
+  pub entries : List Segment
+  pub lines : ℕ
 
--- the same for an object of any kind
-abbrev pub FoldsToAny : StoreView → (script text : List ℕ) → AnyObject → Type 0
-FoldsToAny store script text (objects.Bank s) = FoldsTo bank bank_wording s store script text
-FoldsToAny store script text (objects.Map s) = FoldsTo map_object map_wording s store script text
-FoldsToAny store script text (objects.Queue s) = FoldsTo queue queue_wording s store script text
-FoldsToAny store script text (objects.Lease s) = FoldsTo lease lease_wording s store script text
+-- the lines of what an image holds, which is nothing where it has no head
+abbrev pub shown_lines : Option ShownLog → List (List (List ℕ))
+shown_lines None = (codes "empty" ∷ []) ∷ []
+shown_lines (Some log) =
+    head_line log.thread log.threads log.object ∷ (entries_lines 0 log.entries ++ count_words (length log.entries) log.lines ∷ [])
 
--- an initial state is read from the one file, and the other's script is folded on it
-pub record FoldsFiles (store : StoreView) (init script text : List ℕ) : Type 0 where
-  pub object : AnyObject
-  pub read : Reads store init_of init object
-  pub folds : FoldsToAny store script text object
+-- the numbers of a node, and the words of its row, are of 64 bits
+pub record RowReads (node : Node) : Type 0 where
+  pub thread : node.thread < 2 ^ 64
+  pub number : node.number < 2 ^ 64
+  pub words : All (λ n. n < 2 ^ 64) node.row.w
 
--- where a form is that of a fold, and the fold is done, this text says what it gives, and nothing else
-abbrev pub FormDetermined : StoreView → Option Form → Ending → List ℕ → Type 0
-FormDetermined store (Some (Fold init script)) ending text = ending ≡ Done → FoldsFiles store init script text
-FormDetermined store form ending text = Unit {0}
+pub record EntryReads (s : Segment) : Type 0 where
+  pub place : s.place < 2 ^ 64
+  pub nodes : All RowReads s.nodes
 
--- a fold whose report was put
-pub record FoldPut (seen : Seen) (init script : List ℕ) : Type 0 where
-  pub text : List ℕ
-  pub folds : FoldsFiles seen.store init script text
-  pub put : Puts seen.sink seen.sink_after text
+-- a log with a head is of one of the four objects, and its numbers are of 64 bits
+pub record LogShownReads (log : ShownLog) : Type 0 where
+  pub thread : log.thread < 2 ^ 64
+  pub threads : log.threads < 2 ^ 64
+  pub object : (1 ≤ log.object) × (log.object ≤ 4)
+  pub entries : All EntryReads log.entries
+  pub lines : log.lines < 2 ^ 64
 
--- a fold that is done, by its exit and by its status
-abbrev pub FoldExits : Seen → Exit → Type 0
-FoldExits seen exit = (init script : List ℕ) → form_of seen.words ≡ Some (Fold init script) → exit ≡ Said Done → FoldPut seen init script
+abbrev pub ShowReads : Option ShownLog → Type 0
+ShowReads None = Unit {0}
+ShowReads (Some log) = LogShownReads log
 
-abbrev pub FoldIsDetermined : Seen → ℕ → Type 0
-FoldIsDetermined seen status = (init script : List ℕ) → form_of seen.words ≡ Some (Fold init script) → status ≡ 0 → FoldPut seen init script
+abbrev pub shown_with : Option LogHead → List Segment → ℕ → Option ShownLog
+shown_with None entries lines = None
+shown_with (Some head) entries lines =
+    Some (record { thread = head.thread; threads = head.threads; object = head.object; entries = entries; lines = lines })
+
+-- what the report of an image says
+abbrev pub show_data : Content → Option ShownLog
+show_data c = shown_with c.head c.entries (used_by c)
 
 -- ---- recover
 -- what is said of a log with a head: its entries and its lines
@@ -124,15 +113,13 @@ held_with (Some head) entries = Some (record { entries = length entries; lines =
 abbrev pub held_of : Content → Option HeldData
 held_of log = held_with log.head log.entries
 
--- what the report of a recovery says
-abbrev pub recover_data : {State Op Query Reply : Type 0} → Behaviour State Op Query Reply → State → Recovered → RecoverData State
-recover_data b s r = record { logs = map held_of r.logs; nodes = r.nodes; state = state_after b s r.nodes }
+-- what the report of a recovery says, with this state
+abbrev pub found_data : {State : Type 0} → Recovered → State → RecoverData State
+found_data r s = record { logs = map held_of r.logs; nodes = r.nodes; state = s }
 
--- nothing else that reads back is printed by its bytes
-abbrev pub RecoverReportLaw : {State Op Query Reply : Type 0} → Behaviour State Op Query Reply → Wording State Op Query Reply → Type 0
-RecoverReportLaw {State} b w =
-    (s : State) (r : Recovered) (other : RecoverData State) → RecoverReads b w (recover_data b s r) → RecoverReads b w other
-    → recover_report b w s r ≡ flat_map line_text (recover_data_lines b w other) → recover_data b s r ≡ other
+-- the same with the state after the trace
+abbrev pub recover_data : {State Op Query Reply : Type 0} → Behaviour State Op Query Reply → State → Recovered → RecoverData State
+recover_data b s r = found_data r (state_after b s r.nodes)
 
 -- ---- replay
 -- what is said of a log: its entries, its lines, and the fences after the header's
@@ -207,10 +194,3 @@ replay_data b c keep r = record {
   recovered = length r.nodes;
   state = state_after b c.initial r.nodes;
 }
-
--- nothing else that reads back is printed by its bytes
-abbrev pub ReplayReportLaw : {State Op Query Reply : Type 0} → Behaviour State Op Query Reply → Wording State Op Query Reply → Type 0
-ReplayReportLaw {State} {Op} {Query} {Reply} b w =
-    (c : CoreState State Op Query Reply) (keep : ℕ) (r : Recovered) (other : RunData State Op Query Reply)
-    → RunReads b w (map script_of c.threads) (replay_data b c keep r) → RunReads b w (map script_of c.threads) other
-    → replay_report b w c keep r ≡ flat_map line_text (run_data_lines b w (map script_of c.threads) other) → replay_data b c keep r ≡ other

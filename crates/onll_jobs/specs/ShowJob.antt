@@ -16,9 +16,12 @@ abbrev pub object_name : ℕ → List ℕ
 object_name code = if code == 1 then codes "bank" else (if code == 2 then codes "map" else (if code == 3 then codes "queue" else codes "lease"))
 
 -- `log thread T threads N object NAME`
+abbrev pub head_line : (thread threads object : ℕ) → List (List ℕ)
+head_line thread threads object =
+    codes "log" ∷ codes "thread" ∷ decimal thread ∷ codes "threads" ∷ decimal threads ∷ codes "object" ∷ object_name object ∷ []
+
 abbrev pub head_words : LogHead → List (List ℕ)
-head_words head =
-    codes "log" ∷ codes "thread" ∷ decimal head.thread ∷ codes "threads" ∷ decimal head.threads ∷ codes "object" ∷ object_name head.object ∷ []
+head_words head = head_line head.thread head.threads head.object
 
 -- `entry S place P count C`
 abbrev pub entry_words : ℕ → Segment → List (List ℕ)

@@ -9,7 +9,8 @@ ghost use Rattle.onll_jobs.specs.Fold.{fold_report};
 ghost use Rattle.onll_jobs.specs.FoldJob.{script_job, script_job_on, fold_job};
 ghost use Rattle.onll_jobs.specs.Job.{JobEnds, JobCut};
 ghost use Rattle.onll_jobs.specs.declared.ending.Ending.TheVariants.{Done};
-ghost use Rattle.onll_jobs.specs.Reports.{fold_data, FoldsTo, FoldsToAny, FoldsFiles};
+ghost use Rattle.onll_jobs.specs.Reports.{fold_data};
+ghost use Rattle.onll_jobs.specs.Determined.{FoldsTo, FoldsToAny, FoldsFiles};
 
 use crate::answer::Answer;
 use crate::ending::Ending;

@@ -5,6 +5,7 @@ ghost use Rattle.onll_jobs.specs.Reading.{HoldsImage, CannotRead};
 ghost use Rattle.onll_jobs.specs.Images.{image_name, images_in, ImagesRead, ImagesUnread, image_bytes, image_names, AreWritten, ImagesStop, ImagesCut};
 ghost use Rattle.onll_jobs.specs.Writing.{SameBut, HasWritten, CannotWrite, WriteStops};
 ghost use Rattle.onll_jobs.specs.Stop.{StopSays};
+ghost use Rattle.onll_jobs.specs.Determined.{HoldImages};
 
 use crate::answer::Stop;
 use crate::texts::{image_file, write_file};
@@ -90,6 +91,7 @@ pub(crate) fn read_images<S: Store>(
     store: &mut S,
 ) -> Result<Vec<Image>, Stop>
     ensures images { IfOk result (λ images. ImagesRead (S.seen store.old) (S.seen store.new) logs.now threads (images_in images.items)) }
+    ensures held { IfOk result (λ images. HoldImages (S.seen store.old) logs.now 0 (images_in images.items)) }
     ensures count { IfOk result (λ images. length images.items ≡ threads) }
     ensures stop { IfErr result (λ stop. StopSays stop (ImagesUnread (S.seen store.old) (S.seen store.new) logs.now threads)) }
     ensures same { SameFiles (S.seen store.old) (S.seen store.new) }

@@ -8,12 +8,11 @@ mod ending;
 mod fold;
 mod images;
 mod program;
+mod reads;
 mod recover;
 mod replay;
-mod report_laws;
 mod show;
 mod texts;
 
 pub use ending::{Ending, Exit};
 pub use program::onll;
-pub use report_laws::{recover_report_law, replay_report_law};

@@ -9,7 +9,7 @@ ghost use Rattle.onll_jobs.specs.Says.{job_of, writes_of, FormSays, ExitSays, En
 ghost use Rattle.onll_jobs.specs.Job.{JobCut, Decides};
 ghost use Rattle.onll_jobs.specs.Durable.{ReplayIsDurable, RecoversCrashes};
 ghost use Rattle.onll_jobs.specs.Printed.{usage_text};
-ghost use Rattle.onll_jobs.specs.Reports.{FormDetermined, FoldExits, FoldIsDetermined};
+ghost use Rattle.onll_jobs.specs.Determined.{FormDetermined, ExitDetermined, IsDetermined};
 
 use crate::answer::{Answer, usage};
 use crate::command::Command;
@@ -28,7 +28,7 @@ fn command_answer<S: Store>(
     requires { IsCommand command }
     ensures says { let form = form_in command.entry in
         IfOk result (λ answer. FormSays (Some form) (S.seen store.old) (S.seen store.new) answer.ending answer.text.items) }
-    ensures determined { IfOk result (λ answer. FormDetermined (S.seen store.old) (Some (form_in command.entry)) answer.ending answer.text.items) }
+    ensures determined { IfOk result (λ answer. answer.ending ≡ Ending.Done → FormDetermined (S.seen store.old) (Some (form_in command.entry)) answer.text.items) }
     ensures cut { IfErr result (λ e. JobCut (S.seen store.old) (S.seen store.new) (job_of (Some (form_in command.entry)))) }
     ensures files { SameBut (writes_of (Some (form_in command.entry))) (S.seen store.old) (S.seen store.new) }
 {
@@ -54,7 +54,7 @@ fn answer_to<S: Store>(alloc: Global, words: &[String], store: &mut S) -> Result
     ensures says { let form = form_of (map string_bytes words.now) in
         IfOk result (λ answer. FormSays form (S.seen store.old) (S.seen store.new) answer.ending answer.text.items) }
     ensures determined { let form = form_of (map string_bytes words.now) in
-        IfOk result (λ answer. FormDetermined (S.seen store.old) form answer.ending answer.text.items) }
+        IfOk result (λ answer. answer.ending ≡ Ending.Done → FormDetermined (S.seen store.old) form answer.text.items) }
     ensures cut { IfErr result (λ e. JobCut (S.seen store.old) (S.seen store.new) (job_of (form_of (map string_bytes words.now)))) }
     ensures files { SameBut (writes_of (form_of (map string_bytes words.now))) (S.seen store.old) (S.seen store.new) }
 {
@@ -80,7 +80,7 @@ fn run<S: Store, K: Sink>(alloc: Global, words: &[String], store: &mut S, out: &
     ensures says { let seen = seen_by (map string_bytes words.now) (S.seen store.old) (S.seen store.new) (K.held out.old) (K.held out.new) in
         ExitSays seen result }
     ensures determined { let seen = seen_by (map string_bytes words.now) (S.seen store.old) (S.seen store.new) (K.held out.old) (K.held out.new) in
-        FoldExits seen result }
+        ExitDetermined seen result }
     ensures files { SameBut (writes_of (form_of (map string_bytes words.now))) (S.seen store.old) (S.seen store.new) }
 {
     match answer_to(alloc, words, store) {
@@ -125,10 +125,12 @@ pub fn onll<S: Store, K: Sink>(alloc: Global, words: &[String], store: &mut S, o
         (ending : Ending) (text : List ℕ) → Decides seen.store (job_of (form_of seen.words)) ending text →
         NoneRose seen → SaysThis seen result ending text }
 
-    // What a fold prints says what became of the calls that the files hold, the trace and the state, and nothing else that reads
-    // back is printed by its bytes.
+    // What a command that is done prints says the data that its files give, all of which read back, and nothing else that reads
+    // back is printed by its bytes: of a fold what became of each call, the trace and the state; of an image the head, the entries
+    // with their rows, and the used lines; of a recovery each log, the trace and the state; of a replay what became of the calls of
+    // each script, the trace with its flags, the crash, each log, how many nodes are recovered and the state.
     ensures determined { let seen = seen_by (map string_bytes words.now) (S.seen store.old) (S.seen store.new) (K.held out.old) (K.held out.new) in
-        FoldIsDetermined seen result }
+        IsDetermined seen result }
 
     // What a replay prints is one run of scripts every run of which is durable at each step: one legal history in real time, an
     // update that fences once, a read that never does, and, whatever a crash leaves, logs that recover to a prefix which holds

@@ -16,12 +16,15 @@ ghost use Rattle.onll_jobs.specs.Job.{JobEnds, JobCut, SaysNow};
 ghost use Rattle.onll_jobs.specs.Images.{images_in, reading_images};
 ghost use Rattle.onll_jobs.specs.RecoverJob.{contents_from, expected_heads, operations, operations_of, recovered, content_line, log_lines, recovered_line, lines_with, recover_on, recover_any, recover_job};
 ghost use Rattle.onll_jobs.specs.Found.{found_in};
+ghost use Rattle.onll_jobs.specs.declared.ending.Ending.TheVariants.{Done};
+ghost use Rattle.onll_jobs.specs.Determined.{RecoversTo, RecoversToAny, RecoversLogs, RecoversFiles};
 
 use crate::answer::Answer;
 use crate::bad_logs::{LogsFault, bad_logs};
 use crate::ending::Ending;
 use crate::fold::put_nodes;
 use crate::images::{Image, read_images};
+use crate::reads::recovery_reads;
 use crate::texts::{InitText, init_file};
 use onll_log::{DecodeFault, Decoded, LogHead, decode, format_of};
 use onll_merge::RecoverFault;
@@ -224,12 +227,14 @@ fn recover_on<O: Texted>(
     images: &[Image],
 ) -> Result<Answer, NoMemory>
     requires { (1 ≤ length images.now) × (length images.now ≤ 16) }
-    ensures { let job = recover_on O.means O.wording O.CODE init.now object.old (images_in images.now) in
+    ensures says { let job = recover_on O.means O.wording O.CODE init.now object.old (images_in images.now) in
         IfOk result (λ answer. SaysNow job answer.ending answer.text.items) }
+    ensures determined { IfOk result (λ answer. answer.ending ≡ Done → RecoversTo O.means O.wording O.CODE init.now object.old (images_in images.now) answer.text.items) }
 {
     match find(alloc, object, init, images) {
         Ok(found) => {
             let text = report(alloc, object, &found)?;
+            recovery_reads(object, &found);
             Ok(Answer {
                 ending: Ending::Done,
                 text,
@@ -248,7 +253,8 @@ fn recover_any(
     images: &[Image],
 ) -> Result<Answer, NoMemory>
     requires { (1 ≤ length images.now) × (length images.now ≤ 16) }
-    ensures { IfOk result (λ answer. SaysNow (recover_any init.now object (images_in images.now)) answer.ending answer.text.items) }
+    ensures says { IfOk result (λ answer. SaysNow (recover_any init.now object (images_in images.now)) answer.ending answer.text.items) }
+    ensures determined { IfOk result (λ answer. answer.ending ≡ Done → RecoversToAny init.now (images_in images.now) answer.text.items object) }
 {
     match object {
         AnyObject::Bank(mut bank) => recover_on(alloc, &mut bank, init, images),
@@ -271,6 +277,7 @@ fn recover_logs<S: Store>(
         IfOk result (λ answer. JobEnds (S.seen store.old) (S.seen store.new) job answer.ending answer.text.items) }
     ensures cut { let job = reading_images logs.now 0 threads (recover_any init.text.items init.object) in
         IfErr result (λ e. JobCut (S.seen store.old) (S.seen store.new) job) }
+    ensures determined { IfOk result (λ answer. answer.ending ≡ Done → RecoversLogs (S.seen store.old) init.text.items logs.now threads answer.text.items init.object) }
     ensures same { SameFiles (S.seen store.old) (S.seen store.new) }
 {
     match read_images(alloc, logs, threads, store) {
@@ -290,6 +297,7 @@ pub(crate) fn answer<S: Store>(
     requires { (1 ≤ threads) × (threads ≤ 16) }
     ensures says { IfOk result (λ answer. JobEnds (S.seen store.old) (S.seen store.new) (recover_job init.now logs.now threads) answer.ending answer.text.items) }
     ensures cut { IfErr result (λ e. JobCut (S.seen store.old) (S.seen store.new) (recover_job init.now logs.now threads)) }
+    ensures determined { IfOk result (λ answer. answer.ending ≡ Done → RecoversFiles (S.seen store.old) init.now logs.now threads answer.text.items) }
     ensures same { SameFiles (S.seen store.old) (S.seen store.new) }
 {
     match init_file(alloc, init, store) {

@@ -8,7 +8,7 @@ ghost use Rattle.onll_log.specs.Decoded.{content_in};
 ghost use Rattle.onll_merge.specs.Merge.{contents_in};
 ghost use Rattle.onll_text.specs.Bytes.{begins_line, with_lines};
 ghost use Rattle.onll_text.specs.Lines.{call_lines};
-ghost use Rattle.onll_core.specs.Outcomes.{returned_end, current_ends};
+ghost use Rattle.onll_core.specs.Outcomes.{returned_end, current_ends, script_of};
 ghost use Rattle.onll_core.specs.Crash.{images_of};
 ghost use Rattle.onll_text.specs.Schedule.{IsPlayable};
 ghost use Rattle.onll_outside.specs.Views.{SameFiles};
@@ -19,11 +19,15 @@ ghost use Rattle.onll_jobs.specs.RecoverJob.{recovered};
 ghost use Rattle.onll_jobs.specs.Stop.{StopSays};
 ghost use Rattle.onll_jobs.specs.Writing.{SameBut};
 ghost use Rattle.onll_jobs.specs.ReplayJob.{begun_lines, flagged_lines, crash_line, fenced_lines, run_lines, crash_lines, replay_report, crash_says, crash_job, played, AreRead, ScriptsStop, schedule_job, replay_on, replay_any, replay_job};
+ghost use Rattle.onll_jobs.specs.declared.ending.Ending.TheVariants.{Done};
+ghost use Rattle.onll_jobs.specs.Durable.{ReadScripts};
+ghost use Rattle.onll_jobs.specs.Determined.{CrashesTo, PlaysTo, ReplaysTo, ReplaysToAny, ReplaysFiles};
 
 use crate::answer::{Answer, Stop};
 use crate::bad_logs::{LogsFault, bad_logs};
 use crate::ending::Ending;
 use crate::images::{Image, write_images};
+use crate::reads::run_reads;
 use crate::recover::{Found, find, put_count};
 use crate::texts::{init_file, schedule_file, script_file};
 use onll_core::{Core, Current, Returned};
@@ -211,13 +215,16 @@ fn crash_answer<O: Texted + Drop>(
     requires operations { AllByRecursion (λ n. IsSome (O.means.op_at n.row)) core.now.trace }
     requires threads { (1 ≤ length images.now) × (length images.now ≤ 16) }
     requires images { length images.now ≡ length core.now.threads }
-    ensures { let job = crash_says O.means O.wording core.now keep (recovered O.means O.CODE init.now (images_in images.now)) in
+    ensures says { let job = crash_says O.means O.wording core.now keep (recovered O.means O.CODE init.now (images_in images.now)) in
         IfOk result (λ answer. SaysNow job answer.ending answer.text.items) }
+    ensures determined { let scripts = map script_of core.now.threads in
+        IfOk result (λ answer. answer.ending ≡ Done → CrashesTo O.means O.wording O.CODE init.now core.now keep scripts (images_in images.now) answer.text.items) }
 {
     let mut object = core.initial().copy(alloc)?;
     match find(alloc, &mut object, init, images) {
         Ok(found) => {
             let text = report(alloc, core, keep, &found, &object)?;
+            run_reads(core, keep, &found, &object);
             Ok(Answer {
                 ending: Ending::Done,
                 text,
@@ -243,6 +250,8 @@ fn crash<O: Texted + Drop, S: Store>(
         IfOk result (λ answer. JobEnds (S.seen store.old) (S.seen store.new) job answer.ending answer.text.items) }
     ensures cut { let job = crash_job O.means O.wording O.CODE init.now logs.now core.now keep in
         IfErr result (λ e. JobCut (S.seen store.old) (S.seen store.new) job) }
+    ensures determined { let scripts = map script_of core.now.threads in
+        IfOk result (λ answer. answer.ending ≡ Done → CrashesTo O.means O.wording O.CODE init.now core.now keep scripts (images_of keep core.now.threads) answer.text.items) }
     ensures others { SameBut (image_names logs.now 0 (length core.now.threads)) (S.seen store.old) (S.seen store.new) }
 {
     let images = crash_images(alloc, core, keep)?;
@@ -279,6 +288,7 @@ fn script_files<O: Texted, S: Store>(
     store: &mut S,
 ) -> Result<Vec<Vec<Call<O>>>, Stop>
     ensures read { IfOk result (λ scripts. AreRead O.wording (S.seen store.old) (S.seen store.new) (map string_bytes names.now) (map (λ script. script.items) scripts.items)) }
+    ensures held { IfOk result (λ scripts. ReadScripts O.wording (S.seen store.old) (map string_bytes names.now) (map (λ script. script.items) scripts.items)) }
     ensures count { IfOk result (λ scripts. length scripts.items ≡ length names.now) }
     ensures updates { IfOk result (λ scripts. All (λ script. updates_in script.items ≤ 4096) scripts.items) }
     ensures stop { IfErr result (λ stop. StopSays stop (ScriptsStop O.wording (S.seen store.old) (S.seen store.new) (map string_bytes names.now))) }
@@ -310,6 +320,8 @@ fn replay_scripts<O: Texted + Drop, S: Store>(
         IfOk result (λ answer. JobEnds (S.seen store.old) (S.seen store.new) job answer.ending answer.text.items) }
     ensures cut { let job = schedule_job O.means O.wording O.CODE init.now object schedule.now logs.now (map (λ script. script.items) scripts.items) in
         IfErr result (λ e. JobCut (S.seen store.old) (S.seen store.new) job) }
+    ensures determined { let calls = map (λ script. script.items) scripts.items in
+        IfOk result (λ answer. answer.ending ≡ Done → PlaysTo O.means O.wording O.CODE init.now object (S.seen store.old) schedule.now calls answer.text.items) }
     ensures others { SameBut (image_names logs.now 0 (length scripts.items)) (S.seen store.old) (S.seen store.new) }
 {
     match schedule_file(alloc, schedule, scripts.len() as u64, store) {
@@ -336,6 +348,8 @@ fn replay_on<O: Texted + Drop, S: Store>(
         IfOk result (λ answer. JobEnds (S.seen store.old) (S.seen store.new) job answer.ending answer.text.items) }
     ensures cut { let job = replay_on O.means O.wording O.CODE init.now schedule.now logs.now (map string_bytes scripts.now) object in
         IfErr result (λ e. JobCut (S.seen store.old) (S.seen store.new) job) }
+    ensures determined { let names = map string_bytes scripts.now in
+        IfOk result (λ answer. answer.ending ≡ Done → ReplaysTo O.means O.wording O.CODE init.now object (S.seen store.old) schedule.now names answer.text.items) }
     ensures others { SameBut (image_names logs.now 0 (length scripts.now)) (S.seen store.old) (S.seen store.new) }
 {
     match script_files::<O, S>(alloc, scripts, store) {
@@ -359,6 +373,8 @@ fn replay_any<S: Store>(
         IfOk result (λ answer. JobEnds (S.seen store.old) (S.seen store.new) job answer.ending answer.text.items) }
     ensures cut { let job = replay_any init.now schedule.now logs.now (map string_bytes scripts.now) object in
         IfErr result (λ e. JobCut (S.seen store.old) (S.seen store.new) job) }
+    ensures determined { let names = map string_bytes scripts.now in
+        IfOk result (λ answer. answer.ending ≡ Done → ReplaysToAny init.now (S.seen store.old) schedule.now names answer.text.items object) }
     ensures others { SameBut (image_names logs.now 0 (length scripts.now)) (S.seen store.old) (S.seen store.new) }
 {
     match object {
@@ -383,6 +399,8 @@ pub(crate) fn answer<S: Store>(
         IfOk result (λ answer. JobEnds (S.seen store.old) (S.seen store.new) job answer.ending answer.text.items) }
     ensures cut { let job = replay_job init.now schedule.now logs.now (map string_bytes scripts.now) in
         IfErr result (λ e. JobCut (S.seen store.old) (S.seen store.new) job) }
+    ensures determined { let names = map string_bytes scripts.now in
+        IfOk result (λ answer. answer.ending ≡ Done → ReplaysFiles (S.seen store.old) init.now schedule.now names answer.text.items) }
     ensures others { SameBut (image_names logs.now 0 (length scripts.now)) (S.seen store.old) (S.seen store.new) }
 {
     match init_file(alloc, init, store) {

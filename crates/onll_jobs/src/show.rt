@@ -8,9 +8,12 @@ ghost use Rattle.onll_text.specs.Bytes.{begins_line, with_words, with_lines};
 ghost use Rattle.onll_outside.specs.Views.{SameFiles};
 ghost use Rattle.onll_jobs.specs.Job.{JobEnds, JobCut, SaysNow};
 ghost use Rattle.onll_jobs.specs.ShowJob.{object_name, head_words, row_line, row_lines, entry_words, entry_lines, entries_lines, count_words, content_lines, show_report, not_a_log, shown, show_job, IsPlaced};
+ghost use Rattle.onll_jobs.specs.declared.ending.Ending.TheVariants.{Done};
+ghost use Rattle.onll_jobs.specs.Determined.{ShowsImage, ShowsFile};
 
 use crate::answer::Answer;
 use crate::ending::Ending;
+use crate::reads::content_reads;
 use crate::texts::image_file;
 use onll_log::{DecodeFault, Decoded, Entry, LogHead, decode};
 use onll_model::Node;
@@ -191,11 +194,13 @@ fn not_a_log(alloc: Global) -> Result<Answer, NoMemory>
 
 /// What is said of an image's lines.
 fn shown(alloc: Global, lines: &[Line]) -> Result<Answer, NoMemory>
-    ensures { IfOk result (λ answer. SaysNow (shown (content_of (words_of lines.now))) answer.ending answer.text.items) }
+    ensures says { IfOk result (λ answer. SaysNow (shown (content_of (words_of lines.now))) answer.ending answer.text.items) }
+    ensures determined { IfOk result (λ answer. answer.ending ≡ Done → ShowsImage (words_of lines.now) answer.text.items) }
 {
     match decode(alloc, lines) {
         Ok(decoded) => {
             let text = report(alloc, &decoded)?;
+            content_reads(&decoded);
             Ok(Answer {
                 ending: Ending::Done,
                 text,
@@ -214,6 +219,7 @@ pub(crate) fn answer<S: Store>(
 ) -> Result<Answer, NoMemory>
     ensures says { IfOk result (λ answer. JobEnds (S.seen store.old) (S.seen store.new) (show_job image.now) answer.ending answer.text.items) }
     ensures cut { IfErr result (λ e. JobCut (S.seen store.old) (S.seen store.new) (show_job image.now)) }
+    ensures determined { IfOk result (λ answer. answer.ending ≡ Done → ShowsFile (S.seen store.old) image.now answer.text.items) }
     ensures same { SameFiles (S.seen store.old) (S.seen store.new) }
 {
     match image_file(alloc, image, store) {

@@ -1,9 +1,12 @@
-ghost use Rattle.std.specs.Prelude.{◌≡◌, ◌<◌, ◌^◌};
-ghost use Rattle.onll_log.specs.Grammar.{lines_in, used_by};
+ghost use Rattle.std.specs.Prelude.{◌≡◌, ◌<◌, ◌≤◌, ◌^◌, length, drop};
+ghost use Rattle.onll_pmem.specs.Pmem.{words_of};
+ghost use Rattle.onll_log.specs.Grammar.{lines_in, used_by, are_zero_lines};
 ghost use Rattle.onll_log.specs.Decoded.{segments_in, content_in};
 
 use crate::head::LogHead;
+use crate::image::are_zero;
 use onll_model::Node;
+use onll_words::Line;
 use std::marker::Model;
 
 /// Nodes in order, seen as their list.
@@ -101,6 +104,15 @@ impl Decoded {
             None => 0,
             Some(_) => 1 + lines_of(self.entries.as_slice()),
         }
+    }
+
+    /// Whether only zeros stand after the used lines of the image.
+    pub fn only_zeros_after(&self, image: &[Line]) -> bool
+        requires { used_by (content_in self.now) ≤ length image.now }
+        ensures { result ≡ are_zero_lines (drop (used_by (content_in self.now)) (words_of image.now)) }
+    {
+        let (_, rest) = image.split_at(self.used() as usize);
+        are_zero(rest)
     }
 }
 

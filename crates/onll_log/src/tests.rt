@@ -1,10 +1,7 @@
-ghost use Rattle.std.specs.Prelude.{◌≡◌, ◌≤◌, ◌<◌, length, drop};
-ghost use Rattle.onll_pmem.specs.Pmem.{words_of};
-ghost use Rattle.onll_log.specs.Grammar.{are_zero_lines};
+ghost use Rattle.std.specs.Prelude.{◌≡◌, ◌≤◌, ◌<◌, length};
 ghost use Rattle.onll_log.specs.Head.{FitsHead};
 
 use super::*;
-use crate::image::are_zero;
 use onll_model::{Node, node_line};
 use onll_pmem::{FenceFailed, MemPmem, Pmem};
 use onll_words::{Line, OpRow};
@@ -179,15 +176,6 @@ fn an_append_whose_fence_fails_is_pending(rt: HostRuntime) -> Result<(), Fail> {
     Ok(())
 }
 
-/// Whether only zeros stand after the first lines.
-fn ends_in_zeros(lines: &[Line], used: usize) -> bool
-    requires { used ≤ length lines.now }
-    ensures { result ≡ are_zero_lines (drop used (words_of lines.now)) }
-{
-    let (_, rest) = lines.split_at(used);
-    are_zero(rest)
-}
-
 /// Appends the two nodes where a log is for them and has room.
 fn append_both(log: &mut ThreadLog<MemPmem>) -> bool {
     let threads = log.head().threads;
@@ -202,8 +190,7 @@ fn opened(alloc: Global, lines: Vec<Line>) -> Result<Option<ThreadLog<MemPmem>>,
     let Ok(decoded) = decode(alloc, &lines) else {
         return Err("not decoded".into());
     };
-    let used = decoded.used() as usize;
-    if decoded.head.is_none_or(|head| head.format != 2) || !ends_in_zeros(&lines, used) {
+    if decoded.head.is_none_or(|head| head.format != 2) || !decoded.only_zeros_after(&lines) {
         return Ok(None);
     }
     if lines.len() > 8 {

@@ -4,7 +4,10 @@ use Rattle.std.specs.String.{string_bytes}
 use Rattle.std.proofs.lemmas.Bool.{cases_Bool}
 use Rattle.std.proofs.lemmas.Slice.Eq.{bytes_eq-Decides}
 use Rattle.onll_outside.specs.declared.mem_store.Named.{Named}
-use Rattle.onll_outside.specs.Views.{StoreView, SameOthers}
+use Rattle.onll_pmem.specs.Device.{IsImage, Mixed}
+use Rattle.onll_pmem.specs.Pmem.{Told}
+use Rattle.onll_pmem.specs.Memory.{MemoryState, memory_view}
+use Rattle.onll_outside.specs.Views.{StoreView, SameOthers, IsImageOf}
 use Rattle.onll_outside.specs.MemStore.{FilesHeld, texts_of, file_in, place_in, with_file, store_of, called}
 
 -- What a file written in memory is, and what the others are.
@@ -73,3 +76,10 @@ file_in-other (f ∷ files) name bytes other no_name = ⊎_elim
 -- a store after a write
 pub others_same : (old : FilesHeld) (name bytes : List ℕ) → SameOthers name (store_of old) (store_of (record (called old) { files = with_file old.files name bytes }))
 others_same old name bytes = record { tells = refl; file = λ other no_name. file_in-other old.files name bytes other no_name }
+
+some_same : {A : Type 0} (x y : A) → Some x ≡ Some y → x ≡ y
+some_same x y e = (cc)
+
+-- an image of a device in memory is one of the device as any caller sees it
+pub told_image : (d : MemoryState) (image : List (List ℕ)) → IsImage d.device image → IsImageOf (memory_view d) image
+told_image d image h t e = subst (λ (u : Told). Mixed u.fenced d.device.read image) (some_same (record { fenced = d.device.fenced; backed = d.device.backed }) t e) h

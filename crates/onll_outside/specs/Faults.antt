@@ -17,6 +17,13 @@ abbrev pub Raises : Last → FaultsSeen → FaultsSeen → OutsideFault → Type
 Raises this old new Failed = new ≡ record { count = one_more old.count; last = Some this }
 Raises this old new NoMemory = new ≡ old
 
--- a store that tells its faults alone
-abbrev pub untold : FaultsSeen → StoreView
-untold f = record { tells = false; file = λ _. None; faults = f.count; last = f.last }
+-- the faults of a store, and the counts of the devices that were handed back
+pub record CountsSeen : Type 0 where
+  pub faults : ℕ
+  pub last : Option Last
+  pub device_faults : ℕ
+  pub device_fences : ℕ
+
+-- a store that tells its counts alone
+abbrev pub untold : CountsSeen → StoreView
+untold s = record { tells = false; file = λ _. None; faults = s.faults; last = s.last; device_faults = s.device_faults; device_fences = s.device_fences }

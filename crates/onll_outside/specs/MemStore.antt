@@ -5,14 +5,18 @@ use Rattle.std.specs.List.{list_any}
 use Rattle.std.specs.declared.vec.Vec.{Vec}
 use Rattle.onll_outside.specs.declared.OutsideFault.{OutsideFault}
 use Rattle.onll_outside.specs.declared.OutsideFault.TheVariants.{Failed, NoMemory}
-use Rattle.onll_outside.specs.declared.store.FaultKind.TheVariants.{Read, Write}
+use Rattle.onll_outside.specs.declared.store.FaultKind.TheVariants.{Read, Write, Device, Reopen, Keep}
 use Rattle.onll_outside.specs.declared.mem_store.Named.{Named}
 use Rattle.onll_outside.specs.declared.mem_store.FenceAt.{FenceAt}
-use Rattle.onll_outside.specs.Views.{Last, StoreView, IsFront}
+use Rattle.onll_pmem.specs.Device.{new_device, fenced_device, image_of}
+use Rattle.onll_pmem.specs.Pmem.{DeviceView}
+use Rattle.onll_pmem.specs.Memory.{MemoryState}
+use Rattle.onll_outside.specs.Views.{Last, StoreView, IsFront, counted, one_fault, with_zeros, image_bytes}
 use Rattle.onll_outside.specs.Faults.{one_more}
 
 -- a store in memory: names with their bytes, the numbers of the calls that fail, the fences that fail,
--- how many calls there were, how many of them failed, and the last of those
+-- how many calls there were, how many of them failed, and the last of those; how many devices it made, and what
+-- those counted that were handed back
 pub record FilesHeld : Type 0 where
   pub files : List (List ℕ × List ℕ)
   pub failing : List ℕ
@@ -20,6 +24,9 @@ pub record FilesHeld : Type 0 where
   pub calls : ℕ
   pub faults : ℕ
   pub last : Option Last
+  pub devices : ℕ
+  pub device_faults : ℕ
+  pub device_fences : ℕ
 
 abbrev pub texts_of : List Named → List (List ℕ × List ℕ)
 texts_of [] = []
@@ -32,7 +39,7 @@ file_in (f ∷ fs) name = if bytes_eq f.0 name then Some f.1 else file_in fs nam
 
 -- it tells its files
 abbrev pub store_of : FilesHeld → StoreView
-store_of s = record { tells = true; file = file_in s.files; faults = s.faults; last = s.last }
+store_of s = record { tells = true; file = file_in s.files; faults = s.faults; last = s.last; device_faults = s.device_faults; device_fences = s.device_fences }
 
 -- the next call's number is one of those that fail
 abbrev pub call_fails : FilesHeld → Bool
@@ -71,3 +78,37 @@ abbrev pub MemWrites : FilesHeld → FilesHeld → List ℕ → List ℕ → Res
 MemWrites old new name bytes (Ok done) = (call_fails old ≡ false) × (new ≡ record (called old) { files = with_file old.files name bytes })
 MemWrites old new name bytes (Err Failed) = (call_fails old ≡ true) × (new ≡ failed old (record { kind = Write; name = name }))
 MemWrites old new name bytes (Err NoMemory) = new ≡ called old
+
+-- which fences of the device of this number are to fail
+abbrev pub failing_of : List FenceAt → ℕ → List ℕ
+failing_of [] device = []
+failing_of (f ∷ fs) device = if f.device == device then f.fence ∷ failing_of fs device else failing_of fs device
+
+-- a device is made exactly where the call isn't to fail, unless memory runs out; its fences fail as was told beforehand
+abbrev pub MemMakes : FilesHeld → FilesHeld → List ℕ → ℕ → Result MemoryState OutsideFault → Type 0
+MemMakes old new name lines (Ok d) =
+    (call_fails old ≡ false) × (d ≡ record { device = new_device lines; failing = failing_of old.fences old.devices }) × (new ≡ record (called old) { devices = one_more old.devices })
+MemMakes old new name lines (Err Failed) = (call_fails old ≡ true) × (new ≡ failed old (record { kind = Device; name = name }))
+MemMakes old new name lines (Err NoMemory) = new ≡ called old
+
+-- the store after it made a device of these lines, and the named file of them
+abbrev pub reopened : FilesHeld → List ℕ → List (List ℕ) → FilesHeld
+reopened s name lines = record s { files = with_file s.files name (image_bytes lines); devices = one_more s.devices }
+
+-- so is a device of lines and zeros after them, which are then its file's
+abbrev pub MemReopens : FilesHeld → FilesHeld → List ℕ → List (List ℕ) → ℕ → Result MemoryState OutsideFault → Type 0
+MemReopens old new name front lines (Ok d) =
+    (call_fails old ≡ false) × (d ≡ record { device = fenced_device (with_zeros front lines); failing = failing_of old.fences old.devices })
+    × (new ≡ reopened (called old) name (with_zeros front lines))
+MemReopens old new name front lines (Err Failed) = (call_fails old ≡ true) × (new ≡ failed old (record { kind = Reopen; name = name }))
+MemReopens old new name front lines (Err NoMemory) = new ≡ called old
+
+-- the store after this device was handed back
+abbrev pub back : FilesHeld → DeviceView → FilesHeld
+back s d = record s { device_faults = counted s.device_faults (one_fault d.faults); device_fences = counted s.device_fences d.fences }
+
+-- a device is stored as the image of a crash that loses all that is pending, exactly where the call isn't to fail, unless memory runs out
+abbrev pub MemStores : FilesHeld → FilesHeld → List ℕ → MemoryState → Result (Unit {0}) OutsideFault → Type 0
+MemStores old new name d (Ok done) = (call_fails old ≡ false) × (new ≡ record (called old) { files = with_file old.files name (image_bytes (image_of d.device 0)) })
+MemStores old new name d (Err Failed) = (call_fails old ≡ true) × (new ≡ failed old (record { kind = Keep; name = name }))
+MemStores old new name d (Err NoMemory) = new ≡ called old

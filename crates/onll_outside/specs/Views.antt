@@ -1,4 +1,9 @@
 use Rattle.std.specs.Prelude.{ℕ, Bool, true, List, ◌++◌, ◌≡◌, ◌+◌, ◌-◌, ◌^◌, ◌≤◌, min, Result, Ok, Err, Option, Some, None, take}
+use Rattle.std.specs.Prelude.{[], ◌*◌, ◌⊎◌, ◌==◌, if◌then◌else◌, length, drop}
+use Rattle.std.specs.List.{All, flat_map}
+use Rattle.onll_words.specs.Lines.{bytes_of_words}
+use Rattle.onll_pmem.specs.Device.{zero_lines, Mixed}
+use Rattle.onll_pmem.specs.Pmem.{DeviceView, Told, ToldSettled}
 use Rattle.onll_outside.specs.declared.OutsideFault.{OutsideFault}
 use Rattle.onll_outside.specs.declared.OutsideFault.TheVariants.{Failed, NoMemory}
 use Rattle.onll_outside.specs.declared.store.FaultKind.{FaultKind}
@@ -8,13 +13,16 @@ pub record Last : Type 0 where
   pub kind : FaultKind
   pub name : List ℕ
 
--- a store: whether it tells its files, the bytes of each that is there, how many of its calls failed,
--- and the last of those
+-- a store: whether it tells its files, the bytes of each that is there, how many of its calls failed and the
+-- last of those; and of the devices that were handed back, how many had a fence that failed, and how many
+-- fences they made in all
 pub record StoreView : Type 0 where
   pub tells : Bool
   pub file : List ℕ → Option (List ℕ)
   pub faults : ℕ
   pub last : Option Last
+  pub device_faults : ℕ
+  pub device_fences : ℕ
 
 -- a sink: the bytes that it took, where it tells them, and how many of its puts failed
 pub record SinkView : Type 0 where
@@ -83,3 +91,82 @@ CountOf NoMemory before now = now ≡ before
 abbrev pub PutOf : {T : Type 0} → SinkView → SinkView → List ℕ → Result T OutsideFault → Type 0
 PutOf old new bytes (Ok x) = Puts old new bytes × (new.faults ≡ old.faults)
 PutOf old new bytes (Err e) = PutsFront old new bytes × CountOf e old.faults new.faults
+
+-- ---- devices
+-- a count of 64 bits after this many more, which stays at its end
+abbrev pub counted : ℕ → ℕ → ℕ
+counted n more = min (n + more) (2 ^ 64 - 1)
+
+-- one for a device that counts a fault
+abbrev pub one_fault : ℕ → ℕ
+one_fault faults = if faults == 0 then 0 else 1
+
+-- no device was handed back
+abbrev pub SameDevices : StoreView → StoreView → Type 0
+SameDevices old new = (new.device_faults ≡ old.device_faults) × (new.device_fences ≡ old.device_fences)
+
+-- this device was handed back, and no other
+abbrev pub HandsBack : DeviceView → StoreView → StoreView → Type 0
+HandsBack d old new = (new.device_faults ≡ counted old.device_faults (one_fault d.faults)) × (new.device_fences ≡ counted old.device_fences d.fences)
+
+-- a device that reads so, with no fence and no fault; where it tells its fenced words, nothing is pending
+pub record IsFresh (lines : List (List ℕ)) (d : DeviceView) : Type 0 where
+  pub read : d.read ≡ lines
+  pub fences : d.fences ≡ 0
+  pub faults : d.faults ≡ 0
+  pub settled : ToldSettled d.told d.read
+
+-- lines, and then lines of zeros, this many in all
+abbrev pub with_zeros : List (List ℕ) → ℕ → List (List ℕ)
+with_zeros front lines = front ++ zero_lines (lines - length front)
+
+abbrev pub AreZeros : List ℕ → Type 0
+AreZeros bytes = All (λ x. x ≡ 0) bytes
+
+-- the named file is as it was, or holds zeros alone
+abbrev pub KeptOrZeros : List ℕ → StoreView → StoreView → Type 0
+KeptOrZeros name old new = (new.file name ≡ old.file name) ⊎ ((bytes : List ℕ) × (new.file name ≡ Some bytes) × AreZeros bytes)
+
+-- the bytes of a file of these lines
+abbrev pub image_bytes : List (List ℕ) → List ℕ
+image_bytes lines = flat_map bytes_of_words lines
+
+-- where the store tells its files, the named one is there and begins with these bytes
+abbrev pub BeginsWith : StoreView → List ℕ → List ℕ → Type 0
+BeginsWith view name front = view.tells ≡ true → ((rest : List ℕ) × (view.file name ≡ Some (front ++ rest)))
+
+-- the bytes of a word, in bytes that begin with a word
+abbrev pub word_bytes : List ℕ → ℕ → List ℕ
+word_bytes bytes word = take 8 (drop (8 * word) bytes)
+
+-- each word is as it was, or zero, or the bytes end before it
+abbrev pub AreWiped : List ℕ → List ℕ → Type 0
+AreWiped old new = (word : ℕ) → (word_bytes new word ≡ word_bytes old word) ⊎ AreZeros (word_bytes new word)
+
+-- the named file begins with these bytes as before, and what follows is wiped in part or not
+pub record WipesAfter (name front : List ℕ) (old new : StoreView) : Type 0 where
+  pub was : List ℕ
+  pub rest : List ℕ
+  pub before : old.file name ≡ Some (front ++ was)
+  pub now : new.file name ≡ Some (front ++ rest)
+  pub wiped : AreWiped was rest
+
+-- the same where the store tells its files
+abbrev pub MayWipe : List ℕ → List ℕ → StoreView → StoreView → Type 0
+MayWipe name front old new = old.tells ≡ true → WipesAfter name front old new
+
+-- lines that a device may leave at a crash, where it tells its fenced words
+abbrev pub IsImageOf : DeviceView → List (List ℕ) → Type 0
+IsImageOf d image = (t : Told) → d.told ≡ Some t → Mixed t.fenced d.read image
+
+-- the named file holds an image of the device
+abbrev pub HoldsImageOf : StoreView → List ℕ → DeviceView → Type 0
+HoldsImageOf view name d = (image : List (List ℕ)) × (view.file name ≡ Some (image_bytes image)) × IsImageOf d image
+
+-- where the store tells its files, the device was kept
+abbrev pub KeepsDevice : StoreView → List ℕ → DeviceView → Type 0
+KeepsDevice view name d = view.tells ≡ true → HoldsImageOf view name d
+
+-- where the store tells its files, the named one is as it was, or holds an image of the device
+abbrev pub MayKeep : List ℕ → DeviceView → StoreView → StoreView → Type 0
+MayKeep name d old new = new.tells ≡ true → (new.file name ≡ old.file name) ⊎ HoldsImageOf new name d

@@ -1,25 +1,36 @@
 ghost use Rattle.std.specs.Prelude.{◌≡◌, None};
-ghost use Rattle.onll_outside.specs.Faults.{FaultsSeen, untold};
+ghost use Rattle.std.proofs.Common.{true≢false, sym};
+ghost use Rattle.onll_outside.specs.Faults.{CountsSeen, untold};
 
+use crate::disk::{cut_file, fill_with, keep_device, make_file};
 use crate::faults::Faults;
+use crate::mem_store::one_fault;
 use crate::{FaultKind, OutsideFault, Store};
+use onll_pmem::{FilePmem, Pmem};
+use onll_words::Line;
 use std::alloc::Global;
-use std::io::{ErrorKind, Read, Write};
+use std::io::{ErrorKind, Read};
 use std::marker::Model;
+use std::os::unix::fs::FileExt;
 use std::rt::Files;
 use std::{fs, io};
 
-/// The files of the system. What they hold is not told, only how many calls failed and the last of them.
+/// The files of the system. What they hold is not told, only how many calls failed and the last of them, and what the devices
+/// counted that were handed back.
 #[derive(Drop)]
 pub struct FileStore<R: Files + Drop> {
     files: R,
     faults: Faults,
+    device_faults: u64,
+    device_fences: u64,
 }
 
 impl<R: Files + Drop> Model for FileStore<R> {
-    ghost Value = { FaultsSeen };
+    ghost use Rattle.onll_outside.specs.Faults.{CountsSeen};
 
-    ghost view = { λ s. s.faults };
+    ghost Value = { CountsSeen };
+
+    ghost view = { λ s. record { faults = s.faults.count; last = s.faults.last; device_faults = s.device_faults; device_fences = s.device_fences } };
 }
 
 /// The first `limit` bytes of a file.
@@ -32,16 +43,23 @@ fn read_file<R: Files>(files: &R, alloc: Global, name: &str, limit: u64) -> io::
 impl<R: Files + Drop> FileStore<R> {
     /// The files that `files` opens, where no call has failed yet.
     pub fn new(files: R) -> FileStore<R>
-        ensures { result ≡ record { count = 0; last = None } }
+        ensures { result ≡ record { faults = 0; last = None; device_faults = 0; device_fences = 0 } }
     {
         FileStore {
             files,
             faults: Faults::new(),
+            device_faults: 0,
+            device_fences: 0,
         }
     }
 }
 
-impl<R: Files + Drop> Store for FileStore<R> {
+impl<R: Files + Drop> Store for FileStore<R>
+where
+    R::File: FileExt + Send,
+{
+    type Dev = FilePmem<R::File>;
+
     ghost seen = { untold };
 
     fn read(&mut self, alloc: Global, name: &str, limit: u64) -> Result<Vec<u8>, OutsideFault> {
@@ -63,9 +81,70 @@ impl<R: Files + Drop> Store for FileStore<R> {
             Err(e) if e.kind() == ErrorKind::OutOfMemory => return Err(OutsideFault::NoMemory),
             Err(_) => return Err(self.faults.raise_named(FaultKind::Write, kept)),
         };
-        match file.write_all(bytes) {
+        match fill_with(&self.files, name, &mut file, bytes) {
             Ok(()) => Ok(()),
             Err(_) => Err(self.faults.raise_named(FaultKind::Write, kept)),
         }
     }
+
+    fn device(
+        &mut self,
+        alloc: Global,
+        name: &str,
+        lines: u64,
+    ) -> Result<FilePmem<R::File>, OutsideFault> {
+        let file = match make_file(&self.files, name, lines) {
+            Ok(file) => file,
+            Err(e) if e.kind() == ErrorKind::OutOfMemory => return Err(OutsideFault::NoMemory),
+            Err(_) => return Err(self.faults.raise(alloc, FaultKind::Device, name)),
+        };
+        match FilePmem::over(alloc, file, lines) {
+            Ok(device) => Ok(device),
+            Err(_) => Err(OutsideFault::NoMemory),
+        }
+    }
+
+    fn reopen(
+        &mut self,
+        alloc: Global,
+        name: &str,
+        front: &[Line],
+        lines: u64,
+    ) -> Result<FilePmem<R::File>, OutsideFault> {
+        let file = match cut_file(&self.files, name, front.len() as u64, lines) {
+            Ok(file) => file,
+            Err(e) if e.kind() == ErrorKind::OutOfMemory => return Err(OutsideFault::NoMemory),
+            Err(_) => return Err(self.faults.raise(alloc, FaultKind::Reopen, name)),
+        };
+        match FilePmem::reading(alloc, file, front, lines) {
+            Ok(device) => Ok(device),
+            Err(_) => Err(OutsideFault::NoMemory),
+        }
+    }
+
+    fn keep(
+        &mut self,
+        alloc: Global,
+        name: &str,
+        device: FilePmem<R::File>,
+    ) -> Result<(), OutsideFault> {
+        self.device_faults = self
+            .device_faults
+            .saturating_add(one_fault(device.faults()));
+        self.device_fences = self.device_fences.saturating_add(device.fences());
+        match keep_device(&self.files, name, &device) {
+            Ok(()) => Ok(()),
+            Err(e) if e.kind() == ErrorKind::OutOfMemory => Err(OutsideFault::NoMemory),
+            Err(_) => Err(self.faults.raise(alloc, FaultKind::Keep, name)),
+        }
+    }
+
+    fn give_up(&mut self, device: FilePmem<R::File>) {
+        self.device_faults = self
+            .device_faults
+            .saturating_add(one_fault(device.faults()));
+        self.device_fences = self.device_fences.saturating_add(device.fences());
+    }
+
+    ghost devices_tell = { λ store told. absurd (true≢false (sym told)) };
 }

@@ -4,6 +4,7 @@
 //! hold; `FileStore` and `OutSink` are the system's files and a writer, and tell only their counts.
 #![tactic(auto)]
 
+mod disk;
 mod faults;
 mod file_store;
 mod gate;

@@ -1,11 +1,16 @@
-ghost use Rattle.std.specs.Prelude.{◌≡◌, ◌≤◌, length, MatchOption, None, IfOk, IfErr, OnOk, map};
+ghost use Rattle.std.specs.Prelude.{◌≡◌, ◌≤◌, refl, length, MatchOption, None, IfOk, IfErr, OnOk, map};
 ghost use Rattle.std.specs.Option.{option_copied};
-ghost use Rattle.onll_outside.specs.Views.{SameFiles, SameOthers, Holds, Gives, FaultsOf};
-ghost use Rattle.onll_outside.specs.MemStore.{FilesHeld, texts_of, file_in, place_in, with_file, store_of, call_fails, called, MemReads, MemWrites};
+ghost use Rattle.onll_pmem.specs.Device.{zero_lines, fenced_device, image_of, IsImage};
+ghost use Rattle.onll_pmem.specs.Pmem.{words_of};
+ghost use Rattle.onll_pmem.specs.Memory.{memory_view};
+ghost use Rattle.onll_outside.specs.Views.{SameFiles, SameOthers, Holds, Gives, FaultsOf, SameDevices, HandsBack, IsFresh, KeptOrZeros, BeginsWith, MayWipe, KeepsDevice, MayKeep, with_zeros, image_bytes, one_fault};
+ghost use Rattle.onll_outside.specs.MemStore.{FilesHeld, texts_of, file_in, place_in, with_file, store_of, call_fails, called, MemReads, MemWrites, MemMakes, MemReopens, MemStores, back, failing_of, reopened};
 
 use crate::faults::Faults;
 use crate::{FaultKind, OutsideFault, Store};
-use std::alloc::Global;
+use onll_pmem::{MemPmem, Pmem};
+use onll_words::{Line, line_bytes};
+use std::alloc::{AllocError, Global};
 use std::marker::Model;
 
 /// A file in memory.
@@ -30,12 +35,15 @@ pub struct MemStore {
     fences: Vec<FenceAt>,
     calls: u64,
     faults: Faults,
+    devices: u64,
+    device_faults: u64,
+    device_fences: u64,
 }
 
 impl Model for MemStore {
     ghost Value = { FilesHeld };
 
-    ghost view = { λ s. record { files = texts_of s.files.items; failing = s.failing.items; fences = s.fences.items; calls = s.calls; faults = s.faults.count; last = s.faults.last } };
+    ghost view = { λ s. record { files = texts_of s.files.items; failing = s.failing.items; fences = s.fences.items; calls = s.calls; faults = s.faults.count; last = s.faults.last; devices = s.devices; device_faults = s.device_faults; device_fences = s.device_fences } };
 }
 
 /// The first file of that name.
@@ -91,11 +99,67 @@ fn put_file(
     Ok(())
 }
 
+/// Whether there is a fault, as a number.
+pub(crate) fn one_fault(faults: u64) -> u64
+    ensures { result ≡ one_fault faults }
+{
+    if faults == 0 { 0 } else { 1 }
+}
+
+/// Which fences of the device of this number are to fail.
+fn failing_of(alloc: Global, fences: &[FenceAt], device: u64) -> Result<Vec<u64>, AllocError>
+    ensures { IfOk result (λ v. v.items ≡ failing_of fences.now device) }
+{
+    let mut failing = Vec::new(alloc);
+    for at in fences {
+        if at.device == device {
+            failing.push(at.fence)?;
+        }
+    }
+    Ok(failing)
+}
+
+/// The bytes of an image's file.
+fn image_bytes(alloc: Global, lines: &[Line]) -> Result<Vec<u8>, AllocError>
+    ensures { IfOk result (λ bytes. bytes.items ≡ image_bytes (words_of lines.now)) }
+{
+    let mut bytes = Vec::new(alloc);
+    for line in lines {
+        bytes.extend_from_slice(&line_bytes(*line))?;
+    }
+    Ok(bytes)
+}
+
+/// These lines, and then lines of zeros, this many in all.
+fn with_zeros(alloc: Global, front: &[Line], lines: u64) -> Result<Vec<Line>, AllocError>
+    requires { length front.now ≤ lines }
+    ensures { IfOk result (λ v. words_of v.items ≡ with_zeros (words_of front.now) lines) }
+{
+    let mut image = Vec::from_slice(alloc, front)?;
+    image.resize(lines as usize, Line { w: [0; 8] })?;
+    Ok(image)
+}
+
+/// The file of what a crash leaves of a device that loses all that is pending.
+pub(crate) fn kept_bytes(alloc: Global, device: &MemPmem) -> Result<Vec<u8>, OutsideFault>
+    ensures bytes { IfOk result (λ bytes. bytes.items ≡ image_bytes (image_of device.now.device 0)) }
+    ensures image { IfOk result (λ bytes. IsImage device.now.device (image_of device.now.device 0)) }
+    ensures refused { IfErr result (λ e. e ≡ OutsideFault.NoMemory) }
+{
+    let Ok(image) = device.image(alloc, 0) else {
+        return Err(OutsideFault::NoMemory);
+    };
+    match image_bytes(alloc, &image) {
+        Ok(bytes) => Ok(bytes),
+        Err(_) => Err(OutsideFault::NoMemory),
+    }
+}
+
 impl MemStore {
     /// A store of these files, of which only the first of each name counts, whose calls of these
     /// numbers fail, and on whose devices these fences fail.
     pub fn new(files: Vec<Named>, failing: Vec<u64>, fences: Vec<FenceAt>) -> MemStore
-        ensures { result ≡ record { files = texts_of files.items; failing = failing.items; fences = fences.items; calls = 0; faults = 0; last = None } }
+        ensures { result ≡ record { files = texts_of files.items; failing = failing.items; fences = fences.items; calls = 0; faults = 0; last = None; devices = 0; device_faults = 0; device_fences = 0 } }
     {
         MemStore {
             files,
@@ -103,6 +167,9 @@ impl MemStore {
             fences,
             calls: 0,
             faults: Faults::new(),
+            devices: 0,
+            device_faults: 0,
+            device_fences: 0,
         }
     }
 
@@ -120,6 +187,70 @@ impl MemStore {
         self.faults.count()
     }
 
+    /// Counts a device that was handed back.
+    fn count_back(&mut self, device: &MemPmem)
+        ensures { self.new ≡ back self.old (memory_view device.now) }
+    {
+        self.device_faults = self
+            .device_faults
+            .saturating_add(one_fault(device.faults()));
+        self.device_fences = self.device_fences.saturating_add(device.fences());
+    }
+
+    /// Makes what a crash leaves of a device the file of this name.
+    fn store_image(
+        &mut self,
+        alloc: Global,
+        name: &str,
+        device: &MemPmem,
+    ) -> Result<(), OutsideFault>
+        ensures kept { OnOk result (KeepsDevice (store_of self.new) name.now (memory_view device.now)) }
+        ensures file { MayKeep name.now (memory_view device.now) (store_of self.old) (store_of self.new) }
+        ensures others { SameOthers name.now (store_of self.old) (store_of self.new) }
+        ensures faults { FaultsOf (record { kind = FaultKind.Keep; name = name.now }) (store_of self.old) (store_of self.new) result }
+        ensures devices { SameDevices (store_of self.old) (store_of self.new) }
+        ensures exact { MemStores self.old self.new name.now device.now result }
+    {
+        if self.begin_call() {
+            return Err(self.faults.raise(alloc, FaultKind::Keep, name));
+        }
+        let Ok(bytes) = kept_bytes(alloc, device) else {
+            return Err(OutsideFault::NoMemory);
+        };
+        let Ok(()) = put_file(alloc, &mut self.files, name, bytes) else {
+            return Err(OutsideFault::NoMemory);
+        };
+        Ok(())
+    }
+
+    /// Makes a device of these lines, and the file of this name of them.
+    fn device_of(
+        &mut self,
+        alloc: Global,
+        name: &str,
+        lines: Vec<Line>,
+    ) -> Result<MemPmem, OutsideFault>
+        requires { length lines.items ≤ 1000000 }
+        ensures made { IfOk result (λ d. d ≡ record { device = fenced_device (words_of lines.items); failing = failing_of self.old.fences self.old.devices }) }
+        ensures file { OnOk result (self.new ≡ reopened self.old name.now (words_of lines.items)) }
+        ensures refused { IfErr result (λ e. (e ≡ OutsideFault.NoMemory) × (self.new ≡ self.old)) }
+    {
+        let Ok(failing) = failing_of(alloc, &self.fences, self.devices) else {
+            return Err(OutsideFault::NoMemory);
+        };
+        let Ok(bytes) = image_bytes(alloc, &lines) else {
+            return Err(OutsideFault::NoMemory);
+        };
+        let Ok(device) = MemPmem::of_image(alloc, lines, failing) else {
+            return Err(OutsideFault::NoMemory);
+        };
+        let Ok(()) = put_file(alloc, &mut self.files, name, bytes) else {
+            return Err(OutsideFault::NoMemory);
+        };
+        self.devices = self.devices.saturating_add(1);
+        Ok(device)
+    }
+
     /// Counts a call, and tells whether it is to fail.
     fn begin_call(&mut self) -> bool
         ensures fails { result ≡ call_fails self.old }
@@ -131,12 +262,15 @@ impl MemStore {
 }
 
 impl Store for MemStore {
+    type Dev = MemPmem;
+
     ghost seen = { store_of };
 
     fn read(&mut self, alloc: Global, name: &str, limit: u64) -> Result<Vec<u8>, OutsideFault>
         ensures bytes { IfOk result (λ v. Gives (store_of self.old) name.now limit v.items) }
         ensures same { SameFiles (store_of self.old) (store_of self.new) }
         ensures faults { FaultsOf (record { kind = FaultKind.Read; name = name.now }) (store_of self.old) (store_of self.new) result }
+        ensures devices { SameDevices (store_of self.old) (store_of self.new) }
         ensures exact { MemReads self.old self.new name.now limit result }
     {
         let fails = self.begin_call();
@@ -155,6 +289,7 @@ impl Store for MemStore {
         ensures others { SameOthers name.now (store_of self.old) (store_of self.new) }
         ensures kept { IfErr result (λ e. e ≡ OutsideFault.NoMemory → SameFiles (store_of self.old) (store_of self.new)) }
         ensures faults { FaultsOf (record { kind = FaultKind.Write; name = name.now }) (store_of self.old) (store_of self.new) result }
+        ensures devices { SameDevices (store_of self.old) (store_of self.new) }
         ensures exact { MemWrites self.old self.new name.now bytes.now result }
     {
         if self.begin_call() {
@@ -168,4 +303,72 @@ impl Store for MemStore {
         };
         Ok(())
     }
+
+    fn device(&mut self, alloc: Global, name: &str, lines: u64) -> Result<MemPmem, OutsideFault>
+        requires { lines ≤ 1000000 }
+        ensures made { IfOk result (λ d. IsFresh (zero_lines lines) (memory_view d)) }
+        ensures file { KeptOrZeros name.now (store_of self.old) (store_of self.new) }
+        ensures others { SameOthers name.now (store_of self.old) (store_of self.new) }
+        ensures faults { FaultsOf (record { kind = FaultKind.Device; name = name.now }) (store_of self.old) (store_of self.new) result }
+        ensures devices { SameDevices (store_of self.old) (store_of self.new) }
+        ensures exact { MemMakes self.old self.new name.now lines result }
+    {
+        if self.begin_call() {
+            return Err(self.faults.raise(alloc, FaultKind::Device, name));
+        }
+        let Ok(failing) = failing_of(alloc, &self.fences, self.devices) else {
+            return Err(OutsideFault::NoMemory);
+        };
+        let Ok(device) = MemPmem::new(alloc, lines, failing) else {
+            return Err(OutsideFault::NoMemory);
+        };
+        self.devices = self.devices.saturating_add(1);
+        Ok(device)
+    }
+
+    fn reopen(
+        &mut self,
+        alloc: Global,
+        name: &str,
+        front: &[Line],
+        lines: u64,
+    ) -> Result<MemPmem, OutsideFault>
+        requires front { length front.now ≤ lines }
+        requires few { lines ≤ 1000000 }
+        requires begins { BeginsWith (store_of self.old) name.now (image_bytes (words_of front.now)) }
+        ensures made { IfOk result (λ d. IsFresh (with_zeros (words_of front.now) lines) (memory_view d)) }
+        ensures file { MayWipe name.now (image_bytes (words_of front.now)) (store_of self.old) (store_of self.new) }
+        ensures others { SameOthers name.now (store_of self.old) (store_of self.new) }
+        ensures faults { FaultsOf (record { kind = FaultKind.Reopen; name = name.now }) (store_of self.old) (store_of self.new) result }
+        ensures devices { SameDevices (store_of self.old) (store_of self.new) }
+        ensures exact { MemReopens self.old self.new name.now (words_of front.now) lines result }
+    {
+        if self.begin_call() {
+            return Err(self.faults.raise(alloc, FaultKind::Reopen, name));
+        }
+        match with_zeros(alloc, front, lines) {
+            Ok(image) => self.device_of(alloc, name, image),
+            Err(_) => Err(OutsideFault::NoMemory),
+        }
+    }
+
+    fn keep(&mut self, alloc: Global, name: &str, device: MemPmem) -> Result<(), OutsideFault>
+        ensures kept { OnOk result (KeepsDevice (store_of self.new) name.now (memory_view device)) }
+        ensures file { MayKeep name.now (memory_view device) (store_of self.old) (store_of self.new) }
+        ensures others { SameOthers name.now (store_of self.old) (store_of self.new) }
+        ensures faults { FaultsOf (record { kind = FaultKind.Keep; name = name.now }) (store_of self.old) (store_of self.new) result }
+        ensures devices { HandsBack (memory_view device) (store_of self.old) (store_of self.new) }
+        ensures exact { MemStores (back self.old (memory_view device)) self.new name.now device result }
+    {
+        self.count_back(&device);
+        self.store_image(alloc, name, &device)
+    }
+
+    fn give_up(&mut self, device: MemPmem)
+        ensures { self.new ≡ back self.old (memory_view device) }
+    {
+        self.count_back(&device);
+    }
+
+    ghost devices_tell = { λ store told. refl };
 }

@@ -1,9 +1,12 @@
 //! How many bytes of a file each command reads at most: a longer file isn't read whole.
 
+ghost use Rattle.std.specs.Prelude.{refl};
 ghost use Rattle.onll_outside.specs.MemStore.{store_of};
 
 use crate::calls::{Program, words_of};
 use onll_outside::{MemSink, MemStore, OutsideFault, Store};
+use onll_pmem::MemPmem;
+use onll_words::Line;
 use std::alloc::{AllocError, Global};
 use std::test::Fail;
 
@@ -21,6 +24,8 @@ struct Asked {
 }
 
 impl Store for Asked {
+    type Dev = MemPmem;
+
     ghost seen = { λ s. store_of s.files };
 
     fn read(&mut self, alloc: Global, name: &str, limit: u64) -> Result<Vec<u8>, OutsideFault> {
@@ -33,6 +38,30 @@ impl Store for Asked {
     fn write(&mut self, alloc: Global, name: &str, bytes: &[u8]) -> Result<(), OutsideFault> {
         self.files.write(alloc, name, bytes)
     }
+
+    fn device(&mut self, alloc: Global, name: &str, lines: u64) -> Result<MemPmem, OutsideFault> {
+        self.files.device(alloc, name, lines)
+    }
+
+    fn reopen(
+        &mut self,
+        alloc: Global,
+        name: &str,
+        front: &[Line],
+        lines: u64,
+    ) -> Result<MemPmem, OutsideFault> {
+        self.files.reopen(alloc, name, front, lines)
+    }
+
+    fn keep(&mut self, alloc: Global, name: &str, device: MemPmem) -> Result<(), OutsideFault> {
+        self.files.keep(alloc, name, device)
+    }
+
+    fn give_up(&mut self, device: MemPmem) {
+        self.files.give_up(device);
+    }
+
+    ghost devices_tell = { λ store told. refl };
 }
 
 const FILES: &[(&str, &[u8])] = &[

@@ -17,7 +17,7 @@ use Rattle.onll_model.specs.Object.{Behaviour}
 use Rattle.onll_text.specs.declared.reason.Reason.{Reason}
 use Rattle.onll_text.specs.Wording.{Wording}
 use Rattle.onll_text.specs.Lines.{at_words, call_words, end_words, call_line, call_lines, trace_line, flag_words, row_words, node_line, node_lines, state_lines}
-use Rattle.onll_text.specs.Reports.{EndReads, NodeReads, StateReads, NoCallNext, NoNodeNext, FoldData, fold_data_lines, FoldDataReads, FoldDeterminedLaw, SaysOnly}
+use Rattle.onll_text.specs.Reports.{EndReads, NodeReads, StateReads, NoCallNext, NoNodeNext, FoldData, fold_data_lines, FoldDeterminedLaw, SaysOnly}
 use Rattle.onll_text.proofs.LineWords.{call_line_in_words, node_line_in_words}
 
 -- ---- texts
@@ -242,6 +242,8 @@ module _ {State Op Query Reply : Type 0} where
       let nodes = nodes_determined b w 0 said.nodes other.nodes (state_lines w said.state) (state_lines w other.state) g.nodes h.nodes (λ rest d. cc d) (λ rest d. cc d) trace.1 in
       said_same said other calls.0 nodes.0 (state_determined w said.state other.state g.state h.state nodes.1)
 
-  pub says_only : (b : Behaviour State Op Query Reply) (w : Wording State Op Query Reply) (script : List (Call State Op Query Reply)) (bytes : List ℕ) (said : FoldData State Op Query Reply)
-      → bytes ≡ flat_map line_text (fold_data_lines b w script said) → FoldDataReads b w script said → SaysOnly b w script bytes said
-  says_only b w script bytes said e h = record { printed = e; reads = h; only = λ other k f. fold_determined b w script said other h k (sym e ∙ f) }
+-- what reads back where it is printed is all that its bytes say
+pub says_only : {Said : Type 0} (lines : Said → List (List (List ℕ))) (Reads : Said → Type 0)
+    → ((said other : Said) → Reads said → Reads other → flat_map line_text (lines said) ≡ flat_map line_text (lines other) → said ≡ other)
+    → (bytes : List ℕ) (said : Said) → bytes ≡ flat_map line_text (lines said) → Reads said → SaysOnly lines Reads bytes said
+says_only lines Reads determined bytes said e h = record { printed = e; reads = h; only = λ other k f. determined said other h k (sym e ∙ f) }

@@ -10,4 +10,5 @@ pub mod MapReadBack
 pub mod QueueReadBack
 pub mod LeaseReadBack
 pub mod Keeping
+mod LineFronts
 pub mod Determined

@@ -15,9 +15,10 @@ abbrev pub with_words : List ℕ → List (List ℕ) → List ℕ
 with_words bytes [] = bytes
 with_words bytes (w ∷ ws) = with_words (with_word bytes w) ws
 
--- the bytes before stay: each front of them is one of those after
-abbrev pub Keeps : List ℕ → List ℕ → Type 0
-Keeps old new = (front : List ℕ) → StartsWith old front → StartsWith new front
+-- these bytes begin those: each front of these is one of those. Where the old bytes begin the new ones, and the new ones begin the
+-- old ones with a piece, the new ones are the old ones and a front of the piece.
+abbrev pub IsFront : List ℕ → List ℕ → Type 0
+IsFront bytes whole = (front : List ℕ) → StartsWith bytes front → StartsWith whole front
 
 -- the bytes after whole lines
 abbrev pub with_lines : List ℕ → List (List (List ℕ)) → List ℕ

@@ -96,8 +96,9 @@ FoldDeterminedLaw {State} {Op} {Query} {Reply} b w =
     (script : List (Call State Op Query Reply)) (said other : FoldData State Op Query Reply) → FoldDataReads b w script said → FoldDataReads b w script other
     → flat_map line_text (fold_data_lines b w script said) ≡ flat_map line_text (fold_data_lines b w script other) → said ≡ other
 
--- these bytes say this, for this script, and nothing else that reads back
-pub record SaysOnly {State Op Query Reply : Type 0} (b : Behaviour State Op Query Reply) (w : Wording State Op Query Reply) (script : List (Call State Op Query Reply)) (bytes : List ℕ) (said : FoldData State Op Query Reply) : Type 0 where
-  pub printed : bytes ≡ flat_map line_text (fold_data_lines b w script said)
-  pub reads : FoldDataReads b w script said
-  pub only : (other : FoldData State Op Query Reply) → FoldDataReads b w script other → bytes ≡ flat_map line_text (fold_data_lines b w script other) → said ≡ other
+-- ---- any report
+-- of what reads back these bytes say this and nothing else
+pub record SaysOnly {Said : Type 0} (lines : Said → List (List (List ℕ))) (Reads : Said → Type 0) (bytes : List ℕ) (said : Said) : Type 0 where
+  pub printed : bytes ≡ flat_map line_text (lines said)
+  pub reads : Reads said
+  pub only : (other : Said) → Reads other → bytes ≡ flat_map line_text (lines other) → said ≡ other

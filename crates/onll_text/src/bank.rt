@@ -1,6 +1,6 @@
 ghost use Rattle.std.specs.Prelude.{◌≡◌, ◌++◌, true, OnOk};
 ghost use Rattle.onll_words.specs.Texts.{words_of, line_text};
-ghost use Rattle.onll_text.specs.Bytes.{begins_line, with_lines, Keeps};
+ghost use Rattle.onll_text.specs.Bytes.{begins_line, with_lines, IsFront};
 ghost use Rattle.onll_text.specs.BankText.{deposit_of, withdraw_of, transfer_of, balance_of, total_of, account_line, account_lines};
 ghost use Rattle.onll_text.specs.BankWording.{bank_wording};
 
@@ -53,7 +53,8 @@ fn put_account(a: u64, balance: u64, out: &mut Report) -> Result<(), NoMemory>
     requires { begins_line out.old ≡ true }
     ensures line { OnOk result (out.new ≡ out.old ++ line_text (account_line a balance)) }
     ensures begins { OnOk result (begins_line out.new ≡ true) }
-    ensures keeps { Keeps out.old out.new }
+    ensures keeps { IsFront out.old out.new }
+    ensures within { IsFront out.new (out.old ++ line_text (account_line a balance)) }
 {
     out.words(&[
         Piece::Text(b"account"),
@@ -68,7 +69,8 @@ fn put_account(a: u64, balance: u64, out: &mut Report) -> Result<(), NoMemory>
 fn put_accounts(bank: &Bank, out: &mut Report) -> Result<(), NoMemory>
     requires { begins_line out.old ≡ true }
     ensures ok { OnOk result (out.new ≡ with_lines out.old (account_lines 0 bank.now)) }
-    ensures keeps { Keeps out.old out.new }
+    ensures keeps { IsFront out.old out.new }
+    ensures within { IsFront out.new (with_lines out.old (account_lines 0 bank.now)) }
 {
     for a in 0..bank.capacity() {
         put_account(a, bank.balance_of(a), out)?;

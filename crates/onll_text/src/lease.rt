@@ -1,6 +1,6 @@
 ghost use Rattle.std.specs.Prelude.{◌≡◌, ◌++◌, ◌<◌, length, true, OnOk, OnErr, MatchResult, Ok, Err};
 ghost use Rattle.onll_words.specs.Texts.{words_of, line_text};
-ghost use Rattle.onll_text.specs.Bytes.{begins_line, with_lines, Keeps};
+ghost use Rattle.onll_text.specs.Bytes.{begins_line, with_lines, IsFront};
 ghost use Rattle.onll_text.specs.LeaseText.{grant_of, renew_of, release_of, holder_of, held_line, entry_lines, held_lines, with_held, with_held_line};
 ghost use Rattle.onll_text.specs.LeaseWording.{lease_wording};
 
@@ -47,7 +47,8 @@ fn put_held(r: u64, entry: LeaseEntry, out: &mut Report) -> Result<(), NoMemory>
     requires { begins_line out.old ≡ true }
     ensures line { OnOk result (out.new ≡ out.old ++ line_text (held_line r entry)) }
     ensures begins { OnOk result (begins_line out.new ≡ true) }
-    ensures keeps { Keeps out.old out.new }
+    ensures keeps { IsFront out.old out.new }
+    ensures within { IsFront out.new (out.old ++ line_text (held_line r entry)) }
 {
     out.words(&[
         Piece::Text(b"held"),
@@ -65,7 +66,8 @@ fn put_entry(r: u64, entry: LeaseEntry, out: &mut Report) -> Result<(), NoMemory
     requires { begins_line out.old ≡ true }
     ensures lines { OnOk result (out.new ≡ with_lines out.old (entry_lines r entry)) }
     ensures begins { OnOk result (begins_line out.new ≡ true) }
-    ensures keeps { Keeps out.old out.new }
+    ensures keeps { IsFront out.old out.new }
+    ensures within { IsFront out.new (with_lines out.old (entry_lines r entry)) }
 {
     if entry.token == 0 {
         return Ok(());
@@ -78,7 +80,8 @@ fn put_entry(r: u64, entry: LeaseEntry, out: &mut Report) -> Result<(), NoMemory
 fn put_table(lease: &Lease, out: &mut Report) -> Result<(), NoMemory>
     requires { begins_line out.old ≡ true }
     ensures ok { OnOk result (out.new ≡ with_lines out.old (held_lines 0 lease.now)) }
-    ensures keeps { Keeps out.old out.new }
+    ensures keeps { IsFront out.old out.new }
+    ensures within { IsFront out.new (with_lines out.old (held_lines 0 lease.now)) }
 {
     for r in 0..lease.capacity() {
         put_entry(r, lease.entry(r), out)?;

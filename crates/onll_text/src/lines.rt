@@ -1,6 +1,6 @@
 ghost use Rattle.std.specs.Prelude.{◌≡◌, ℕ, ◌++◌, ◌∷◌, [], true, IsSome, OnOk};
 ghost use Rattle.onll_words.specs.Texts.{line_text};
-ghost use Rattle.onll_text.specs.Bytes.{begins_line, with_words, with_lines, Keeps};
+ghost use Rattle.onll_text.specs.Bytes.{begins_line, with_words, with_lines, IsFront};
 ghost use Rattle.onll_text.specs.Lines.{call_words, at_words, end_words, call_line, trace_line, node_line, flag_words, fence_words, log_line, state_lines};
 
 use crate::report::{Piece, Report};
@@ -10,7 +10,8 @@ use onll_words::NoMemory;
 
 fn put_call<O: Texted>(call: &Call<O>, out: &mut Report) -> Result<(), NoMemory>
     ensures ok { OnOk result (out.new ≡ with_words out.old (call_words O.wording call.now)) }
-    ensures keeps { Keeps out.old out.new }
+    ensures keeps { IsFront out.old out.new }
+    ensures within { IsFront out.new (with_words out.old (call_words O.wording call.now)) }
 {
     match call {
         Call::Update(op) => O::put_op(*op, out),
@@ -20,7 +21,8 @@ fn put_call<O: Texted>(call: &Call<O>, out: &mut Report) -> Result<(), NoMemory>
 
 fn put_place(place: u64, out: &mut Report) -> Result<(), NoMemory>
     ensures ok { OnOk result (out.new ≡ with_words out.old (at_words place)) }
-    ensures keeps { Keeps out.old out.new }
+    ensures keeps { IsFront out.old out.new }
+    ensures within { IsFront out.new (with_words out.old (at_words place)) }
 {
     out.words(&[Piece::Text(b"at"), Piece::Number(place)])
 }
@@ -28,7 +30,8 @@ fn put_place(place: u64, out: &mut Report) -> Result<(), NoMemory>
 #[tactic(auto, using(crate::proofs::LineWords::appending))]
 fn put_end<O: Texted>(end: &CallEnd<O>, out: &mut Report) -> Result<(), NoMemory>
     ensures ok { OnOk result (out.new ≡ with_words out.old (end_words O.wording end.now)) }
-    ensures keeps { Keeps out.old out.new }
+    ensures keeps { IsFront out.old out.new }
+    ensures within { IsFront out.new (with_words out.old (end_words O.wording end.now)) }
 {
     match end {
         CallEnd::Answered { reply, place } => {
@@ -53,7 +56,8 @@ fn put_end<O: Texted>(end: &CallEnd<O>, out: &mut Report) -> Result<(), NoMemory
 
 fn put_flag(flag: Option<bool>, out: &mut Report) -> Result<(), NoMemory>
     ensures ok { OnOk result (out.new ≡ with_words out.old (flag_words flag)) }
-    ensures keeps { Keeps out.old out.new }
+    ensures keeps { IsFront out.old out.new }
+    ensures within { IsFront out.new (with_words out.old (flag_words flag)) }
 {
     match flag {
         Some(true) => out.word(b"set"),
@@ -64,7 +68,8 @@ fn put_flag(flag: Option<bool>, out: &mut Report) -> Result<(), NoMemory>
 
 fn put_fences(fences: Option<u64>, out: &mut Report) -> Result<(), NoMemory>
     ensures ok { OnOk result (out.new ≡ with_words out.old (fence_words fences)) }
-    ensures keeps { Keeps out.old out.new }
+    ensures keeps { IsFront out.old out.new }
+    ensures within { IsFront out.new (with_words out.old (fence_words fences)) }
 {
     match fences {
         Some(fences) => out.words(&[Piece::Text(b"fences"), Piece::Number(fences)]),
@@ -83,7 +88,8 @@ impl Report {
     ) -> Result<(), NoMemory>
         requires { begins_line self.old ≡ true }
         ensures ok { OnOk result (self.new ≡ self.old ++ line_text (call_line O.wording thread number call.now end.now)) }
-        ensures keeps { Keeps self.old self.new }
+        ensures keeps { IsFront self.old self.new }
+        ensures within { IsFront self.new (self.old ++ line_text (call_line O.wording thread number call.now end.now)) }
     {
         self.words(&[
             Piece::Text(b"call"),
@@ -100,7 +106,8 @@ impl Report {
     pub fn trace_line(&mut self, count: u64) -> Result<(), NoMemory>
         requires { begins_line self.old ≡ true }
         ensures ok { OnOk result (self.new ≡ self.old ++ line_text (trace_line count)) }
-        ensures keeps { Keeps self.old self.new }
+        ensures keeps { IsFront self.old self.new }
+        ensures within { IsFront self.new (self.old ++ line_text (trace_line count)) }
     {
         self.words(&[Piece::Text(b"trace"), Piece::Number(count)])?;
         self.end_line()
@@ -116,7 +123,8 @@ impl Report {
         requires begins { begins_line self.old ≡ true }
         requires operation { IsSome (O.means.op_at node.row) }
         ensures ok { OnOk result (self.new ≡ self.old ++ line_text (node_line O.means O.wording place node flag)) }
-        ensures keeps { Keeps self.old self.new }
+        ensures keeps { IsFront self.old self.new }
+        ensures within { IsFront self.new (self.old ++ line_text (node_line O.means O.wording place node flag)) }
     {
         self.words(&[
             Piece::Text(b"node"),
@@ -142,7 +150,8 @@ impl Report {
     ) -> Result<(), NoMemory>
         requires { begins_line self.old ≡ true }
         ensures ok { OnOk result (self.new ≡ self.old ++ line_text (log_line thread entries lines fences)) }
-        ensures keeps { Keeps self.old self.new }
+        ensures keeps { IsFront self.old self.new }
+        ensures within { IsFront self.new (self.old ++ line_text (log_line thread entries lines fences)) }
     {
         self.words(&[
             Piece::Text(b"log"),
@@ -160,7 +169,8 @@ impl Report {
     pub fn state_lines<O: Texted>(&mut self, object: &O) -> Result<(), NoMemory>
         requires { begins_line self.old ≡ true }
         ensures ok { OnOk result (self.new ≡ with_lines self.old (state_lines O.wording object.now)) }
-        ensures keeps { Keeps self.old self.new }
+        ensures keeps { IsFront self.old self.new }
+        ensures within { IsFront self.new (with_lines self.old (state_lines O.wording object.now)) }
     {
         self.word(b"state")?;
         self.end_line()?;

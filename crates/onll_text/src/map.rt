@@ -1,6 +1,6 @@
 ghost use Rattle.std.specs.Prelude.{◌≡◌, ◌++◌, true, OnOk, OnErr, MatchResult, Ok, Err};
 ghost use Rattle.onll_words.specs.Texts.{words_of, line_text};
-ghost use Rattle.onll_text.specs.Bytes.{begins_line, with_lines, Keeps};
+ghost use Rattle.onll_text.specs.Bytes.{begins_line, with_lines, IsFront};
 ghost use Rattle.onll_text.specs.MapText.{put_of, del_of, get_of, next_of, count_of, pair_line, pair_lines, with_pair, with_pair_line};
 ghost use Rattle.onll_text.specs.MapWording.{map_wording};
 
@@ -54,7 +54,8 @@ fn put_pair(pair: (Short, Short), out: &mut Report) -> Result<(), NoMemory>
     requires { begins_line out.old ≡ true }
     ensures line { OnOk result (out.new ≡ out.old ++ line_text (pair_line pair)) }
     ensures begins { OnOk result (begins_line out.new ≡ true) }
-    ensures keeps { Keeps out.old out.new }
+    ensures keeps { IsFront out.old out.new }
+    ensures within { IsFront out.new (out.old ++ line_text (pair_line pair)) }
 {
     let (key, value) = pair;
     out.words(&[Piece::Text(b"pair"), Piece::Short(key), Piece::Short(value)])?;
@@ -66,7 +67,8 @@ fn put_pair(pair: (Short, Short), out: &mut Report) -> Result<(), NoMemory>
 fn put_pairs(map: &Map, out: &mut Report) -> Result<(), NoMemory>
     requires { begins_line out.old ≡ true }
     ensures ok { OnOk result (out.new ≡ with_lines out.old (pair_lines map.now.pairs)) }
-    ensures keeps { Keeps out.old out.new }
+    ensures keeps { IsFront out.old out.new }
+    ensures within { IsFront out.new (with_lines out.old (pair_lines map.now.pairs)) }
 {
     for i in 0..map.count() {
         put_pair(map.pair(i), out)?;

@@ -1,6 +1,6 @@
 ghost use Rattle.std.specs.Prelude.{◌≡◌, ◌++◌, true, OnOk, OnErr, MatchResult, Ok, Err};
 ghost use Rattle.onll_words.specs.Texts.{words_of, line_text};
-ghost use Rattle.onll_text.specs.Bytes.{begins_line, with_lines, Keeps};
+ghost use Rattle.onll_text.specs.Bytes.{begins_line, with_lines, IsFront};
 ghost use Rattle.onll_text.specs.QueueText.{push_of, pop_of, front_of, length_of, item_line, item_lines, with_item, with_item_line};
 ghost use Rattle.onll_text.specs.QueueWording.{queue_wording};
 
@@ -47,7 +47,8 @@ fn put_item(x: u64, out: &mut Report) -> Result<(), NoMemory>
     requires { begins_line out.old ≡ true }
     ensures line { OnOk result (out.new ≡ out.old ++ line_text (item_line x)) }
     ensures begins { OnOk result (begins_line out.new ≡ true) }
-    ensures keeps { Keeps out.old out.new }
+    ensures keeps { IsFront out.old out.new }
+    ensures within { IsFront out.new (out.old ++ line_text (item_line x)) }
 {
     out.words(&[Piece::Text(b"item"), Piece::Number(x)])?;
     out.end_line()
@@ -58,7 +59,8 @@ fn put_item(x: u64, out: &mut Report) -> Result<(), NoMemory>
 fn put_items(queue: &Queue, out: &mut Report) -> Result<(), NoMemory>
     requires { begins_line out.old ≡ true }
     ensures ok { OnOk result (out.new ≡ with_lines out.old (item_lines queue.now.items)) }
-    ensures keeps { Keeps out.old out.new }
+    ensures keeps { IsFront out.old out.new }
+    ensures within { IsFront out.new (with_lines out.old (item_lines queue.now.items)) }
 {
     for i in 0..queue.length() {
         put_item(queue.item(i), out)?;

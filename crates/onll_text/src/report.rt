@@ -1,6 +1,6 @@
 ghost use Rattle.std.specs.Prelude.{◌≡◌, ◌≤◌, ℕ, ◌++◌, ◌∷◌, [], true, decimal, length, map, OnOk, OnErr};
 ghost use Rattle.onll_words.specs.Texts.{AreWords, line_text};
-ghost use Rattle.onll_text.specs.Bytes.{begins_line, with_word, with_words, Keeps};
+ghost use Rattle.onll_text.specs.Bytes.{begins_line, with_word, with_words, IsFront};
 ghost use Rattle.onll_text.specs.Pieces.{piece_word};
 
 use itoa::Buffer;
@@ -31,7 +31,8 @@ fn short_bytes(text: Short, buffer: &mut [u8; LONGEST_SHORT]) -> &[u8]
     &buffer[..length]
 }
 
-/// The bytes of a report, seen as that list. After want of memory the bytes before stay, and a front of what was to be appended may stand behind them.
+/// The bytes of a report, seen as that list. After want of memory the bytes before stay, and behind them stands a front of what
+/// was to be appended, if anything.
 #[derive(Drop)]
 pub struct Report {
     bytes: Vec<u8>,
@@ -82,7 +83,8 @@ impl Report {
     #[tactic(auto, using(crate::proofs::Keeping::keeping))]
     fn put(&mut self, text: &[u8]) -> Result<(), NoMemory>
         ensures ok { OnOk result (self.new ≡ self.old ++ text.now) }
-        ensures keeps { Keeps self.old self.new }
+        ensures keeps { IsFront self.old self.new }
+        ensures within { IsFront self.new (self.old ++ text.now) }
         ensures err { OnErr result (self.new ≡ self.old) }
     {
         self.bytes.extend_from_slice(text)?;
@@ -92,18 +94,21 @@ impl Report {
     /// A word, after one space unless it begins a line.
     pub fn word(&mut self, text: &[u8]) -> Result<(), NoMemory>
         ensures ok { OnOk result (self.new ≡ with_word self.old text.now) }
-        ensures keeps { Keeps self.old self.new }
+        ensures keeps { IsFront self.old self.new }
+        ensures within { IsFront self.new (with_word self.old text.now) }
     {
-        if !self.begins_line() {
-            self.put(b" ")?;
+        if self.begins_line() {
+            return self.put(text);
         }
+        self.put(b" ")?;
         self.put(text)
     }
 
     /// A number in the shortest decimal form, as a word.
     pub fn number(&mut self, n: u64) -> Result<(), NoMemory>
         ensures ok { OnOk result (self.new ≡ with_word self.old (decimal n)) }
-        ensures keeps { Keeps self.old self.new }
+        ensures keeps { IsFront self.old self.new }
+        ensures within { IsFront self.new (with_word self.old (decimal n)) }
     {
         let mut buffer = Buffer::new();
         self.word(buffer.format(n).as_bytes())
@@ -112,7 +117,8 @@ impl Report {
     /// A short text, as a word.
     fn short(&mut self, text: Short) -> Result<(), NoMemory>
         ensures ok { OnOk result (self.new ≡ with_word self.old text.bytes) }
-        ensures keeps { Keeps self.old self.new }
+        ensures keeps { IsFront self.old self.new }
+        ensures within { IsFront self.new (with_word self.old text.bytes) }
     {
         let mut buffer = [0; LONGEST_SHORT];
         self.word(short_bytes(text, &mut buffer))
@@ -121,7 +127,8 @@ impl Report {
     /// The end of a line.
     pub fn end_line(&mut self) -> Result<(), NoMemory>
         ensures ok { OnOk result (self.new ≡ self.old ++ 10 ∷ []) }
-        ensures keeps { Keeps self.old self.new }
+        ensures keeps { IsFront self.old self.new }
+        ensures within { IsFront self.new (self.old ++ 10 ∷ []) }
         ensures err { OnErr result (self.new ≡ self.old) }
     {
         self.put(b"\n")
@@ -129,7 +136,8 @@ impl Report {
 
     fn piece(&mut self, piece: &Piece<'_>) -> Result<(), NoMemory>
         ensures ok { OnOk result (self.new ≡ with_word self.old (piece_word piece.now)) }
-        ensures keeps { Keeps self.old self.new }
+        ensures keeps { IsFront self.old self.new }
+        ensures within { IsFront self.new (with_word self.old (piece_word piece.now)) }
     {
         match piece {
             Piece::Text(text) => self.word(text),
@@ -141,7 +149,8 @@ impl Report {
     /// Words, in order.
     pub fn words(&mut self, pieces: &[Piece<'_>]) -> Result<(), NoMemory>
         ensures ok { OnOk result (self.new ≡ with_words self.old (map piece_word pieces.now)) }
-        ensures keeps { Keeps self.old self.new }
+        ensures keeps { IsFront self.old self.new }
+        ensures within { IsFront self.new (with_words self.old (map piece_word pieces.now)) }
     {
         for piece in pieces {
             self.piece(piece)?;
@@ -155,7 +164,8 @@ impl Report {
         requires some { 1 ≤ length pieces.now }
         requires words { AreWords (map piece_word pieces.now) }
         ensures ok { OnOk result (self.new ≡ self.old ++ line_text (map piece_word pieces.now)) }
-        ensures keeps { Keeps self.old self.new }
+        ensures keeps { IsFront self.old self.new }
+        ensures within { IsFront self.new (self.old ++ line_text (map piece_word pieces.now)) }
     {
         self.words(pieces)?;
         self.end_line()

@@ -2,7 +2,7 @@ ghost use Rattle.std.specs.Prelude.{◌≡◌, true, Ok, OnOk, Some};
 ghost use Rattle.std.specs.List.{flat_map};
 ghost use Rattle.onll_model.specs.declared.call.Call.TheVariants.{Update, Ask};
 ghost use Rattle.onll_words.specs.Texts.{words_of, line_text};
-ghost use Rattle.onll_text.specs.Bytes.{begins_line, with_words, with_lines, Keeps};
+ghost use Rattle.onll_text.specs.Bytes.{begins_line, with_words, with_lines, IsFront};
 ghost use Rattle.onll_text.specs.Wording.{Wording};
 
 use crate::reason::Reason;
@@ -22,23 +22,27 @@ pub trait Texted: Object {
     /// Appends the words of an operation.
     fn put_op(op: Self::Op, out: &mut Report) -> Result<(), NoMemory>
         ensures ok { OnOk result (out.new ≡ with_words out.old (wording.op_words op)) }
-        ensures keeps { Keeps out.old out.new };
+        ensures keeps { IsFront out.old out.new }
+        ensures within { IsFront out.new (with_words out.old (wording.op_words op)) };
 
     /// Appends the words of a query.
     fn put_query(query: Self::Query, out: &mut Report) -> Result<(), NoMemory>
         ensures ok { OnOk result (out.new ≡ with_words out.old (wording.query_words query)) }
-        ensures keeps { Keeps out.old out.new };
+        ensures keeps { IsFront out.old out.new }
+        ensures within { IsFront out.new (with_words out.old (wording.query_words query)) };
 
     /// Appends the words of a reply.
     fn put_reply(reply: Self::Reply, out: &mut Report) -> Result<(), NoMemory>
         ensures ok { OnOk result (out.new ≡ with_words out.old (wording.reply_words reply)) }
-        ensures keeps { Keeps out.old out.new };
+        ensures keeps { IsFront out.old out.new }
+        ensures within { IsFront out.new (with_words out.old (wording.reply_words reply)) };
 
     /// Appends the lines of the state, which read as an equal initial state.
     fn put_state(&self, out: &mut Report) -> Result<(), NoMemory>
         requires { begins_line out.old ≡ true }
         ensures ok { OnOk result (out.new ≡ with_lines out.old (wording.state_lines self.now)) }
-        ensures keeps { Keeps out.old out.new };
+        ensures keeps { IsFront out.old out.new }
+        ensures within { IsFront out.new (with_lines out.old (wording.state_lines self.now)) };
 
     /// A law: what is printed of an operation reads as that update. It does nothing when called.
     fn op_reads_back(op: Self::Op)

@@ -4,8 +4,8 @@ use Rattle.onll_text.specs.Init.{init_of}
 use Rattle.onll_jobs.specs.FoldJob.{script_job_on, fold_job}
 use Rattle.onll_jobs.proofs.Onwards.{on_whole, says_on, stopped}
 use Rattle.onll_jobs.specs.declared.ending.Ending.TheVariants.{Done}
-use Rattle.onll_jobs.specs.Reports.{FoldsToAny, FoldsFiles}
-use Rattle.onll_jobs.proofs.FoldDetermined.{folds_before}
+use Rattle.onll_jobs.specs.Determined.{FoldsToAny, FoldsFiles}
+use Rattle.onll_jobs.proofs.FormsDetermined.{folds_before}
 use Rattle.onll_jobs.proofs.fold.answer.Goals as goal
 
 pub returns-in-Ok-clause-says : goal.returns-in-Ok-clause-says

@@ -1,6 +1,6 @@
 use Rattle.std.proofs.Common.{subst}
-use Rattle.onll_text.specs.Reports.{SaysOnly}
-use Rattle.onll_text.proofs.Determined.{says_only}
+use Rattle.onll_text.specs.Reports.{fold_data_lines, FoldDataReads, SaysOnly}
+use Rattle.onll_text.proofs.Determined.{fold_determined, says_only}
 use Rattle.onll_jobs.specs.Reports.{fold_data}
 use Rattle.onll_text.specs.Script.{script_of}
 use Rattle.onll_jobs.specs.declared.ending.Ending.TheVariants.{Done}
@@ -24,6 +24,6 @@ returns-in_ok-text-in-Ok-clause-determined g c done =
     record {
       calls = c.in-Ok.calls.items;
       read = c.in-Ok.ensures.calls;
-      says = subst (λ k. SaysOnly b w k text (fold_data b s k)) c.deref.ensures.value
-          (says_only b w calls text (fold_data b s calls) c.in_ok-text-in-Ok.ensures.report c.in_ok-text-in-Ok.ensures.reads);
+      says = subst (λ k. SaysOnly (fold_data_lines b w k) (FoldDataReads b w k) text (fold_data b s k)) c.deref.ensures.value
+          (says_only (fold_data_lines b w calls) (FoldDataReads b w calls) (fold_determined b w calls) text (fold_data b s calls) c.in_ok-text-in-Ok.ensures.report c.in_ok-text-in-Ok.ensures.reads);
     }

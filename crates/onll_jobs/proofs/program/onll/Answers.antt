@@ -3,7 +3,7 @@ use Rattle.onll_jobs.specs.declared.ending.Ending.TheVariants.{Done, Refused, Ba
 use Rattle.onll_jobs.specs.Seen.{seen_by}
 use Rattle.onll_jobs.specs.Durable.{RecoversCrashes}
 use Rattle.onll_jobs.proofs.ExitCauses.{said_of, none_failed_of, usage_of, failed_of, no_memory_of, count_of, decided_exactly}
-use Rattle.onll_jobs.proofs.FoldDetermined.{exit_done}
+use Rattle.onll_jobs.proofs.FormsDetermined.{exit_done}
 use Rattle.onll_jobs.proofs.ReplayEnds.{replay_not_bad, replay_durable}
 use Rattle.onll_jobs.proofs.RecoverCrashes.{recovers_crashes}
 use Rattle.onll_jobs.proofs.program.onll.Goals as goal
@@ -54,4 +54,4 @@ returns-clause-recovers g c init schedule logs scripts form e =
     replay_not_bad seen init schedule logs scripts form (said_of seen c.run.result BadLog (λ e. omega arith) (sym c.status.ensures ∙ e) c.run.ensures.says)
 
 pub returns-clause-determined : goal.returns-clause-determined
-returns-clause-determined g c init script form e = c.run.ensures.determined init script form (exit_done c.run.result (sym c.status.ensures ∙ e))
+returns-clause-determined g c e = c.run.ensures.determined (exit_done c.run.result (sym c.status.ensures ∙ e))

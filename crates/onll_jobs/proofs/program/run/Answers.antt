@@ -1,7 +1,7 @@
 use Rattle.std.proofs.Common.{map, string_bytes}
 use Rattle.onll_jobs.specs.Seen.{seen_by}
 use Rattle.onll_jobs.proofs.ExitCauses.{put_says}
-use Rattle.onll_jobs.proofs.FoldDetermined.{put_determined}
+use Rattle.onll_jobs.proofs.FormsDetermined.{put_determined}
 use Rattle.onll_jobs.proofs.program.run.Goals as goal
 
 pub returns-in-Ok-clause-says : goal.returns-in-Ok-clause-says

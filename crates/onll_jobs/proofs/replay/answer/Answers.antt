@@ -1,9 +1,13 @@
-use Rattle.std.proofs.Common.{map, string_bytes, subst}
+use Rattle.std.proofs.Common.{map, string_bytes, subst, ◌≡◌}
 use Rattle.std.specs.Result.{IfOk, IfErr}
 use Rattle.onll_text.specs.Init.{init_of}
 use Rattle.onll_jobs.specs.Job.{JobEnds, JobCut}
 use Rattle.onll_jobs.specs.ReplayJob.{replay_any, replay_job}
 use Rattle.onll_jobs.proofs.Onwards.{on_whole, says_on, cut_on, stayed, stopped}
+use Rattle.std.proofs.lemmas.Result.{IfOk-weaker}
+use Rattle.onll_jobs.specs.declared.ending.Ending.TheVariants.{Done}
+use Rattle.onll_jobs.specs.Determined.{ReplaysToAny, ReplaysFiles}
+use Rattle.onll_jobs.proofs.FormsDetermined.{replays_before}
 use Rattle.onll_jobs.proofs.replay.answer.Goals as goal
 
 pub returns-in-Ok-clause-says : goal.returns-in-Ok-clause-says
@@ -40,3 +44,21 @@ returns-in-Err-clause-says g c =
 pub returns-in-Err-clause-cut : goal.returns-in-Err-clause-cut
 returns-in-Err-clause-cut g c =
     stayed (g.S.Store.seen c.args.store.now) (g.S.Store.seen c.init_file.new.store) (replay_job c.args.init.now c.args.schedule.now c.args.logs.now (map string_bytes c.args.scripts.now)) c.answer.result c.in-Err.ensures.same
+
+pub returns-in-Ok-clause-determined : goal.returns-in-Ok-clause-determined
+returns-in-Ok-clause-determined g c =
+    let store = g.S.Store.seen c.args.store.now in
+    let mid = g.S.Store.seen c.init_file.new.store in
+    let schedule = c.args.schedule.now in
+    let names = map string_bytes c.args.scripts.now in
+    let read = c.in-Ok.read in
+    IfOk-weaker c.replay_any.result
+    (λ answer. answer.ending ≡ Done → ReplaysToAny read.text.items mid schedule names answer.text.items read.object)
+    (λ answer. answer.ending ≡ Done → ReplaysFiles store c.args.init.now schedule names answer.text.items)
+    (λ answer h e. record {
+      bytes = read.text.items;
+      object = read.object;
+      read = c.in-Ok.ensures.object;
+      replays = replays_before read.text.items store mid schedule names answer.text.items read.object c.in-Ok.ensures.same (h e);
+    })
+    (subst (λ init. IfOk c.replay_any.result (λ answer. answer.ending ≡ Done → ReplaysToAny init mid schedule names answer.text.items read.object)) c.deref.ensures.value c.replay_any.ensures.determined)

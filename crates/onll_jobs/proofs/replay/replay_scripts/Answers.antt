@@ -8,6 +8,12 @@ use Rattle.onll_jobs.specs.Writing.{SameBut}
 use Rattle.onll_jobs.specs.ReplayJob.{played, crash_job, schedule_job}
 use Rattle.onll_jobs.proofs.Onwards.{says_on, cut_on, stayed, stopped}
 use Rattle.onll_jobs.proofs.Replays.{same_but, schedule_on}
+use Rattle.std.proofs.lemmas.Result.{IfOk-weaker}
+use Rattle.onll_core.specs.Outcomes.{script_of}
+use Rattle.onll_core.specs.Crash.{images_of}
+use Rattle.onll_jobs.specs.declared.ending.Ending.TheVariants.{Done}
+use Rattle.onll_jobs.specs.Determined.{CrashesTo, PlaysTo}
+use Rattle.onll_jobs.proofs.FormsDetermined.{plays_to}
 use Rattle.onll_jobs.proofs.replay.replay_scripts.Goals as goal
 
 pub returns-in_ok-core-in-Ok-clause-says : goal.returns-in_ok-core-in-Ok-clause-says
@@ -76,3 +82,21 @@ returns-in-Err-clause-cut g c =
     let scripts = map (λ script. script.items) c.args.scripts.items in
     stayed (g.S.Store.seen c.args.store.now) (g.S.Store.seen c.schedule_file.new.store)
     (schedule_job g.O.Object.means g.O.Texted.wording g.O.Object.CODE c.args.init.now c.args.object c.args.schedule.now c.args.logs.now scripts) c.answer.result c.in-Err.ensures.same
+
+pub returns-in_ok-core-in-Ok-clause-determined : goal.returns-in_ok-core-in-Ok-clause-determined
+returns-in_ok-core-in-Ok-clause-determined g c =
+    let store = g.S.Store.seen c.args.store.now in
+    let b = g.O.Object.means in
+    let w = g.O.Texted.wording in
+    let code = g.O.Object.CODE in
+    let init = c.args.init.now in
+    let scripts = map (λ script. script.items) c.args.scripts.items in
+    let plan = c.in-Ok.plan in
+    let core = c.in_ok-core-in-Ok.core in
+    let count : c.len.result ≡ length c.args.scripts.items = search rules in
+    IfOk-weaker c.crash.result
+    (λ answer. answer.ending ≡ Done → CrashesTo b w code init core plan.keep (map script_of core.threads) (images_of plan.keep core.threads) answer.text.items)
+    (λ answer. answer.ending ≡ Done → PlaysTo b w code init c.args.object store c.args.schedule.now scripts answer.text.items)
+    (λ answer h e. plays_to b w code init c.args.object store c.args.schedule.now scripts c.len.result plan core answer.text.items
+    (count ∙ sym (length-map c.args.scripts.items (λ script. script.items))) c.in-Ok.ensures.schedule c.in_ok-core-in-Ok.ensures.core (h e))
+    c.crash.ensures.determined

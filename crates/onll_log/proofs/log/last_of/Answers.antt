@@ -1,4 +1,4 @@
-use Rattle.std.proofs.Common.{◌-◌, ◌∙◌, length, get_or, arith, ap, sym}
+use Rattle.std.proofs.Common.{◌-◌, ◌∙◌, length, arith, ap, sym}
 use Rattle.std.proofs.lemmas.Bool.{ltb-true}
 use Rattle.onll_log.specs.declared.decoded.Entry.{Entry}
 use Rattle.onll_log.proofs.Kept.{last_place-last}

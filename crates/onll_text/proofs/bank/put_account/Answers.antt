@@ -1,9 +1,16 @@
 use Rattle.std.proofs.Common.{◌∷◌, [], codes, decimal}
 use Rattle.std.proofs.lemmas.Result.{on_ok_weaker}
 use Rattle.onll_text.proofs.LineWords.{whole_line, account_line_in_words}
+use Rattle.onll_text.proofs.Keeping.{line_front, line_end_front}
 use Rattle.onll_text.proofs.bank.put_account.Goals as goal
 
 pub returns-clause-line : goal.returns-clause-line
 returns-clause-line c = on_ok_weaker c.end_line.result
     (λ d. (whole_line _ _ _ (codes "account") (decimal c.args.a ∷ decimal c.args.balance ∷ []) c.in_ok-words.ensures.ok d c.requires (account_line_in_words c.args.a c.args.balance)).0)
     c.end_line.ensures.ok
+
+pub returns-in_err-words-clause-within : goal.returns-in_err-words-clause-within
+returns-in_err-words-clause-within c = line_front _ _ (codes "account") (decimal c.args.a ∷ decimal c.args.balance ∷ []) c.requires (account_line_in_words c.args.a c.args.balance) c.words.ensures.within
+
+pub returns-clause-within : goal.returns-clause-within
+returns-clause-within c = line_end_front _ _ _ (codes "account") (decimal c.args.a ∷ decimal c.args.balance ∷ []) c.in_ok-words.ensures.ok c.requires (account_line_in_words c.args.a c.args.balance) c.end_line.ensures.within

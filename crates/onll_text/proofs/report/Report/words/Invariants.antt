@@ -1,5 +1,5 @@
 use Rattle.std.proofs.Common.{◌≡◌, drop, map}
-use Rattle.onll_text.specs.Bytes.{with_words, Keeps}
+use Rattle.onll_text.specs.Bytes.{with_words, IsFront}
 use Rattle.onll_text.specs.Pieces.{piece_word}
 use Rattle.onll_text.proofs.report.Report.words.Given as goal
 
@@ -7,5 +7,5 @@ use Rattle.onll_text.proofs.report.Report.words.Given as goal
 abbrev pub invariant-loop-piece : goal.invariant-loop-piece
 invariant-loop-piece l = record {
   words : with_words l.self (map piece_word (drop l.piece-index l.pieces)) ≡ with_words l.fn.self (map piece_word l.pieces);
-  keeps : Keeps l.fn.self l.self;
+  keeps : IsFront l.fn.self l.self;
 }

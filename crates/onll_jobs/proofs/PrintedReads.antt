@@ -1,0 +1,108 @@
+use Rattle.std.proofs.Common.{ℕ, zero, suc, ◌≡◌, ◌+◌, ◌-◌, ◌<◌, ◌≤◌, ◌^◌, List, [], ◌∷◌, ◌++◌, Option, Some, None, length, drop, get_or, map, sym, ap, ◌∙◌, subst, arith}
+use Rattle.std.specs.List.{All, slice_get}
+use Rattle.std.specs.Option.{IfSome}
+use Rattle.std.proofs.lemmas.List.{drop_more}
+use Rattle.std.proofs.lemmas.List.Elements.{All-cons}
+use Rattle.std.proofs.lemmas.Option.{same_Some}
+use Rattle.onll_model.specs.declared.node.Node.{Node}
+use Rattle.onll_model.specs.declared.call.Call.{Call}
+use Rattle.onll_model.specs.declared.call.CallEnd.{CallEnd}
+use Rattle.onll_model.specs.Object.{Behaviour}
+use Rattle.onll_model.specs.Legal.{EachEnd, AreLegalThreads}
+use Rattle.onll_core.specs.declared.returned.Returned.{Returned}
+use Rattle.onll_core.specs.declared.returned.Current.{Current}
+use Rattle.onll_core.specs.Core.{CoreThread}
+use Rattle.onll_core.specs.Outcomes.{returned_end, current_ends, current_in, ends_of, script_of}
+use Rattle.onll_model.specs.Segment.{Segment}
+use Rattle.onll_log.specs.declared.head.LogHead.{LogHead}
+use Rattle.onll_log.specs.declared.decoded.Decoded.{Decoded}
+use Rattle.onll_log.specs.Grammar.{used_by, used_with}
+use Rattle.onll_log.specs.Decoded.{content_in}
+use Rattle.onll_merge.specs.Merge.{contents_in}
+use Rattle.onll_text.specs.Wording.{Wording}
+use Rattle.onll_text.specs.Reports.{EndReads}
+use Rattle.onll_jobs.specs.Reports.{EachReads, LogData, LogReads, counts_of, HeldReads, held_with, held_of, EntryReads, ShowReads, shown_with}
+use Rattle.onll_jobs.proofs.ReplaySteps.{if_at, thread_at}
+
+-- What the commands print reads back, one part after the other.
+
+-- a thread has no more outcomes than calls
+few_ends : {State Op Query Reply : Type 0} (P : Call State Op Query Reply → CallEnd State Op Query Reply → Type 0) (calls : List (Call State Op Query Reply)) (ends : List (CallEnd State Op Query Reply)) → EachEnd P calls ends → length ends ≤ length calls
+few_ends P calls [] h = omega arith
+few_ends P [] (e ∷ ends) h = absurd h
+few_ends P (c ∷ calls) (e ∷ ends) h = let rest = few_ends P calls ends h.1 in omega (arith, rest)
+
+module _ {State Op Query Reply : Type 0} where
+  pub few_at : (b : Behaviour State Op Query Reply) (s : State) (base : ℕ) (trace : List Node) (u : ℕ) (ths : List (CoreThread State Op Query Reply)) → AreLegalThreads b s base trace u (map script_of ths) (map ends_of ths)
+      → (t : ℕ) (th : CoreThread State Op Query Reply) → slice_get ths t ≡ Some th → length (ends_of th) ≤ length th.script
+  few_at b s base trace u [] h t th e = cc e
+  few_at b s base trace u (x ∷ ths) h zero th e =
+      subst (λ (z : CoreThread State Op Query Reply). length (ends_of z) ≤ length z.script) (same_Some x th e) (few_ends _ x.script (ends_of x) h.0.replies)
+  few_at b s base trace u (x ∷ ths) h (suc t) th e = few_at b s base trace (u + 1) ths h.1 t th e
+
+  -- one thread's outcomes before those of the rest
+  pub thread_reads : (w : Wording State Op Query Reply) (t : ℕ) (ths : List (CoreThread State Op Query Reply)) (rs : List (Returned State Op Query Reply)) (current : Current)
+      → t < length ths → IfSome (slice_get ths t) (λ th. rs ≡ th.returned) → IfSome (slice_get ths t) (λ th. current ≡ current_in th.phase)
+      → ((u : ℕ) (th : CoreThread State Op Query Reply) → slice_get ths u ≡ Some th → length (ends_of th) ≤ length th.script)
+      → All (EndReads w) (map returned_end rs ++ current_ends current)
+      → EachReads w (map script_of (drop (t + 1) ths)) (map ends_of (drop (t + 1) ths)) → EachReads w (map script_of (drop t ths)) (map ends_of (drop t ths))
+  thread_reads w t ths rs current h hr hc few reads rest =
+      let x = thread_at ths t h in
+      let th = x.0 in
+      let s : t + 1 ≡ suc t = omega arith in
+      let er : rs ≡ th.returned = if_at (λ z. rs ≡ z.returned) ths t th x.1 hr in
+      let ec : current ≡ current_in th.phase = if_at (λ z. current ≡ current_in z.phase) ths t th x.1 hc in
+      let own : All (EndReads w) (ends_of th) =
+      subst (λ (k : Current). All (EndReads w) (map returned_end th.returned ++ current_ends k)) ec
+      (subst (λ (l : List (Returned State Op Query Reply)). All (EndReads w) (map returned_end l ++ current_ends current)) er reads) in
+      let more : EachReads w (map script_of (drop (suc t) ths)) (map ends_of (drop (suc t) ths)) = subst (λ j. EachReads w (map script_of (drop j ths)) (map ends_of (drop j ths))) s rest in
+      subst (λ (l : List (CoreThread State Op Query Reply)). EachReads w (map script_of l) (map ends_of l)) (sym x.2) (record { few = few t th x.1; reads = own }, more)
+
+  -- one outcome before those of the rest
+  pub ends_more : (w : Wording State Op Query Reply) (i : ℕ) (rs : List (Returned State Op Query Reply)) (more : List (CallEnd State Op Query Reply)) (r : Returned State Op Query Reply)
+      → i < length rs → r ≡ get_or rs i r → EndReads w (returned_end r) → All (EndReads w) (map returned_end (drop (i + 1) rs) ++ more) → All (EndReads w) (map returned_end (drop i rs) ++ more)
+  ends_more w i rs more r h same reads rest =
+      let left : drop i rs ≡ r ∷ drop (i + 1) rs = drop_more rs i r h ∙ ap (λ (x : Returned State Op Query Reply). x ∷ drop (i + 1) rs) (sym same) in
+      subst (λ (l : List (Returned State Op Query Reply)). All (EndReads w) (map returned_end l ++ more)) (sym left) (All-cons (EndReads w) (returned_end r) (map returned_end (drop (i + 1) rs) ++ more) reads rest)
+
+  -- one log's numbers before those of the rest
+  pub logs_more : (t : ℕ) (logs : List Decoded) (ths : List (CoreThread State Op Query Reply)) (d : Decoded) (fences : ℕ) → t < length logs → t < length ths
+      → IfSome (slice_get ths t) (λ th. fences + 1 ≡ th.device.fences) → d ≡ get_or logs t d → length (content_in d).entries < 2 ^ 64 → used_by (content_in d) < 2 ^ 64 → fences < 2 ^ 64
+      → All LogReads (counts_of (contents_in (drop (t + 1) logs)) (drop (t + 1) ths)) → All LogReads (counts_of (contents_in (drop t logs)) (drop t ths))
+  logs_more t logs ths d fences h k hf same entries used fits rest =
+      let x = thread_at ths t k in
+      let th = x.0 in
+      let s : t + 1 ≡ suc t = omega arith in
+      let made = if_at (λ z. fences + 1 ≡ z.device.fences) ths t th x.1 hf in
+      let few : th.device.fences - 1 < 2 ^ 64 = omega (arith, made) in
+      let left : drop t logs ≡ d ∷ drop (t + 1) logs = drop_more logs t d h ∙ ap (λ (y : Decoded). y ∷ drop (t + 1) logs) (sym same) in
+      let told : LogData = record { entries = length (content_in d).entries; lines = used_by (content_in d); fences = th.device.fences - 1 } in
+      let more : All LogReads (counts_of (contents_in (drop (t + 1) logs)) (drop (suc t) ths)) = subst (λ j. All LogReads (counts_of (contents_in (drop (t + 1) logs)) (drop j ths))) s rest in
+      subst (λ (l : List (CoreThread State Op Query Reply)). All LogReads (counts_of (contents_in (drop t logs)) l)) (sym x.2)
+      (subst (λ (l : List Decoded). All LogReads (counts_of (contents_in l) (th ∷ drop (suc t) ths))) (sym left)
+      (All-cons LogReads told (counts_of (contents_in (drop (t + 1) logs)) (drop (suc t) ths)) (record { entries = entries; lines = used; fences = few }) more))
+
+-- a log's numbers, where it has a head
+held_reads : (head : Option LogHead) (entries : List Segment) → length entries < 2 ^ 64 → used_with head entries < 2 ^ 64 → HeldReads (held_with head entries)
+held_reads None entries g h = tt
+held_reads (Some head) entries g h = (g, h)
+
+-- one of them before those of the rest
+pub helds_more : (i : ℕ) (logs : List Decoded) (d : Decoded) → i < length logs → d ≡ get_or logs i d → length (content_in d).entries < 2 ^ 64 → used_by (content_in d) < 2 ^ 64
+    → All HeldReads (map held_of (contents_in (drop (i + 1) logs))) → All HeldReads (map held_of (contents_in (drop i logs)))
+helds_more i logs d h same entries used rest =
+    let left : drop i logs ≡ d ∷ drop (i + 1) logs = drop_more logs i d h ∙ ap (λ (y : Decoded). y ∷ drop (i + 1) logs) (sym same) in
+    subst (λ (l : List Decoded). All HeldReads (map held_of (contents_in l))) (sym left)
+    (All-cons HeldReads (held_of (content_in d)) (map held_of (contents_in (drop (i + 1) logs))) (held_reads d.head (content_in d).entries entries used) rest)
+
+-- one element of what a list is made into before those of the rest
+pub made_one_more : {X Y : Type 0} (f : X → Y) (P : Y → Type 0) (xs : List X) (i : ℕ) (x : X) → i < length xs → x ≡ get_or xs i x → P (f x) → All P (map f (drop (i + 1) xs)) → All P (map f (drop i xs))
+made_one_more f P xs i x h same first rest =
+    subst (λ l. All P (map f l)) (sym (drop_more xs i x h ∙ ap (λ y. y ∷ drop (i + 1) xs) (sym same))) (All-cons P (f x) (map f (drop (i + 1) xs)) first rest)
+
+-- what an image holds, where it has a head
+pub shown_reads : (head : Option LogHead) (h : LogHead) (entries : List Segment) (used : ℕ) → head ≡ Some h → IfSome head (λ x. (1 ≤ x.object) × (x.object ≤ 4)) → h.thread < 2 ^ 64 → h.threads < 2 ^ 64
+    → All EntryReads entries → used < 2 ^ 64 → ShowReads (shown_with head entries used)
+shown_reads head h entries used e object thread threads reads few =
+    subst (λ (o : Option LogHead). ShowReads (shown_with o entries used)) (sym e)
+    (record { thread = thread; threads = threads; object = subst (λ (o : Option LogHead). IfSome o (λ (x : LogHead). (1 ≤ x.object) × (x.object ≤ 4))) e object; entries = reads; lines = few })

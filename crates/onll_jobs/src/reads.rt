@@ -1,0 +1,168 @@
+//! That what the commands print reads back. These are laws of the values that a program has; calling them does nothing.
+
+ghost use Rattle.std.specs.Prelude.{◌≡◌, ◌≤◌, ℕ, ◌++◌, ◌<◌, ◌^◌, length, map, All, IsSome, IfSome};
+ghost use Rattle.std.specs.List.{AllByRecursion};
+ghost use Rattle.onll_model.specs.Trace.{state_after};
+ghost use Rattle.onll_model.specs.Recovered.{operations_front};
+ghost use Rattle.onll_log.specs.Grammar.{used_by};
+ghost use Rattle.onll_log.specs.Decoded.{segments_in, content_in};
+ghost use Rattle.onll_merge.specs.Merge.{contents_in};
+ghost use Rattle.onll_core.specs.Outcomes.{returned_end, current_ends, ends_of, script_of};
+ghost use Rattle.onll_text.specs.Reports.{EndReads, NodeReads};
+ghost use Rattle.onll_jobs.specs.Found.{found_in};
+ghost use Rattle.onll_jobs.specs.Reports.{RowReads, EntryReads, ShowReads, EachReads, HeldReads, LogReads, RecoverReads, RunReads, show_data, held_of, found_data, counts_of, replay_data};
+
+use crate::recover::Found;
+use onll_core::{Core, Current, Returned, report_law};
+use onll_log::{Decoded, Entry};
+use onll_model::{CallEnd, Node};
+use onll_text::{Texted, end_reads_back, node_reads_back};
+
+/// A number.
+fn number_reads(n: u64)
+    ensures { n < 2 ^ 64 }
+{
+    let _ = n;
+}
+
+/// Numbers.
+fn numbers_read(numbers: &[u64])
+    ensures { All (λ n. n < 2 ^ 64) numbers.now }
+{
+    for number in numbers {
+        let _ = *number;
+    }
+}
+
+/// The row of a node.
+fn row_reads(node: Node)
+    ensures { RowReads node }
+{
+    numbers_read(&node.row.w);
+}
+
+/// The rows of an entry.
+fn rows_read(nodes: &[Node])
+    ensures { All RowReads nodes.now }
+{
+    for node in nodes {
+        row_reads(*node);
+    }
+}
+
+/// The entries of a log.
+fn entries_read(entries: &[Entry])
+    ensures { All EntryReads (segments_in entries.now) }
+{
+    for entry in entries {
+        rows_read(entry.nodes.as_slice());
+        number_reads(entry.place);
+    }
+}
+
+/// All that is said of what an image holds.
+pub(crate) fn content_reads(decoded: &Decoded)
+    requires object { IfSome decoded.now.head (λ head. (1 ≤ head.object) × (head.object ≤ 4)) }
+    requires used { used_by (content_in decoded.now) < 2 ^ 64 }
+    ensures { ShowReads (show_data (content_in decoded.now)) }
+{
+    entries_read(decoded.entries.as_slice());
+    if let Some(head) = &decoded.head {
+        number_reads(head.thread);
+        number_reads(head.threads);
+    }
+}
+
+/// The outcome of a call that has begun and not returned.
+fn current_reads<O: Texted>(current: Current)
+    ensures { All (EndReads O.wording) (current_ends current) }
+{
+    match current {
+        Current::Idle => {}
+        Current::Running => end_reads_back::<O>(&CallEnd::Running),
+        Current::Ordered { place } => end_reads_back::<O>(&CallEnd::Ordered { place }),
+    }
+}
+
+/// The outcomes of one thread.
+fn ends_read<O: Texted>(returned: &[Returned<O>], current: Current)
+    ensures { All (EndReads O.wording) (map returned_end returned.now ++ current_ends current) }
+{
+    current_reads::<O>(current);
+    for call in returned {
+        end_reads_back::<O>(&CallEnd::Answered {
+            reply: call.reply,
+            place: call.place,
+        });
+    }
+}
+
+/// The outcomes of each thread.
+fn calls_read<O: Texted + Drop>(core: &Core<O>)
+    ensures { EachReads O.wording (map script_of core.now.threads) (map ends_of core.now.threads) }
+{
+    report_law::<O>();
+    core.reached();
+    for thread in 0..core.threads() {
+        ends_read(core.returned(thread), core.current(thread));
+    }
+}
+
+/// The nodes of a trace.
+fn trace_reads<O: Texted>(trace: &[Node])
+    requires { AllByRecursion (λ n. IsSome (O.means.op_at n.row)) trace.now }
+    ensures { All (NodeReads O.means O.wording) trace.now }
+{
+    for node in trace {
+        node_reads_back::<O>(*node);
+    }
+}
+
+/// What is said of the logs of a replay.
+fn logs_read<O: Texted + Drop>(core: &Core<O>, logs: &[Decoded])
+    requires threads { length logs.now ≡ length core.now.threads }
+    requires used { AllByRecursion (λ d. used_by (content_in d) < 2 ^ 64) logs.now }
+    ensures { All LogReads (counts_of (contents_in logs.now) core.now.threads) }
+{
+    for (index, decoded) in logs.iter().enumerate() {
+        let _ = decoded.entries.as_slice().len();
+        let _ = core.fences(index as u64);
+    }
+}
+
+/// What is said of the logs of a recovery.
+fn helds_read(logs: &[Decoded])
+    requires { AllByRecursion (λ d. used_by (content_in d) < 2 ^ 64) logs.now }
+    ensures { All HeldReads (map held_of (contents_in logs.now)) }
+{
+    for decoded in logs {
+        let _ = decoded.entries.as_slice().len();
+    }
+}
+
+/// All that is said of what was found, and of the object after the nodes that were found.
+pub(crate) fn recovery_reads<O: Texted>(object: &O, found: &Found)
+    requires used { AllByRecursion (λ d. used_by (content_in d) < 2 ^ 64) found.now.logs.items }
+    requires rows { operations_front O.means found.now.nodes.items ≡ found.now.nodes.items }
+    ensures { RecoverReads O.means O.wording (found_data (found_in found.now) object.now) }
+{
+    helds_read(&found.logs);
+    trace_reads::<O>(&found.nodes);
+    object.state_reads_back();
+}
+
+/// All that is said of a core that crashed, of what was found then, and of the object after the nodes that were found.
+pub(crate) fn run_reads<O: Texted + Drop>(core: &Core<O>, keep: u64, found: &Found, object: &O)
+    requires operations { AllByRecursion (λ n. IsSome (O.means.op_at n.row)) core.now.trace }
+    requires threads { length found.now.logs.items ≡ length core.now.threads }
+    requires used { AllByRecursion (λ d. used_by (content_in d) < 2 ^ 64) found.now.logs.items }
+    requires state { object.now ≡ state_after O.means core.now.initial found.now.nodes.items }
+    ensures { RunReads O.means O.wording (map script_of core.now.threads) (replay_data O.means core.now keep (found_in found.now)) }
+{
+    core.consistent();
+    calls_read(core);
+    trace_reads::<O>(core.trace());
+    logs_read(core, &found.logs);
+    object.state_reads_back();
+    let _ = found.nodes.len();
+}

@@ -16,7 +16,7 @@ use Rattle.onll_merge.specs.FrameLogs.{AreLogsOf, MergeToFront}
 use Rattle.onll_merge.proofs.Fronts.{merge-front, top_of-lies}
 
 -- ---- what is left is a thread's
-front_rises : (last : ℕ) (xs ys : List Segment) → Rises last (xs ++ ys) → Rises last xs
+pub front_rises : (last : ℕ) (xs ys : List Segment) → Rises last (xs ++ ys) → Rises last xs
 front_rises last [] ys r = tt
 front_rises last (x ∷ xs) ys r = (r.0, front_rises x.place xs ys r.1)
 
@@ -57,7 +57,7 @@ fenced_left (th ∷ ths) (x ∷ xs) (c ∷ cs) a q h = ⊎_elim
 
 -- ---- the greatest place
 -- the places below each segment lie in segments
-abbrev HasBelow : List Segment → Segment → Type 0
+abbrev pub HasBelow : List Segment → Segment → Type 0
 HasBelow all s = Covers all (s.place - length s.nodes)
 
 covers_log : (all ss : List Segment) → ((q : ℕ) → LiesIn q ss → LiesIn q all) → AllByRecursion (HasBelow all) ss → Covers all (top_in_log ss)
@@ -68,7 +68,7 @@ covers_log all (s ∷ ss) into below q low high = dite (native.Mathlib.Decide.de
     (λ above. into q (inl (here, omega arith))))
     (λ there. covers_log all ss (λ p l. into p (inr l)) below.1 q low (omega arith))
 
-covers_logs : (all : List Segment) (logs : List Content) → ((q : ℕ) → LiesIn q (all_segments logs) → LiesIn q all) → EachSegment (HasBelow all) logs → Covers all (top_of logs)
+pub covers_logs : (all : List Segment) (logs : List Content) → ((q : ℕ) → LiesIn q (all_segments logs) → LiesIn q all) → EachSegment (HasBelow all) logs → Covers all (top_of logs)
 covers_logs all [] into below q low high = absurd (omega arith)
 covers_logs all (c ∷ cs) into below q low high = dite (native.Mathlib.Decide.dec_le q (top_in_log c.entries))
     (λ here. covers_log all c.entries (λ p l. into p (lies_left p c.entries (all_segments cs) l)) below.0 q low here)

@@ -1,4 +1,5 @@
-//! What the program reaches outside of itself: a store of files by name, and a sink for its output.
+//! What the program reaches outside of itself: a store of files by name, a sink for its output, and a gate that sees the points of
+//! each update.
 //! Each counts its calls that failed. `MemStore` and `MemSink` are in memory, and tell all that they
 //! hold; `FileStore` and `OutSink` are the system's files and a writer, and tell only their counts.
 #![tactic(auto)]
@@ -6,6 +7,8 @@
 mod disk;
 mod faults;
 mod file_store;
+mod gate;
+mod hold_gate;
 mod mem_sink;
 mod mem_store;
 mod out_sink;
@@ -15,6 +18,8 @@ mod store;
 mod tests;
 
 pub use file_store::FileStore;
+pub use gate::{FreeGate, Gate, Point};
+pub use hold_gate::{Hold, HoldGate};
 pub use mem_sink::MemSink;
 pub use mem_store::{FenceAt, MemStore, Named};
 pub use out_sink::OutSink;

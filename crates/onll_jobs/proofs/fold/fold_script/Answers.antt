@@ -10,16 +10,16 @@ use Rattle.onll_jobs.proofs.FoldSteps.{fold_operations}
 use Rattle.onll_jobs.proofs.fold.fold_script.Goals as goal
 
 pub put_nodes-requires-clause-operations : goal.put_nodes-requires-clause-operations
-put_nodes-requires-clause-operations g c =
+put_nodes-requires-clause-operations g c κs within =
     let b = g.O.Object.means in
     subst (AllByRecursion (λ (n : Node). IsSome (b.op_at n.row))) (sym (c.deref.ensures.value ∙ c.in_ok-put_calls.ensures.trace)) (fold_operations b 0 c.args.script.now)
 
 pub put_nodes-requires-clause-begins : goal.put_nodes-requires-clause-begins
-put_nodes-requires-clause-begins g c =
+put_nodes-requires-clause-begins g c κs within =
     ap begins_line c.in_ok-trace_line.ensures.ok ∙ begins_line-line c.put_calls.new.out (trace_line c.len.result)
 
-pub state_lines-requires : goal.state_lines-requires
-state_lines-requires g c =
+pub state_lines-requires-after_bounds : goal.state_lines-requires-after_bounds
+state_lines-requires-after_bounds g c κs within =
     ap begins_line c.in_ok-put_nodes.ensures
     ∙ begins_line-lines c.trace_line.new.self (node_lines g.O.Object.means g.O.Texted.wording 0 c.deref.result.now)
     (ap begins_line c.in_ok-trace_line.ensures.ok ∙ begins_line-line c.put_calls.new.out (trace_line c.len.result))

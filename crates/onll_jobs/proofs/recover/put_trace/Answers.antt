@@ -6,9 +6,9 @@ use Rattle.onll_jobs.proofs.RecoverSteps.{all_operations}
 use Rattle.onll_jobs.proofs.recover.put_trace.Goals as goal
 
 pub put_nodes-requires-clause-operations : goal.put_nodes-requires-clause-operations
-put_nodes-requires-clause-operations g c = all_operations g.O.Object.means c.args.nodes.now c.requires.rows
+put_nodes-requires-clause-operations g c κs within = all_operations g.O.Object.means c.args.nodes.now c.requires.rows
 
-pub state_lines-requires : goal.state_lines-requires
-state_lines-requires g c =
+pub state_lines-requires-after_bounds : goal.state_lines-requires-after_bounds
+state_lines-requires-after_bounds g c κs within =
     ap begins_line c.in_ok-put_nodes.ensures
     ∙ begins_line-lines c.args.out.now (node_lines g.O.Object.means g.O.Texted.wording 0 c.args.nodes.now) c.requires.begins

@@ -5,7 +5,7 @@ use Rattle.onll_jobs.proofs.Replays.{played_operations}
 use Rattle.onll_jobs.proofs.replay.played.Goals as goal
 
 pub play-requires-clause-there : goal.play-requires-clause-there
-play-requires-clause-there g c = λ k d h.
+play-requires-clause-there g c κs within = λ k d h.
     let scripts = map (λ script. script.items) c.args.scripts.items in
     let threads : length c.in_ok-core.core.threads ≡ length c.args.scripts.items = ap (λ core. length core.threads) c.in_ok-core.ensures ∙ created_threads c.args.object g.O.Object.CODE c.args.init.now scripts ∙ length-map c.args.scripts.items (λ script. script.items) in
     let turn = c.requires.playable.turns k d (subst (λ turns. k < length turns) c.as_slice.ensures h) in

@@ -91,8 +91,10 @@ def main():
             if "alloc" in signature or "HostRuntime" in signature or SAYS.search(signature):
                 continue
             for call in GROWING.finditer(body):
-                own = body[: call.start()].endswith(("self", "log"))
-                if not own and not HAS_ROOM.match(body, call.end()):
+                before = body[: call.start()]
+                own = before.endswith(("self", "log"))
+                fixed = "ArrayVec" in signature and before.endswith("window")
+                if not own and not fixed and not HAS_ROOM.match(body, call.end()):
                     growing.append(f"{path.relative_to(TOP)}: {name}: {call.group(0)}")
     for line in growing:
         print(line)

@@ -6,6 +6,8 @@
 mod disk;
 mod faults;
 mod file_store;
+#[cfg(test)]
+mod handed_out;
 mod mem_sink;
 mod mem_store;
 mod out_sink;

@@ -8,6 +8,8 @@ mod disk;
 mod faults;
 mod file_store;
 mod gate;
+#[cfg(test)]
+mod handed_out;
 mod hold_gate;
 mod mem_sink;
 mod mem_store;

@@ -4,11 +4,11 @@
 mod fixture;
 #[cfg(test)]
 mod four_tests;
-mod recovered;
+mod recovery;
 #[cfg(test)]
 mod tests;
 mod threads;
 
 pub use fixture::{make_logs, open_one, open_two};
-pub use recovered::recovered;
+pub use recovery::recovered;
 pub use threads::{close_four, open_four, work};

@@ -6,6 +6,7 @@ use onll_shared::{TryFault, UpdateFault};
 use std::test::Fail;
 
 const DEPOSIT: BankOp = BankOp::Deposit { a: 0, x: 5 };
+
 const BALANCE: BankQuery = BankQuery::Balance { a: 0 };
 
 #[test]

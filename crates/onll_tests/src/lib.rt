@@ -9,6 +9,8 @@ mod crashes;
 #[cfg(test)]
 mod faults;
 #[cfg(test)]
+mod files;
+#[cfg(test)]
 mod hostile_images;
 #[cfg(test)]
 mod hostile_inits;

@@ -65,8 +65,23 @@ module _ {State Op Query Reply Device : Type 0} (behaviour : Behaviour State Op 
       at_a : slice_get passes 0 ≡ Some a
       at_a = more_at passes p3 d a 0 e3 (let l = three in omega arith) (more_at p3 p2 c a 0 e2 (let l = two in omega arith) (more_at p2 p1 b a 0 e1 (let l = one in omega arith) (last_at p1 p0 a 0 e0 none)))
 
+  -- the same threads' passes after more calls
+  pub four_again : (a b c d a' b' c' d' : PassView State Device) → AreFour behaviour means onll a b c d
+      → IsTied behaviour means onll a' → IsTied behaviour means onll b' → IsTied behaviour means onll c' → IsTied behaviour means onll d'
+      → a'.spot.me.thread ≡ a.spot.me.thread → b'.spot.me.thread ≡ b.spot.me.thread → c'.spot.me.thread ≡ c.spot.me.thread → d'.spot.me.thread ≡ d.spot.me.thread
+      → AreFour behaviour means onll a' b' c' d'
+  four_again a b c d a' b' c' d' f ta tb tc td ea eb ec ed = record {
+    four = f.four; first = ta; second = tb; third = tc; fourth = td;
+    threads = (ea ∙ f.threads.0, eb ∙ f.threads.1, ec ∙ f.threads.2, ed ∙ f.threads.3);
+  }
+
+  -- where the first pass made a call
+  four_first : (a b c d a' : PassView State Device) → AreFour behaviour means onll a b c d → IsTied behaviour means onll a' → a'.spot.me.thread ≡ a.spot.me.thread
+      → AreFour behaviour means onll a' b c d
+  four_first a b c d a' f ta ea = record { four = f.four; first = ta; second = f.second; third = f.third; fourth = f.fourth; threads = (ea ∙ f.threads.0, f.threads.1, f.threads.2, f.threads.3) }
+
   module _ (a b c d : PassView State Device) (f : AreFour behaviour means onll a b c d) where
-    pub all_four : AreAll onll.trace (map spot_of (a ∷ b ∷ c ∷ d ∷ []))
+    all_four : AreAll onll.trace (map spot_of (a ∷ b ∷ c ∷ d ∷ []))
     all_four = record { of = (f.first.of, (f.second.of, (f.third.of, (f.fourth.of, tt)))); count = sym f.four; each = λ t low. found t (let n = f.four in omega arith) }
       where
         found : (t : ℕ) → t < 4 → Contains (map (λ (p : SpotView). p.me.thread) (map spot_of (a ∷ b ∷ c ∷ d ∷ []))) t
@@ -76,5 +91,14 @@ module _ {State Op Query Reply Device : Type 0} (behaviour : Behaviour State Op 
         found (suc (suc (suc zero))) low = let l : 3 < 4 = omega arith in (3, l, f.threads.3)
         found (suc (suc (suc (suc t)))) low = absurd (omega arith)
 
-    pub all_tied : AllByRecursion (IsTied behaviour means onll) (a ∷ b ∷ c ∷ d ∷ [])
+    all_tied : AllByRecursion (IsTied behaviour means onll) (a ∷ b ∷ c ∷ d ∷ [])
     all_tied = (f.first, (f.second, (f.third, (f.fourth, tt))))
+
+  -- the first pass made a call, and all stand in a list
+  pub closing_all : (a b c d a' : PassView State Device) (passes : List (PassView State Device)) → AreFour behaviour means onll a b c d → IsTied behaviour means onll a' → a'.spot.me.thread ≡ a.spot.me.thread → passes ≡ a' ∷ b ∷ c ∷ d ∷ []
+      → AreAll onll.trace (map spot_of passes)
+  closing_all a b c d a' passes f ta ea is = subst (λ (ps : List (PassView State Device)). AreAll onll.trace (map spot_of ps)) (sym is) (all_four a' b c d (four_first a b c d a' f ta ea))
+
+  pub closing_tied : (a b c d a' : PassView State Device) (passes : List (PassView State Device)) → AreFour behaviour means onll a b c d → IsTied behaviour means onll a' → a'.spot.me.thread ≡ a.spot.me.thread → passes ≡ a' ∷ b ∷ c ∷ d ∷ []
+      → AllByRecursion (IsTied behaviour means onll) passes
+  closing_tied a b c d a' passes f ta ea is = subst (AllByRecursion (IsTied behaviour means onll)) (sym is) (all_tied a' b c d (four_first a b c d a' f ta ea))

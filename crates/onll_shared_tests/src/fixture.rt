@@ -2,6 +2,7 @@
 ghost use Rattle.std.specs.Prelude.{◌≡◌, ◌≤◌, [], length, IfOk, IfSome};
 ghost use Rattle.std.specs.List.{AllByRecursion};
 ghost use Rattle.onll_shared.specs.Starts.{AreLogs};
+ghost use Rattle.onll_pmem.specs.Memory.{memory_view};
 ghost use Rattle.onll_shared.specs.Passes.{IsTied};
 
 use onll_log::{LogHead, ThreadLog};
@@ -51,7 +52,7 @@ pub fn open_one<O: Object + Drop>(
 ) -> Option<(Onll<O>, Pass<O, MemPmem>)>
     requires lines { lines ≤ 1000000 }
     requires nodes { (1 ≤ nodes) × (nodes ≤ 4096) }
-    ensures { IfSome result (λ r. IsTied O.means MemPmem.means r.0 r.1) }
+    ensures { IfSome result (λ r. IsTied O.means memory_view r.0 r.1) }
 {
     let Ok(logs) = make_logs::<O>(alloc, 1, lines, failing) else {
         return None;
@@ -75,7 +76,7 @@ pub fn open_two<O: Object + Drop>(
 ) -> Option<(Onll<O>, Pass<O, MemPmem>, Pass<O, MemPmem>)>
     requires lines { lines ≤ 1000000 }
     requires nodes { (1 ≤ nodes) × (nodes ≤ 4096) }
-    ensures { IfSome result (λ r. IsTied O.means MemPmem.means r.0 r.1 × IsTied O.means MemPmem.means r.0 r.2) }
+    ensures { IfSome result (λ r. IsTied O.means memory_view r.0 r.1 × IsTied O.means memory_view r.0 r.2) }
 {
     let Ok(logs) = make_logs::<O>(alloc, 2, lines, 0) else {
         return None;

@@ -1,5 +1,5 @@
 //! Four threads at once on each kind of object.
-use crate::{close_four, open_four, recovered, work};
+use crate::{close_four, open_four, recovered, work_four};
 use onll_bank::{Bank, BankOp, BankQuery, BankReply};
 use onll_lease::{Lease, LeaseOp, LeaseQuery};
 use onll_map::{Map, MapOp, MapQuery};
@@ -8,7 +8,6 @@ use onll_queue::{Queue, QueueOp, QueueQuery, QueueReply};
 use onll_trace::Ended;
 use onll_words::Short;
 use std::test::Fail;
-use std::thread;
 
 // The nodes are the trace's, and all flags are set.
 fn are_all(nodes: &[Node], trace: &[Ended]) -> bool {
@@ -29,18 +28,13 @@ fn four_threads_on_a_bank(rt: HostRuntime) -> Result<(), Fail> {
     let Some((onll, a, b, c, d)) = open_four(rt.alloc(), bank) else {
         panic!(rt; "no memory")
     };
-    let ((mut a, b), (c, d)) = thread::join(
-        &rt,
-        || thread::join(&rt, || work(&rt, &onll, a, op, query), || work(&rt, &onll, b, op, query)),
-        || thread::join(&rt, || work(&rt, &onll, c, op, query), || work(&rt, &onll, d, op, query)),
-    );
+    let (a, b, c, d) = work_four(&rt, &onll, a, b, c, d, op, query);
     assert!(rt; a.log().fences() == 1000 && b.log().fences() == 1000);
     assert!(rt; c.log().fences() == 1000 && d.log().fences() == 1000);
-    let answer = onll.read(&mut a, query);
-    assert!(rt; answer.place == 4000 && answer.reply == BankReply::Amount(4000));
-    let Some(closed) = close_four(rt.alloc(), onll, a, b, c, d) else {
+    let Some((answer, closed)) = close_four(rt.alloc(), onll, a, b, c, d, query) else {
         panic!(rt; "no memory")
     };
+    assert!(rt; answer.place == 4000 && answer.reply == BankReply::Amount(4000));
     let Some(nodes) = recovered(rt.alloc(), &closed, 0) else {
         panic!(rt; "no nodes")
     };
@@ -60,18 +54,13 @@ fn four_threads_on_a_queue(rt: HostRuntime) -> Result<(), Fail> {
     let Some((onll, a, b, c, d)) = open_four(rt.alloc(), object) else {
         panic!(rt; "no memory")
     };
-    let ((mut a, b), (c, d)) = thread::join(
-        &rt,
-        || thread::join(&rt, || work(&rt, &onll, a, op, query), || work(&rt, &onll, b, op, query)),
-        || thread::join(&rt, || work(&rt, &onll, c, op, query), || work(&rt, &onll, d, op, query)),
-    );
+    let (a, b, c, d) = work_four(&rt, &onll, a, b, c, d, op, query);
     assert!(rt; a.log().fences() == 1000 && b.log().fences() == 1000);
     assert!(rt; c.log().fences() == 1000 && d.log().fences() == 1000);
-    let answer = onll.read(&mut a, query);
-    assert!(rt; answer.place == 4000 && answer.reply == QueueReply::Length(4000));
-    let Some(closed) = close_four(rt.alloc(), onll, a, b, c, d) else {
+    let Some((answer, closed)) = close_four(rt.alloc(), onll, a, b, c, d, query) else {
         panic!(rt; "no memory")
     };
+    assert!(rt; answer.place == 4000 && answer.reply == QueueReply::Length(4000));
     let Some(nodes) = recovered(rt.alloc(), &closed, 0) else {
         panic!(rt; "no nodes")
     };
@@ -94,18 +83,13 @@ fn four_threads_on_a_map(rt: HostRuntime) -> Result<(), Fail> {
     let Some((onll, a, b, c, d)) = open_four(rt.alloc(), object) else {
         panic!(rt; "no memory")
     };
-    let ((mut a, b), (c, d)) = thread::join(
-        &rt,
-        || thread::join(&rt, || work(&rt, &onll, a, op, query), || work(&rt, &onll, b, op, query)),
-        || thread::join(&rt, || work(&rt, &onll, c, op, query), || work(&rt, &onll, d, op, query)),
-    );
+    let (a, b, c, d) = work_four(&rt, &onll, a, b, c, d, op, query);
     assert!(rt; a.log().fences() == 1000 && b.log().fences() == 1000);
     assert!(rt; c.log().fences() == 1000 && d.log().fences() == 1000);
-    let answer = onll.read(&mut a, query);
-    assert!(rt; answer.place == 4000);
-    let Some(closed) = close_four(rt.alloc(), onll, a, b, c, d) else {
+    let Some((answer, closed)) = close_four(rt.alloc(), onll, a, b, c, d, query) else {
         panic!(rt; "no memory")
     };
+    assert!(rt; answer.place == 4000);
     let Some(nodes) = recovered(rt.alloc(), &closed, 0) else {
         panic!(rt; "no nodes")
     };
@@ -125,18 +109,13 @@ fn four_threads_on_leases(rt: HostRuntime) -> Result<(), Fail> {
     let Some((onll, a, b, c, d)) = open_four(rt.alloc(), object) else {
         panic!(rt; "no memory")
     };
-    let ((mut a, b), (c, d)) = thread::join(
-        &rt,
-        || thread::join(&rt, || work(&rt, &onll, a, op, query), || work(&rt, &onll, b, op, query)),
-        || thread::join(&rt, || work(&rt, &onll, c, op, query), || work(&rt, &onll, d, op, query)),
-    );
+    let (a, b, c, d) = work_four(&rt, &onll, a, b, c, d, op, query);
     assert!(rt; a.log().fences() == 1000 && b.log().fences() == 1000);
     assert!(rt; c.log().fences() == 1000 && d.log().fences() == 1000);
-    let answer = onll.read(&mut a, query);
-    assert!(rt; answer.place == 4000);
-    let Some(closed) = close_four(rt.alloc(), onll, a, b, c, d) else {
+    let Some((answer, closed)) = close_four(rt.alloc(), onll, a, b, c, d, query) else {
         panic!(rt; "no memory")
     };
+    assert!(rt; answer.place == 4000);
     let Some(nodes) = recovered(rt.alloc(), &closed, 0) else {
         panic!(rt; "no nodes")
     };

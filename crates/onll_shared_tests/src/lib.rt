@@ -11,4 +11,4 @@ mod threads;
 
 pub use fixture::{make_logs, open_one, open_two};
 pub use recovery::recovered;
-pub use threads::{close_four, open_four, work};
+pub use threads::{close_four, open_four, work_four};

@@ -6,12 +6,11 @@ use onll_pmem::MemPmem;
 use onll_shared::Closed;
 use std::alloc::Global;
 
-/// The nodes that the devices of a closed object of at most four threads recover to, each as a crash may leave it; none where they give
-/// no nodes.
+/// The nodes that the devices of a closed object recover to, each as a crash may leave it; none where they give no nodes.
 pub fn recovered(alloc: Global, closed: &Closed<MemPmem>, keep: u64) -> Option<Vec<Node>> {
     let mut images = Vec::new(alloc);
     let mut heads = Vec::new(alloc);
-    for log in closed.logs.iter().take(16) {
+    for log in closed.logs.iter() {
         let Ok(image) = log.device().image(alloc, keep) else {
             return None;
         };
@@ -24,6 +23,9 @@ pub fn recovered(alloc: Global, closed: &Closed<MemPmem>, keep: u64) -> Option<V
         let Ok(()) = heads.push(log.head()) else {
             return None;
         };
+    }
+    if images.len() > 16 || heads.len() != images.len() {
+        return None;
     }
     recover(alloc, &images, &heads).ok()
 }

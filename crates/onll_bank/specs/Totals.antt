@@ -1,11 +1,11 @@
+-- Operations done in order on a bank.
+
 use Rattle.std.specs.Prelude.{ℕ, List, [], ◌∷◌, ◌+◌, ◌≡◌, ◌≢◌, sum}
 use Rattle.onll_bank.specs.declared.operation.BankOp.{BankOp}
 use Rattle.onll_bank.specs.declared.operation.BankOp.TheVariants.{Deposit, Withdraw, Transfer}
 use Rattle.onll_bank.specs.declared.operation.BankReply.{BankReply}
 use Rattle.onll_bank.specs.declared.operation.BankReply.TheVariants.{Done}
 use Rattle.onll_bank.specs.Bank.{IsBank, bank_reply, bank_next}
-
--- Operations done in order on a bank.
 
 -- the balances that they leave
 abbrev pub bank_after : List ℕ → List BankOp → List ℕ
@@ -41,7 +41,8 @@ withdrawn (op ∷ ops) (reply ∷ replies) = taken_out op reply + withdrawn ops 
 
 -- No money is made or lost: the new total and what was withdrawn are the old total and what was deposited.
 abbrev pub TotalLaw : Type 0
-TotalLaw = (s : List ℕ) (ops : List BankOp) → sum (bank_after s ops) + withdrawn ops (replies_of s ops) ≡ sum s + deposited ops (replies_of s ops)
+TotalLaw = (s : List ℕ) (ops : List BankOp)
+    → sum (bank_after s ops) + withdrawn ops (replies_of s ops) ≡ sum s + deposited ops (replies_of s ops)
 
 -- a transfer keeps the total
 abbrev pub TransferLaw : Type 0

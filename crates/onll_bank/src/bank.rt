@@ -1,3 +1,5 @@
+//! The bank.
+
 ghost use Rattle.std.specs.Prelude.{◌≡◌, ℕ, ◌+◌, ◌-◌, ◌^◌, ◌<◌, ◌≤◌, length, replicate, IfOk, slice_index, sum};
 ghost use Rattle.std.proofs.Common.{rules};
 ghost use Rattle.onll_bank.specs.Bank.{IsBank, raised, lowered, bank_reply, bank_next};

@@ -1,20 +1,12 @@
 use Rattle.std.proofs.Common.{ℕ, zero, suc, List, ◌≡◌, ◌<◌, ◌⊎◌, inl, inr, Option, Some, None, Result, Ok, Err, refl, sym, ap, ◌∙◌, subst, arith}
 use Rattle.onll_outside.specs.Views.{Puts}
 use Rattle.onll_text.specs.declared.any_object.AnyObject.{AnyObject}
-use Rattle.onll_text.specs.declared.any_object.AnyObject.TheVariants as objects
-use Rattle.onll_bank.specs.Object.{bank}
-use Rattle.onll_map.specs.Object.{map_object}
-use Rattle.onll_queue.specs.Object.{queue}
-use Rattle.onll_lease.specs.Object.{lease}
 use Rattle.onll_model.specs.declared.call.Call.{Call}
 use Rattle.onll_model.specs.Object.{Behaviour}
 use Rattle.onll_text.specs.Wording.{Wording}
-use Rattle.onll_text.specs.BankWording.{bank_wording}
-use Rattle.onll_text.specs.MapWording.{map_wording}
-use Rattle.onll_text.specs.QueueWording.{queue_wording}
-use Rattle.onll_text.specs.LeaseWording.{lease_wording}
 use Rattle.onll_text.specs.Script.{script_of}
 use Rattle.onll_text.specs.Init.{init_of}
+use Rattle.onll_text.proofs.EachKind.{each_object}
 use Rattle.onll_jobs.specs.Fold.{fold_report}
 use Rattle.onll_jobs.specs.declared.ending.Ending.{Ending}
 use Rattle.onll_jobs.specs.declared.ending.Ending.TheVariants.{Done, Usage, Refused, BadLog, ReadFault, WriteFault}
@@ -29,7 +21,7 @@ use Rattle.onll_log.specs.ImageFile.{image_lines}
 use Rattle.onll_jobs.specs.ShowJob.{shown}
 use Rattle.onll_jobs.specs.declared.bad_logs.LogsFault.{LogsFault}
 use Rattle.onll_jobs.specs.Images.{reading_images}
-use Rattle.onll_jobs.specs.RecoverJob.{Recovered, recovered, found_says, recover_any}
+use Rattle.onll_jobs.specs.RecoverJob.{Recovered, recovered, found_says, recover_on, recover_any}
 use Rattle.onll_jobs.specs.FoldJob.{script_job, script_job_on}
 use Rattle.onll_jobs.specs.Exits.{PutExits}
 use Rattle.onll_jobs.specs.Says.{job_of, Allows, PutWhole, OutOfMemory, SinkFailed, ExitSays, NothingFailed, NoneRose, SaysThis}
@@ -100,10 +92,8 @@ report_never {State} {Op} {Query} {Reply} b w s script =
     reading_never script (script_of w) (λ calls. Say Done (fold_report b w s calls)) never
 
 script_never : (script : List ℕ) (object : AnyObject) → Never Usage (script_job_on script object)
-script_never script (objects.Bank s) = report_never bank bank_wording s script
-script_never script (objects.Map s) = report_never map_object map_wording s script
-script_never script (objects.Queue s) = report_never queue queue_wording s script
-script_never script (objects.Lease s) = report_never lease lease_wording s script
+script_never script object =
+    each_object (λ k s. script_job k.means k.wording s script) (Never Usage) (λ k s known. report_never k.means k.wording s script) object
 
 content_never : (content : Option Content) → Never Usage (shown content)
 content_never None = λ e. cc
@@ -114,10 +104,9 @@ found_never b w s (Ok r) = λ e. cc
 found_never b w s (Err fault) = λ e. cc
 
 recover_never : (init : List ℕ) (object : AnyObject) (images : List (List (List ℕ))) → Never Usage (recover_any init object images)
-recover_never init (objects.Bank s) images = found_never bank bank_wording s (recovered bank 1 init images)
-recover_never init (objects.Map s) images = found_never map_object map_wording s (recovered map_object 2 init images)
-recover_never init (objects.Queue s) images = found_never queue queue_wording s (recovered queue 3 init images)
-recover_never init (objects.Lease s) images = found_never lease lease_wording s (recovered lease 4 init images)
+recover_never init object images =
+    each_object (λ k s. recover_on k.means k.wording k.code init s images) (Never Usage)
+    (λ k s known. found_never k.means k.wording s (recovered k.means k.code init images)) object
 
 -- words of a form never get the usage text
 not_usage : (w : Seen) (form : Form) → form_of w.words ≡ Some form → Never Usage (job_of (Some form)) → PutWhole w Usage → ⊥

@@ -13,20 +13,12 @@ use Rattle.onll_core.specs.Turns.{turns_of}
 use Rattle.onll_core.specs.Created.{heads_from, created_core}
 use Rattle.onll_core.proofs.Crashed.{steps_scripts}
 use Rattle.onll_text.specs.declared.any_object.AnyObject.{AnyObject}
-use Rattle.onll_text.specs.declared.any_object.AnyObject.TheVariants as objects
 use Rattle.onll_text.specs.declared.schedule.Schedule.{Schedule}
 use Rattle.onll_text.specs.Refusal.{Refusal}
 use Rattle.onll_text.specs.Wording.{Wording}
 use Rattle.onll_text.specs.Script.{script_of as read_script}
 use Rattle.onll_text.specs.Schedule.{schedule_of}
-use Rattle.onll_text.specs.BankWording.{bank_wording}
-use Rattle.onll_text.specs.MapWording.{map_wording}
-use Rattle.onll_text.specs.QueueWording.{queue_wording}
-use Rattle.onll_text.specs.LeaseWording.{lease_wording}
-use Rattle.onll_bank.specs.Object.{bank}
-use Rattle.onll_map.specs.Object.{map_object}
-use Rattle.onll_queue.specs.Object.{queue}
-use Rattle.onll_lease.specs.Object.{lease}
+use Rattle.onll_text.proofs.EachKind.{each_goes}
 use Rattle.onll_outside.specs.Views.{StoreView, SameFiles}
 use Rattle.onll_jobs.specs.declared.ending.Ending.{Ending}
 use Rattle.onll_jobs.specs.declared.ending.Ending.TheVariants.{Done, Usage, Refused, BadLog, ReadFault, WriteFault}
@@ -93,17 +85,16 @@ module _ {State Op Query Reply : Type 0} (b : Behaviour State Op Query Reply) (w
       (on (calls ∷ rest) (subst (λ l. ReadScripts w store l (calls ∷ rest)) (sym split) (reads_before store mid (read_script w) name calls same r, h)))
 
 pub folds_before : (store mid : StoreView) (script text : List ℕ) (object : AnyObject) → SameFiles store mid → FoldsToAny mid script text object → FoldsToAny store script text object
-folds_before store mid script text (objects.Bank s) same f = folds_to_before bank bank_wording s store mid script text same f
-folds_before store mid script text (objects.Map s) same f = folds_to_before map_object map_wording s store mid script text same f
-folds_before store mid script text (objects.Queue s) same f = folds_to_before queue queue_wording s store mid script text same f
-folds_before store mid script text (objects.Lease s) same f = folds_to_before lease lease_wording s store mid script text same f
+folds_before store mid script text object same f =
+    each_goes (λ k s. FoldsTo k.means k.wording s mid script text) (λ says. says) (λ k s. FoldsTo k.means k.wording s store script text) (λ says. says)
+    (λ k s known h. folds_to_before k.means k.wording s store mid script text same h) object f
 
 pub replays_before : (init : List ℕ) (store mid : StoreView) (schedule : List ℕ) (names : List (List ℕ)) (text : List ℕ) (object : AnyObject) → SameFiles store mid
     → ReplaysToAny init mid schedule names text object → ReplaysToAny init store schedule names text object
-replays_before init store mid schedule names text (objects.Bank s) same r = replays_to_before bank bank_wording 1 init s store mid schedule names text same r
-replays_before init store mid schedule names text (objects.Map s) same r = replays_to_before map_object map_wording 2 init s store mid schedule names text same r
-replays_before init store mid schedule names text (objects.Queue s) same r = replays_to_before queue queue_wording 3 init s store mid schedule names text same r
-replays_before init store mid schedule names text (objects.Lease s) same r = replays_to_before lease lease_wording 4 init s store mid schedule names text same r
+replays_before init store mid schedule names text object same r =
+    each_goes (λ k s. ReplaysTo k.means k.wording k.code init s mid schedule names text) (λ says. says)
+    (λ k s. ReplaysTo k.means k.wording k.code init s store schedule names text) (λ says. says)
+    (λ k s known h. replays_to_before k.means k.wording k.code init s store mid schedule names text same h) object r
 
 -- where the images that are left are held, so are all, these before them
 abbrev pub ImagesHeld : StoreView → List ℕ → ℕ → List (List (List ℕ)) → Type 0

@@ -4,22 +4,14 @@ use Rattle.onll_model.specs.Object.{Behaviour}
 use Rattle.onll_log.specs.Grammar.{Content, content_of}
 use Rattle.onll_core.specs.Core.{CoreState}
 use Rattle.onll_core.specs.Crash.{images_of}
-use Rattle.onll_bank.specs.Object.{bank}
-use Rattle.onll_map.specs.Object.{map_object}
-use Rattle.onll_queue.specs.Object.{queue}
-use Rattle.onll_lease.specs.Object.{lease}
 use Rattle.onll_text.specs.declared.any_object.AnyObject.{AnyObject}
-use Rattle.onll_text.specs.declared.any_object.AnyObject.TheVariants as objects
 use Rattle.onll_text.specs.declared.schedule.Schedule.{Schedule}
 use Rattle.onll_text.specs.Wording.{Wording}
-use Rattle.onll_text.specs.BankWording.{bank_wording}
-use Rattle.onll_text.specs.MapWording.{map_wording}
-use Rattle.onll_text.specs.QueueWording.{queue_wording}
-use Rattle.onll_text.specs.LeaseWording.{lease_wording}
 use Rattle.onll_text.specs.Script.{script_of as read_script}
 use Rattle.onll_text.specs.Schedule.{schedule_of}
 use Rattle.onll_text.specs.Init.{init_of}
 use Rattle.onll_text.specs.Reports.{fold_data_lines, FoldDataReads, SaysOnly}
+use Rattle.onll_text.specs.Kinds.{on_object}
 use Rattle.onll_outside.specs.Views.{StoreView, Puts}
 use Rattle.onll_jobs.specs.declared.ending.Ending.TheVariants.{Done}
 use Rattle.onll_jobs.specs.declared.ending.Exit.{Exit}
@@ -45,10 +37,7 @@ pub record FoldsTo {State Op Query Reply : Type 0} (b : Behaviour State Op Query
 
 -- the same for an object of any kind
 abbrev pub FoldsToAny : StoreView → (script text : List ℕ) → AnyObject → Type 0
-FoldsToAny store script text (objects.Bank s) = FoldsTo bank bank_wording s store script text
-FoldsToAny store script text (objects.Map s) = FoldsTo map_object map_wording s store script text
-FoldsToAny store script text (objects.Queue s) = FoldsTo queue queue_wording s store script text
-FoldsToAny store script text (objects.Lease s) = FoldsTo lease lease_wording s store script text
+FoldsToAny store script text object = on_object (λ k s. FoldsTo k.means k.wording s store script text) object
 
 -- an initial state is read from the one file, and the other's script is folded on it
 pub record FoldsFiles (store : StoreView) (init script text : List ℕ) : Type 0 where
@@ -77,10 +66,7 @@ pub record RecoversTo {State Op Query Reply : Type 0} (b : Behaviour State Op Qu
 
 -- the same for an object of any kind
 abbrev pub RecoversToAny : (init : List ℕ) → (images : List (List (List ℕ))) → (text : List ℕ) → AnyObject → Type 0
-RecoversToAny init images text (objects.Bank s) = RecoversTo bank bank_wording 1 init s images text
-RecoversToAny init images text (objects.Map s) = RecoversTo map_object map_wording 2 init s images text
-RecoversToAny init images text (objects.Queue s) = RecoversTo queue queue_wording 3 init s images text
-RecoversToAny init images text (objects.Lease s) = RecoversTo lease lease_wording 4 init s images text
+RecoversToAny init images text object = on_object (λ k s. RecoversTo k.means k.wording k.code init s images text) object
 
 -- the files of the threads from i on hold these images
 abbrev pub HoldImages : StoreView → List ℕ → ℕ → List (List (List ℕ)) → Type 0
@@ -124,10 +110,8 @@ pub record ReplaysTo {State Op Query Reply : Type 0} (b : Behaviour State Op Que
 
 -- the same for an object of any kind
 abbrev pub ReplaysToAny : (init : List ℕ) → StoreView → (schedule : List ℕ) → (names : List (List ℕ)) → (text : List ℕ) → AnyObject → Type 0
-ReplaysToAny init store schedule names text (objects.Bank s) = ReplaysTo bank bank_wording 1 init s store schedule names text
-ReplaysToAny init store schedule names text (objects.Map s) = ReplaysTo map_object map_wording 2 init s store schedule names text
-ReplaysToAny init store schedule names text (objects.Queue s) = ReplaysTo queue queue_wording 3 init s store schedule names text
-ReplaysToAny init store schedule names text (objects.Lease s) = ReplaysTo lease lease_wording 4 init s store schedule names text
+ReplaysToAny init store schedule names text object =
+    on_object (λ k s. ReplaysTo k.means k.wording k.code init s store schedule names text) object
 
 pub record ReplaysFiles (store : StoreView) (init schedule : List ℕ) (names : List (List ℕ)) (text : List ℕ) : Type 0 where
   pub bytes : List ℕ

@@ -5,10 +5,6 @@ use Rattle.onll_model.specs.declared.node.Node.{Node}
 use Rattle.onll_model.specs.Object.{Behaviour}
 use Rattle.onll_model.specs.Trace.{state_after}
 use Rattle.onll_model.specs.Recovered.{operations_front}
-use Rattle.onll_bank.specs.Object.{bank}
-use Rattle.onll_map.specs.Object.{map_object}
-use Rattle.onll_queue.specs.Object.{queue}
-use Rattle.onll_lease.specs.Object.{lease}
 use Rattle.onll_log.specs.declared.head.LogHead.{LogHead}
 use Rattle.onll_log.specs.Head.{head_for}
 use Rattle.onll_log.specs.Grammar.{Content, content_of, format_in, used_with}
@@ -17,14 +13,10 @@ use Rattle.onll_merge.specs.declared.fault.RecoverFault.{RecoverFault}
 use Rattle.onll_merge.specs.declared.fault.RecoverFault.TheVariants as merging
 use Rattle.onll_merge.specs.Merge.{merge}
 use Rattle.onll_text.specs.declared.any_object.AnyObject.{AnyObject}
-use Rattle.onll_text.specs.declared.any_object.AnyObject.TheVariants as objects
 use Rattle.onll_text.specs.Wording.{Wording}
-use Rattle.onll_text.specs.BankWording.{bank_wording}
-use Rattle.onll_text.specs.MapWording.{map_wording}
-use Rattle.onll_text.specs.QueueWording.{queue_wording}
-use Rattle.onll_text.specs.LeaseWording.{lease_wording}
 use Rattle.onll_text.specs.Lines.{log_line, node_lines, state_lines}
 use Rattle.onll_text.specs.Init.{init_of}
+use Rattle.onll_text.specs.Kinds.{on_object}
 use Rattle.onll_jobs.specs.declared.ending.Ending.TheVariants.{Done, BadLog}
 use Rattle.onll_jobs.specs.declared.bad_logs.LogsFault.{LogsFault}
 use Rattle.onll_jobs.specs.declared.bad_logs.LogsFault.TheVariants.{NotLog, NotMerged, NotOperation, NoMemory}
@@ -130,10 +122,7 @@ recover_on b w code init s images = found_says b w s (recovered b code init imag
 
 -- the same for an object of any kind
 abbrev pub recover_any : List ℕ → AnyObject → List (List (List ℕ)) → Job
-recover_any init (objects.Bank s) images = recover_on bank bank_wording 1 init s images
-recover_any init (objects.Map s) images = recover_on map_object map_wording 2 init s images
-recover_any init (objects.Queue s) images = recover_on queue queue_wording 3 init s images
-recover_any init (objects.Lease s) images = recover_on lease lease_wording 4 init s images
+recover_any init object images = on_object (λ k s. recover_on k.means k.wording k.code init s images) object
 
 -- the initial state is read first, then all images
 abbrev pub recover_job : (init logs : List ℕ) (threads : ℕ) → Job

@@ -13,22 +13,14 @@ use Rattle.onll_core.specs.Turns.{turns_of}
 use Rattle.onll_core.specs.Created.{created_core}
 use Rattle.onll_core.specs.Outcomes.{ends_of}
 use Rattle.onll_core.specs.Crash.{images_of}
-use Rattle.onll_bank.specs.Object.{bank}
-use Rattle.onll_map.specs.Object.{map_object}
-use Rattle.onll_queue.specs.Object.{queue}
-use Rattle.onll_lease.specs.Object.{lease}
 use Rattle.onll_text.specs.declared.any_object.AnyObject.{AnyObject}
-use Rattle.onll_text.specs.declared.any_object.AnyObject.TheVariants as objects
 use Rattle.onll_text.specs.declared.schedule.Schedule.{Schedule}
 use Rattle.onll_text.specs.Wording.{Wording}
-use Rattle.onll_text.specs.BankWording.{bank_wording}
-use Rattle.onll_text.specs.MapWording.{map_wording}
-use Rattle.onll_text.specs.QueueWording.{queue_wording}
-use Rattle.onll_text.specs.LeaseWording.{lease_wording}
 use Rattle.onll_text.specs.Lines.{call_lines, trace_line, node_line, log_line, state_lines}
 use Rattle.onll_text.specs.Init.{init_of}
 use Rattle.onll_text.specs.Script.{script_of}
 use Rattle.onll_text.specs.Schedule.{schedule_of}
+use Rattle.onll_text.specs.Kinds.{on_object}
 use Rattle.onll_jobs.specs.declared.ending.Ending.TheVariants.{Done, BadLog}
 use Rattle.onll_jobs.specs.declared.bad_logs.LogsFault.{LogsFault}
 use Rattle.onll_outside.specs.Views.{StoreView}
@@ -107,10 +99,8 @@ replay_on b w code init schedule logs scripts s = reading_scripts w scripts (sch
 
 -- the same for an object of any kind
 abbrev pub replay_any : List ℕ → (schedule logs : List ℕ) → List (List ℕ) → AnyObject → Job
-replay_any init schedule logs scripts (objects.Bank s) = replay_on bank bank_wording 1 init schedule logs scripts s
-replay_any init schedule logs scripts (objects.Map s) = replay_on map_object map_wording 2 init schedule logs scripts s
-replay_any init schedule logs scripts (objects.Queue s) = replay_on queue queue_wording 3 init schedule logs scripts s
-replay_any init schedule logs scripts (objects.Lease s) = replay_on lease lease_wording 4 init schedule logs scripts s
+replay_any init schedule logs scripts object =
+    on_object (λ k s. replay_on k.means k.wording k.code init schedule logs scripts s) object
 
 -- the initial state is read first, then each script, then the schedule
 abbrev pub replay_job : (init schedule logs : List ℕ) → List (List ℕ) → Job

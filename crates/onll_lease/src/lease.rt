@@ -1,3 +1,5 @@
+//! The lease table.
+
 ghost use Rattle.std.specs.Prelude.{◌≡◌, ◌<◌, ◌≤◌, length, replicate, slice_set, IfOk};
 ghost use Rattle.std.proofs.Common.{rules};
 ghost use Rattle.onll_lease.specs.Entry.{IsEntry, no_lease};

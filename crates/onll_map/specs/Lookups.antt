@@ -1,3 +1,5 @@
+-- What look-ups answer after an operation, on every map.
+
 use Rattle.std.specs.Prelude.{◌≡◌, ◌≢◌, ◌↔◌}
 use Rattle.onll_words.specs.Short.{ShortText}
 use Rattle.onll_map.specs.declared.operation.MapOp.{MapOp}
@@ -6,8 +8,6 @@ use Rattle.onll_map.specs.declared.operation.MapQuery.TheVariants.{Get, Next}
 use Rattle.onll_map.specs.declared.operation.MapReply.{MapReply}
 use Rattle.onll_map.specs.declared.operation.MapReply.TheVariants.{Full, Absent, Value, Key}
 use Rattle.onll_map.specs.Map.{Entries, IsMap, IsLeastFrom, NoneFrom, map_next, map_reply, map_answer}
-
--- What look-ups answer after an operation, on every map.
 
 -- the answer for the value at a key
 abbrev pub get : Entries → ShortText → MapReply
@@ -27,7 +27,8 @@ DelLaw = (s : Entries) (k : ShortText) → IsMap s → get (map_next s (Del k)) 
 
 -- a put and a delete keep what each other key has
 abbrev pub OthersLaw : Type 0
-OthersLaw = (s : Entries) (k v q : ShortText) → IsMap s → q ≢ k → (get (map_next s (Put k v)) q ≡ get s q) × (get (map_next s (Del k)) q ≡ get s q)
+OthersLaw = (s : Entries) (k v q : ShortText) → IsMap s → q ≢ k → (get (map_next s (Put k v)) q ≡ get s q)
+    × (get (map_next s (Del k)) q ≡ get s q)
 
 -- a put that is refused changes nothing
 abbrev pub FullLaw : Type 0

@@ -1,3 +1,5 @@
+//! The map.
+
 ghost use Rattle.std.specs.Prelude.{◌≡◌, ◌≢◌, ◌<◌, ◌≤◌, [], length, IfOk, IfErr, MatchOption, Some, slice_get};
 ghost use Rattle.std.proofs.Common.{rules};
 ghost use Rattle.onll_map.specs.Map.{IsMap, Sets, IsLeastFrom, NoneFrom, value_at, key_from, map_next, map_reply};

@@ -1,3 +1,5 @@
+-- The state of a queue.
+
 use Rattle.std.specs.Prelude.{ℕ, List, ◌<◌, ◌≤◌, ◌^◌, length, All}
 
 -- A queue is the list of its items, front first, and how many there is room for.

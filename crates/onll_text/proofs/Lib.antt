@@ -9,6 +9,7 @@ pub mod BankReadBack
 pub mod MapReadBack
 pub mod QueueReadBack
 pub mod LeaseReadBack
+pub mod EachKind
 pub mod Keeping
 mod LineFronts
 pub mod Determined

@@ -1,4 +1,6 @@
-use Rattle.std.specs.Prelude.{ℕ, Bool, true, false, List, [], ◌∷◌, ◌++◌, ◌+◌, ◌==◌, if◌then◌else◌, refl}
+-- How a lease table is written, as one record.
+
+use Rattle.std.specs.Prelude.{ℕ, Bool, true, false, List, [], ◌∷◌, ◌++◌, ◌+◌, ◌==◌, if◌then◌else◌, refl, Option, Some, None, Result, Ok}
 use Rattle.onll_words.specs.Texts.{AreWords, AreMeaningful}
 use Rattle.onll_words.proofs.Decimals.{IsWord-decimal}
 use Rattle.onll_lease.specs.declared.entry.LeaseEntry.{LeaseEntry}
@@ -10,11 +12,18 @@ use Rattle.onll_lease.specs.declared.operation.LeaseReply.{LeaseReply}
 use Rattle.onll_lease.specs.declared.operation.LeaseReply.TheVariants.{NoResource, HeldUntil, Late, Spent, Granted, Renewed, Stale, Released, HeldBy, Free}
 use Rattle.onll_text.specs.Wording.{Wording}
 use Rattle.onll_text.specs.LeaseText.{lease_call_of, lease_reply_of, lease_op_words, lease_query_words, lease_reply_words, held_line, held_lines, lease_state_lines}
-use Rattle.onll_text.specs.Init.{lease_read, init_of}
+use Rattle.onll_text.specs.declared.any_object.AnyObject.{AnyObject}
+use Rattle.onll_text.specs.declared.any_object.AnyObject.TheVariants as objects
+use Rattle.onll_text.specs.Refusal.{Refusal}
+use Rattle.onll_text.specs.Init.{init_of}
 
 pub op_in_words : (op : LeaseOp) → AreWords (lease_op_words op)
-op_in_words (Grant r h now ttl) = (record { some = refl; bytes = refl }, (IsWord-decimal r, (IsWord-decimal h, (IsWord-decimal now, (IsWord-decimal ttl, tt)))))
-op_in_words (Renew r t now ttl) = (record { some = refl; bytes = refl }, (IsWord-decimal r, (IsWord-decimal t, (IsWord-decimal now, (IsWord-decimal ttl, tt)))))
+op_in_words (Grant r h now ttl) =
+    (record { some = refl; bytes = refl },
+    (IsWord-decimal r, (IsWord-decimal h, (IsWord-decimal now, (IsWord-decimal ttl, tt)))))
+op_in_words (Renew r t now ttl) =
+    (record { some = refl; bytes = refl },
+    (IsWord-decimal r, (IsWord-decimal t, (IsWord-decimal now, (IsWord-decimal ttl, tt)))))
 op_in_words (Release r t) = (record { some = refl; bytes = refl }, (IsWord-decimal r, (IsWord-decimal t, tt)))
 
 pub query_in_words : (query : LeaseQuery) → AreWords (lease_query_words query)
@@ -31,15 +40,18 @@ reply_in_words Stale = (record { some = refl; bytes = refl }, tt)
 reply_in_words Released = (record { some = refl; bytes = refl }, tt)
 reply_in_words (HeldBy h t u) = (
   record { some = refl; bytes = refl },
-  (IsWord-decimal h, (record { some = refl; bytes = refl }, (IsWord-decimal t, (record { some = refl; bytes = refl }, (IsWord-decimal u, tt))))),
+  (IsWord-decimal h, (record { some = refl; bytes = refl },
+      (IsWord-decimal t, (record { some = refl; bytes = refl }, (IsWord-decimal u, tt))))),
 )
 reply_in_words Free = (record { some = refl; bytes = refl }, tt)
 
 -- one resource's line, or none, before further lines
-one_in_lines : (b : Bool) (r : ℕ) (e : LeaseEntry) (lines : List (List (List ℕ))) → AreMeaningful lines → AreMeaningful ((if b then [] else held_line r e ∷ []) ++ lines)
+one_in_lines : (b : Bool) (r : ℕ) (e : LeaseEntry) (lines : List (List (List ℕ))) → AreMeaningful lines
+    → AreMeaningful ((if b then [] else held_line r e ∷ []) ++ lines)
 one_in_lines true r e lines h = h
 one_in_lines false r e lines h =
-    ((record { some = refl; bytes = refl }, (IsWord-decimal r, (IsWord-decimal e.token, (IsWord-decimal e.holder, (IsWord-decimal e.until, tt))))), refl, h)
+    ((record { some = refl; bytes = refl },
+        (IsWord-decimal r, (IsWord-decimal e.token, (IsWord-decimal e.holder, (IsWord-decimal e.until, tt))))), refl, h)
 
 held_in_lines : (r : ℕ) (entries : List LeaseEntry) → AreMeaningful (held_lines r entries)
 held_in_lines r [] = tt
@@ -47,6 +59,11 @@ held_in_lines r (e ∷ entries) = one_in_lines (e.token == 0) r e (held_lines (r
 
 pub state_in_lines : (s : List LeaseEntry) → AreMeaningful (lease_state_lines s)
 state_in_lines s = ((record { some = refl; bytes = refl }, (IsWord-decimal _, tt)), refl, held_in_lines 0 s)
+
+-- the state that was read, where it is one of this kind of object
+abbrev pub lease_read : Result AnyObject Refusal → Option (List LeaseEntry)
+lease_read (Ok (objects.Lease s)) = Some s
+lease_read _ = None
 
 -- how a table of leases is written
 abbrev pub lease_wording : Wording (List LeaseEntry) LeaseOp LeaseQuery LeaseReply

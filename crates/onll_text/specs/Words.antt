@@ -1,12 +1,12 @@
+-- The arguments of a line, as so many words of these kinds: the wrong count comes before any bad word, and of bad
+-- words the first from the left.
+
 use Rattle.std.specs.Prelude.{ℕ, List, [], ◌∷◌, Result, Ok, Err}
 use Rattle.onll_words.specs.Numbers.{number_of}
 use Rattle.onll_words.specs.Short.{ShortText, short_of}
 use Rattle.onll_text.specs.declared.reason.Reason.{Reason}
 use Rattle.onll_text.specs.declared.reason.Reason.TheVariants.{WrongCount, BadNumber, BadWord}
 use Rattle.onll_text.specs.Refusal.{◌>>=◌, or_reason}
-
--- The arguments of a line, as so many words of these kinds: the wrong count comes before any bad word, and of bad
--- words the first from the left.
 
 abbrev pub word_as_number : List ℕ → Result ℕ Reason
 word_as_number word = or_reason BadNumber (number_of word)
@@ -28,7 +28,9 @@ three_numbers (a ∷ b ∷ c ∷ []) = word_as_number a >>= λ x. word_as_number
 three_numbers _ = Err WrongCount
 
 abbrev pub four_numbers : List (List ℕ) → Result (ℕ × ℕ × ℕ × ℕ) Reason
-four_numbers (a ∷ b ∷ c ∷ d ∷ []) = word_as_number a >>= λ x. word_as_number b >>= λ y. word_as_number c >>= λ z. word_as_number d >>= λ u. Ok (x, y, z, u)
+four_numbers (a ∷ b ∷ c ∷ d ∷ []) =
+    word_as_number a >>= λ x. word_as_number b >>= λ y. word_as_number c >>= λ z. word_as_number d >>= λ u.
+    Ok (x, y, z, u)
 four_numbers _ = Err WrongCount
 
 abbrev pub word_as_short : List ℕ → Result ShortText Reason

@@ -1,13 +1,16 @@
-ghost use Rattle.std.specs.Prelude.{◌≡◌, ◌≤◌, MatchResult, IfOk, OnErr, Ok, Err};
-ghost use Rattle.onll_words.specs.Texts.{words_of};
-ghost use Rattle.onll_text.specs.BankText.{no_accounts, with_account, with_account_line};
+//! An initial bank in the making.
 
-use crate::init::Initial;
-use crate::reason::Reason;
+ghost use Rattle.std.specs.Prelude.{◌≡◌, ◌≤◌, MatchResult, IfOk, OnErr, Ok, Err};
+ghost use Rattle.onll_text.specs.Refusal.{Fails};
+ghost use Rattle.onll_words.specs.Texts.{words_of};
+ghost use Rattle.onll_text.specs.BankText.{no_accounts, with_account, with_account_line, bank_of_lines};
+
+use crate::init::{Initial, add_lines};
+use crate::reason::{Reason, TextFault};
 use crate::words::{is_text, two_numbers};
 use onll_bank::{Bank, BankOp, BankReply};
 use onll_model::Object;
-use onll_words::{Cut, NoMemory, split_word};
+use onll_words::{Cut, Lines, NoMemory, split_word};
 use std::alloc::Global;
 use std::marker::Model;
 
@@ -48,7 +51,8 @@ impl BankInit {
 
     /// Puts the balance of an account in, by a deposit.
     fn add_account(&mut self, a: u64, balance: u64) -> Result<(), Reason>
-        ensures added { MatchResult result (λ _. with_account self.old (a, balance) ≡ Ok self.new) (λ e. with_account self.old (a, balance) ≡ Err e) }
+        ensures added { MatchResult result (λ _. with_account self.old (a, balance) ≡ Ok self.new)
+            (λ e. with_account self.old (a, balance) ≡ Err e) }
         ensures refused { OnErr result (self.new ≡ self.old) }
     {
         if a >= self.bank.capacity() {
@@ -80,4 +84,15 @@ impl Initial for BankInit {
         let (a, balance) = two_numbers(rest)?;
         self.add_account(a, balance)
     }
+}
+
+/// The bank of this many accounts, with the lines that are left.
+pub(crate) fn read_bank(alloc: Global, capacity: u64, lines: &mut Lines<'_>) -> Result<Bank, TextFault>
+    requires { (1 ≤ capacity) × (capacity ≤ 4096) }
+    ensures { MatchResult result (λ bank. bank_of_lines capacity lines.old ≡ Ok bank)
+        (λ fault. Fails fault (bank_of_lines capacity lines.old)) }
+{
+    let mut made = BankInit::begin(alloc, capacity)?;
+    add_lines(&mut made, lines)?;
+    Ok(made.finish())
 }

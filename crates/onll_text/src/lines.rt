@@ -1,3 +1,5 @@
+//! The lines of a report: calls, nodes, logs and states.
+
 ghost use Rattle.std.specs.Prelude.{◌≡◌, ℕ, ◌++◌, ◌∷◌, [], true, IsSome, OnOk};
 ghost use Rattle.onll_words.specs.Texts.{line_text};
 ghost use Rattle.onll_text.specs.Bytes.{begins_line, with_words, with_lines, IsFront};

@@ -1,3 +1,5 @@
+//! An object under one lock, whose calls are done in full, one after the other.
+
 ghost use Rattle.std.specs.Prelude.{◌≡◌, ℕ, ◌+◌, ◌<◌, ◌≤◌, ◌≢◌, length, map, replicate, true, false, Some, None, IfSome, IfOk, slice_get};
 ghost use Rattle.std.specs.List.{All};
 ghost use Rattle.onll_model.specs.declared.call.Call.TheVariants.{Update, Ask};
@@ -85,7 +87,8 @@ impl<O: Object + Drop> Model for Locked<O> {
 
     ghost view = { λ l. record { initial = l.initial; trace = l.trace.items; flags = l.flags.items; threads = l.threads.items } };
 
-    ghost invariant = { λ l. KeepsLocked O.means (vec_capacity l.trace) (vec_capacity l.flags) l.object (record { initial = l.initial; trace = l.trace.items; flags = l.flags.items; threads = l.threads.items }) };
+    ghost invariant = { λ l. KeepsLocked O.means (vec_capacity l.trace) (vec_capacity l.flags) l.object
+        (record { initial = l.initial; trace = l.trace.items; flags = l.flags.items; threads = l.threads.items }) };
 }
 
 impl<O: Object + Drop> Locked<O> {
@@ -167,7 +170,10 @@ impl<O: Object + Drop> Locked<O> {
     fn read(&mut self, thread: u64, query: O::Query)
         requires there { thread < length self.old.threads }
         requires next { IfSome (slice_get self.old.threads thread) (λ th. next_call th ≡ Some (Ask query)) }
-        ensures { IfSome (slice_get self.old.threads thread) (λ th. self.new ≡ after_end self.old thread th (LockedEnd.Answered (length self.old.trace) (O.means.answer (state_after O.means self.old.initial self.old.trace) query))) }
+        ensures { IfSome (slice_get self.old.threads thread)
+            (λ th. self.new ≡ after_end self.old thread th
+            (LockedEnd.Answered (length self.old.trace)
+            (O.means.answer (state_after O.means self.old.initial self.old.trace) query))) }
     {
         let reply = self.object.ask(query);
         let place = self.trace.len() as u64;
@@ -189,7 +195,9 @@ impl<O: Object + Drop> Locked<O> {
         requires next { IfSome (slice_get self.old.threads thread) (λ th. (next_call th ≡ Some (Update op)) × (failed_at th.ends ≡ None)) }
         requires there { thread < length self.old.threads }
         requires log { IsLogOf self.old thread log.old (length (P.means log.old.device).read) }
-        ensures done { IfSome (slice_get self.old.threads thread) (λ th. HasDone O.means self.old thread th self.new log.old log.new (P.means log.old.device) (P.means log.new.device) result) }
+        ensures done { IfSome (slice_get self.old.threads thread)
+            (λ th. HasDone O.means self.old thread th self.new log.old log.new (P.means log.old.device)
+            (P.means log.new.device) result) }
         ensures ready { IsLogOf self.new thread log.new (length (P.means log.new.device).read) }
     {
         let below = newest_available(&self.flags);
@@ -212,10 +220,13 @@ impl<O: Object + Drop> Locked<O> {
     /// newest flagged place, without it, to its own place. It takes no memory.
     pub fn do_next<P: Pmem>(&mut self, thread: u64, log: &mut ThreadLog<P>) -> Next
         requires { IsLogOf self.old thread log.old (length (P.means log.old.device).read) }
-        ensures done { IfSome (slice_get self.old.threads thread) (λ th. HasDone O.means self.old thread th self.new log.old log.new (P.means log.old.device) (P.means log.new.device) result) }
+        ensures done { IfSome (slice_get self.old.threads thread)
+            (λ th. HasDone O.means self.old thread th self.new log.old log.new (P.means log.old.device)
+            (P.means log.new.device) result) }
         ensures there { thread < length self.old.threads }
         ensures ready { IsLogOf self.new thread log.new (length (P.means log.new.device).read) }
-        ensures others { (u : ℕ) (other : LogState P) (lines : ℕ) → u ≢ thread → IsLogOf self.old u other lines → IsLogOf self.new u other lines }
+        ensures others { (u : ℕ) (other : LogState P) (lines : ℕ) → u ≢ thread → IsLogOf self.old u other lines
+            → IsLogOf self.new u other lines }
     {
         let _ = log.device();
         let progress = &self.threads[thread as usize];

@@ -1,3 +1,5 @@
+//! The node of a trace, its name, and its line in a log.
+
 ghost use Rattle.std.specs.Prelude.{◌≡◌, ◌≤◌};
 ghost use Rattle.onll_model.specs.Names.{name_of, node_of_name, HasNumber, HasName, words_of_node};
 

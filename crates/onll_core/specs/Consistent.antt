@@ -1,4 +1,5 @@
 use Rattle.std.specs.Prelude.{ℕ, ◌≡◌, ◌+◌, ◌≤◌, length, count_by, Some, slice_get}
+use Rattle.onll_model.specs.Limits.{most_threads, most_updates}
 use Rattle.std.specs.List.{AllByRecursion}
 use Rattle.onll_model.specs.declared.node.Node.{Node}
 use Rattle.onll_model.specs.Trace.{is_of_thread}
@@ -17,6 +18,6 @@ pub record IsConsistent {State Op Query Reply : Type 0} (count : ℕ) (c : CoreS
   pub sound : Sound count (frame_of c)
   pub based : Based c.base (frame_of c)
   pub rows : AllByRecursion (λ (n : Node). length n.row.w ≡ 7) c.trace
-  pub few : count ≤ 16
-  pub numbers : EachCoreThread c (λ t th. count_by (is_of_thread t) c.trace + updates_to_link th th.phase ≤ 4096)
+  pub few : count ≤ most_threads
+  pub numbers : EachCoreThread c (λ t th. count_by (is_of_thread t) c.trace + updates_to_link th th.phase ≤ most_updates)
   pub tied : EachCoreThread c (λ t th. IsTied count t (pending_in c.trace th.phase) th th.phase)

@@ -1,4 +1,5 @@
 use Rattle.std.specs.Prelude.{ℕ, ◌≡◌, ◌+◌, ◌≤◌, List, length, take, Some, slice_get, count_by}
+use Rattle.onll_model.specs.Limits.{most_updates}
 use Rattle.onll_model.specs.declared.node.Node.{Node}
 use Rattle.onll_model.specs.declared.call.Call.{Call}
 use Rattle.onll_model.specs.Object.{Behaviour}
@@ -42,7 +43,7 @@ RecoveryLaw State Op Query Reply = (count : ℕ) (c : CoreState State Op Query R
 -- new scripts, one for each of `count` threads, that with these nodes have no more updates than names
 pub record AreScripts {State Op Query Reply : Type 0} (count : ℕ) (nodes : List Node) (scripts : List (List (Call State Op Query Reply))) : Type 0 where
   pub all_scripts : length scripts ≡ count
-  pub each_script : (t : ℕ) (script : List (Call State Op Query Reply)) → slice_get scripts t ≡ Some script → count_by (is_of_thread t) nodes + updates_in script ≤ 4096
+  pub each_script : (t : ℕ) (script : List (Call State Op Query Reply)) → slice_get scripts t ≡ Some script → count_by (is_of_thread t) nodes + updates_in script ≤ most_updates
 
 -- a core can go on from what is recovered of a consistent one, with the same heads
 abbrev pub GoOnLaw : (State Op Query Reply : Type 0) → Type 0

@@ -1,4 +1,5 @@
 use Rattle.std.specs.Prelude.{ℕ, zero, suc, ◌≤◌, List, [], ◌∷◌, length}
+use Rattle.onll_model.specs.Limits.{most_threads, most_updates}
 use Rattle.std.specs.List.{AllByRecursion}
 use Rattle.onll_model.specs.declared.call.Call.{Call}
 use Rattle.onll_model.specs.Calls.{updates_in}
@@ -24,5 +25,5 @@ created_core initial object init scripts = first_core initial (created_heads obj
 -- an object's code and scripts within the limits
 pub record IsWithinLimits {State Op Query Reply : Type 0} (object : ℕ) (scripts : List (List (Call State Op Query Reply))) : Type 0 where
   pub code : (1 ≤ object) × (object ≤ 4)
-  pub few : length scripts ≤ 16
-  pub updates : AllByRecursion (λ (script : List (Call State Op Query Reply)). updates_in script ≤ 4096) scripts
+  pub few : length scripts ≤ most_threads
+  pub updates : AllByRecursion (λ (script : List (Call State Op Query Reply)). updates_in script ≤ most_updates) scripts

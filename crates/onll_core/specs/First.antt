@@ -1,4 +1,5 @@
 use Rattle.std.specs.Prelude.{ℕ, ◌≡◌, ◌+◌, ◌*◌, ◌≤◌, List, [], ◌∷◌, length, Some, slice_get}
+use Rattle.onll_model.specs.Limits.{most_threads, most_updates}
 use Rattle.onll_model.specs.declared.call.Call.{Call}
 use Rattle.onll_model.specs.Calls.{updates_in}
 use Rattle.onll_pmem.specs.Device.{DeviceState, Write, WriteBack, Fence, after_steps, new_device}
@@ -46,8 +47,8 @@ pub record IsHeadOf (count t : ℕ) (head : LogHead) : Type 0 where
 
 -- heads and scripts within the limits, one of each for each of `count` threads
 pub record AreFirst {State Op Query Reply : Type 0} (count : ℕ) (heads : List LogHead) (scripts : List (List (Call State Op Query Reply))) : Type 0 where
-  pub few : count ≤ 16
+  pub few : count ≤ most_threads
   pub all_heads : length heads ≡ count
   pub all_scripts : length scripts ≡ count
   pub each_head : (t : ℕ) (head : LogHead) → slice_get heads t ≡ Some head → IsHeadOf count t head
-  pub each_script : (t : ℕ) (script : List (Call State Op Query Reply)) → slice_get scripts t ≡ Some script → updates_in script ≤ 4096
+  pub each_script : (t : ℕ) (script : List (Call State Op Query Reply)) → slice_get scripts t ≡ Some script → updates_in script ≤ most_updates

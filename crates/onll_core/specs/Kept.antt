@@ -1,4 +1,5 @@
 use Rattle.std.specs.Prelude.{ℕ, ◌≡◌, ◌+◌, ◌*◌, ◌<◌, ◌≤◌, List, [], length, count_by, take, Option, Some, slice_get}
+use Rattle.onll_model.specs.Limits.{most_updates}
 use Rattle.onll_model.specs.declared.node.Node.{Node}
 use Rattle.onll_model.specs.declared.call.Call.TheVariants.{Update}
 use Rattle.onll_model.specs.Object.{Behaviour}
@@ -57,7 +58,7 @@ pub record KeepsCore {State Op Query Reply : Type 0} (b : Behaviour State Op Que
   pub consistent : IsConsistent (length c.threads) c
   pub reached : IsReached b (length c.threads) c
   pub own : HoldOwn b c
-  pub nodes_room : 4096 * length c.threads ≤ nodes
-  pub flags_room : 4096 * length c.threads ≤ flags
+  pub nodes_room : most_updates * length c.threads ≤ nodes
+  pub flags_room : most_updates * length c.threads ≤ flags
   pub as_many : length locals ≡ length c.threads
   pub replicas : AreLocal b c locals

@@ -1,4 +1,5 @@
 ghost use Rattle.std.specs.Prelude.{◌≡◌, ◌≤◌, ◌⊎◌, length, map, Some, None, Ok, Err, IfOk, MatchResult};
+ghost use Rattle.onll_model.specs.Limits.{most_threads};
 ghost use Rattle.onll_pmem.specs.Pmem.{words_of};
 ghost use Rattle.onll_log.specs.Grammar.{content_of};
 ghost use Rattle.onll_log.specs.Decoded.{content_in};
@@ -73,7 +74,7 @@ fn recover_images(
     heads: &[LogHead],
     images: &[Vec<Line>],
 ) -> Result<Vec<Node>, ImagesFault>
-    requires few { length images.now ≤ 16 }
+    requires few { length images.now ≤ most_threads }
     requires heads { length heads.now ≡ length images.now }
     ensures { let merged = merge_images heads.now (map (λ image. words_of image.items) images.now) in
         MatchResult result (λ nodes. merged ≡ Ok nodes.items) (λ e. (e ≡ Recover OutOfMemory) ⊎ (merged ≡ Err e)) }

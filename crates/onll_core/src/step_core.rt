@@ -1,4 +1,5 @@
 ghost use Rattle.std.specs.Prelude.{◌≡◌, ℕ, suc, ◌+◌, ◌-◌, ◌*◌, ◌^◌, ◌<◌, ◌≤◌, Bool, true, List, [], length, sum_by, Option, Some, None, slice_get, IfSome, IfOk, ◌↔◌, replicate, map};
+ghost use Rattle.onll_model.specs.Limits.{most_threads, most_updates};
 ghost use Rattle.std.specs.List.{All};
 ghost use Rattle.onll_model.specs.declared.call.Call.TheVariants.{Update, Ask};
 ghost use Rattle.onll_model.specs.Frames.{is_available};
@@ -113,7 +114,7 @@ fn after_back(place: u64, below: u64, line: u64) -> Phase
 /// The line of this number of the entry after this many others, whose last node is at this place.
 fn line_of_entry(head: LogHead, before: u64, place: u64, nodes: &[Node], line: u64) -> Line
     requires format { (1 ≤ head.format) × (head.format ≤ 2) }
-    requires threads { head.threads ≤ 16 }
+    requires threads { head.threads ≤ most_threads }
     requires fits { FitsEntry head.threads (record { place = place; nodes = nodes.now }) }
     requires before { before < 2 ^ 64 - 1 }
     requires line { line ≤ length nodes.now }
@@ -156,8 +157,8 @@ fn first_workers<O: Object>(
     init: &[u8],
     scripts: Vec<Vec<Call<O>>>,
 ) -> Result<Vec<Worker<O>>, NoMemory>
-    requires few { length scripts.items ≤ 16 }
-    requires updates { All (λ script. updates_in script.items ≤ 4096) scripts.items }
+    requires few { length scripts.items ≤ most_threads }
+    requires updates { All (λ script. updates_in script.items ≤ most_updates) scripts.items }
     ensures { IfOk result (λ workers. workers.items ≡ first_threads (heads_from (length scripts.items) O.CODE init.now 0 (length scripts.items)) (map (λ script. script.items) scripts.items)) }
 {
     let threads = scripts.len();
@@ -199,8 +200,8 @@ impl<O: Object + Drop> Core<O> {
         init: &[u8],
         scripts: Vec<Vec<Call<O>>>,
     ) -> Result<Core<O>, NoMemory>
-        requires few { length scripts.items ≤ 16 }
-        requires updates { All (λ script. updates_in script.items ≤ 4096) scripts.items }
+        requires few { length scripts.items ≤ most_threads }
+        requires updates { All (λ script. updates_in script.items ≤ most_updates) scripts.items }
         ensures { IfOk result (λ c. c ≡ created_core object O.CODE init.now (map (λ script. script.items) scripts.items)) }
     {
         let threads = scripts.len();

@@ -1,4 +1,5 @@
 ghost use Rattle.std.specs.Prelude.{◌≡◌, ◌⊎◌, ℕ, ◌≤◌, ◌<◌, ◌^◌, ◌++◌, length, true, Ok, Err, IfOk, IfErr, OnOk, MatchResult};
+ghost use Rattle.onll_model.specs.Limits.{most_threads};
 ghost use Rattle.std.specs.List.{AllByRecursion, flat_map};
 ghost use Rattle.onll_words.specs.Texts.{line_text};
 ghost use Rattle.onll_model.specs.Trace.{state_after};
@@ -55,7 +56,7 @@ fn decode_images(alloc: Global, images: &[Image]) -> Result<Vec<Decoded>, LogsFa
 fn head_of(object: u64, init: &[u8], thread: u64, threads: u64, image: &Image) -> LogHead
     requires object { (1 ≤ object) × (object ≤ 4) }
     requires thread { thread < threads }
-    requires threads { threads ≤ 16 }
+    requires threads { threads ≤ most_threads }
     ensures { result ≡ head_for (format_in (words_of image.now)) thread threads object init.now }
 {
     LogHead::of_format(format_of(image.as_slice()), thread, threads, object, init)
@@ -70,7 +71,7 @@ fn heads_of(
     images: &[Image],
 ) -> Result<Vec<LogHead>, LogsFault>
     requires object { (1 ≤ object) × (object ≤ 4) }
-    requires images { length images.now ≤ 16 }
+    requires images { length images.now ≤ most_threads }
     ensures heads { MatchResult result (λ heads. heads.items ≡ expected_heads object init.now (length images.now) 0 (images_in images.now)) (λ fault. fault ≡ LogsFault.NoMemory) }
     ensures count { IfOk result (λ heads. length heads.items ≡ length images.now) }
 {
@@ -83,7 +84,7 @@ fn heads_of(
 
 /// The nodes of the trace that logs hold.
 fn merge(alloc: Global, logs: &[Decoded], heads: &[LogHead]) -> Result<Vec<Node>, LogsFault>
-    requires logs { (1 ≤ length logs.now) × (length logs.now ≤ 16) }
+    requires logs { (1 ≤ length logs.now) × (length logs.now ≤ most_threads) }
     requires heads { length heads.now ≡ length logs.now }
     ensures { MatchResult result (λ nodes. merge heads.now (contents_in logs.now) ≡ Ok nodes.items) (λ fault. (fault ≡ LogsFault.NoMemory) ⊎ ((e : RecoverFault) × ((fault ≡ LogsFault.NotMerged e) × (merge heads.now (contents_in logs.now) ≡ Err e)))) }
 {
@@ -113,7 +114,7 @@ fn trace_of<O: Object>(
     logs: &[Decoded],
     heads: &[LogHead],
 ) -> Result<Vec<Node>, LogsFault>
-    requires logs { (1 ≤ length logs.now) × (length logs.now ≤ 16) }
+    requires logs { (1 ≤ length logs.now) × (length logs.now ≤ most_threads) }
     requires heads { length heads.now ≡ length logs.now }
     ensures nodes { let found = operations_of O.means (merge heads.now (contents_in logs.now)) in
         MatchResult result (λ nodes. found ≡ Ok nodes.items) (λ fault. (fault ≡ LogsFault.NoMemory) ⊎ (found ≡ Err fault)) }
@@ -139,7 +140,7 @@ pub(crate) fn find<O: Object>(
     init: &[u8],
     images: &[Image],
 ) -> Result<Found, LogsFault>
-    requires { (1 ≤ length images.now) × (length images.now ≤ 16) }
+    requires { (1 ≤ length images.now) × (length images.now ≤ most_threads) }
     ensures found { let found = recovered O.means O.CODE init.now (images_in images.now) in
         MatchResult result (λ f. found ≡ Ok (found_in f)) (λ fault. (fault ≡ LogsFault.NoMemory) ⊎ (found ≡ Err fault)) }
     ensures count { IfOk result (λ f. length f.logs.items ≡ length images.now) }
@@ -226,7 +227,7 @@ fn recover_on<O: Texted>(
     init: &[u8],
     images: &[Image],
 ) -> Result<Answer, NoMemory>
-    requires { (1 ≤ length images.now) × (length images.now ≤ 16) }
+    requires { (1 ≤ length images.now) × (length images.now ≤ most_threads) }
     ensures says { let job = recover_on O.means O.wording O.CODE init.now object.old (images_in images.now) in
         IfOk result (λ answer. SaysNow job answer.ending answer.text.items) }
     ensures determined { IfOk result (λ answer. answer.ending ≡ Done → RecoversTo O.means O.wording O.CODE init.now object.old (images_in images.now) answer.text.items) }
@@ -252,7 +253,7 @@ fn recover_any(
     init: &[u8],
     images: &[Image],
 ) -> Result<Answer, NoMemory>
-    requires { (1 ≤ length images.now) × (length images.now ≤ 16) }
+    requires { (1 ≤ length images.now) × (length images.now ≤ most_threads) }
     ensures says { IfOk result (λ answer. SaysNow (recover_any init.now object (images_in images.now)) answer.ending answer.text.items) }
     ensures determined { IfOk result (λ answer. answer.ending ≡ Done → RecoversToAny init.now (images_in images.now) answer.text.items object) }
 {
@@ -272,7 +273,7 @@ fn recover_logs<S: Store>(
     threads: u64,
     store: &mut S,
 ) -> Result<Answer, NoMemory>
-    requires { (1 ≤ threads) × (threads ≤ 16) }
+    requires { (1 ≤ threads) × (threads ≤ most_threads) }
     ensures says { let job = reading_images logs.now 0 threads (recover_any init.text.items init.object) in
         IfOk result (λ answer. JobEnds (S.seen store.old) (S.seen store.new) job answer.ending answer.text.items) }
     ensures cut { let job = reading_images logs.now 0 threads (recover_any init.text.items init.object) in
@@ -294,7 +295,7 @@ pub(crate) fn answer<S: Store>(
     threads: u64,
     store: &mut S,
 ) -> Result<Answer, NoMemory>
-    requires { (1 ≤ threads) × (threads ≤ 16) }
+    requires { (1 ≤ threads) × (threads ≤ most_threads) }
     ensures says { IfOk result (λ answer. JobEnds (S.seen store.old) (S.seen store.new) (recover_job init.now logs.now threads) answer.ending answer.text.items) }
     ensures cut { IfErr result (λ e. JobCut (S.seen store.old) (S.seen store.new) (recover_job init.now logs.now threads)) }
     ensures determined { IfOk result (λ answer. answer.ending ≡ Done → RecoversFiles (S.seen store.old) init.now logs.now threads answer.text.items) }

@@ -1,4 +1,5 @@
 use Rattle.std.specs.Prelude.{ℕ, false, true, ◌≡◌, ◌+◌, ◌*◌, ◌≤◌, ◌↔◌, List, [], length, count_by, map, Option, Some, None, slice_get}
+use Rattle.onll_model.specs.Limits.{most_threads, most_updates}
 use Rattle.std.specs.List.{AllByRecursion}
 use Rattle.onll_model.specs.declared.node.Node.{Node}
 use Rattle.onll_model.specs.declared.call.Call.{Call}
@@ -32,7 +33,7 @@ FlagsTell c = EachLocked c (λ t th. (p : ℕ) (x : Node) → node_at c.trace p 
 -- within the limit.
 pub record AgreeCounts {State Op Query Reply : Type 0} (trace : List Node) (t : ℕ) (th : LockedThread State Op Query Reply) : Type 0 where
   pub nodes : length (own_places th) ≡ count_by (is_of_thread t) trace
-  pub updates : length (own_places th) + updates_left th ≤ 4096
+  pub updates : length (own_places th) + updates_left th ≤ most_updates
 
 -- a call was answered at a place of the trace
 abbrev pub IsWithin : {State Op Query Reply : Type 0} → ℕ → Call State Op Query Reply → CallEnd State Op Query Reply → Type 0
@@ -56,14 +57,14 @@ pub record KeepsThread {State Op Query Reply : Type 0} (b : Behaviour State Op Q
 pub record KeepsLocked {State Op Query Reply : Type 0} (b : Behaviour State Op Query Reply) (nodes flags : ℕ)
     (object : State) (c : LockedState State Op Query Reply) : Type 0 where
   pub state : object ≡ state_after b c.initial c.trace
-  pub few : length c.threads ≤ 16
+  pub few : length c.threads ≤ most_threads
   pub numbered : IsNumbered c.trace
   pub fits : AllByRecursion (CanHold (length c.threads)) c.trace
   pub as_many : length c.flags ≡ length c.trace
   pub flags_tell : FlagsTell c
   pub threads : EachLocked c (KeepsThread b c)
-  pub nodes_room : 4096 * length c.threads ≤ nodes
-  pub flags_room : 4096 * length c.threads ≤ flags
+  pub nodes_room : most_updates * length c.threads ≤ nodes
+  pub flags_room : most_updates * length c.threads ≤ flags
 
 -- a thread's counters, and room for all its outcomes
 pub record KeepsProgress {State Op Query Reply : Type 0} (most ordered : ℕ) (failed : Option ℕ)

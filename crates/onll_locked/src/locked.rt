@@ -1,6 +1,7 @@
 //! An object under one lock, whose calls are done in full, one after the other.
 
 ghost use Rattle.std.specs.Prelude.{◌≡◌, ℕ, ◌+◌, ◌<◌, ◌≤◌, ◌≢◌, length, map, replicate, true, false, Some, None, IfSome, IfOk, slice_get};
+ghost use Rattle.onll_model.specs.Limits.{most_threads, most_updates};
 ghost use Rattle.std.specs.List.{All};
 ghost use Rattle.onll_model.specs.declared.call.Call.TheVariants.{Update, Ask};
 ghost use Rattle.onll_model.specs.Calls.{updates_in};
@@ -99,8 +100,8 @@ impl<O: Object + Drop> Locked<O> {
         object: O,
         scripts: Vec<Vec<Call<O>>>,
     ) -> Result<Locked<O>, NoMemory>
-        requires few { length scripts.items ≤ 16 }
-        requires updates { All (λ script. updates_in script.items ≤ 4096) scripts.items }
+        requires few { length scripts.items ≤ most_threads }
+        requires updates { All (λ script. updates_in script.items ≤ most_updates) scripts.items }
         ensures { IfOk result (λ c. c ≡ first_state object (map (λ script. script.items) scripts.items)) }
     {
         let nodes = NAMES * scripts.len();

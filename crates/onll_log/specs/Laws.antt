@@ -1,5 +1,6 @@
 -- Laws over the grammar of logs, whatever code reads and writes them.
 use Rattle.std.specs.Prelude.{ℕ, ◌≡◌, ◌+◌, ◌-◌, ◌≤◌, ◌↔◌, List, [], ◌∷◌, ◌++◌, length, take, Some, None, true}
+use Rattle.onll_model.specs.Limits.{most_threads}
 use Rattle.onll_pmem.specs.Device.{DeviceState, Step, after_steps, AreLegal, IsImage, NonePending, zero_lines, FillsLines, Mixed}
 use Rattle.onll_model.specs.Segment.{Segment}
 use Rattle.onll_log.specs.declared.head.LogHead.{LogHead}
@@ -103,4 +104,4 @@ NoHeadLaw = (image : List (List ℕ)) (ss : List Segment) → AreLines image →
 
 -- the masks of up to sixteen lines are those of the format
 abbrev pub MasksLaw : Type 0
-MasksLaw = (lines : List (List ℕ)) → AreLines lines → length lines ≤ 16 → AreMasks lines
+MasksLaw = (lines : List (List ℕ)) → AreLines lines → length lines ≤ most_threads → AreMasks lines

@@ -1,4 +1,5 @@
 ghost use Rattle.std.specs.Prelude.{◌≡◌, ℕ, ◌+◌, ◌<◌, ◌≤◌, ◌⊎◌, length, drop, Some, None, IfOk, OnOk, MatchResult};
+ghost use Rattle.onll_model.specs.Limits.{most_threads};
 ghost use Rattle.onll_merge.specs.Merge.{AllRise, contents_in, fits_run, foreign, unlike, disorder, top_of, node_in_logs, nodes_to, first_to, differs, clash_at, gap_at};
 ghost use Rattle.onll_merge.specs.Passed.{ArePassedInAll};
 ghost use Rattle.onll_merge.specs.declared.fault.RecoverFault.TheVariants.{NoMemory};
@@ -149,7 +150,7 @@ fn check_above(
 /// The nodes of the places up to `top`, which the logs hold alike.
 pub fn gather(alloc: Global, logs: &[Decoded], top: u64) -> Result<Vec<Node>, RecoverFault>
     requires rise { AllRise (contents_in logs.now) }
-    requires count { length logs.now ≤ 16 }
+    requires count { length logs.now ≤ most_threads }
     ensures places { MatchResult result (λ _. unlike (contents_in logs.now) top ≡ None) (λ e. (e ≡ NoMemory) ⊎ (unlike (contents_in logs.now) top ≡ Some e)) }
     ensures nodes { IfOk result (λ v. v.items ≡ nodes_to (contents_in logs.now) top) }
 {

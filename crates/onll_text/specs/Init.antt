@@ -1,4 +1,5 @@
 use Rattle.std.specs.Prelude.{ℕ, List, [], ◌∷◌, Option, Some, None, Result, Ok, Err, if◌then◌else◌, codes, replicate, nat_le, ◌&&◌}
+use Rattle.onll_model.specs.Limits.{most_elements}
 use Rattle.std.specs.Str.{bytes_eq}
 use Rattle.onll_words.specs.Texts.{Numbered, words_of, meaningful_lines}
 use Rattle.onll_text.specs.declared.reason.Reason.{Reason}
@@ -32,7 +33,7 @@ kind_of word =
 
 -- the capacity of an object
 abbrev pub capacity_of : List (List ℕ) → Result ℕ Reason
-capacity_of args = one_number args >>= λ n. only_if (nat_le 1 n && nat_le n 4096) OutOfRange n
+capacity_of args = one_number args >>= λ n. only_if (nat_le 1 n && nat_le n most_elements) OutOfRange n
 
 -- the first line of an initial state, by its words
 abbrev pub head_of : List (List ℕ) → Result Head Reason

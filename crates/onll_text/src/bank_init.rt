@@ -1,4 +1,5 @@
 ghost use Rattle.std.specs.Prelude.{◌≡◌, ◌≤◌, MatchResult, IfOk, OnErr, Ok, Err};
+ghost use Rattle.onll_model.specs.Limits.{most_elements};
 ghost use Rattle.onll_words.specs.Texts.{words_of};
 ghost use Rattle.onll_text.specs.BankText.{no_accounts, with_account, with_account_line};
 
@@ -32,7 +33,7 @@ impl Model for BankInit {
 impl BankInit {
     /// A bank of this many accounts, of which none was named.
     pub(crate) fn begin(alloc: Global, capacity: u64) -> Result<BankInit, NoMemory>
-        requires { (1 ≤ capacity) × (capacity ≤ 4096) }
+        requires { (1 ≤ capacity) × (capacity ≤ most_elements) }
         ensures { IfOk result (λ made. made ≡ no_accounts capacity) }
     {
         let bank = Bank::make(alloc, capacity)?;

@@ -1,4 +1,5 @@
 ghost use Rattle.std.specs.Prelude.{◌≡◌, ◌≤◌, ℕ, List, Result, MatchResult, IfOk, OnErr};
+ghost use Rattle.onll_model.specs.Limits.{most_elements};
 ghost use Rattle.onll_text.specs.declared.reason.Reason.{Reason};
 ghost use Rattle.onll_words.specs.Texts.{words_of};
 ghost use Rattle.onll_text.specs.Refusal.{Fails};
@@ -68,7 +69,7 @@ fn read_kind(word: &[u8]) -> Result<Kind, Reason>
 
 fn read_capacity(args: &[u8]) -> Result<u64, Reason>
     ensures capacity { result ≡ capacity_of (words_of args.now) }
-    ensures range { IfOk result (λ n. (1 ≤ n) × (n ≤ 4096)) }
+    ensures range { IfOk result (λ n. (1 ≤ n) × (n ≤ most_elements)) }
 {
     let n = one_number(args)?;
     if n < 1 || n > 4096 {
@@ -79,7 +80,7 @@ fn read_capacity(args: &[u8]) -> Result<u64, Reason>
 
 fn read_head(line: &[u8]) -> Result<Head, Reason>
     ensures head { result ≡ head_of (words_of line.now) }
-    ensures range { IfOk result (λ head. (1 ≤ head.capacity) × (head.capacity ≤ 4096)) }
+    ensures range { IfOk result (λ head. (1 ≤ head.capacity) × (head.capacity ≤ most_elements)) }
 {
     let Some(Cut { word, rest }) = split_word(line) else {
         return Err(Reason::UnknownObject);
@@ -91,7 +92,7 @@ fn read_head(line: &[u8]) -> Result<Head, Reason>
 
 /// The bank of this many accounts, with the lines that are left.
 fn read_bank(alloc: Global, capacity: u64, lines: &mut Lines<'_>) -> Result<Bank, TextFault>
-    requires { (1 ≤ capacity) × (capacity ≤ 4096) }
+    requires { (1 ≤ capacity) × (capacity ≤ most_elements) }
     ensures { MatchResult result (λ bank. bank_of_lines capacity lines.old ≡ Ok bank) (λ fault. Fails fault (bank_of_lines capacity lines.old)) }
 {
     let mut made = BankInit::begin(alloc, capacity)?;
@@ -101,7 +102,7 @@ fn read_bank(alloc: Global, capacity: u64, lines: &mut Lines<'_>) -> Result<Bank
 
 /// The map of at most so many pairs, with the lines that are left.
 fn read_map(alloc: Global, capacity: u64, lines: &mut Lines<'_>) -> Result<Map, TextFault>
-    requires { (1 ≤ capacity) × (capacity ≤ 4096) }
+    requires { (1 ≤ capacity) × (capacity ≤ most_elements) }
     ensures { MatchResult result (λ map. map_of_lines capacity lines.old ≡ Ok map) (λ fault. Fails fault (map_of_lines capacity lines.old)) }
 {
     let mut map = Map::make(alloc, capacity)?;
@@ -111,7 +112,7 @@ fn read_map(alloc: Global, capacity: u64, lines: &mut Lines<'_>) -> Result<Map, 
 
 /// The queue of at most so many items, with the lines that are left.
 fn read_queue(alloc: Global, capacity: u64, lines: &mut Lines<'_>) -> Result<Queue, TextFault>
-    requires { (1 ≤ capacity) × (capacity ≤ 4096) }
+    requires { (1 ≤ capacity) × (capacity ≤ most_elements) }
     ensures { MatchResult result (λ queue. queue_of_lines capacity lines.old ≡ Ok queue) (λ fault. Fails fault (queue_of_lines capacity lines.old)) }
 {
     let mut queue = Queue::make(alloc, capacity)?;
@@ -121,7 +122,7 @@ fn read_queue(alloc: Global, capacity: u64, lines: &mut Lines<'_>) -> Result<Que
 
 /// The leases of this many resources, with the lines that are left.
 fn read_lease(alloc: Global, capacity: u64, lines: &mut Lines<'_>) -> Result<Lease, TextFault>
-    requires { (1 ≤ capacity) × (capacity ≤ 4096) }
+    requires { (1 ≤ capacity) × (capacity ≤ most_elements) }
     ensures { MatchResult result (λ lease. lease_of_lines capacity lines.old ≡ Ok lease) (λ fault. Fails fault (lease_of_lines capacity lines.old)) }
 {
     let mut lease = Lease::make(alloc, capacity)?;
@@ -130,7 +131,7 @@ fn read_lease(alloc: Global, capacity: u64, lines: &mut Lines<'_>) -> Result<Lea
 }
 
 fn read_object(alloc: Global, head: Head, lines: &mut Lines<'_>) -> Result<AnyObject, TextFault>
-    requires { (1 ≤ head.capacity) × (head.capacity ≤ 4096) }
+    requires { (1 ≤ head.capacity) × (head.capacity ≤ most_elements) }
     ensures { MatchResult result (λ object. object_of head.kind head.capacity lines.old ≡ Ok object) (λ fault. Fails fault (object_of head.kind head.capacity lines.old)) }
 {
     match head.kind {

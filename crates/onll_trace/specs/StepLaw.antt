@@ -1,4 +1,5 @@
 use Rattle.std.specs.Prelude.{ℕ, zero, suc, Bool, true, false, List, [], ◌∷◌, ◌++◌, ◌≡◌, ◌+◌, ◌*◌, ◌<◌, ◌≤◌, ◌==◌, length, option_to_list, None, Some, slice_get, slice_index, slice_set}
+use Rattle.onll_model.specs.Limits.{most_updates}
 use mathlib.Core.Option.{some, none}
 use prog.Atomic.{either}
 use lib.ListN.{get_elem?}
@@ -100,7 +101,7 @@ pub record StepLaw : Type 0 where
       → h.part.activity ≡ Loaded (length me.0.known)
       → old ≡ name_at (base_in me.0) me.0.known (length me.0.known) → h.draft ≡ row ++ old ∷ (length me.0.known + 1) ∷ []
       → length row ≡ 7
-      → count_of h.thread me.0.known < me.0.plan.nodes → new ≡ h.thread * 4096 + (count_of h.thread me.0.known + 1)
+      → count_of h.thread me.0.known < me.0.plan.nodes → new ≡ h.thread * most_updates + (count_of h.thread me.0.known + 1)
       → StepMakes k id me 0 (λ n. either (n == old) new n) (Linked (step slots 0 old new none) me) (λ n. exchange_events h.thread (drafted_row h) (n == old))
   -- a load of the flag that comes next
   pub flag_loaded : (k : Plan) (slots id i q : ℕ) (me : Mine) (h : Hand) (x : Node) → me.0.hands ≡ h ∷ []

@@ -27,14 +27,14 @@ use crate::phase::Phase;
 use crate::returned::{Current, Returned, Stepped};
 use crate::worker::{Worker, with_room};
 use onll_log::{LogHead, entry_head};
-use onll_model::{Call, Node, Object, Turn, node_line};
+use onll_model::{Call, MOST_UPDATES, Node, Object, Turn, node_line};
 use onll_pmem::MemPmem;
 use onll_words::{Line, NoMemory};
 use std::alloc::Global;
 use std::marker::Model;
 
 /// The most updates of a thread.
-const NAMES: usize = 4096;
+const NAMES: usize = MOST_UPDATES as usize;
 
 /// Whether the flag of the node at a place is set. Place 0 always is available.
 fn is_available(flags: &[bool], place: u64) -> bool

@@ -15,14 +15,14 @@ ghost use Rattle.onll_locked.specs.Kept.{EachLocked, AgreeCounts, FlagsTell, IsL
 use crate::ends::{LockedEnd, Next};
 use crate::progress::{Progress, with_room};
 use onll_log::ThreadLog;
-use onll_model::{Call, Node, Object};
+use onll_model::{Call, MOST_UPDATES, Node, Object};
 use onll_pmem::Pmem;
 use onll_words::NoMemory;
 use std::alloc::Global;
 use std::marker::Model;
 
 /// The most updates of a thread.
-const NAMES: usize = 4096;
+const NAMES: usize = MOST_UPDATES as usize;
 
 /// The newest place whose flag is set, 0 where there is none.
 fn newest_available(flags: &[bool]) -> u64

@@ -9,17 +9,14 @@ ghost use Rattle.onll_log.specs.Grammar.{is_entry, all_named, same_words};
 use crate::digest::Message;
 use crate::head::LogHead;
 use crate::mask::masks;
-use onll_model::{Node, node_line};
+use onll_model::{MOST_THREADS, MOST_UPDATES, Node, node_line};
 use onll_words::Line;
 
 /// The first word of an entry: the bytes `ONLLENT1`.
 const ENTRY_MAGIC: u64 = 0x3154_4e45_4c4c_4e4f;
 
-/// How many names a thread has.
-const NAMES: u64 = 4096;
-
 /// The most nodes of an entry.
-const MOST: usize = 16;
+const MOST: usize = MOST_THREADS as usize;
 
 /// The entry digest over an entry's first five words and its node lines.
 fn entry_digest(head: &LogHead, front: &[u64], lines: &[Line]) -> [u64; 3]
@@ -120,7 +117,11 @@ fn has_room(threads: u64, count: u64, place: u64, rest: u64) -> bool
     requires { threads ≤ most_threads }
     ensures { result ≡ nat_le 1 count && (nat_le count threads && (nat_le count place && (nat_le place (most_updates * threads) && nat_le count rest))) }
 {
-    1 <= count && count <= threads && count <= place && place <= NAMES * threads && count <= rest
+    1 <= count
+        && count <= threads
+        && count <= place
+        && place <= MOST_UPDATES * threads
+        && count <= rest
 }
 
 /// Whether an entry's node lines have names and are those that its line guards.
@@ -130,7 +131,7 @@ fn is_guarded(head: &LogHead, line: &Line, lines: &[Line]) -> bool
     ensures { result ≡ all_named (most_updates * head.now.threads) (words_of lines.now) && same_words (drop 5 line.now.w) (guard head.now (take 5 line.now.w) (words_of lines.now)) }
 {
     let [_, _, _, _, _, a, b, c] = line.w;
-    are_named(NAMES * head.threads, lines) && [a, b, c] == guard(head, &line.w[..5], lines)
+    are_named(MOST_UPDATES * head.threads, lines) && [a, b, c] == guard(head, &line.w[..5], lines)
 }
 
 /// Whether an entry begins with this line before the lines that follow, after this many entries of the log.

@@ -5,6 +5,7 @@ ghost use Rattle.onll_log.specs.Head.{head_for, head_line, head_of, is_head, Fit
 ghost use Rattle.onll_log.specs.Grammar.{format_in};
 
 use crate::digest::Message;
+use onll_model::MOST_THREADS;
 use onll_words::Line;
 
 /// The first word of a log: the bytes `ONLLLOG1`.
@@ -109,7 +110,7 @@ fn is_first(magic: u64, format: u64) -> bool
 fn are_in_range(thread: u64, threads: u64, object: u64) -> bool
     ensures { result ≡ nat_lt thread threads && (nat_le threads most_threads && (nat_le 1 object && nat_le object 4)) }
 {
-    thread < threads && threads <= 16 && 1 <= object && object <= 4
+    thread < threads && threads <= MOST_THREADS && 1 <= object && object <= 4
 }
 
 /// The format by which an image is read: 2 where its first line says so, and else 1.

@@ -7,11 +7,11 @@ ghost use Rattle.onll_merge.specs.declared.fault.RecoverFault.TheVariants.{NoMem
 use crate::entries::{agrees, check_order, next_of_log, node_of_log, top_place};
 use crate::fault::RecoverFault;
 use onll_log::{Decoded, LogHead};
-use onll_model::Node;
+use onll_model::{MOST_THREADS, Node};
 use std::alloc::Global;
 
 /// The most logs of a run.
-const LOGS: usize = 16;
+const LOGS: usize = MOST_THREADS as usize;
 
 /// Whether a log with this head can be of the run of the expected head: one without a head fits each run.
 fn fits(head: Option<LogHead>, expected: LogHead) -> bool

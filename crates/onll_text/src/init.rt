@@ -13,6 +13,7 @@ use crate::words::{is_text, one_number};
 use onll_bank::Bank;
 use onll_lease::Lease;
 use onll_map::Map;
+use onll_model::MOST_ELEMENTS;
 use onll_queue::Queue;
 use onll_words::{Cut, Lines, NumberedLine, split_word};
 use std::alloc::Global;
@@ -72,7 +73,7 @@ fn read_capacity(args: &[u8]) -> Result<u64, Reason>
     ensures range { IfOk result (λ n. (1 ≤ n) × (n ≤ most_elements)) }
 {
     let n = one_number(args)?;
-    if n < 1 || n > 4096 {
+    if n < 1 || n > MOST_ELEMENTS {
         return Err(Reason::OutOfRange);
     }
     Ok(n)

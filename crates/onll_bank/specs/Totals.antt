@@ -41,7 +41,8 @@ withdrawn (op ∷ ops) (reply ∷ replies) = taken_out op reply + withdrawn ops 
 
 -- No money is made or lost: the new total and what was withdrawn are the old total and what was deposited.
 abbrev pub TotalLaw : Type 0
-TotalLaw = (s : List ℕ) (ops : List BankOp) → sum (bank_after s ops) + withdrawn ops (replies_of s ops) ≡ sum s + deposited ops (replies_of s ops)
+TotalLaw = (s : List ℕ) (ops : List BankOp)
+    → sum (bank_after s ops) + withdrawn ops (replies_of s ops) ≡ sum s + deposited ops (replies_of s ops)
 
 -- a transfer keeps the total
 abbrev pub TransferLaw : Type 0

@@ -9,7 +9,8 @@ use Rattle.onll_core.specs.CoreFrame.{pending_in, frame_of}
 use Rattle.onll_core.specs.Tie.{updates_to_link, IsTied}
 
 -- each thread has this fact, with its number
-abbrev pub EachCoreThread : {State Op Query Reply : Type 0} → CoreState State Op Query Reply → (ℕ → CoreThread State Op Query Reply → Type 0) → Type 0
+abbrev pub EachCoreThread : {State Op Query Reply : Type 0} → CoreState State Op Query Reply
+    → (ℕ → CoreThread State Op Query Reply → Type 0) → Type 0
 EachCoreThread {State} {Op} {Query} {Reply} c P = (t : ℕ) (th : CoreThread State Op Query Reply) → slice_get c.threads t ≡ Some th → P t th
 
 -- What every step keeps: the frame is sound and goes on from the base, each device is tied to its log, and no thread has

@@ -19,7 +19,8 @@ heads_from count object init t (suc n) = head_for 2 t count object init ∷ head
 abbrev pub created_heads : {State Op Query Reply : Type 0} → ℕ → List ℕ → List (List (Call State Op Query Reply)) → List LogHead
 created_heads object init scripts = heads_from (length scripts) object init 0 (length scripts)
 
-abbrev pub created_core : {State Op Query Reply : Type 0} → State → ℕ → List ℕ → List (List (Call State Op Query Reply)) → CoreState State Op Query Reply
+abbrev pub created_core : {State Op Query Reply : Type 0} → State → ℕ → List ℕ → List (List (Call State Op Query Reply))
+    → CoreState State Op Query Reply
 created_core initial object init scripts = first_core initial (created_heads object init scripts) scripts
 
 -- an object's code and scripts within the limits

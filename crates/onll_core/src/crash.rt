@@ -47,7 +47,8 @@ fn heads_of<O: Object>(alloc: Global, workers: &[Worker<O>]) -> Result<Vec<LogHe
 /// What the image of this number holds.
 fn decode_one(alloc: Global, log: u64, image: &[Line]) -> Result<Decoded, ImagesFault>
     ensures { let content = content_of (words_of image.now) in
-        MatchResult result (λ decoded. content ≡ Some (content_in decoded)) (λ e. (e ≡ Recover OutOfMemory) ⊎ ((content ≡ None) × (e ≡ NotLog log))) }
+        MatchResult result (λ decoded. content ≡ Some (content_in decoded))
+        (λ e. (e ≡ Recover OutOfMemory) ⊎ ((content ≡ None) × (e ≡ NotLog log))) }
 {
     match decode(alloc, image) {
         Ok(decoded) => Ok(decoded),
@@ -59,7 +60,8 @@ fn decode_one(alloc: Global, log: u64, image: &[Line]) -> Result<Decoded, Images
 /// What all images hold.
 fn decode_all(alloc: Global, images: &[Vec<Line>]) -> Result<Vec<Decoded>, ImagesFault>
     ensures { let lines = map (λ image. words_of image.items) images.now in
-        MatchResult result (λ logs. map content_of lines ≡ map Some (contents_in logs.items)) (λ e. (e ≡ Recover OutOfMemory) ⊎ (not_log 0 lines ≡ Some e)) }
+        MatchResult result (λ logs. map content_of lines ≡ map Some (contents_in logs.items))
+        (λ e. (e ≡ Recover OutOfMemory) ⊎ (not_log 0 lines ≡ Some e)) }
 {
     let mut logs = Vec::new(alloc);
     for (log, image) in images.iter().enumerate() {
@@ -110,7 +112,8 @@ impl<O: Object + Drop> Core<O> {
             MatchResult result (λ nodes. merged ≡ Ok nodes.items) (λ e. (e ≡ Recover OutOfMemory) ⊎ (merged ≡ Err e)) }
         ensures own { let lines = map (λ image. words_of image.items) images.now in
             AreImages self.now.threads lines →
-            (all : RecoversAll O.means (heads_of self.now.threads) self.now lines) × MatchResult result (λ nodes. nodes.items ≡ all.recovers.nodes) (λ e. e ≡ Recover OutOfMemory) }
+            (all : RecoversAll O.means (heads_of self.now.threads) self.now lines)
+            × MatchResult result (λ nodes. nodes.items ≡ all.recovers.nodes) (λ e. e ≡ Recover OutOfMemory) }
     {
         self.reached();
         match heads_of(alloc, self.workers()) {

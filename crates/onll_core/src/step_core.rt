@@ -146,9 +146,24 @@ impl<O: Object + Drop> Model for Core<O> {
 
     ghost Value = { CoreState O O.Op O.Query O.Reply };
 
-    ghost view = { λ c. record { initial = c.initial; base = c.base; trace = c.trace.items; flags = c.flags.items; clock = c.clock; threads = c.workers.items } };
+    ghost view = { λ c. record {
+      initial = c.initial;
+      base = c.base;
+      trace = c.trace.items;
+      flags = c.flags.items;
+      clock = c.clock;
+      threads = c.workers.items;
+    } };
 
-    ghost invariant = { λ c. KeepsCore O.means (vec_capacity c.trace) (vec_capacity c.flags) c.locals.items (record { initial = c.initial; base = c.base; trace = c.trace.items; flags = c.flags.items; clock = c.clock; threads = c.workers.items }) };
+    ghost invariant = { λ c. KeepsCore O.means (vec_capacity c.trace) (vec_capacity c.flags) c.locals.items
+        (record {
+          initial = c.initial;
+          base = c.base;
+          trace = c.trace.items;
+          flags = c.flags.items;
+          clock = c.clock;
+          threads = c.workers.items;
+        }) };
 }
 
 /// The threads of these scripts, with their logs.
@@ -159,7 +174,9 @@ fn first_workers<O: Object>(
 ) -> Result<Vec<Worker<O>>, NoMemory>
     requires few { length scripts.items ≤ most_threads }
     requires updates { All (λ script. updates_in script.items ≤ most_updates) scripts.items }
-    ensures { IfOk result (λ workers. workers.items ≡ first_threads (heads_from (length scripts.items) O.CODE init.now 0 (length scripts.items)) (map (λ script. script.items) scripts.items)) }
+    ensures { IfOk result (λ workers. workers.items
+        ≡ first_threads (heads_from (length scripts.items) O.CODE init.now 0 (length scripts.items))
+        (map (λ script. script.items) scripts.items)) }
 {
     let threads = scripts.len();
     let mut workers = with_room(alloc, threads)?;
@@ -354,7 +371,8 @@ impl<O: Object + Drop> Core<O> {
     fn turn(&mut self, thread: u64, phase: Phase)
         requires there { thread < length self.old.threads }
         requires time { self.old.clock < 2 ^ 64 - 1 }
-        requires step { IfSome (slice_get self.old.threads thread) (λ th. step_of O.means self.old thread ≡ put self.old thread (turned th phase)) }
+        requires step { IfSome (slice_get self.old.threads thread)
+            (λ th. step_of O.means self.old thread ≡ put self.old thread (turned th phase)) }
         ensures { self.new ≡ step_of O.means self.old thread }
     {
         let worker = &mut self.workers[thread as usize];
@@ -366,7 +384,8 @@ impl<O: Object + Drop> Core<O> {
     fn begin(&mut self, thread: u64, phase: Phase)
         requires there { thread < length self.old.threads }
         requires time { self.old.clock < 2 ^ 64 - 1 }
-        requires step { IfSome (slice_get self.old.threads thread) (λ th. step_of O.means self.old thread ≡ put self.old thread (begun th self.old.clock phase)) }
+        requires step { IfSome (slice_get self.old.threads thread)
+            (λ th. step_of O.means self.old thread ≡ put self.old thread (begun th self.old.clock phase)) }
         ensures { self.new ≡ step_of O.means self.old thread }
     {
         let now = self.clock;
@@ -528,7 +547,8 @@ impl<O: Object + Drop> Core<O> {
     fn answer(&mut self, thread: u64, query: O::Query, place: u64, began: u64)
         requires there { thread < length self.old.threads }
         requires time { self.old.clock < 2 ^ 64 - 1 }
-        requires step { IfSome (slice_get self.old.threads thread) (λ th. step_of O.means self.old thread ≡ answered O.means self.old thread th began place query) }
+        requires step { IfSome (slice_get self.old.threads thread)
+            (λ th. step_of O.means self.old thread ≡ answered O.means self.old thread th began place query) }
         requires unseen { IfSome (slice_get self.old.threads thread) (λ th. seen_in self.old.base th.returned ≤ place) }
         requires within { place ≤ length self.old.trace }
         requires running { IfSome (slice_get self.old.threads thread) (λ th. length th.returned < length th.script) }

@@ -69,9 +69,28 @@ impl<O: Object> Model for Worker<O> {
 
     ghost Value = { CoreThread O O.Op O.Query O.Reply };
 
-    ghost view = { λ w. record { head = w.head; script = w.script.items; returned = w.returned.items; phase = w.phase; began = w.began; used = w.used; logged = w.logged; device = w.device.device } };
+    ghost view = { λ w. record {
+      head = w.head;
+      script = w.script.items;
+      returned = w.returned.items;
+      phase = w.phase;
+      began = w.began;
+      used = w.used;
+      logged = w.logged;
+      device = w.device.device;
+    } };
 
-    ghost invariant = { λ w. KeepsWorker w.device.failing (vec_capacity w.returned) (record { head = w.head; script = w.script.items; returned = w.returned.items; phase = w.phase; began = w.began; used = w.used; logged = w.logged; device = w.device.device }) };
+    ghost invariant = { λ w. KeepsWorker w.device.failing (vec_capacity w.returned)
+        (record {
+          head = w.head;
+          script = w.script.items;
+          returned = w.returned.items;
+          phase = w.phase;
+          began = w.began;
+          used = w.used;
+          logged = w.logged;
+          device = w.device.device;
+        }) };
 }
 
 impl<O: Object> Worker<O> {

@@ -19,7 +19,9 @@ recover_form init logs (Some threads) = if nat_le 1 threads && nat_le threads mo
 
 -- the form of a replay of this many scripts
 abbrev pub replay_form : (init schedule logs : List ℕ) → List (List ℕ) → Option Form
-replay_form init schedule logs scripts = if nat_le 1 (length scripts) && nat_le (length scripts) most_threads then Some (Replay init schedule logs scripts) else None
+replay_form init schedule logs scripts =
+    if nat_le 1 (length scripts) && nat_le (length scripts) most_threads then Some
+    (Replay init schedule logs scripts) else None
 
 -- the form of a replay, where words have it
 abbrev pub replay_of : List (List ℕ) → Option Form

@@ -37,7 +37,8 @@ use Rattle.onll_jobs.specs.Says.{NoneRose, SaysThis}
 
 -- ---- a replay
 -- a script is read from each of these files
-abbrev pub ReadScripts : {State Op Query Reply : Type 0} → Wording State Op Query Reply → StoreView → List (List ℕ) → List (List (Call State Op Query Reply)) → Type 0
+abbrev pub ReadScripts : {State Op Query Reply : Type 0} → Wording State Op Query Reply → StoreView → List (List ℕ)
+    → List (List (Call State Op Query Reply)) → Type 0
 ReadScripts w store [] [] = Unit {0}
 ReadScripts w store (name ∷ names) (script ∷ scripts) = Reads store (script_of w) name script × ReadScripts w store names scripts
 ReadScripts w store names scripts = ⊥
@@ -50,7 +51,8 @@ with_images store logs i (image ∷ images) = with_images (written store (image_
 -- This text is the report of a run of the scripts that the files hold, by the schedule that a file holds. Every run of these
 -- scripts, by any schedule, is durable at each step; and what is printed of this one is its calls and its trace, and the front
 -- of that trace which the images of its crash recover to. They are in the files of the logs.
-pub record HasReplayed {State Op Query Reply : Type 0} (b : Behaviour State Op Query Reply) (w : Wording State Op Query Reply) (code : ℕ) (init : List ℕ) (s : State)
+pub record HasReplayed {State Op Query Reply : Type 0} (b : Behaviour State Op Query Reply)
+    (w : Wording State Op Query Reply) (code : ℕ) (init : List ℕ) (s : State)
     (store after : StoreView) (schedule logs : List ℕ) (names : List (List ℕ)) (text : List ℕ) : Type 0 where
   pub scripts : List (List (Call State Op Query Reply))
   pub plan : Schedule
@@ -64,11 +66,16 @@ pub record HasReplayed {State Op Query Reply : Type 0} (b : Behaviour State Op Q
   pub files : FilesStay (with_images store logs 0 (images_of plan.keep core.threads)) after
 
 -- the same for an object of any kind
-abbrev pub HasReplayedAny : (init : List ℕ) → (store after : StoreView) → (schedule logs : List ℕ) → List (List ℕ) → List ℕ → AnyObject → Type 0
-HasReplayedAny init store after schedule logs names text (objects.Bank s) = HasReplayed bank bank_wording 1 init s store after schedule logs names text
-HasReplayedAny init store after schedule logs names text (objects.Map s) = HasReplayed map_object map_wording 2 init s store after schedule logs names text
-HasReplayedAny init store after schedule logs names text (objects.Queue s) = HasReplayed queue queue_wording 3 init s store after schedule logs names text
-HasReplayedAny init store after schedule logs names text (objects.Lease s) = HasReplayed lease lease_wording 4 init s store after schedule logs names text
+abbrev pub HasReplayedAny : (init : List ℕ) → (store after : StoreView) → (schedule logs : List ℕ) → List (List ℕ)
+    → List ℕ → AnyObject → Type 0
+HasReplayedAny init store after schedule logs names text (objects.Bank s) =
+    HasReplayed bank bank_wording 1 init s store after schedule logs names text
+HasReplayedAny init store after schedule logs names text (objects.Map s) =
+    HasReplayed map_object map_wording 2 init s store after schedule logs names text
+HasReplayedAny init store after schedule logs names text (objects.Queue s) =
+    HasReplayed queue queue_wording 3 init s store after schedule logs names text
+HasReplayedAny init store after schedule logs names text (objects.Lease s) =
+    HasReplayed lease lease_wording 4 init s store after schedule logs names text
 
 -- a replay over the initial state that a file holds, whose report was put
 pub record ReplayPut (seen : Seen) (init schedule logs : List ℕ) (names : List (List ℕ)) : Type 0 where
@@ -81,7 +88,8 @@ pub record ReplayPut (seen : Seen) (init schedule logs : List ℕ) (names : List
 
 -- a replay that is done
 abbrev pub ReplayIsDurable : Seen → ℕ → Type 0
-ReplayIsDurable seen status = (init schedule logs : List ℕ) (names : List (List ℕ)) → form_of seen.words ≡ Some (Replay init schedule logs names) → status ≡ 0 → ReplayPut seen init schedule logs names
+ReplayIsDurable seen status = (init schedule logs : List ℕ) (names : List (List ℕ))
+    → form_of seen.words ≡ Some (Replay init schedule logs names) → status ≡ 0 → ReplayPut seen init schedule logs names
 
 -- ---- a recovery
 -- the named file is told, and holds an image with these lines
@@ -97,7 +105,8 @@ TellImages store logs i (image ∷ images) = TellsImage store (image_name logs i
 
 -- A crash left the files of the logs: some scripts within the limits were run, by any steps of their threads, and each file
 -- holds any of the images that the thread's device may have.
-pub record IsLeft {State Op Query Reply : Type 0} (b : Behaviour State Op Query Reply) (code : ℕ) (init : List ℕ) (s : State) (store : StoreView) (logs : List ℕ) (threads : ℕ) : Type 0 where
+pub record IsLeft {State Op Query Reply : Type 0} (b : Behaviour State Op Query Reply) (code : ℕ) (init : List ℕ)
+    (s : State) (store : StoreView) (logs : List ℕ) (threads : ℕ) : Type 0 where
   pub scripts : List (List (Call State Op Query Reply))
   pub within : IsWithinLimits code scripts
   pub many : length scripts ≡ threads
@@ -108,19 +117,30 @@ pub record IsLeft {State Op Query Reply : Type 0} (b : Behaviour State Op Query 
 
 -- What is printed is the front of that run's trace which holds every returned update and all that returned reads saw, and the
 -- state after it; or memory could not be had.
-pub record RecoversLeft {State Op Query Reply : Type 0} (b : Behaviour State Op Query Reply) (w : Wording State Op Query Reply) (code : ℕ) (init : List ℕ) (s : State)
+pub record RecoversLeft {State Op Query Reply : Type 0} (b : Behaviour State Op Query Reply)
+    (w : Wording State Op Query Reply) (code : ℕ) (init : List ℕ) (s : State)
     (seen : Seen) (status : ℕ) (logs : List ℕ) (threads : ℕ) (left : IsLeft b code init s seen.store logs threads) : Type 0 where
-  pub crash : RecoversAll b (created_heads code init left.scripts) (steps_of b (created_core s code init left.scripts) left.steps) left.images
+  pub crash : RecoversAll b (created_heads code init left.scripts)
+      (steps_of b (created_core s code init left.scripts) left.steps) left.images
   pub says : SaysThis seen status Done (recover_report b w s (record { logs = crash.recovers.logs; nodes = crash.recovers.nodes }))
 
 -- the same for an object of any kind
 abbrev pub RecoversLeftAny : (init : List ℕ) → Seen → (status : ℕ) → (logs : List ℕ) → (threads : ℕ) → AnyObject → Type 0
-RecoversLeftAny init seen status logs threads (objects.Bank s) = (left : IsLeft bank 1 init s seen.store logs threads) → RecoversLeft bank bank_wording 1 init s seen status logs threads left
-RecoversLeftAny init seen status logs threads (objects.Map s) = (left : IsLeft map_object 2 init s seen.store logs threads) → RecoversLeft map_object map_wording 2 init s seen status logs threads left
-RecoversLeftAny init seen status logs threads (objects.Queue s) = (left : IsLeft queue 3 init s seen.store logs threads) → RecoversLeft queue queue_wording 3 init s seen status logs threads left
-RecoversLeftAny init seen status logs threads (objects.Lease s) = (left : IsLeft lease 4 init s seen.store logs threads) → RecoversLeft lease lease_wording 4 init s seen status logs threads left
+RecoversLeftAny init seen status logs threads (objects.Bank s) =
+    (left : IsLeft bank 1 init s seen.store logs threads)
+    → RecoversLeft bank bank_wording 1 init s seen status logs threads left
+RecoversLeftAny init seen status logs threads (objects.Map s) =
+    (left : IsLeft map_object 2 init s seen.store logs threads)
+    → RecoversLeft map_object map_wording 2 init s seen status logs threads left
+RecoversLeftAny init seen status logs threads (objects.Queue s) =
+    (left : IsLeft queue 3 init s seen.store logs threads)
+    → RecoversLeft queue queue_wording 3 init s seen status logs threads left
+RecoversLeftAny init seen status logs threads (objects.Lease s) =
+    (left : IsLeft lease 4 init s seen.store logs threads)
+    → RecoversLeft lease lease_wording 4 init s seen status logs threads left
 
 -- a recovery over the initial state that a file tells, where no call of the store or of the sink failed
 abbrev pub RecoversCrashes : Seen → ℕ → Type 0
-RecoversCrashes seen status = (init logs bytes : List ℕ) (threads : ℕ) (object : AnyObject) → form_of seen.words ≡ Some (Recover init logs threads)
+RecoversCrashes seen status = (init logs bytes : List ℕ) (threads : ℕ) (object : AnyObject)
+    → form_of seen.words ≡ Some (Recover init logs threads)
     → IsTold seen.store init bytes → init_of bytes ≡ Ok object → NoneRose seen → RecoversLeftAny bytes seen status logs threads object

@@ -66,7 +66,8 @@ fn put_thread<O: Texted>(
     out: &mut Report,
 ) -> Result<(), NoMemory>
     requires { begins_line out.old ≡ true }
-    ensures lines { OnOk result (out.new ≡ with_lines out.old (call_lines O.wording thread 0 script.now (map returned_end returned.now ++ current_ends current))) }
+    ensures lines { OnOk result (out.new ≡ with_lines out.old
+        (call_lines O.wording thread 0 script.now (map returned_end returned.now ++ current_ends current))) }
     ensures begins { OnOk result (begins_line out.new ≡ true) }
 {
     for (index, call) in script.iter().enumerate() {
@@ -219,7 +220,9 @@ fn crash_answer<O: Texted + Drop>(
     ensures says { let job = crash_says O.means O.wording core.now keep (recovered O.means O.CODE init.now (images_in images.now)) in
         IfOk result (λ answer. SaysNow job answer.ending answer.text.items) }
     ensures determined { let scripts = map script_of core.now.threads in
-        IfOk result (λ answer. answer.ending ≡ Done → CrashesTo O.means O.wording O.CODE init.now core.now keep scripts (images_in images.now) answer.text.items) }
+        IfOk result (λ answer. answer.ending ≡ Done
+        → CrashesTo O.means O.wording O.CODE init.now core.now keep scripts
+        (images_in images.now) answer.text.items) }
 {
     let mut object = core.initial().copy(alloc)?;
     match find(alloc, &mut object, init, images) {
@@ -252,7 +255,9 @@ fn crash<O: Texted + Drop, S: Store>(
     ensures cut { let job = crash_job O.means O.wording O.CODE init.now logs.now core.now keep in
         IfErr result (λ e. JobCut (S.seen store.old) (S.seen store.new) job) }
     ensures determined { let scripts = map script_of core.now.threads in
-        IfOk result (λ answer. answer.ending ≡ Done → CrashesTo O.means O.wording O.CODE init.now core.now keep scripts (images_of keep core.now.threads) answer.text.items) }
+        IfOk result (λ answer. answer.ending ≡ Done
+        → CrashesTo O.means O.wording O.CODE init.now core.now keep scripts
+        (images_of keep core.now.threads) answer.text.items) }
     ensures others { SameBut (image_names logs.now 0 (length core.now.threads)) (S.seen store.old) (S.seen store.new) }
 {
     let images = crash_images(alloc, core, keep)?;
@@ -273,7 +278,8 @@ fn played<O: Texted + Drop>(
     requires few { length scripts.items ≤ most_threads }
     requires updates { All (λ script. updates_in script.items ≤ most_updates) scripts.items }
     requires playable { IsPlayable (length scripts.items) schedule.now }
-    ensures core { IfOk result (λ core. core ≡ played O.means O.CODE init.now object (map (λ script. script.items) scripts.items) schedule.now.turns) }
+    ensures core { IfOk result (λ core. core
+        ≡ played O.means O.CODE init.now object (map (λ script. script.items) scripts.items) schedule.now.turns) }
     ensures threads { IfOk result (λ core. length core.threads ≡ length scripts.items) }
     ensures operations { IfOk result (λ core. AllByRecursion (λ n. IsSome (O.means.op_at n.row)) core.trace) }
 {
@@ -288,11 +294,14 @@ fn script_files<O: Texted, S: Store>(
     names: &[String],
     store: &mut S,
 ) -> Result<Vec<Vec<Call<O>>>, Stop>
-    ensures read { IfOk result (λ scripts. AreRead O.wording (S.seen store.old) (S.seen store.new) (map string_bytes names.now) (map (λ script. script.items) scripts.items)) }
-    ensures held { IfOk result (λ scripts. ReadScripts O.wording (S.seen store.old) (map string_bytes names.now) (map (λ script. script.items) scripts.items)) }
+    ensures read { IfOk result (λ scripts. AreRead O.wording (S.seen store.old) (S.seen store.new)
+        (map string_bytes names.now) (map (λ script. script.items) scripts.items)) }
+    ensures held { IfOk result (λ scripts. ReadScripts O.wording (S.seen store.old) (map string_bytes names.now)
+        (map (λ script. script.items) scripts.items)) }
     ensures count { IfOk result (λ scripts. length scripts.items ≡ length names.now) }
     ensures updates { IfOk result (λ scripts. All (λ script. updates_in script.items ≤ most_updates) scripts.items) }
-    ensures stop { IfErr result (λ stop. StopSays stop (ScriptsStop O.wording (S.seen store.old) (S.seen store.new) (map string_bytes names.now))) }
+    ensures stop { IfErr result (λ stop. StopSays stop
+        (ScriptsStop O.wording (S.seen store.old) (S.seen store.new) (map string_bytes names.now))) }
     ensures same { SameFiles (S.seen store.old) (S.seen store.new) }
 {
     let mut scripts = Vec::new(alloc);
@@ -317,12 +326,16 @@ fn replay_scripts<O: Texted + Drop, S: Store>(
 ) -> Result<Answer, NoMemory>
     requires few { (1 ≤ length scripts.items) × (length scripts.items ≤ most_threads) }
     requires updates { All (λ script. updates_in script.items ≤ most_updates) scripts.items }
-    ensures says { let job = schedule_job O.means O.wording O.CODE init.now object schedule.now logs.now (map (λ script. script.items) scripts.items) in
+    ensures says { let job = schedule_job O.means O.wording O.CODE init.now object schedule.now logs.now
+        (map (λ script. script.items) scripts.items) in
         IfOk result (λ answer. JobEnds (S.seen store.old) (S.seen store.new) job answer.ending answer.text.items) }
-    ensures cut { let job = schedule_job O.means O.wording O.CODE init.now object schedule.now logs.now (map (λ script. script.items) scripts.items) in
+    ensures cut { let job = schedule_job O.means O.wording O.CODE init.now object schedule.now logs.now
+        (map (λ script. script.items) scripts.items) in
         IfErr result (λ e. JobCut (S.seen store.old) (S.seen store.new) job) }
     ensures determined { let calls = map (λ script. script.items) scripts.items in
-        IfOk result (λ answer. answer.ending ≡ Done → PlaysTo O.means O.wording O.CODE init.now object (S.seen store.old) schedule.now calls answer.text.items) }
+        IfOk result (λ answer. answer.ending ≡ Done
+        → PlaysTo O.means O.wording O.CODE init.now object
+        (S.seen store.old) schedule.now calls answer.text.items) }
     ensures others { SameBut (image_names logs.now 0 (length scripts.items)) (S.seen store.old) (S.seen store.new) }
 {
     match schedule_file(alloc, schedule, scripts.len() as u64, store) {
@@ -350,7 +363,9 @@ fn replay_on<O: Texted + Drop, S: Store>(
     ensures cut { let job = replay_on O.means O.wording O.CODE init.now schedule.now logs.now (map string_bytes scripts.now) object in
         IfErr result (λ e. JobCut (S.seen store.old) (S.seen store.new) job) }
     ensures determined { let names = map string_bytes scripts.now in
-        IfOk result (λ answer. answer.ending ≡ Done → ReplaysTo O.means O.wording O.CODE init.now object (S.seen store.old) schedule.now names answer.text.items) }
+        IfOk result (λ answer. answer.ending ≡ Done
+        → ReplaysTo O.means O.wording O.CODE init.now object
+        (S.seen store.old) schedule.now names answer.text.items) }
     ensures others { SameBut (image_names logs.now 0 (length scripts.now)) (S.seen store.old) (S.seen store.new) }
 {
     match script_files::<O, S>(alloc, scripts, store) {
@@ -375,7 +390,8 @@ fn replay_any<S: Store>(
     ensures cut { let job = replay_any init.now schedule.now logs.now (map string_bytes scripts.now) object in
         IfErr result (λ e. JobCut (S.seen store.old) (S.seen store.new) job) }
     ensures determined { let names = map string_bytes scripts.now in
-        IfOk result (λ answer. answer.ending ≡ Done → ReplaysToAny init.now (S.seen store.old) schedule.now names answer.text.items object) }
+        IfOk result (λ answer. answer.ending ≡ Done
+        → ReplaysToAny init.now (S.seen store.old) schedule.now names answer.text.items object) }
     ensures others { SameBut (image_names logs.now 0 (length scripts.now)) (S.seen store.old) (S.seen store.new) }
 {
     match object {

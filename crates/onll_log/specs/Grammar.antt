@@ -42,7 +42,8 @@ segment_of line rest = record { place = word line 3; nodes = map node_of_line (t
 abbrev pub entries_from : LogHead → ℕ → ℕ → List (List ℕ) → List Segment
 entries_from head before skip [] = []
 entries_from head before (suc skip) (l ∷ ls) = entries_from head before skip ls
-entries_from head before zero (l ∷ ls) = if is_entry head before l ls then segment_of l ls ∷ entries_from head (suc before) (word l 4) ls else []
+entries_from head before zero (l ∷ ls) =
+    if is_entry head before l ls then segment_of l ls ∷ entries_from head (suc before) (word l 4) ls else []
 
 -- what an image holds; an image of zeros has no head and no entry
 pub record Content : Type 0 where

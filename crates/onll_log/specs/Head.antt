@@ -45,7 +45,10 @@ pub record FitsHead (head : LogHead) : Type 0 where
 
 -- whether a line is the head of a log of either format
 abbrev pub is_head : List ℕ → Bool
-is_head line = (word line 0 == log_magic) && (((word line 1 == 1) || (word line 1 == 2)) && (nat_lt (word line 2) (word line 3) && (nat_le (word line 3) 16 && (nat_le 1 (word line 4) && nat_le (word line 4) 4))))
+is_head line = (word line 0 == log_magic)
+    && (((word line 1 == 1) || (word line 1 == 2))
+    && (nat_lt (word line 2) (word line 3)
+    && (nat_le (word line 3) 16 && (nat_le 1 (word line 4) && nat_le (word line 4) 4))))
 
 -- the head that a line says
 abbrev pub head_of : List ℕ → LogHead

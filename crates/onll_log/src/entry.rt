@@ -115,7 +115,9 @@ fn is_next(head: &LogHead, before: u64, line: &Line) -> bool
 /// Whether an entry can have this count of nodes and this place, with this many lines after its first.
 fn has_room(threads: u64, count: u64, place: u64, rest: u64) -> bool
     requires { threads ≤ most_threads }
-    ensures { result ≡ nat_le 1 count && (nat_le count threads && (nat_le count place && (nat_le place (most_updates * threads) && nat_le count rest))) }
+    ensures { result ≡ nat_le 1 count
+        && (nat_le count threads && (nat_le count place
+        && (nat_le place (most_updates * threads) && nat_le count rest))) }
 {
     1 <= count
         && count <= threads
@@ -128,7 +130,8 @@ fn has_room(threads: u64, count: u64, place: u64, rest: u64) -> bool
 fn is_guarded(head: &LogHead, line: &Line, lines: &[Line]) -> bool
     requires threads { head.now.threads ≤ most_threads }
     requires few { length lines.now ≤ most_threads }
-    ensures { result ≡ all_named (most_updates * head.now.threads) (words_of lines.now) && same_words (drop 5 line.now.w) (guard head.now (take 5 line.now.w) (words_of lines.now)) }
+    ensures { result ≡ all_named (most_updates * head.now.threads) (words_of lines.now)
+        && same_words (drop 5 line.now.w) (guard head.now (take 5 line.now.w) (words_of lines.now)) }
 {
     let [_, _, _, _, _, a, b, c] = line.w;
     are_named(MOST_UPDATES * head.threads, lines) && [a, b, c] == guard(head, &line.w[..5], lines)

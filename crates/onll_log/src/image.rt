@@ -115,7 +115,8 @@ fn entries_of(alloc: Global, head: &LogHead, lines: &[Line]) -> Result<Vec<Entry
 fn log_of(alloc: Global, head: LogHead, lines: &[Line]) -> Result<Decoded, DecodeFault>
     requires threads { head.threads ≤ most_threads }
     requires head { 1 ≤ length lines.now }
-    ensures content { IfOk result (λ d. content_in d ≡ record { head = Some head; entries = entries_from head 0 0 (drop 1 (words_of lines.now)) }) }
+    ensures content { IfOk result (λ d. content_in d
+        ≡ record { head = Some head; entries = entries_from head 0 0 (drop 1 (words_of lines.now)) }) }
     ensures lines { IfOk result (λ d. d.entries ≡ placed_from 1 (segments_in d.entries)) }
     ensures used { IfOk result (λ d. used_by (content_in d) ≤ length lines.now) }
     ensures refused { IfErr result (λ fault. fault ≡ DecodeFault.NoMemory) }

@@ -108,9 +108,16 @@ impl<P: Pmem> Model for ThreadLog<P> {
 
     ghost Value = { LogState P };
 
-    ghost view = { λ l. record { head = l.head; entries = entries_read l.head (P.means l.device).read; fences = l.fences; broken = l.broken; device = l.device } };
+    ghost view = { λ l. record {
+      head = l.head;
+      entries = entries_read l.head (P.means l.device).read;
+      fences = l.fences;
+      broken = l.broken;
+      device = l.device;
+    } };
 
-    ghost invariant = { λ l. KeepsLog (P.means l.device) l.head (entries_read l.head (P.means l.device).read) l.used l.entries l.last l.fences l.broken };
+    ghost invariant = { λ l. KeepsLog (P.means l.device) l.head
+        (entries_read l.head (P.means l.device).read) l.used l.entries l.last l.fences l.broken };
 }
 
 impl<P: Pmem> ThreadLog<P> {
@@ -286,7 +293,8 @@ impl<P: Pmem> ThreadLog<P> {
         ensures fences { self.new.fences ≡ self.old.fences + 1 }
         ensures broken { self.new.broken ≡ is_err result }
         ensures lines { let s : Segment = record { place = place; nodes = nodes.now } in
-            Appends (P.means self.old.device) (P.means self.new.device) (1 + lines_in self.old.entries) (entry_lines self.old.head (length self.old.entries) s) }
+            Appends (P.means self.old.device) (P.means self.new.device) (1 + lines_in self.old.entries)
+            (entry_lines self.old.head (length self.old.entries) s) }
         ensures faults { OnOk result ((P.means self.new.device).faults ≡ (P.means self.old.device).faults) }
         ensures settled { OnOk result (ToldSettled (P.means self.new.device).told (P.means self.new.device).read) }
         ensures failed { OnErr result ((P.means self.new.device).faults ≡ (P.means self.old.device).faults + 1) }

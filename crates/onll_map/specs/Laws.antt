@@ -34,7 +34,8 @@ op_of_its_row (Put k v) =
 op_of_its_row (Del k) = del_row (packed k.bytes) (length-packed k.bytes) ∙ ap del_of (unpacked-packed k)
 
 -- the words of an operation whose texts are read from words
-put_words : (ks vs : List ℕ) (o p : Option ShortText) (op : MapOp) → unpacked ks ≡ o → unpacked vs ≡ p → put_of o p ≡ Some op → (map_row op).w ≡ 1 ∷ ks ++ vs
+put_words : (ks vs : List ℕ) (o p : Option ShortText) (op : MapOp) → unpacked ks ≡ o → unpacked vs ≡ p
+    → put_of o p ≡ Some op → (map_row op).w ≡ 1 ∷ ks ++ vs
 put_words ks vs (Some k) (Some v) op h g e =
     let same : Put k v ≡ op = cc e in
     let left = packed-unpacked ks k h in
@@ -43,7 +44,8 @@ put_words ks vs (Some k) (Some v) op h g e =
 put_words ks vs (Some k) None op h g e = cc
 put_words ks vs None p op h g e = cc
 
-del_words : (ks : List ℕ) (o : Option ShortText) (op : MapOp) → unpacked ks ≡ o → del_of o ≡ Some op → (map_row op).w ≡ 2 ∷ ks ++ 0 ∷ 0 ∷ 0 ∷ []
+del_words : (ks : List ℕ) (o : Option ShortText) (op : MapOp) → unpacked ks ≡ o → del_of o ≡ Some op
+    → (map_row op).w ≡ 2 ∷ ks ++ 0 ∷ 0 ∷ 0 ∷ []
 del_words ks (Some k) op h e =
     let same : Del k ≡ op = cc e in
     let left = packed-unpacked ks k h in
@@ -55,7 +57,8 @@ put_tested : (n a b c d e f : ℕ) → (n == 1) ≡ true → 1 ∷ a ∷ b ∷ c
 put_tested n a b c d e f h = let hn : n ≡ 1 = grind (arith, nat_tests) in cc
 
 -- the words of a delete's row, where the test of them holds
-del_tested : (n a b c d e f : ℕ) → (n == 2 && (d == 0) && (e == 0) && (f == 0)) ≡ true → 2 ∷ a ∷ b ∷ c ∷ 0 ∷ 0 ∷ 0 ∷ [] ≡ n ∷ a ∷ b ∷ c ∷ d ∷ e ∷ f ∷ []
+del_tested : (n a b c d e f : ℕ) → (n == 2 && (d == 0) && (e == 0) && (f == 0)) ≡ true
+    → 2 ∷ a ∷ b ∷ c ∷ 0 ∷ 0 ∷ 0 ∷ [] ≡ n ∷ a ∷ b ∷ c ∷ d ∷ e ∷ f ∷ []
 del_tested n a b c d e f h =
     let hn : n ≡ 2 = grind (arith, nat_tests) in
     let hd : d ≡ 0 = grind (arith, nat_tests) in
@@ -64,7 +67,8 @@ del_tested n a b c d e f h =
     cc
 
 -- the rows of these words, by the tests in turn
-by_tests : (t u : Bool) (ws : List ℕ) (o p : Option MapOp) (op : MapOp) → (t ≡ true → o ≡ Some op → (map_row op).w ≡ ws) → (u ≡ true → p ≡ Some op → (map_row op).w ≡ ws)
+by_tests : (t u : Bool) (ws : List ℕ) (o p : Option MapOp) (op : MapOp) → (t ≡ true → o ≡ Some op → (map_row op).w ≡ ws)
+    → (u ≡ true → p ≡ Some op → (map_row op).w ≡ ws)
     → cond t o (cond u p None) ≡ Some op → (map_row op).w ≡ ws
 by_tests true u ws o p op f g e = f refl e
 by_tests false true ws o p op f g e = g refl e
@@ -74,7 +78,8 @@ words_of_its_op : (ws : List ℕ) (op : MapOp) → op_of_words ws ≡ Some op �
 words_of_its_op (n ∷ a ∷ b ∷ c ∷ d ∷ e ∷ f ∷ []) op h =
     let ks : List ℕ = a ∷ b ∷ c ∷ [] in
     let vs : List ℕ = d ∷ e ∷ f ∷ [] in
-    by_tests (n == 1) (n == 2 && (d == 0) && (e == 0) && (f == 0)) (n ∷ a ∷ b ∷ c ∷ d ∷ e ∷ f ∷ []) (put_of (unpacked ks) (unpacked vs)) (del_of (unpacked ks)) op
+    by_tests (n == 1) (n == 2 && (d == 0) && (e == 0) && (f == 0)) (n ∷ a ∷ b ∷ c ∷ d ∷ e ∷ f ∷ [])
+    (put_of (unpacked ks) (unpacked vs)) (del_of (unpacked ks)) op
     (λ t o. put_words ks vs (unpacked ks) (unpacked vs) op refl refl o ∙ put_tested n a b c d e f t)
     (λ t o. del_words ks (unpacked ks) op refl o ∙ del_tested n a b c d e f t)
     h

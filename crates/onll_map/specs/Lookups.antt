@@ -27,7 +27,8 @@ DelLaw = (s : Entries) (k : ShortText) → IsMap s → get (map_next s (Del k)) 
 
 -- a put and a delete keep what each other key has
 abbrev pub OthersLaw : Type 0
-OthersLaw = (s : Entries) (k v q : ShortText) → IsMap s → q ≢ k → (get (map_next s (Put k v)) q ≡ get s q) × (get (map_next s (Del k)) q ≡ get s q)
+OthersLaw = (s : Entries) (k v q : ShortText) → IsMap s → q ≢ k → (get (map_next s (Put k v)) q ≡ get s q)
+    × (get (map_next s (Del k)) q ≡ get s q)
 
 -- a put that is refused changes nothing
 abbrev pub FullLaw : Type 0

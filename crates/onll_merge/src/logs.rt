@@ -26,7 +26,8 @@ fn fits(head: Option<LogHead>, expected: LogHead) -> bool
 /// Whether each head that a log has is its expected one.
 pub fn check_heads(logs: &[Decoded], heads: &[LogHead]) -> Result<(), RecoverFault>
     requires { length heads.now ≡ length logs.now }
-    ensures { MatchResult result (λ _. foreign 0 (contents_in logs.now) heads.now ≡ None) (λ e. foreign 0 (contents_in logs.now) heads.now ≡ Some e) }
+    ensures { MatchResult result (λ _. foreign 0 (contents_in logs.now) heads.now ≡ None)
+        (λ e. foreign 0 (contents_in logs.now) heads.now ≡ Some e) }
 {
     for (log, decoded) in logs.iter().enumerate() {
         if !fits(decoded.head, heads[log]) {
@@ -87,7 +88,8 @@ fn check_others(
     requires count { length logs.now ≤ length passed.old }
     requires passed { ArePassedInAll logs.now passed.old place }
     requires log { log < length logs.now }
-    ensures others { MatchResult result (λ _. differs place log (log + 1) node (contents_in (drop (log + 1) logs.now)) ≡ None) (λ e. differs place log (log + 1) node (contents_in (drop (log + 1) logs.now)) ≡ Some e) }
+    ensures others { MatchResult result (λ _. differs place log (log + 1) node (contents_in (drop (log + 1) logs.now))
+        ≡ None) (λ e. differs place log (log + 1) node (contents_in (drop (log + 1) logs.now)) ≡ Some e) }
     ensures passed { ArePassedInAll logs.now passed.new place }
 {
     for other in log + 1..logs.len() {
@@ -112,7 +114,8 @@ fn node_of_place(
     requires rise { AllRise (contents_in logs.now) }
     requires count { length logs.now ≤ length passed.old }
     requires passed { ArePassedInAll logs.now passed.old place }
-    ensures clash { MatchResult result (λ _. clash_at (contents_in logs.now) place ≡ None) (λ e. clash_at (contents_in logs.now) place ≡ Some e) }
+    ensures clash { MatchResult result (λ _. clash_at (contents_in logs.now) place ≡ None)
+        (λ e. clash_at (contents_in logs.now) place ≡ Some e) }
     ensures node { IfOk result (λ node. node ≡ node_in_logs (contents_in logs.now) place) }
     ensures passed { ArePassedInAll logs.now passed.new place }
 {
@@ -137,7 +140,8 @@ fn check_above(
     requires passed { ArePassedInAll logs.now passed.old place }
     requires below { first_to (clash_at (contents_in logs.now)) place ≡ None }
     requires top { place ≤ top }
-    ensures { MatchResult result (λ _. first_to (clash_at (contents_in logs.now)) top ≡ None) (λ e. first_to (clash_at (contents_in logs.now)) top ≡ Some e) }
+    ensures { MatchResult result (λ _. first_to (clash_at (contents_in logs.now)) top ≡ None)
+        (λ e. first_to (clash_at (contents_in logs.now)) top ≡ Some e) }
 {
     let mut at = place;
     while at < top {
@@ -151,7 +155,8 @@ fn check_above(
 pub fn gather(alloc: Global, logs: &[Decoded], top: u64) -> Result<Vec<Node>, RecoverFault>
     requires rise { AllRise (contents_in logs.now) }
     requires count { length logs.now ≤ most_threads }
-    ensures places { MatchResult result (λ _. unlike (contents_in logs.now) top ≡ None) (λ e. (e ≡ NoMemory) ⊎ (unlike (contents_in logs.now) top ≡ Some e)) }
+    ensures places { MatchResult result (λ _. unlike (contents_in logs.now) top ≡ None)
+        (λ e. (e ≡ NoMemory) ⊎ (unlike (contents_in logs.now) top ≡ Some e)) }
     ensures nodes { IfOk result (λ v. v.items ≡ nodes_to (contents_in logs.now) top) }
 {
     let mut passed = [0; LOGS];

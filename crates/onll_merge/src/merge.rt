@@ -19,7 +19,8 @@ pub fn recover(
 ) -> Result<Vec<Node>, RecoverFault>
     requires logs { length logs.now ≤ most_threads }
     requires heads { length heads.now ≡ length logs.now }
-    ensures { MatchResult result (λ v. merge heads.now (contents_in logs.now) ≡ Ok v.items) (λ e. (e ≡ NoMemory) ⊎ (merge heads.now (contents_in logs.now) ≡ Err e)) }
+    ensures { MatchResult result (λ v. merge heads.now (contents_in logs.now) ≡ Ok v.items)
+        (λ e. (e ≡ NoMemory) ⊎ (merge heads.now (contents_in logs.now) ≡ Err e)) }
 {
     check_heads(logs, heads)?;
     check_orders(logs)?;

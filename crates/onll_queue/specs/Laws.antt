@@ -15,7 +15,9 @@ op_of_its_row (Push x) = refl
 op_of_its_row Pop = refl
 
 -- the words of a pop, where the test of its words holds
-pop_words : (k a b c d e f : ℕ) → (k == 2 && (a == 0) && (b == 0) && (c == 0) && (d == 0) && (e == 0) && (f == 0)) ≡ true → 2 ∷ 0 ∷ 0 ∷ 0 ∷ 0 ∷ 0 ∷ 0 ∷ [] ≡ k ∷ a ∷ b ∷ c ∷ d ∷ e ∷ f ∷ []
+pop_words : (k a b c d e f : ℕ)
+    → (k == 2 && (a == 0) && (b == 0) && (c == 0) && (d == 0) && (e == 0) && (f == 0)) ≡ true
+    → 2 ∷ 0 ∷ 0 ∷ 0 ∷ 0 ∷ 0 ∷ 0 ∷ [] ≡ k ∷ a ∷ b ∷ c ∷ d ∷ e ∷ f ∷ []
 pop_words k a b c d e f h =
     let hk : k ≡ 2 = grind (arith, nat_tests) in
     let ha : a ≡ 0 = grind (arith, nat_tests) in
@@ -36,7 +38,8 @@ by_tests false false ws x₁ x₂ op f₁ f₂ e = cc
 
 words_of_its_op : (ws : List ℕ) (op : QueueOp) → op_of_words ws ≡ Some op → (queue_row op).w ≡ ws
 words_of_its_op (k ∷ a ∷ b ∷ c ∷ d ∷ e ∷ f ∷ []) op h =
-    by_tests (k == 1 && (b == 0) && (c == 0) && (d == 0) && (e == 0) && (f == 0)) (k == 2 && (a == 0) && (b == 0) && (c == 0) && (d == 0) && (e == 0) && (f == 0))
+    by_tests (k == 1 && (b == 0) && (c == 0) && (d == 0) && (e == 0) && (f == 0))
+    (k == 2 && (a == 0) && (b == 0) && (c == 0) && (d == 0) && (e == 0) && (f == 0))
     (k ∷ a ∷ b ∷ c ∷ d ∷ e ∷ f ∷ []) (Push a) Pop op
     (one_argument 1 k a b c d e f) (pop_words k a b c d e f) h
 words_of_its_op _ op h = cc

@@ -34,7 +34,8 @@ given_out (reply ∷ replies) = given_out replies
 -- The items that were there and then those taken in are the items given out and then those that are left: they leave
 -- in the order in which they came, each once.
 abbrev pub OrderLaw : Type 0
-OrderLaw = (s : Items) (ops : List QueueOp) → s.items ++ taken_in ops (replies_of s ops) ≡ given_out (replies_of s ops) ++ (queue_after s ops).items
+OrderLaw = (s : Items) (ops : List QueueOp)
+    → s.items ++ taken_in ops (replies_of s ops) ≡ given_out (replies_of s ops) ++ (queue_after s ops).items
 
 -- there are never more items than there is room for
 abbrev pub BoundLaw : Type 0

@@ -58,7 +58,8 @@ fn make_passes<O: Object + Drop, P: Pmem + Drop>(
     requires spots { length spots.items ≡ length rooms.now }
     requires logs { length logs.items ≡ length rooms.now }
     requires plan { HasRoomFor trace.now.plan spots.items }
-    ensures { IfOk result (λ passes. AreMade P.means replica.now (base_place trace.now.plan) spots.items logs.items rooms.now passes.items) }
+    ensures { IfOk result (λ passes. AreMade P.means replica.now
+        (base_place trace.now.plan) spots.items logs.items rooms.now passes.items) }
 {
     let nodes = trace.nodes() * trace.threads();
     let base = trace.base();

@@ -41,7 +41,8 @@ head_of [] = Err UnknownObject
 head_of (first ∷ args) = kind_of first >>= λ kind. capacity_of args >>= λ capacity. Ok (record { kind = kind; capacity = capacity })
 
 -- what is in the making, after further lines
-abbrev pub after_lines : {Making : Type 0} → (Making → List (List ℕ) → Result Making Reason) → Making → List Numbered → Result Making Refusal
+abbrev pub after_lines : {Making : Type 0} → (Making → List (List ℕ) → Result Making Reason) → Making → List Numbered
+    → Result Making Refusal
 after_lines with_line made [] = Ok made
 after_lines with_line made (l ∷ lines) = at_line l.number (with_line made (words_of l.line)) >>= λ more. after_lines with_line more lines
 

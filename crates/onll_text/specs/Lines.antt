@@ -25,12 +25,14 @@ end_words w (FenceFailed place) = codes "fence" ∷ codes "failed" ∷ at_words 
 end_words w (Broken place) = codes "broken" ∷ at_words place
 
 -- call number k of a thread: `call T K CALL -> ..`
-abbrev pub call_line : {State Op Query Reply : Type 0} → Wording State Op Query Reply → ℕ → ℕ → Call State Op Query Reply → CallEnd State Op Query Reply → List (List ℕ)
+abbrev pub call_line : {State Op Query Reply : Type 0} → Wording State Op Query Reply → ℕ → ℕ
+    → Call State Op Query Reply → CallEnd State Op Query Reply → List (List ℕ)
 call_line w thread number call end =
     codes "call" ∷ decimal thread ∷ decimal number ∷ (call_words w call ++ codes "->" ∷ end_words w end)
 
 -- the line of each outcome, the first of them of call number k + 1
-abbrev pub call_lines : {State Op Query Reply : Type 0} → Wording State Op Query Reply → ℕ → ℕ → List (Call State Op Query Reply) → List (CallEnd State Op Query Reply) → List (List (List ℕ))
+abbrev pub call_lines : {State Op Query Reply : Type 0} → Wording State Op Query Reply → ℕ → ℕ
+    → List (Call State Op Query Reply) → List (CallEnd State Op Query Reply) → List (List (List ℕ))
 call_lines w thread k calls [] = []
 call_lines w thread k [] ends = []
 call_lines w thread k (c ∷ calls) (e ∷ ends) = call_line w thread (k + 1) c e ∷ call_lines w thread (k + 1) calls ends
@@ -49,12 +51,14 @@ row_words w None = []
 row_words w (Some op) = w.op_words op
 
 -- the node at a place, with its flag where there is one: `node P T N CALL`
-abbrev pub node_line : {State Op Query Reply : Type 0} → Behaviour State Op Query Reply → Wording State Op Query Reply → ℕ → Node → Option Bool → List (List ℕ)
+abbrev pub node_line : {State Op Query Reply : Type 0} → Behaviour State Op Query Reply → Wording State Op Query Reply
+    → ℕ → Node → Option Bool → List (List ℕ)
 node_line b w place node flag =
     codes "node" ∷ decimal place ∷ decimal node.thread ∷ decimal node.number ∷ (flag_words flag ++ row_words w (b.op_at node.row))
 
 -- the line of each node, the first of them at place p + 1, without flags
-abbrev pub node_lines : {State Op Query Reply : Type 0} → Behaviour State Op Query Reply → Wording State Op Query Reply → ℕ → List Node → List (List (List ℕ))
+abbrev pub node_lines : {State Op Query Reply : Type 0} → Behaviour State Op Query Reply → Wording State Op Query Reply
+    → ℕ → List Node → List (List (List ℕ))
 node_lines b w p [] = []
 node_lines b w p (n ∷ nodes) = node_line b w (p + 1) n None ∷ node_lines b w (p + 1) nodes
 

@@ -23,12 +23,14 @@ EndReads w (FenceFailed place) = place < 2 ^ 64
 EndReads w (Broken place) = place < 2 ^ 64
 
 -- the outcomes of a script's first calls, each of which reads back
-pub record EndsRead {State Op Query Reply : Type 0} (w : Wording State Op Query Reply) (script : List (Call State Op Query Reply)) (ends : List (CallEnd State Op Query Reply)) : Type 0 where
+pub record EndsRead {State Op Query Reply : Type 0} (w : Wording State Op Query Reply)
+    (script : List (Call State Op Query Reply)) (ends : List (CallEnd State Op Query Reply)) : Type 0 where
   pub few : length ends ≤ length script
   pub reads : All (EndReads w) ends
 
 -- a node: its numbers are of 64 bits, and its row is that of an operation that reads back
-pub record NodeReads {State Op Query Reply : Type 0} (b : Behaviour State Op Query Reply) (w : Wording State Op Query Reply) (node : Node) : Type 0 where
+pub record NodeReads {State Op Query Reply : Type 0} (b : Behaviour State Op Query Reply)
+    (w : Wording State Op Query Reply) (node : Node) : Type 0 where
   pub thread : node.thread < 2 ^ 64
   pub number : node.number < 2 ^ 64
   pub op : Op
@@ -57,19 +59,23 @@ TextDeterminedLaw = (lines others : List (List (List ℕ))) → AreMeaningful li
 -- the lines of a thread's calls determine what became of each, whatever other lines follow them
 abbrev pub CallsDeterminedLaw : {State Op Query Reply : Type 0} → Wording State Op Query Reply → Type 0
 CallsDeterminedLaw {State} {Op} {Query} {Reply} w =
-    (thread : ℕ) (script : List (Call State Op Query Reply)) (ends others : List (CallEnd State Op Query Reply)) (lines more : List (List (List ℕ)))
+    (thread : ℕ) (script : List (Call State Op Query Reply)) (ends others : List (CallEnd State Op Query Reply))
+    (lines more : List (List (List ℕ)))
     → EndsRead w script ends → EndsRead w script others → NoCallNext thread lines → NoCallNext thread more
     → call_lines w thread 0 script ends ++ lines ≡ call_lines w thread 0 script others ++ more → (ends ≡ others) × (lines ≡ more)
 
 -- the lines of nodes determine these
 abbrev pub NodesDeterminedLaw : {State Op Query Reply : Type 0} → Behaviour State Op Query Reply → Wording State Op Query Reply → Type 0
 NodesDeterminedLaw b w =
-    (nodes others : List Node) (lines more : List (List (List ℕ))) → All (NodeReads b w) nodes → All (NodeReads b w) others → NoNodeNext lines → NoNodeNext more
+    (nodes others : List Node) (lines more : List (List (List ℕ))) → All (NodeReads b w) nodes
+    → All (NodeReads b w) others → NoNodeNext lines → NoNodeNext more
     → node_lines b w 0 nodes ++ lines ≡ node_lines b w 0 others ++ more → (nodes ≡ others) × (lines ≡ more)
 
 -- the lines of a state determine it
 abbrev pub StateDeterminedLaw : {State Op Query Reply : Type 0} → Wording State Op Query Reply → Type 0
-StateDeterminedLaw {State} w = (state other : State) → StateReads w state → StateReads w other → state_lines w state ≡ state_lines w other → state ≡ other
+StateDeterminedLaw {State} w =
+    (state other : State) → StateReads w state → StateReads w other → state_lines w state ≡ state_lines w other
+    → state ≡ other
 
 -- ---- the report of one thread
 -- what a report of one thread says: what became of its calls, the trace, and the state
@@ -79,13 +85,17 @@ pub record FoldData (State Op Query Reply : Type 0) : Type 0 where
   pub state : State
 
 -- its lines, for this script
-abbrev pub fold_data_lines : {State Op Query Reply : Type 0} → Behaviour State Op Query Reply → Wording State Op Query Reply → List (Call State Op Query Reply) → FoldData State Op Query Reply → List (List (List ℕ))
+abbrev pub fold_data_lines : {State Op Query Reply : Type 0} → Behaviour State Op Query Reply
+    → Wording State Op Query Reply → List (Call State Op Query Reply) → FoldData State Op Query Reply
+    → List (List (List ℕ))
 fold_data_lines b w script said =
     call_lines w 0 0 script said.ends
     ++ (trace_line (length said.nodes) ∷ (node_lines b w 0 said.nodes ++ state_lines w said.state))
 
 -- all that it says reads back
-pub record FoldDataReads {State Op Query Reply : Type 0} (b : Behaviour State Op Query Reply) (w : Wording State Op Query Reply) (script : List (Call State Op Query Reply)) (said : FoldData State Op Query Reply) : Type 0 where
+pub record FoldDataReads {State Op Query Reply : Type 0} (b : Behaviour State Op Query Reply)
+    (w : Wording State Op Query Reply) (script : List (Call State Op Query Reply))
+    (said : FoldData State Op Query Reply) : Type 0 where
   pub ends : EndsRead w script said.ends
   pub nodes : All (NodeReads b w) said.nodes
   pub state : StateReads w said.state
@@ -93,12 +103,14 @@ pub record FoldDataReads {State Op Query Reply : Type 0} (b : Behaviour State Op
 -- its bytes determine all that it says
 abbrev pub FoldDeterminedLaw : {State Op Query Reply : Type 0} → Behaviour State Op Query Reply → Wording State Op Query Reply → Type 0
 FoldDeterminedLaw {State} {Op} {Query} {Reply} b w =
-    (script : List (Call State Op Query Reply)) (said other : FoldData State Op Query Reply) → FoldDataReads b w script said → FoldDataReads b w script other
+    (script : List (Call State Op Query Reply)) (said other : FoldData State Op Query Reply)
+    → FoldDataReads b w script said → FoldDataReads b w script other
     → flat_map line_text (fold_data_lines b w script said) ≡ flat_map line_text (fold_data_lines b w script other) → said ≡ other
 
 -- ---- any report
 -- of what reads back these bytes say this and nothing else
-pub record SaysOnly {Said : Type 0} (lines : Said → List (List (List ℕ))) (Reads : Said → Type 0) (bytes : List ℕ) (said : Said) : Type 0 where
+pub record SaysOnly {Said : Type 0} (lines : Said → List (List (List ℕ))) (Reads : Said → Type 0) (bytes : List ℕ)
+    (said : Said) : Type 0 where
   pub printed : bytes ≡ flat_map line_text (lines said)
   pub reads : Reads said
   pub only : (other : Said) → Reads other → bytes ≡ flat_map line_text (lines other) → said ≡ other

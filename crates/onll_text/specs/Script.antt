@@ -26,11 +26,13 @@ counted n (Update op) = only_if (nat_lt n.updates most_calls) TooMany (record { 
 counted n (Ask query) = only_if (nat_lt n.reads most_calls) TooMany (record { updates = n.updates; reads = n.reads + 1 })
 
 -- the call of a line's words, after so many calls, and how many there are with it
-abbrev pub call_after : {State Op Query Reply : Type 0} → Wording State Op Query Reply → Counts → List (List ℕ) → Result (Call State Op Query Reply × Counts) Reason
+abbrev pub call_after : {State Op Query Reply : Type 0} → Wording State Op Query Reply → Counts → List (List ℕ)
+    → Result (Call State Op Query Reply × Counts) Reason
 call_after w n words = w.call_of words >>= λ call. counted n call >>= λ m. Ok (call, m)
 
 -- the calls of meaningful lines, after so many calls
-abbrev pub calls_in : {State Op Query Reply : Type 0} → Wording State Op Query Reply → Counts → List Numbered → Result (List (Call State Op Query Reply)) Refusal
+abbrev pub calls_in : {State Op Query Reply : Type 0} → Wording State Op Query Reply → Counts → List Numbered
+    → Result (List (Call State Op Query Reply)) Refusal
 calls_in w n [] = Ok []
 calls_in w n (l ∷ lines) = at_line l.number (call_after w n (words_of l.line)) >>= λ c. calls_in w c.1 lines >>= λ calls. Ok (c.0 ∷ calls)
 
@@ -38,5 +40,6 @@ abbrev pub no_calls : Counts
 no_calls = record { updates = 0; reads = 0 }
 
 -- the calls of a script, or why its text is none
-abbrev pub script_of : {State Op Query Reply : Type 0} → Wording State Op Query Reply → List ℕ → Result (List (Call State Op Query Reply)) Refusal
+abbrev pub script_of : {State Op Query Reply : Type 0} → Wording State Op Query Reply → List ℕ
+    → Result (List (Call State Op Query Reply)) Refusal
 script_of w text = if is_too_long text then Err (refused 0 TooLong) else calls_in w no_calls (meaningful_lines text)

@@ -28,7 +28,9 @@ three_numbers (a ∷ b ∷ c ∷ []) = word_as_number a >>= λ x. word_as_number
 three_numbers _ = Err WrongCount
 
 abbrev pub four_numbers : List (List ℕ) → Result (ℕ × ℕ × ℕ × ℕ) Reason
-four_numbers (a ∷ b ∷ c ∷ d ∷ []) = word_as_number a >>= λ x. word_as_number b >>= λ y. word_as_number c >>= λ z. word_as_number d >>= λ u. Ok (x, y, z, u)
+four_numbers (a ∷ b ∷ c ∷ d ∷ []) =
+    word_as_number a >>= λ x. word_as_number b >>= λ y. word_as_number c >>= λ z. word_as_number d >>= λ u.
+    Ok (x, y, z, u)
 four_numbers _ = Err WrongCount
 
 abbrev pub word_as_short : List ℕ → Result ShortText Reason

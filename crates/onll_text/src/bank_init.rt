@@ -49,7 +49,8 @@ impl BankInit {
 
     /// Puts the balance of an account in, by a deposit.
     fn add_account(&mut self, a: u64, balance: u64) -> Result<(), Reason>
-        ensures added { MatchResult result (λ _. with_account self.old (a, balance) ≡ Ok self.new) (λ e. with_account self.old (a, balance) ≡ Err e) }
+        ensures added { MatchResult result (λ _. with_account self.old (a, balance) ≡ Ok self.new)
+            (λ e. with_account self.old (a, balance) ≡ Err e) }
         ensures refused { OnErr result (self.new ≡ self.old) }
     {
         if a >= self.bank.capacity() {

@@ -25,13 +25,15 @@ pub(crate) trait Initial: Sized {
 
     /// Takes one line more; a refused one changes nothing.
     fn add_line(&mut self, line: &[u8]) -> Result<(), Reason>
-        ensures added { MatchResult result (λ _. with_line self.old (words_of line.now) ≡ Ok self.new) (λ e. with_line self.old (words_of line.now) ≡ Err e) }
+        ensures added { MatchResult result (λ _. with_line self.old (words_of line.now) ≡ Ok self.new)
+            (λ e. with_line self.old (words_of line.now) ≡ Err e) }
         ensures refused { OnErr result (self.new ≡ self.old) };
 }
 
 /// Takes all lines that are left.
 fn add_lines<I: Initial>(made: &mut I, lines: &mut Lines<'_>) -> Result<(), TextFault>
-    ensures { MatchResult result (λ _. after_lines I.with_line made.old lines.old ≡ Ok made.new) (λ fault. Fails fault (after_lines I.with_line made.old lines.old)) }
+    ensures { MatchResult result (λ _. after_lines I.with_line made.old lines.old ≡ Ok made.new)
+        (λ fault. Fails fault (after_lines I.with_line made.old lines.old)) }
 {
     while let Some(NumberedLine { number, line }) = lines.next_line() {
         match made.add_line(line) {
@@ -94,7 +96,8 @@ fn read_head(line: &[u8]) -> Result<Head, Reason>
 /// The bank of this many accounts, with the lines that are left.
 fn read_bank(alloc: Global, capacity: u64, lines: &mut Lines<'_>) -> Result<Bank, TextFault>
     requires { (1 ≤ capacity) × (capacity ≤ most_elements) }
-    ensures { MatchResult result (λ bank. bank_of_lines capacity lines.old ≡ Ok bank) (λ fault. Fails fault (bank_of_lines capacity lines.old)) }
+    ensures { MatchResult result (λ bank. bank_of_lines capacity lines.old ≡ Ok bank)
+        (λ fault. Fails fault (bank_of_lines capacity lines.old)) }
 {
     let mut made = BankInit::begin(alloc, capacity)?;
     add_lines(&mut made, lines)?;
@@ -104,7 +107,8 @@ fn read_bank(alloc: Global, capacity: u64, lines: &mut Lines<'_>) -> Result<Bank
 /// The map of at most so many pairs, with the lines that are left.
 fn read_map(alloc: Global, capacity: u64, lines: &mut Lines<'_>) -> Result<Map, TextFault>
     requires { (1 ≤ capacity) × (capacity ≤ most_elements) }
-    ensures { MatchResult result (λ map. map_of_lines capacity lines.old ≡ Ok map) (λ fault. Fails fault (map_of_lines capacity lines.old)) }
+    ensures { MatchResult result (λ map. map_of_lines capacity lines.old ≡ Ok map)
+        (λ fault. Fails fault (map_of_lines capacity lines.old)) }
 {
     let mut map = Map::make(alloc, capacity)?;
     add_lines(&mut map, lines)?;
@@ -114,7 +118,8 @@ fn read_map(alloc: Global, capacity: u64, lines: &mut Lines<'_>) -> Result<Map, 
 /// The queue of at most so many items, with the lines that are left.
 fn read_queue(alloc: Global, capacity: u64, lines: &mut Lines<'_>) -> Result<Queue, TextFault>
     requires { (1 ≤ capacity) × (capacity ≤ most_elements) }
-    ensures { MatchResult result (λ queue. queue_of_lines capacity lines.old ≡ Ok queue) (λ fault. Fails fault (queue_of_lines capacity lines.old)) }
+    ensures { MatchResult result (λ queue. queue_of_lines capacity lines.old ≡ Ok queue)
+        (λ fault. Fails fault (queue_of_lines capacity lines.old)) }
 {
     let mut queue = Queue::make(alloc, capacity)?;
     add_lines(&mut queue, lines)?;
@@ -124,7 +129,8 @@ fn read_queue(alloc: Global, capacity: u64, lines: &mut Lines<'_>) -> Result<Que
 /// The leases of this many resources, with the lines that are left.
 fn read_lease(alloc: Global, capacity: u64, lines: &mut Lines<'_>) -> Result<Lease, TextFault>
     requires { (1 ≤ capacity) × (capacity ≤ most_elements) }
-    ensures { MatchResult result (λ lease. lease_of_lines capacity lines.old ≡ Ok lease) (λ fault. Fails fault (lease_of_lines capacity lines.old)) }
+    ensures { MatchResult result (λ lease. lease_of_lines capacity lines.old ≡ Ok lease)
+        (λ fault. Fails fault (lease_of_lines capacity lines.old)) }
 {
     let mut lease = Lease::make(alloc, capacity)?;
     add_lines(&mut lease, lines)?;
@@ -133,7 +139,8 @@ fn read_lease(alloc: Global, capacity: u64, lines: &mut Lines<'_>) -> Result<Lea
 
 fn read_object(alloc: Global, head: Head, lines: &mut Lines<'_>) -> Result<AnyObject, TextFault>
     requires { (1 ≤ head.capacity) × (head.capacity ≤ most_elements) }
-    ensures { MatchResult result (λ object. object_of head.kind head.capacity lines.old ≡ Ok object) (λ fault. Fails fault (object_of head.kind head.capacity lines.old)) }
+    ensures { MatchResult result (λ object. object_of head.kind head.capacity lines.old ≡ Ok object)
+        (λ fault. Fails fault (object_of head.kind head.capacity lines.old)) }
 {
     match head.kind {
         Kind::Bank => {

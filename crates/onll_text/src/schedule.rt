@@ -118,7 +118,8 @@ fn read_line(line: &[u8], threads: u64, steps: u64) -> Result<ScheduleLine, Reas
 
 /// The schedule of these turns and this crash, where no line is left.
 fn crashed(turns: Vec<Turn>, keep: u64, lines: &mut Lines<'_>) -> Result<Schedule, TextFault>
-    ensures schedule { MatchResult result (λ schedule. after_turns turns.items (ended_by keep lines.old) ≡ Ok schedule) (λ fault. Fails fault (after_turns turns.items (ended_by keep lines.old))) }
+    ensures schedule { MatchResult result (λ schedule. after_turns turns.items (ended_by keep lines.old) ≡ Ok schedule)
+        (λ fault. Fails fault (after_turns turns.items (ended_by keep lines.old))) }
     ensures memory { IfErr result (λ fault. fault ≢ TextFault.NoMemory) }
 {
     match lines.next_line() {
@@ -136,7 +137,8 @@ fn crashed(turns: Vec<Turn>, keep: u64, lines: &mut Lines<'_>) -> Result<Schedul
 /// The schedule of the lines that are left.
 #[tactic(auto, using(crate::proofs::Playable::turns_before))]
 fn read_lines(alloc: Global, lines: &mut Lines<'_>, threads: u64) -> Result<Schedule, TextFault>
-    ensures { MatchResult result (λ schedule. schedule_in threads 0 lines.old ≡ Ok schedule) (λ fault. Fails fault (schedule_in threads 0 lines.old)) }
+    ensures { MatchResult result (λ schedule. schedule_in threads 0 lines.old ≡ Ok schedule)
+        (λ fault. Fails fault (schedule_in threads 0 lines.old)) }
 {
     let mut turns = Vec::new(alloc);
     let mut steps = 0;
@@ -162,7 +164,8 @@ fn read_lines(alloc: Global, lines: &mut Lines<'_>, threads: u64) -> Result<Sche
 /// The schedule of a text for so many threads, or the first line that is refused with the first reason. Every turn is of a
 /// thread below their number.
 pub fn read_schedule(alloc: Global, text: &[u8], threads: u64) -> Result<Schedule, TextFault>
-    ensures schedule { MatchResult result (λ schedule. schedule_of threads text.now ≡ Ok schedule) (λ fault. Fails fault (schedule_of threads text.now)) }
+    ensures schedule { MatchResult result (λ schedule. schedule_of threads text.now ≡ Ok schedule)
+        (λ fault. Fails fault (schedule_of threads text.now)) }
     ensures playable { IfOk result (λ schedule. IsPlayable threads schedule) }
 {
     if is_too_long(text) {

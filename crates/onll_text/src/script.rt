@@ -58,7 +58,8 @@ fn read_line<O: Texted>(line: &[u8], counts: Counts) -> Result<(Call<O>, Counts)
 
 /// The calls of the lines that are left.
 fn read_lines<O: Texted>(alloc: Global, lines: &mut Lines<'_>) -> Result<Vec<Call<O>>, TextFault>
-    ensures { MatchResult result (λ calls. calls_in O.wording no_calls lines.old ≡ Ok calls.items) (λ fault. Fails fault (calls_in O.wording no_calls lines.old)) }
+    ensures { MatchResult result (λ calls. calls_in O.wording no_calls lines.old ≡ Ok calls.items)
+        (λ fault. Fails fault (calls_in O.wording no_calls lines.old)) }
 {
     let mut calls = Vec::new(alloc);
     let mut counts = Counts {
@@ -82,7 +83,8 @@ fn read_lines<O: Texted>(alloc: Global, lines: &mut Lines<'_>) -> Result<Vec<Cal
 
 /// The calls of a script, or the first line that is none with the first reason.
 pub fn read_script<O: Texted>(alloc: Global, text: &[u8]) -> Result<Vec<Call<O>>, TextFault>
-    ensures calls { MatchResult result (λ calls. script_of O.wording text.now ≡ Ok calls.items) (λ fault. Fails fault (script_of O.wording text.now)) }
+    ensures calls { MatchResult result (λ calls. script_of O.wording text.now ≡ Ok calls.items)
+        (λ fault. Fails fault (script_of O.wording text.now)) }
     ensures updates { IfOk result (λ calls. updates_in calls.items ≤ most_calls) }
     ensures reads { IfOk result (λ calls. reads_in calls.items ≤ most_calls) }
 {

@@ -37,7 +37,8 @@ pub(crate) fn short_reads_back(word: Short)
 
 /// The next word of a line, where one is wanted.
 fn next_word(rest: &[u8]) -> Result<Cut<'_>, Reason>
-    ensures { MatchResult result (λ cut. words_of rest.now ≡ cut.word.now ∷ words_of cut.rest.now) (λ e. (e ≡ Reason.WrongCount) × (words_of rest.now ≡ [])) }
+    ensures { MatchResult result (λ cut. words_of rest.now ≡ cut.word.now ∷ words_of cut.rest.now)
+        (λ e. (e ≡ Reason.WrongCount) × (words_of rest.now ≡ [])) }
 {
     split_word(rest).ok_or(Reason::WrongCount)
 }
@@ -89,7 +90,8 @@ struct Three<'a> {
 
 /// The three words of a line's arguments.
 fn three_words(args: &[u8]) -> Result<Three<'_>, Reason>
-    ensures { MatchResult result (λ w. words_of args.now ≡ w.a.now ∷ w.b.now ∷ w.c.now ∷ []) (λ e. three_numbers (words_of args.now) ≡ Err e) }
+    ensures { MatchResult result (λ w. words_of args.now ≡ w.a.now ∷ w.b.now ∷ w.c.now ∷ [])
+        (λ e. three_numbers (words_of args.now) ≡ Err e) }
 {
     let a = next_word(args)?;
     let b = next_word(a.rest)?;
@@ -125,7 +127,8 @@ struct Four<'a> {
 
 /// The four words of a line's arguments.
 fn four_words(args: &[u8]) -> Result<Four<'_>, Reason>
-    ensures { MatchResult result (λ w. words_of args.now ≡ w.a.now ∷ w.b.now ∷ w.c.now ∷ w.d.now ∷ []) (λ e. four_numbers (words_of args.now) ≡ Err e) }
+    ensures { MatchResult result (λ w. words_of args.now ≡ w.a.now ∷ w.b.now ∷ w.c.now ∷ w.d.now ∷ [])
+        (λ e. four_numbers (words_of args.now) ≡ Err e) }
 {
     let a = next_word(args)?;
     let b = next_word(a.rest)?;

@@ -1,6 +1,7 @@
 -- A bank is the list of its accounts' balances; its capacity is their number.
 
 use Rattle.std.specs.Prelude.{ℕ, Bool, List, [], ◌∷◌, ◌+◌, ◌-◌, ◌^◌, ◌≤◌, Option, Some, None, if◌then◌else◌, length, slice_index, slice_set, sum, nat_lt, ◌==◌, ◌&&◌}
+use Rattle.onll_model.specs.Limits.{most_elements}
 use Rattle.onll_words.specs.declared.line.OpRow.{OpRow}
 use Rattle.onll_bank.specs.declared.operation.BankOp.{BankOp}
 use Rattle.onll_bank.specs.declared.operation.BankOp.TheVariants.{Deposit, Withdraw, Transfer}
@@ -16,7 +17,7 @@ greatest_total = 2 ^ 64 - 1
 -- there are 1 to 4,096 accounts, and the sum of all balances fits into 64 bits
 pub record IsBank (s : List ℕ) : Type 0 where
   pub least : 1 ≤ length s
-  pub greatest : length s ≤ 4096
+  pub greatest : length s ≤ most_elements
   pub total : sum s ≤ greatest_total
 
 abbrev pub is_account : List ℕ → ℕ → Bool

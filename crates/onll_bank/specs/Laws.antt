@@ -41,7 +41,7 @@ by_tests false false false ws x₁ x₂ x₃ op f₁ f₂ f₃ e = cc
 words_of_its_op : (ws : List ℕ) (op : BankOp) → op_of_words ws ≡ Some op → (bank_row op).w ≡ ws
 words_of_its_op (k ∷ a ∷ b ∷ c ∷ d ∷ e ∷ f ∷ []) op h =
     by_tests (k == 1 && (c == 0) && (d == 0) && (e == 0) && (f == 0))
-        (k == 2 && (c == 0) && (d == 0) && (e == 0) && (f == 0)) (k == 3 && (d == 0) && (e == 0) && (f == 0))
+    (k == 2 && (c == 0) && (d == 0) && (e == 0) && (f == 0)) (k == 3 && (d == 0) && (e == 0) && (f == 0))
     (k ∷ a ∷ b ∷ c ∷ d ∷ e ∷ f ∷ []) (Deposit a b) (Withdraw a b) (Transfer a b c) op
     (two_arguments 1 k a b c d e f) (two_arguments 2 k a b c d e f) (three_arguments 3 k a b c d e f) h
 words_of_its_op _ op h = cc

@@ -1,6 +1,7 @@
 //! The bank.
 
 ghost use Rattle.std.specs.Prelude.{◌≡◌, ℕ, ◌+◌, ◌-◌, ◌^◌, ◌<◌, ◌≤◌, length, replicate, IfOk, slice_index, sum};
+ghost use Rattle.onll_model.specs.Limits.{most_elements};
 ghost use Rattle.std.proofs.Common.{rules};
 ghost use Rattle.onll_bank.specs.Bank.{IsBank, raised, lowered, bank_reply, bank_next};
 ghost use Rattle.onll_bank.specs.Object.{bank};
@@ -46,7 +47,7 @@ impl Model for Bank {
 impl Bank {
     /// A bank of this many accounts, each with the balance 0.
     pub fn make(alloc: Global, capacity: u64) -> Result<Bank, NoMemory>
-        requires { (1 ≤ capacity) × (capacity ≤ 4096) }
+        requires { (1 ≤ capacity) × (capacity ≤ most_elements) }
         ensures { IfOk result (λ made. made ≡ replicate capacity 0) }
     {
         let balances = vec![in alloc; 0; capacity as usize]?;

@@ -21,7 +21,8 @@ abbrev pub returned_call : {State Op Query Reply : Type 0} → Call State Op Que
 returned_call call r = record { stand = Some (stand_of call r); began = r.began; ended = Some r.ended }
 
 -- the returned calls of a thread
-abbrev pub returned_calls : {State Op Query Reply : Type 0} → List (Call State Op Query Reply) → List (Returned State Op Query Reply) → List TimedCall
+abbrev pub returned_calls : {State Op Query Reply : Type 0} → List (Call State Op Query Reply)
+    → List (Returned State Op Query Reply) → List TimedCall
 returned_calls [] rs = []
 returned_calls (call ∷ calls) [] = []
 returned_calls (call ∷ calls) (r ∷ rs) = returned_call call r ∷ returned_calls calls rs

@@ -56,7 +56,8 @@ pub record HasUpTo (trace nodes : List Node) (place : ℕ) : Type 0 where
 
 -- Each image is a log, and the logs recover to a front of the trace, which has the base and all up to the place of each
 -- returned call.
-pub record Recovers {State Op Query Reply : Type 0} (heads : List LogHead) (c : CoreState State Op Query Reply) (images : List (List (List ℕ))) : Type 0 where
+pub record Recovers {State Op Query Reply : Type 0} (heads : List LogHead) (c : CoreState State Op Query Reply)
+    (images : List (List (List ℕ))) : Type 0 where
   pub logs : List Content
   pub contents : map content_of images ≡ map Some logs
   pub nodes : List Node
@@ -64,11 +65,13 @@ pub record Recovers {State Op Query Reply : Type 0} (heads : List LogHead) (c : 
   pub front : nodes ≡ take (top_of logs) c.trace
   pub all_places : length nodes ≡ top_of logs
   pub from_base : HasUpTo c.trace nodes c.base
-  pub each_returned : EachCoreThread c (λ t th. AllByRecursion (λ (r : Returned State Op Query Reply). HasUpTo c.trace nodes r.place) th.returned)
+  pub each_returned : EachCoreThread c
+      (λ t th. AllByRecursion (λ (r : Returned State Op Query Reply). HasUpTo c.trace nodes r.place) th.returned)
 
 -- These nodes hold a returned update of thread t: its node stands at its place, and its reply is the object's after the
 -- nodes below.
-pub record HoldsUpdate {State Op Query Reply : Type 0} (b : Behaviour State Op Query Reply) (initial : State) (t : ℕ) (nodes : List Node) (op : Op) (r : Returned State Op Query Reply) : Type 0 where
+pub record HoldsUpdate {State Op Query Reply : Type 0} (b : Behaviour State Op Query Reply) (initial : State) (t : ℕ)
+    (nodes : List Node) (op : Op) (r : Returned State Op Query Reply) : Type 0 where
   pub node : Node
   pub here : node_at nodes r.place ≡ Some node
   pub own : node.thread ≡ t
@@ -76,24 +79,30 @@ pub record HoldsUpdate {State Op Query Reply : Type 0} (b : Behaviour State Op Q
   pub reply_is : r.reply ≡ reply_after b initial (take (r.place - 1) nodes) op
 
 -- They hold all that a returned read saw: its answer is the object's after the nodes up to its place.
-pub record HoldsRead {State Op Query Reply : Type 0} (b : Behaviour State Op Query Reply) (initial : State) (nodes : List Node) (query : Query) (r : Returned State Op Query Reply) : Type 0 where
+pub record HoldsRead {State Op Query Reply : Type 0} (b : Behaviour State Op Query Reply) (initial : State)
+    (nodes : List Node) (query : Query) (r : Returned State Op Query Reply) : Type 0 where
   pub all_there : r.place ≤ length nodes
   pub answer_is : r.reply ≡ answer_after b initial (take r.place nodes) query
 
-abbrev pub HoldsCall : {State Op Query Reply : Type 0} → Behaviour State Op Query Reply → State → ℕ → List Node → Call State Op Query Reply → Returned State Op Query Reply → Type 0
+abbrev pub HoldsCall : {State Op Query Reply : Type 0} → Behaviour State Op Query Reply → State → ℕ → List Node
+    → Call State Op Query Reply → Returned State Op Query Reply → Type 0
 HoldsCall b initial t nodes (Update op) r = HoldsUpdate b initial t nodes op r
 HoldsCall b initial t nodes (Ask query) r = HoldsRead b initial nodes query r
 
 -- each returned call of each thread is one of its script, the one of its number, and is held by these nodes
-abbrev pub HoldAllReturned : {State Op Query Reply : Type 0} → Behaviour State Op Query Reply → CoreState State Op Query Reply → List Node → Type 0
-HoldAllReturned {State} {Op} {Query} {Reply} b c nodes = EachCoreThread c (λ t th. (i : ℕ) (r : Returned State Op Query Reply) → slice_get th.returned i ≡ Some r
+abbrev pub HoldAllReturned : {State Op Query Reply : Type 0} → Behaviour State Op Query Reply
+    → CoreState State Op Query Reply → List Node → Type 0
+HoldAllReturned {State} {Op} {Query} {Reply} b c nodes =
+    EachCoreThread c (λ t th. (i : ℕ) (r : Returned State Op Query Reply) → slice_get th.returned i ≡ Some r
     → (call : Call State Op Query Reply) × (slice_get th.script i ≡ Some call) × HoldsCall b c.initial t nodes call r)
 
 -- The images recover to a prefix of the trace that holds every returned update and all that returned reads saw.
-pub record RecoversAll {State Op Query Reply : Type 0} (b : Behaviour State Op Query Reply) (heads : List LogHead) (c : CoreState State Op Query Reply) (images : List (List (List ℕ))) : Type 0 where
+pub record RecoversAll {State Op Query Reply : Type 0} (b : Behaviour State Op Query Reply) (heads : List LogHead)
+    (c : CoreState State Op Query Reply) (images : List (List (List ℕ))) : Type 0 where
   pub recovers : Recovers heads c images
   pub calls : HoldAllReturned b c recovers.nodes
 
 -- So do all images that a crash may leave.
-abbrev pub RecoversAlways : {State Op Query Reply : Type 0} → Behaviour State Op Query Reply → List LogHead → CoreState State Op Query Reply → Type 0
+abbrev pub RecoversAlways : {State Op Query Reply : Type 0} → Behaviour State Op Query Reply → List LogHead
+    → CoreState State Op Query Reply → Type 0
 RecoversAlways b heads c = (images : List (List (List ℕ))) → AreImages c.threads images → RecoversAll b heads c images

@@ -1,4 +1,5 @@
 use Rattle.std.specs.Prelude.{ℕ, ◌≡◌, ◌+◌, ◌≤◌, List, length, take, Some, slice_get, count_by}
+use Rattle.onll_model.specs.Limits.{most_updates}
 use Rattle.onll_model.specs.declared.node.Node.{Node}
 use Rattle.onll_model.specs.declared.call.Call.{Call}
 use Rattle.onll_model.specs.Object.{Behaviour}
@@ -28,26 +29,36 @@ ImageLaw State Op Query Reply = (count : ℕ) (c : CoreState State Op Query Repl
 -- behind it there is nothing that could be read as an entry: zeros, or what is left of the entry that is not whole
 abbrev pub RestLaw : (State Op Query Reply : Type 0) → Type 0
 RestLaw State Op Query Reply = (count : ℕ) (c : CoreState State Op Query Reply) → IsConsistent count c
-    → EachCoreThread c (λ t th. (image : List (List ℕ)) (ss : List Segment) → IsImage th.device image → Holds image th.head ss → HasRest th.head ss image)
+    → EachCoreThread c (λ t th. (image : List (List ℕ)) (ss : List Segment) → IsImage th.device image
+    → Holds image th.head ss → HasRest th.head ss image)
 
 -- every number picks images
 abbrev pub PickedLaw : (State Op Query Reply : Type 0) → Type 0
-PickedLaw State Op Query Reply = (count : ℕ) (c : CoreState State Op Query Reply) (keep : ℕ) → IsConsistent count c → AreImages c.threads (images_of keep c.threads)
+PickedLaw State Op Query Reply =
+    (count : ℕ) (c : CoreState State Op Query Reply) (keep : ℕ) → IsConsistent count c
+    → AreImages c.threads (images_of keep c.threads)
 
 -- all images of a consistent core recover
 abbrev pub RecoveryLaw : (State Op Query Reply : Type 0) → Type 0
-RecoveryLaw State Op Query Reply = (count : ℕ) (c : CoreState State Op Query Reply) (images : List (List (List ℕ))) → IsConsistent count c → AreImages c.threads images
+RecoveryLaw State Op Query Reply =
+    (count : ℕ) (c : CoreState State Op Query Reply) (images : List (List (List ℕ))) → IsConsistent count c
+    → AreImages c.threads images
     → Recovers (heads_of c.threads) c images
 
 -- new scripts, one for each of `count` threads, that with these nodes have no more updates than names
-pub record AreScripts {State Op Query Reply : Type 0} (count : ℕ) (nodes : List Node) (scripts : List (List (Call State Op Query Reply))) : Type 0 where
+pub record AreScripts {State Op Query Reply : Type 0} (count : ℕ) (nodes : List Node)
+    (scripts : List (List (Call State Op Query Reply))) : Type 0 where
   pub all_scripts : length scripts ≡ count
-  pub each_script : (t : ℕ) (script : List (Call State Op Query Reply)) → slice_get scripts t ≡ Some script → count_by (is_of_thread t) nodes + updates_in script ≤ 4096
+  pub each_script : (t : ℕ) (script : List (Call State Op Query Reply)) → slice_get scripts t ≡ Some script
+      → count_by (is_of_thread t) nodes + updates_in script ≤ most_updates
 
 -- a core can go on from what is recovered of a consistent one, with the same heads
 abbrev pub GoOnLaw : (State Op Query Reply : Type 0) → Type 0
-GoOnLaw State Op Query Reply = (count : ℕ) (c : CoreState State Op Query Reply) (images : List (List (List ℕ))) (scripts : List (List (Call State Op Query Reply))) → IsConsistent count c → AreImages c.threads images
-    → (r : Recovers (heads_of c.threads) c images) → AreScripts count r.nodes scripts → AreResumed count r.nodes (heads_of c.threads) (entries_of r.logs) scripts
+GoOnLaw State Op Query Reply =
+    (count : ℕ) (c : CoreState State Op Query Reply) (images : List (List (List ℕ)))
+    (scripts : List (List (Call State Op Query Reply))) → IsConsistent count c → AreImages c.threads images
+    → (r : Recovers (heads_of c.threads) c images) → AreScripts count r.nodes scripts
+    → AreResumed count r.nodes (heads_of c.threads) (entries_of r.logs) scripts
 
 module _ {State Op Query Reply : Type 0} (b : Behaviour State Op Query Reply) where
   -- steps keep the heads of the logs
@@ -61,29 +72,40 @@ module _ {State Op Query Reply : Type 0} (b : Behaviour State Op Query Reply) wh
 
   -- All images of a core that steps reach recover to a prefix that holds every returned update and all that returned reads saw.
   abbrev pub ReachedCrashLaw : Type 0
-  ReachedCrashLaw = (count : ℕ) (c : CoreState State Op Query Reply) (images : List (List (List ℕ))) → IsReached b count c → AreImages c.threads images → RecoversAll b (heads_of c.threads) c images
+  ReachedCrashLaw = (count : ℕ) (c : CoreState State Op Query Reply) (images : List (List (List ℕ)))
+      → IsReached b count c → AreImages c.threads images → RecoversAll b (heads_of c.threads) c images
 
   -- A crash at any step of a core leaves logs whose recovery is a prefix of the trace, and holds every returned update and
   -- all that returned reads saw: for every initial state, all heads and scripts, every list of turns, and every choice of images.
   abbrev pub CrashLaw : Type 0
-  CrashLaw = (count : ℕ) (initial : State) (heads : List LogHead) (scripts : List (List (Call State Op Query Reply))) (ts : List ℕ) (images : List (List (List ℕ)))
-      → AreFirst count heads scripts → AreImages (steps_of b (first_core initial heads scripts) ts).threads images → RecoversAll b heads (steps_of b (first_core initial heads scripts) ts) images
+  CrashLaw = (count : ℕ) (initial : State) (heads : List LogHead) (scripts : List (List (Call State Op Query Reply)))
+      (ts : List ℕ) (images : List (List (List ℕ)))
+      → AreFirst count heads scripts → AreImages (steps_of b (first_core initial heads scripts) ts).threads images
+      → RecoversAll b heads (steps_of b (first_core initial heads scripts) ts) images
 
   -- So does a crash at any step of a core that goes on from recovered nodes, and what is recovered then begins with these.
   abbrev pub ResumedCrashLaw : Type 0
-  ResumedCrashLaw = (count : ℕ) (initial : State) (base : List Node) (heads : List LogHead) (logs : List (List Segment)) (scripts : List (List (Call State Op Query Reply))) (ts : List ℕ) (images : List (List (List ℕ)))
+  ResumedCrashLaw = (count : ℕ) (initial : State) (base : List Node) (heads : List LogHead) (logs : List (List Segment))
+      (scripts : List (List (Call State Op Query Reply))) (ts : List ℕ) (images : List (List (List ℕ)))
       → AreResumed count base heads logs scripts → AreImages (steps_of b (resumed_core initial base heads logs scripts) ts).threads images
-      → (all : RecoversAll b heads (steps_of b (resumed_core initial base heads logs scripts) ts) images) × (take (length base) all.recovers.nodes ≡ base)
+      → (all : RecoversAll b heads (steps_of b (resumed_core initial base heads logs scripts) ts) images)
+      × (take (length base) all.recovers.nodes ≡ base)
 
   -- what nodes hold, more nodes after them hold
   abbrev pub MoreNodesLaw : Type 0
-  MoreNodesLaw = (c : CoreState State Op Query Reply) (nodes more : List Node) → take (length nodes) more ≡ nodes → HoldAllReturned b c nodes → HoldAllReturned b c more
+  MoreNodesLaw = (c : CoreState State Op Query Reply) (nodes more : List Node) → take (length nodes) more ≡ nodes
+      → HoldAllReturned b c nodes → HoldAllReturned b c more
 
   -- What is recovered after the next crash begins with what was recovered after the one before, and so holds what returned
   -- before that, too.
   abbrev pub NextCrashLaw : Type 0
-  NextCrashLaw = (count : ℕ) (c : CoreState State Op Query Reply) (images next_images : List (List (List ℕ))) (scripts : List (List (Call State Op Query Reply))) (ts : List ℕ) → IsReached b count c → AreImages c.threads images
+  NextCrashLaw = (count : ℕ) (c : CoreState State Op Query Reply) (images next_images : List (List (List ℕ)))
+      (scripts : List (List (Call State Op Query Reply))) (ts : List ℕ) → IsReached b count c
+      → AreImages c.threads images
       → (all : RecoversAll b (heads_of c.threads) c images) → AreScripts count all.recovers.nodes scripts
-      → AreImages (steps_of b (resumed_core c.initial all.recovers.nodes (heads_of c.threads) (entries_of all.recovers.logs) scripts) ts).threads next_images
-      → (next : RecoversAll b (heads_of c.threads) (steps_of b (resumed_core c.initial all.recovers.nodes (heads_of c.threads) (entries_of all.recovers.logs) scripts) ts) next_images)
+      → AreImages (steps_of b (resumed_core c.initial all.recovers.nodes (heads_of c.threads)
+      (entries_of all.recovers.logs) scripts) ts).threads next_images
+      → (next : RecoversAll b (heads_of c.threads)
+      (steps_of b (resumed_core c.initial all.recovers.nodes (heads_of c.threads)
+      (entries_of all.recovers.logs) scripts) ts) next_images)
       × (take (length all.recovers.nodes) next.recovers.nodes ≡ all.recovers.nodes) × HoldAllReturned b c next.recovers.nodes

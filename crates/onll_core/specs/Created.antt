@@ -1,4 +1,5 @@
 use Rattle.std.specs.Prelude.{ℕ, zero, suc, ◌≤◌, List, [], ◌∷◌, length}
+use Rattle.onll_model.specs.Limits.{most_threads, most_updates}
 use Rattle.std.specs.List.{AllByRecursion}
 use Rattle.onll_model.specs.declared.call.Call.{Call}
 use Rattle.onll_model.specs.Calls.{updates_in}
@@ -18,11 +19,12 @@ heads_from count object init t (suc n) = head_for 2 t count object init ∷ head
 abbrev pub created_heads : {State Op Query Reply : Type 0} → ℕ → List ℕ → List (List (Call State Op Query Reply)) → List LogHead
 created_heads object init scripts = heads_from (length scripts) object init 0 (length scripts)
 
-abbrev pub created_core : {State Op Query Reply : Type 0} → State → ℕ → List ℕ → List (List (Call State Op Query Reply)) → CoreState State Op Query Reply
+abbrev pub created_core : {State Op Query Reply : Type 0} → State → ℕ → List ℕ → List (List (Call State Op Query Reply))
+    → CoreState State Op Query Reply
 created_core initial object init scripts = first_core initial (created_heads object init scripts) scripts
 
 -- an object's code and scripts within the limits
 pub record IsWithinLimits {State Op Query Reply : Type 0} (object : ℕ) (scripts : List (List (Call State Op Query Reply))) : Type 0 where
   pub code : (1 ≤ object) × (object ≤ 4)
-  pub few : length scripts ≤ 16
-  pub updates : AllByRecursion (λ (script : List (Call State Op Query Reply)). updates_in script ≤ 4096) scripts
+  pub few : length scripts ≤ most_threads
+  pub updates : AllByRecursion (λ (script : List (Call State Op Query Reply)). updates_in script ≤ most_updates) scripts

@@ -18,7 +18,9 @@ use Rattle.onll_core.specs.Crash.{RecoversAlways}
 -- What the construction promises, in one place: durable linearizability, with one fence for each update and none for a read.
 
 -- a state of a core that runs these scripts from this initial state, and whose logs have these heads
-pub record IsDurable {State Op Query Reply : Type 0} (b : Behaviour State Op Query Reply) (initial : State) (heads : List LogHead) (scripts : List (List (Call State Op Query Reply))) (c : CoreState State Op Query Reply) : Type 0 where
+pub record IsDurable {State Op Query Reply : Type 0} (b : Behaviour State Op Query Reply) (initial : State)
+    (heads : List LogHead) (scripts : List (List (Call State Op Query Reply)))
+    (c : CoreState State Op Query Reply) : Type 0 where
   pub sound : Sound (length scripts) (frame_of c)
   -- the trace is one legal history of the scripts' calls, in an order that agrees with the time at which they were made
   pub legal : IsLegal b initial [] scripts c.trace (map ends_of c.threads)
@@ -32,9 +34,14 @@ pub record IsDurable {State Op Query Reply : Type 0} (b : Behaviour State Op Que
   pub crash : RecoversAlways b heads c
 
 -- a core that is made of scripts, after any steps of its threads in any order
-abbrev pub AlwaysDurable : {State Op Query Reply : Type 0} → Behaviour State Op Query Reply → ℕ → List ℕ → State → List (List (Call State Op Query Reply)) → Type 0
-AlwaysDurable b object init initial scripts = (ts : List ℕ) → IsDurable b initial (created_heads object init scripts) scripts (steps_of b (created_core initial object init scripts) ts)
+abbrev pub AlwaysDurable : {State Op Query Reply : Type 0} → Behaviour State Op Query Reply → ℕ → List ℕ → State
+    → List (List (Call State Op Query Reply)) → Type 0
+AlwaysDurable b object init initial scripts =
+    (ts : List ℕ) → IsDurable b initial (created_heads object init scripts) scripts
+    (steps_of b (created_core initial object init scripts) ts)
 
 -- In every interleaving of any scripts within the limits, at every step, from any initial state.
 abbrev pub DurableLaw : {State Op Query Reply : Type 0} → Behaviour State Op Query Reply → Type 0
-DurableLaw {State} {Op} {Query} {Reply} b = (object : ℕ) (init : List ℕ) (initial : State) (scripts : List (List (Call State Op Query Reply))) → IsWithinLimits object scripts → AlwaysDurable b object init initial scripts
+DurableLaw {State} {Op} {Query} {Reply} b =
+    (object : ℕ) (init : List ℕ) (initial : State) (scripts : List (List (Call State Op Query Reply)))
+    → IsWithinLimits object scripts → AlwaysDurable b object init initial scripts

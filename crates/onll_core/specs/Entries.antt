@@ -7,4 +7,5 @@ use Rattle.onll_core.specs.Consistent.{EachCoreThread}
 
 -- each entry that a device holds has at most this many nodes
 abbrev pub EntriesAreFew : {State Op Query Reply : Type 0} → ℕ → CoreState State Op Query Reply → Type 0
-EntriesAreFew count c = EachCoreThread c (λ t th. AllByRecursion (λ (s : Segment). length s.nodes ≤ count) (fenced_entries th.head th.device))
+EntriesAreFew count c = EachCoreThread c
+    (λ t th. AllByRecursion (λ (s : Segment). length s.nodes ≤ count) (fenced_entries th.head th.device))

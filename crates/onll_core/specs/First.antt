@@ -1,4 +1,5 @@
 use Rattle.std.specs.Prelude.{ℕ, ◌≡◌, ◌+◌, ◌*◌, ◌≤◌, List, [], ◌∷◌, length, Some, slice_get}
+use Rattle.onll_model.specs.Limits.{most_threads, most_updates}
 use Rattle.onll_model.specs.declared.call.Call.{Call}
 use Rattle.onll_model.specs.Calls.{updates_in}
 use Rattle.onll_pmem.specs.Device.{DeviceState, Write, WriteBack, Fence, after_steps, new_device}
@@ -30,12 +31,15 @@ first_thread head script = record {
 }
 
 -- one thread for each head and its script
-abbrev pub first_threads : {State Op Query Reply : Type 0} → List LogHead → List (List (Call State Op Query Reply)) → List (CoreThread State Op Query Reply)
+abbrev pub first_threads : {State Op Query Reply : Type 0} → List LogHead → List (List (Call State Op Query Reply))
+    → List (CoreThread State Op Query Reply)
 first_threads (head ∷ heads) (script ∷ scripts) = first_thread head script ∷ first_threads heads scripts
 first_threads heads scripts = []
 
-abbrev pub first_core : {State Op Query Reply : Type 0} → State → List LogHead → List (List (Call State Op Query Reply)) → CoreState State Op Query Reply
-first_core initial heads scripts = record { initial = initial; base = 0; trace = []; flags = []; clock = 0; threads = first_threads heads scripts }
+abbrev pub first_core : {State Op Query Reply : Type 0} → State → List LogHead → List (List (Call State Op Query Reply))
+    → CoreState State Op Query Reply
+first_core initial heads scripts =
+    record { initial = initial; base = 0; trace = []; flags = []; clock = 0; threads = first_threads heads scripts }
 
 -- the head of the log of thread t of `count`
 pub record IsHeadOf (count t : ℕ) (head : LogHead) : Type 0 where
@@ -45,9 +49,11 @@ pub record IsHeadOf (count t : ℕ) (head : LogHead) : Type 0 where
   pub format : head.format ≡ 2
 
 -- heads and scripts within the limits, one of each for each of `count` threads
-pub record AreFirst {State Op Query Reply : Type 0} (count : ℕ) (heads : List LogHead) (scripts : List (List (Call State Op Query Reply))) : Type 0 where
-  pub few : count ≤ 16
+pub record AreFirst {State Op Query Reply : Type 0} (count : ℕ) (heads : List LogHead)
+    (scripts : List (List (Call State Op Query Reply))) : Type 0 where
+  pub few : count ≤ most_threads
   pub all_heads : length heads ≡ count
   pub all_scripts : length scripts ≡ count
   pub each_head : (t : ℕ) (head : LogHead) → slice_get heads t ≡ Some head → IsHeadOf count t head
-  pub each_script : (t : ℕ) (script : List (Call State Op Query Reply)) → slice_get scripts t ≡ Some script → updates_in script ≤ 4096
+  pub each_script : (t : ℕ) (script : List (Call State Op Query Reply)) → slice_get scripts t ≡ Some script
+      → updates_in script ≤ most_updates

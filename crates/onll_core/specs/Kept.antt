@@ -1,4 +1,5 @@
 use Rattle.std.specs.Prelude.{ℕ, ◌≡◌, ◌+◌, ◌*◌, ◌<◌, ◌≤◌, List, [], length, count_by, take, Option, Some, slice_get}
+use Rattle.onll_model.specs.Limits.{most_updates}
 use Rattle.onll_model.specs.declared.node.Node.{Node}
 use Rattle.onll_model.specs.declared.call.Call.TheVariants.{Update}
 use Rattle.onll_model.specs.Object.{Behaviour}
@@ -37,27 +38,33 @@ pub record Holds {State Op Query Reply : Type 0} (b : Behaviour State Op Query R
 
 -- an update that has a place holds its operation there
 abbrev pub HoldOwn : {State Op Query Reply : Type 0} → Behaviour State Op Query Reply → CoreState State Op Query Reply → Type 0
-HoldOwn b c = EachCoreThread c (λ t th. (op : _) (p : ℕ) → next_call th ≡ Some (Update op) → own_place th.phase ≡ Some p → Holds b c.trace p op)
+HoldOwn b c = EachCoreThread c (λ t th. (op : _) (p : ℕ) → next_call th ≡ Some (Update op) → own_place th.phase ≡ Some p
+    → Holds b c.trace p op)
 
 -- A thread's replica is the object after the nodes up to its place, which the thread has seen, and it counts the thread's nodes.
-pub record IsLocal {State Op Query Reply : Type 0} (b : Behaviour State Op Query Reply) (c : CoreState State Op Query Reply) (t : ℕ) (th : CoreThread State Op Query Reply) (l : Local State Op Query Reply) : Type 0 where
+pub record IsLocal {State Op Query Reply : Type 0} (b : Behaviour State Op Query Reply)
+    (c : CoreState State Op Query Reply) (t : ℕ) (th : CoreThread State Op Query Reply)
+    (l : Local State Op Query Reply) : Type 0 where
   pub state : l.object ≡ state_after b c.initial (take l.place c.trace)
   pub seen : l.place ≤ seen_in c.base th.returned
   pub linked : l.linked ≡ count_by (is_of_thread t) c.trace
 
 -- the replica was moved forward to a place
-abbrev pub moved : {State Op Query Reply : Type 0} → Behaviour State Op Query Reply → Local State Op Query Reply → List Node → ℕ → Local State Op Query Reply
+abbrev pub moved : {State Op Query Reply : Type 0} → Behaviour State Op Query Reply → Local State Op Query Reply
+    → List Node → ℕ → Local State Op Query Reply
 moved b l trace place = record { object = state_after b l.object (nodes_between trace l.place place); place = place; linked = l.linked }
 
-abbrev pub AreLocal : {State Op Query Reply : Type 0} → Behaviour State Op Query Reply → CoreState State Op Query Reply → List (Local State Op Query Reply) → Type 0
+abbrev pub AreLocal : {State Op Query Reply : Type 0} → Behaviour State Op Query Reply → CoreState State Op Query Reply
+    → List (Local State Op Query Reply) → Type 0
 AreLocal b c locals = EachCoreThread c (λ t th. (l : Local _ _ _ _) → slice_get locals t ≡ Some l → IsLocal b c t th l)
 
 -- what a core keeps, with this room for nodes and for flags
-pub record KeepsCore {State Op Query Reply : Type 0} (b : Behaviour State Op Query Reply) (nodes flags : ℕ) (locals : List (Local State Op Query Reply)) (c : CoreState State Op Query Reply) : Type 0 where
+pub record KeepsCore {State Op Query Reply : Type 0} (b : Behaviour State Op Query Reply) (nodes flags : ℕ)
+    (locals : List (Local State Op Query Reply)) (c : CoreState State Op Query Reply) : Type 0 where
   pub consistent : IsConsistent (length c.threads) c
   pub reached : IsReached b (length c.threads) c
   pub own : HoldOwn b c
-  pub nodes_room : 4096 * length c.threads ≤ nodes
-  pub flags_room : 4096 * length c.threads ≤ flags
+  pub nodes_room : most_updates * length c.threads ≤ nodes
+  pub flags_room : most_updates * length c.threads ≤ flags
   pub as_many : length locals ≡ length c.threads
   pub replicas : AreLocal b c locals

@@ -20,25 +20,33 @@ use Rattle.onll_core.specs.Stays.{Stays}
 module _ (State Op Query Reply : Type 0) where
   -- the first state of a core that begins anew is consistent, and has made one fence on each device
   abbrev pub FirstLaw : Type 0
-  FirstLaw = (count : ℕ) (initial : State) (heads : List LogHead) (scripts : List (List (Call State Op Query Reply))) → AreFirst count heads scripts → IsConsistent count (first_core initial heads scripts)
+  FirstLaw = (count : ℕ) (initial : State) (heads : List LogHead) (scripts : List (List (Call State Op Query Reply)))
+      → AreFirst count heads scripts → IsConsistent count (first_core initial heads scripts)
 
   abbrev pub FirstFencesLaw : Type 0
-  FirstFencesLaw = (count : ℕ) (initial : State) (heads : List LogHead) (scripts : List (List (Call State Op Query Reply))) → AreFirst count heads scripts → CountsFences 1 (first_core initial heads scripts)
+  FirstFencesLaw = (count : ℕ) (initial : State) (heads : List LogHead)
+      (scripts : List (List (Call State Op Query Reply))) → AreFirst count heads scripts
+      → CountsFences 1 (first_core initial heads scripts)
 
   -- such as the one that is made of scripts within the limits
   abbrev pub CreatedLaw : Type 0
-  CreatedLaw = (initial : State) (object : ℕ) (init : List ℕ) (scripts : List (List (Call State Op Query Reply))) → IsWithinLimits object scripts → IsConsistent (length scripts) (created_core initial object init scripts)
+  CreatedLaw = (initial : State) (object : ℕ) (init : List ℕ) (scripts : List (List (Call State Op Query Reply)))
+      → IsWithinLimits object scripts → IsConsistent (length scripts) (created_core initial object init scripts)
 
   abbrev pub CreatedFencesLaw : Type 0
-  CreatedFencesLaw = (initial : State) (object : ℕ) (init : List ℕ) (scripts : List (List (Call State Op Query Reply))) → IsWithinLimits object scripts → CountsFences 1 (created_core initial object init scripts)
+  CreatedFencesLaw = (initial : State) (object : ℕ) (init : List ℕ) (scripts : List (List (Call State Op Query Reply)))
+      → IsWithinLimits object scripts → CountsFences 1 (created_core initial object init scripts)
 
   -- so is that of a core that goes on, which has made none
   abbrev pub ResumedLaw : Type 0
-  ResumedLaw = (count : ℕ) (initial : State) (base : List Node) (heads : List LogHead) (logs : List (List Segment)) (scripts : List (List (Call State Op Query Reply))) → AreResumed count base heads logs scripts
+  ResumedLaw = (count : ℕ) (initial : State) (base : List Node) (heads : List LogHead) (logs : List (List Segment))
+      (scripts : List (List (Call State Op Query Reply))) → AreResumed count base heads logs scripts
       → IsConsistent count (resumed_core initial base heads logs scripts)
 
   abbrev pub ResumedFencesLaw : Type 0
-  ResumedFencesLaw = (count : ℕ) (initial : State) (base : List Node) (heads : List LogHead) (logs : List (List Segment)) (scripts : List (List (Call State Op Query Reply))) → AreResumed count base heads logs scripts
+  ResumedFencesLaw = (count : ℕ) (initial : State) (base : List Node) (heads : List LogHead)
+      (logs : List (List Segment)) (scripts : List (List (Call State Op Query Reply)))
+      → AreResumed count base heads logs scripts
       → CountsFences 0 (resumed_core initial base heads logs scripts)
 
   -- no fenced entry of a consistent core holds more nodes than there are threads
@@ -48,7 +56,8 @@ module _ (State Op Query Reply : Type 0) where
 module _ {State Op Query Reply : Type 0} (b : Behaviour State Op Query Reply) where
   -- a step of a thread is its event
   abbrev pub StepEventLaw : Type 0
-  StepEventLaw = (count : ℕ) (c : CoreState State Op Query Reply) (t : ℕ) → IsConsistent count c → IsEvent c (step_of b c t) (event_of b c t)
+  StepEventLaw = (count : ℕ) (c : CoreState State Op Query Reply) (t : ℕ) → IsConsistent count c
+      → IsEvent c (step_of b c t) (event_of b c t)
 
   -- each step keeps a core consistent, and so do all steps
   abbrev pub StepLaw : Type 0
@@ -59,7 +68,8 @@ module _ {State Op Query Reply : Type 0} (b : Behaviour State Op Query Reply) wh
 
   -- steps keep the count of fences
   abbrev pub FencesLaw : Type 0
-  FencesLaw = (before : ℕ) (c : CoreState State Op Query Reply) (ts : List ℕ) → CountsFences before c → CountsFences before (steps_of b c ts)
+  FencesLaw = (before : ℕ) (c : CoreState State Op Query Reply) (ts : List ℕ) → CountsFences before c
+      → CountsFences before (steps_of b c ts)
 
   -- steps leave the initial state, the base, heads and scripts; they add nodes, flags and returned calls, and take none back
   abbrev pub StaysLaw : Type 0

@@ -6,7 +6,8 @@ use Rattle.onll_core.specs.Core.{CoreThread, CoreState}
 use Rattle.onll_core.specs.Step.{next_call}
 
 -- the thread's next call is this one, and its next step is of this kind
-pub record IsNext {State Op Query Reply : Type 0} (c : CoreState State Op Query Reply) (t : ℕ) (call : Call State Op Query Reply) (phase : Phase) : Type 0 where
+pub record IsNext {State Op Query Reply : Type 0} (c : CoreState State Op Query Reply) (t : ℕ)
+    (call : Call State Op Query Reply) (phase : Phase) : Type 0 where
   pub thread : CoreThread State Op Query Reply
   pub here : slice_get c.threads t ≡ Some thread
   pub call_is : next_call thread ≡ Some call

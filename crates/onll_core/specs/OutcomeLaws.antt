@@ -20,15 +20,20 @@ use Rattle.onll_core.specs.Reached.{IsReached}
 module _ {State Op Query Reply : Type 0} (b : Behaviour State Op Query Reply) where
   -- the first state of a core that begins anew is reached
   abbrev pub FirstReachedLaw : Type 0
-  FirstReachedLaw = (count : ℕ) (initial : State) (heads : List LogHead) (scripts : List (List (Call State Op Query Reply))) → AreFirst count heads scripts → IsReached b count (first_core initial heads scripts)
+  FirstReachedLaw = (count : ℕ) (initial : State) (heads : List LogHead)
+      (scripts : List (List (Call State Op Query Reply))) → AreFirst count heads scripts
+      → IsReached b count (first_core initial heads scripts)
 
   -- so is that of a core that is made of scripts within the limits
   abbrev pub CreatedReachedLaw : Type 0
-  CreatedReachedLaw = (initial : State) (object : ℕ) (init : List ℕ) (scripts : List (List (Call State Op Query Reply))) → IsWithinLimits object scripts → IsReached b (length scripts) (created_core initial object init scripts)
+  CreatedReachedLaw = (initial : State) (object : ℕ) (init : List ℕ) (scripts : List (List (Call State Op Query Reply)))
+      → IsWithinLimits object scripts → IsReached b (length scripts) (created_core initial object init scripts)
 
   -- and that of a core that goes on from recovered logs
   abbrev pub ResumedReachedLaw : Type 0
-  ResumedReachedLaw = (count : ℕ) (initial : State) (base : List Node) (heads : List LogHead) (logs : List (List Segment)) (scripts : List (List (Call State Op Query Reply))) → AreResumed count base heads logs scripts
+  ResumedReachedLaw = (count : ℕ) (initial : State) (base : List Node) (heads : List LogHead)
+      (logs : List (List Segment)) (scripts : List (List (Call State Op Query Reply)))
+      → AreResumed count base heads logs scripts
       → IsReached b count (resumed_core initial base heads logs scripts)
 
   -- so is every consistent state in which no call has begun
@@ -40,7 +45,8 @@ module _ {State Op Query Reply : Type 0} (b : Behaviour State Op Query Reply) wh
   StepReachedLaw = (count : ℕ) (c : CoreState State Op Query Reply) (t : ℕ) → IsReached b count c → IsReached b count (step_of b c t)
 
   abbrev pub StepsReachedLaw : Type 0
-  StepsReachedLaw = (count : ℕ) (c : CoreState State Op Query Reply) (ts : List ℕ) → IsReached b count c → IsReached b count (steps_of b c ts)
+  StepsReachedLaw = (count : ℕ) (c : CoreState State Op Query Reply) (ts : List ℕ) → IsReached b count c
+      → IsReached b count (steps_of b c ts)
 
   -- a state that is reached is consistent
   abbrev pub ReachedConsistentLaw : Type 0

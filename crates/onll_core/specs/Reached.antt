@@ -6,7 +6,8 @@ use Rattle.onll_core.specs.Consistent.{IsConsistent}
 use Rattle.onll_core.specs.Outcomes.{IsFresh}
 
 -- The core of `count` threads is one that steps, in whatever order, reach from a consistent state where no call has begun.
-pub record IsReached {State Op Query Reply : Type 0} (b : Behaviour State Op Query Reply) (count : ℕ) (c : CoreState State Op Query Reply) : Type 0 where
+pub record IsReached {State Op Query Reply : Type 0} (b : Behaviour State Op Query Reply) (count : ℕ)
+    (c : CoreState State Op Query Reply) : Type 0 where
   pub start : CoreState State Op Query Reply
   pub steps : List ℕ
   pub consistent : IsConsistent count start

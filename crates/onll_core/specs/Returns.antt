@@ -22,5 +22,6 @@ pub record HasReturned {State Op Query Reply : Type 0} (c : CoreState State Op Q
 
 -- An ordered call has returned, at its place, after 3 * count + 4 steps of its thread, whatever steps others take between.
 abbrev pub OrderedReturn : {State Op Query Reply : Type 0} → Behaviour State Op Query Reply → ℕ → CoreState State Op Query Reply → Type 0
-OrderedReturn {State} {Op} {Query} {Reply} b count c = (t place : ℕ) (th : CoreThread State Op Query Reply) (ts : List ℕ) → slice_get c.threads t ≡ Some th
+OrderedReturn {State} {Op} {Query} {Reply} b count c =
+    (t place : ℕ) (th : CoreThread State Op Query Reply) (ts : List ℕ) → slice_get c.threads t ≡ Some th
     → current_of th ≡ currents.Ordered place → 3 * count + 4 ≤ own_steps t ts → HasReturned (steps_of b c ts) t (length th.returned) place

@@ -22,4 +22,5 @@ pub record Stays {State Op Query Reply : Type 0} (old new : CoreState State Op Q
   pub flags : (p : ℕ) → is_available old.flags p ≡ true → is_available new.flags p ≡ true
   pub clock : old.clock ≤ new.clock
   pub all_threads : length new.threads ≡ length old.threads
-  pub threads : EachCoreThread old (λ t th. (th' : CoreThread State Op Query Reply) × (slice_get new.threads t ≡ Some th') × ThreadStays th th')
+  pub threads : EachCoreThread old
+      (λ t th. (th' : CoreThread State Op Query Reply) × (slice_get new.threads t ≡ Some th') × ThreadStays th th')

@@ -24,7 +24,8 @@ abbrev pub begun : {State Op Query Reply : Type 0} → CoreThread State Op Query
 begun th now phase = record th { phase = phase; began = now }
 
 -- a step was made on the device
-abbrev pub on_device : {State Op Query Reply : Type 0} → CoreThread State Op Query Reply → DeviceState → Phase → CoreThread State Op Query Reply
+abbrev pub on_device : {State Op Query Reply : Type 0} → CoreThread State Op Query Reply → DeviceState → Phase
+    → CoreThread State Op Query Reply
 on_device th device phase = record th { phase = phase; device = device }
 
 -- an entry of n nodes was fenced
@@ -32,20 +33,29 @@ abbrev pub logged : {State Op Query Reply : Type 0} → CoreThread State Op Quer
 logged th n phase = record th { phase = phase; used = th.used + suc n; logged = suc th.logged; device = after_step th.device Fence }
 
 -- the running call, begun at this moment, has returned
-abbrev pub returning : {State Op Query Reply : Type 0} → CoreThread State Op Query Reply → ℕ → Reply → ℕ → ℕ → CoreThread State Op Query Reply
+abbrev pub returning : {State Op Query Reply : Type 0} → CoreThread State Op Query Reply → ℕ → Reply → ℕ → ℕ
+    → CoreThread State Op Query Reply
 returning th place reply began ended =
     record th { phase = phases.Idle; returned = th.returned ++ record { place = place; reply = reply; began = began; ended = ended } ∷ [] }
 
 -- the step changed this thread alone
-abbrev pub put : {State Op Query Reply : Type 0} → CoreState State Op Query Reply → ℕ → CoreThread State Op Query Reply → CoreState State Op Query Reply
+abbrev pub put : {State Op Query Reply : Type 0} → CoreState State Op Query Reply → ℕ → CoreThread State Op Query Reply
+    → CoreState State Op Query Reply
 put c t th = record c { clock = suc c.clock; threads = slice_set c.threads t th }
 
 -- and linked a node
-abbrev pub linked : {State Op Query Reply : Type 0} → CoreState State Op Query Reply → ℕ → Node → CoreThread State Op Query Reply → CoreState State Op Query Reply
-linked c t x th = record c { trace = c.trace ++ x ∷ []; flags = c.flags ++ false ∷ []; clock = suc c.clock; threads = slice_set c.threads t th }
+abbrev pub linked : {State Op Query Reply : Type 0} → CoreState State Op Query Reply → ℕ → Node
+    → CoreThread State Op Query Reply → CoreState State Op Query Reply
+linked c t x th = record c {
+  trace = c.trace ++ x ∷ [];
+  flags = c.flags ++ false ∷ [];
+  clock = suc c.clock;
+  threads = slice_set c.threads t th;
+}
 
 -- and set the flag of the node at place p
-abbrev pub flagged : {State Op Query Reply : Type 0} → CoreState State Op Query Reply → ℕ → ℕ → CoreThread State Op Query Reply → CoreState State Op Query Reply
+abbrev pub flagged : {State Op Query Reply : Type 0} → CoreState State Op Query Reply → ℕ → ℕ
+    → CoreThread State Op Query Reply → CoreState State Op Query Reply
 flagged c t p th = record c { flags = slice_set c.flags (p - 1) true; clock = suc c.clock; threads = slice_set c.threads t th }
 
 -- the line of this number of the entry that holds the nodes above `below` up to `place`
@@ -66,11 +76,13 @@ abbrev pub after_back : ℕ → ℕ → ℕ → Phase
 after_back p d k = if nat_le (suc k) (p - d) then phases.Line p d (suc k) else phases.Fence p d
 
 -- a read is answered at a place
-abbrev pub answered : {State Op Query Reply : Type 0} → Behaviour State Op Query Reply → CoreState State Op Query Reply → ℕ → CoreThread State Op Query Reply → ℕ → ℕ → Query → CoreState State Op Query Reply
+abbrev pub answered : {State Op Query Reply : Type 0} → Behaviour State Op Query Reply → CoreState State Op Query Reply
+    → ℕ → CoreThread State Op Query Reply → ℕ → ℕ → Query → CoreState State Op Query Reply
 answered b c t th began place query = put c t (returning th place (answer_after b c.initial (take place c.trace) query) began c.clock)
 
 -- The step of thread t, whose next call is this one and whose next step is of this kind.
-abbrev pub act : {State Op Query Reply : Type 0} → Behaviour State Op Query Reply → CoreState State Op Query Reply → ℕ → CoreThread State Op Query Reply → Option (Call State Op Query Reply) → Phase → CoreState State Op Query Reply
+abbrev pub act : {State Op Query Reply : Type 0} → Behaviour State Op Query Reply → CoreState State Op Query Reply → ℕ
+    → CoreThread State Op Query Reply → Option (Call State Op Query Reply) → Phase → CoreState State Op Query Reply
 -- the script is at its end: nothing changes
 act b c t th None phase = c
 -- an update loads the tail, for the first time or again
@@ -86,10 +98,12 @@ act b c t th (Some (Update op)) (phases.Flag p d) = put c t (turned th (after_fl
 -- the entry is logged, line by line, and fenced
 act b c t th (Some (Update op)) (phases.Line p d k) =
     put c t (on_device th (after_step th.device (Write (th.used + k) (line_of_entry th c.trace p d k))) (phases.Back p d k))
-act b c t th (Some (Update op)) (phases.Back p d k) = put c t (on_device th (after_step th.device (WriteBack (th.used + k))) (after_back p d k))
+act b c t th (Some (Update op)) (phases.Back p d k) =
+    put c t (on_device th (after_step th.device (WriteBack (th.used + k))) (after_back p d k))
 act b c t th (Some (Update op)) (phases.Fence p d) = put c t (logged th (p - d) (phases.Set p d))
 -- the own flag is set, and the update returns
-act b c t th (Some (Update op)) (phases.Set p d) = flagged c t p (returning th p (reply_after b c.initial (take (p - 1) c.trace) op) th.began c.clock)
+act b c t th (Some (Update op)) (phases.Set p d) =
+    flagged c t p (returning th p (reply_after b c.initial (take (p - 1) c.trace) op) th.began c.clock)
 act b c t th (Some (Update op)) (phases.Ask f d) = c
 -- a read loads the tail, and returns where no node stands above the base
 act b c t th (Some (Ask query)) phases.Idle =
@@ -115,15 +129,18 @@ act b c t th (Some (Ask query)) (phases.Set p d) = c
 abbrev pub next_call : {State Op Query Reply : Type 0} → CoreThread State Op Query Reply → Option (Call State Op Query Reply)
 next_call th = slice_get th.script (length th.returned)
 
-abbrev pub step_by : {State Op Query Reply : Type 0} → Behaviour State Op Query Reply → CoreState State Op Query Reply → ℕ → Option (CoreThread State Op Query Reply) → CoreState State Op Query Reply
+abbrev pub step_by : {State Op Query Reply : Type 0} → Behaviour State Op Query Reply → CoreState State Op Query Reply
+    → ℕ → Option (CoreThread State Op Query Reply) → CoreState State Op Query Reply
 step_by b c t None = c
 step_by b c t (Some th) = act b c t th (next_call th) th.phase
 
 -- one step of thread t
-abbrev pub step_of : {State Op Query Reply : Type 0} → Behaviour State Op Query Reply → CoreState State Op Query Reply → ℕ → CoreState State Op Query Reply
+abbrev pub step_of : {State Op Query Reply : Type 0} → Behaviour State Op Query Reply → CoreState State Op Query Reply
+    → ℕ → CoreState State Op Query Reply
 step_of b c t = step_by b c t (slice_get c.threads t)
 
 -- the steps of these threads, in order
-abbrev pub steps_of : {State Op Query Reply : Type 0} → Behaviour State Op Query Reply → CoreState State Op Query Reply → List ℕ → CoreState State Op Query Reply
+abbrev pub steps_of : {State Op Query Reply : Type 0} → Behaviour State Op Query Reply → CoreState State Op Query Reply
+    → List ℕ → CoreState State Op Query Reply
 steps_of b c [] = c
 steps_of b c (t ∷ ts) = steps_of b (step_of b c t) ts

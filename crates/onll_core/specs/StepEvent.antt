@@ -12,7 +12,8 @@ use Rattle.onll_core.specs.Step.{next_call}
 
 -- Which event a step of a thread is. Where a line is written or written back no frame changes.
 
-abbrev pub event_at : {State Op Query Reply : Type 0} → Behaviour State Op Query Reply → CoreState State Op Query Reply → ℕ → Option (Call State Op Query Reply) → Phase → Option Event
+abbrev pub event_at : {State Op Query Reply : Type 0} → Behaviour State Op Query Reply → CoreState State Op Query Reply
+    → ℕ → Option (Call State Op Query Reply) → Phase → Option Event
 event_at b c t None phase = None
 event_at b c t (Some (Update op)) phases.Idle = Some (UpdateTail t)
 event_at b c t (Some (Update op)) (phases.Tail l) = Some (UpdateTail t)
@@ -33,7 +34,8 @@ event_at b c t (Some (Ask query)) (phases.Back p d k) = None
 event_at b c t (Some (Ask query)) (phases.Fence p d) = None
 event_at b c t (Some (Ask query)) (phases.Set p d) = None
 
-abbrev pub event_by : {State Op Query Reply : Type 0} → Behaviour State Op Query Reply → CoreState State Op Query Reply → ℕ → Option (CoreThread State Op Query Reply) → Option Event
+abbrev pub event_by : {State Op Query Reply : Type 0} → Behaviour State Op Query Reply → CoreState State Op Query Reply
+    → ℕ → Option (CoreThread State Op Query Reply) → Option Event
 event_by b c t None = None
 event_by b c t (Some th) = event_at b c t (next_call th) th.phase
 

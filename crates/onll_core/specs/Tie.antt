@@ -92,7 +92,8 @@ updates_to_link th (phases.Ask f d) = updates_in (drop (length th.returned) th.s
 
 -- The device of thread t of `count`, whose next step is of this kind and which is writing this segment, if any: `log` are
 -- its fenced entries, and `free` lines are zero behind those that are written.
-pub record IsTied {State Op Query Reply : Type 0} (count t : ℕ) (writing : Option Segment) (th : CoreThread State Op Query Reply) (phase : Phase) : Type 0 where
+pub record IsTied {State Op Query Reply : Type 0} (count t : ℕ) (writing : Option Segment)
+    (th : CoreThread State Op Query Reply) (phase : Phase) : Type 0 where
   pub log : List Segment
   pub free : ℕ
   pub head : FitsHead th.head
@@ -102,10 +103,12 @@ pub record IsTied {State Op Query Reply : Type 0} (count t : ℕ) (writing : Opt
   pub lines : th.used ≡ suc (lines_in log)
   pub in_entry : InEntry phase
   pub fenced : th.device.fenced ≡ log_lines th.head log ++ zero_lines (written_in phase + free)
-  pub read : th.device.read ≡ log_lines th.head log ++ (take (written_in phase) (coming_lines th.head (length log) writing) ++ zero_lines free)
+  pub read : th.device.read ≡ log_lines th.head log
+      ++ (take (written_in phase) (coming_lines th.head (length log) writing) ++ zero_lines free)
   pub marks : length th.device.backed ≡ length th.device.read
   -- each line but the one behind is written back, or reads as it is fenced
-  pub backed : (line : ℕ) → IsBehind th.used phase line → (is_marked th.device.backed line ≡ true) ⊎ (line_at th.device.read line ≡ line_at th.device.fenced line)
+  pub backed : (line : ℕ) → IsBehind th.used phase line → (is_marked th.device.backed line ≡ true)
+      ⊎ (line_at th.device.read line ≡ line_at th.device.fenced line)
   -- each fence but a first one, of the head, made an entry durable
   pub fences : th.device.fences ≤ suc th.logged
   -- the entry has room, and so has a whole one of each update to come

@@ -1,4 +1,5 @@
 ghost use Rattle.std.specs.Prelude.{◌≡◌, ◌≤◌, ◌⊎◌, length, map, Some, None, Ok, Err, IfOk, MatchResult};
+ghost use Rattle.onll_model.specs.Limits.{most_threads};
 ghost use Rattle.onll_pmem.specs.Pmem.{words_of};
 ghost use Rattle.onll_log.specs.Grammar.{content_of};
 ghost use Rattle.onll_log.specs.Decoded.{content_in};
@@ -46,7 +47,8 @@ fn heads_of<O: Object>(alloc: Global, workers: &[Worker<O>]) -> Result<Vec<LogHe
 /// What the image of this number holds.
 fn decode_one(alloc: Global, log: u64, image: &[Line]) -> Result<Decoded, ImagesFault>
     ensures { let content = content_of (words_of image.now) in
-        MatchResult result (λ decoded. content ≡ Some (content_in decoded)) (λ e. (e ≡ Recover OutOfMemory) ⊎ ((content ≡ None) × (e ≡ NotLog log))) }
+        MatchResult result (λ decoded. content ≡ Some (content_in decoded))
+        (λ e. (e ≡ Recover OutOfMemory) ⊎ ((content ≡ None) × (e ≡ NotLog log))) }
 {
     match decode(alloc, image) {
         Ok(decoded) => Ok(decoded),
@@ -58,7 +60,8 @@ fn decode_one(alloc: Global, log: u64, image: &[Line]) -> Result<Decoded, Images
 /// What all images hold.
 fn decode_all(alloc: Global, images: &[Vec<Line>]) -> Result<Vec<Decoded>, ImagesFault>
     ensures { let lines = map (λ image. words_of image.items) images.now in
-        MatchResult result (λ logs. map content_of lines ≡ map Some (contents_in logs.items)) (λ e. (e ≡ Recover OutOfMemory) ⊎ (not_log 0 lines ≡ Some e)) }
+        MatchResult result (λ logs. map content_of lines ≡ map Some (contents_in logs.items))
+        (λ e. (e ≡ Recover OutOfMemory) ⊎ (not_log 0 lines ≡ Some e)) }
 {
     let mut logs = Vec::new(alloc);
     for (log, image) in images.iter().enumerate() {
@@ -73,7 +76,7 @@ fn recover_images(
     heads: &[LogHead],
     images: &[Vec<Line>],
 ) -> Result<Vec<Node>, ImagesFault>
-    requires few { length images.now ≤ 16 }
+    requires few { length images.now ≤ most_threads }
     requires heads { length heads.now ≡ length images.now }
     ensures { let merged = merge_images heads.now (map (λ image. words_of image.items) images.now) in
         MatchResult result (λ nodes. merged ≡ Ok nodes.items) (λ e. (e ≡ Recover OutOfMemory) ⊎ (merged ≡ Err e)) }
@@ -109,7 +112,8 @@ impl<O: Object + Drop> Core<O> {
             MatchResult result (λ nodes. merged ≡ Ok nodes.items) (λ e. (e ≡ Recover OutOfMemory) ⊎ (merged ≡ Err e)) }
         ensures own { let lines = map (λ image. words_of image.items) images.now in
             AreImages self.now.threads lines →
-            (all : RecoversAll O.means (heads_of self.now.threads) self.now lines) × MatchResult result (λ nodes. nodes.items ≡ all.recovers.nodes) (λ e. e ≡ Recover OutOfMemory) }
+            (all : RecoversAll O.means (heads_of self.now.threads) self.now lines)
+            × MatchResult result (λ nodes. nodes.items ≡ all.recovers.nodes) (λ e. e ≡ Recover OutOfMemory) }
     {
         self.reached();
         match heads_of(alloc, self.workers()) {

@@ -58,8 +58,15 @@ impl<O: Object + Drop> Local<O> {
     pub fn reply_at(&mut self, trace: &[Node], place: u64, op: O::Op) -> O::Reply
         requires forward { self.old.place < place }
         requires within { place ≤ length trace.now }
-        ensures reply { result ≡ O.means.reply (state_after O.means self.old.object (nodes_between trace.now self.old.place (place - 1))) op }
-        ensures moved { self.new ≡ record { object = O.means.next (state_after O.means self.old.object (nodes_between trace.now self.old.place (place - 1))) op; place = place; linked = self.old.linked } }
+        ensures reply { result ≡ O.means.reply (state_after O.means self.old.object
+            (nodes_between trace.now self.old.place (place - 1))) op }
+        ensures moved { self.new ≡ record {
+          object = O.means.next
+              (state_after O.means self.old.object (nodes_between trace.now self.old.place (place - 1))) op;
+          place =
+              place;
+          linked = self.old.linked;
+        } }
     {
         self.advance(trace, place - 1);
         self.place = place;
@@ -70,7 +77,8 @@ impl<O: Object + Drop> Local<O> {
     pub fn answer_at(&mut self, trace: &[Node], place: u64, query: O::Query) -> O::Reply
         requires forward { self.old.place ≤ place }
         requires within { place ≤ length trace.now }
-        ensures answer { result ≡ O.means.answer (state_after O.means self.old.object (nodes_between trace.now self.old.place place)) query }
+        ensures answer { result ≡ O.means.answer
+            (state_after O.means self.old.object (nodes_between trace.now self.old.place place)) query }
         ensures moved { self.new ≡ moved O.means self.old trace.now place }
     {
         self.advance(trace, place);

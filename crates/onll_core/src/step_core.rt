@@ -1,4 +1,5 @@
 ghost use Rattle.std.specs.Prelude.{◌≡◌, ℕ, suc, ◌+◌, ◌-◌, ◌*◌, ◌^◌, ◌<◌, ◌≤◌, Bool, true, List, [], length, sum_by, Option, Some, None, slice_get, IfSome, IfOk, ◌↔◌, replicate, map};
+ghost use Rattle.onll_model.specs.Limits.{most_threads, most_updates};
 ghost use Rattle.std.specs.List.{All};
 ghost use Rattle.onll_model.specs.declared.call.Call.TheVariants.{Update, Ask};
 ghost use Rattle.onll_model.specs.Frames.{is_available};
@@ -26,14 +27,14 @@ use crate::phase::Phase;
 use crate::returned::{Current, Returned, Stepped};
 use crate::worker::{Worker, with_room};
 use onll_log::{LogHead, entry_head};
-use onll_model::{Call, Node, Object, Turn, node_line};
+use onll_model::{Call, MOST_UPDATES, Node, Object, Turn, node_line};
 use onll_pmem::MemPmem;
 use onll_words::{Line, NoMemory};
 use std::alloc::Global;
 use std::marker::Model;
 
 /// The most updates of a thread.
-const NAMES: usize = 4096;
+const NAMES: usize = MOST_UPDATES as usize;
 
 /// Whether the flag of the node at a place is set. Place 0 always is available.
 fn is_available(flags: &[bool], place: u64) -> bool
@@ -113,7 +114,7 @@ fn after_back(place: u64, below: u64, line: u64) -> Phase
 /// The line of this number of the entry after this many others, whose last node is at this place.
 fn line_of_entry(head: LogHead, before: u64, place: u64, nodes: &[Node], line: u64) -> Line
     requires format { (1 ≤ head.format) × (head.format ≤ 2) }
-    requires threads { head.threads ≤ 16 }
+    requires threads { head.threads ≤ most_threads }
     requires fits { FitsEntry head.threads (record { place = place; nodes = nodes.now }) }
     requires before { before < 2 ^ 64 - 1 }
     requires line { line ≤ length nodes.now }
@@ -145,9 +146,24 @@ impl<O: Object + Drop> Model for Core<O> {
 
     ghost Value = { CoreState O O.Op O.Query O.Reply };
 
-    ghost view = { λ c. record { initial = c.initial; base = c.base; trace = c.trace.items; flags = c.flags.items; clock = c.clock; threads = c.workers.items } };
+    ghost view = { λ c. record {
+      initial = c.initial;
+      base = c.base;
+      trace = c.trace.items;
+      flags = c.flags.items;
+      clock = c.clock;
+      threads = c.workers.items;
+    } };
 
-    ghost invariant = { λ c. KeepsCore O.means (vec_capacity c.trace) (vec_capacity c.flags) c.locals.items (record { initial = c.initial; base = c.base; trace = c.trace.items; flags = c.flags.items; clock = c.clock; threads = c.workers.items }) };
+    ghost invariant = { λ c. KeepsCore O.means (vec_capacity c.trace) (vec_capacity c.flags) c.locals.items
+        (record {
+          initial = c.initial;
+          base = c.base;
+          trace = c.trace.items;
+          flags = c.flags.items;
+          clock = c.clock;
+          threads = c.workers.items;
+        }) };
 }
 
 /// The threads of these scripts, with their logs.
@@ -156,9 +172,11 @@ fn first_workers<O: Object>(
     init: &[u8],
     scripts: Vec<Vec<Call<O>>>,
 ) -> Result<Vec<Worker<O>>, NoMemory>
-    requires few { length scripts.items ≤ 16 }
-    requires updates { All (λ script. updates_in script.items ≤ 4096) scripts.items }
-    ensures { IfOk result (λ workers. workers.items ≡ first_threads (heads_from (length scripts.items) O.CODE init.now 0 (length scripts.items)) (map (λ script. script.items) scripts.items)) }
+    requires few { length scripts.items ≤ most_threads }
+    requires updates { All (λ script. updates_in script.items ≤ most_updates) scripts.items }
+    ensures { IfOk result (λ workers. workers.items
+        ≡ first_threads (heads_from (length scripts.items) O.CODE init.now 0 (length scripts.items))
+        (map (λ script. script.items) scripts.items)) }
 {
     let threads = scripts.len();
     let mut workers = with_room(alloc, threads)?;
@@ -199,8 +217,8 @@ impl<O: Object + Drop> Core<O> {
         init: &[u8],
         scripts: Vec<Vec<Call<O>>>,
     ) -> Result<Core<O>, NoMemory>
-        requires few { length scripts.items ≤ 16 }
-        requires updates { All (λ script. updates_in script.items ≤ 4096) scripts.items }
+        requires few { length scripts.items ≤ most_threads }
+        requires updates { All (λ script. updates_in script.items ≤ most_updates) scripts.items }
         ensures { IfOk result (λ c. c ≡ created_core object O.CODE init.now (map (λ script. script.items) scripts.items)) }
     {
         let threads = scripts.len();
@@ -353,7 +371,8 @@ impl<O: Object + Drop> Core<O> {
     fn turn(&mut self, thread: u64, phase: Phase)
         requires there { thread < length self.old.threads }
         requires time { self.old.clock < 2 ^ 64 - 1 }
-        requires step { IfSome (slice_get self.old.threads thread) (λ th. step_of O.means self.old thread ≡ put self.old thread (turned th phase)) }
+        requires step { IfSome (slice_get self.old.threads thread)
+            (λ th. step_of O.means self.old thread ≡ put self.old thread (turned th phase)) }
         ensures { self.new ≡ step_of O.means self.old thread }
     {
         let worker = &mut self.workers[thread as usize];
@@ -365,7 +384,8 @@ impl<O: Object + Drop> Core<O> {
     fn begin(&mut self, thread: u64, phase: Phase)
         requires there { thread < length self.old.threads }
         requires time { self.old.clock < 2 ^ 64 - 1 }
-        requires step { IfSome (slice_get self.old.threads thread) (λ th. step_of O.means self.old thread ≡ put self.old thread (begun th self.old.clock phase)) }
+        requires step { IfSome (slice_get self.old.threads thread)
+            (λ th. step_of O.means self.old thread ≡ put self.old thread (begun th self.old.clock phase)) }
         ensures { self.new ≡ step_of O.means self.old thread }
     {
         let now = self.clock;
@@ -527,7 +547,8 @@ impl<O: Object + Drop> Core<O> {
     fn answer(&mut self, thread: u64, query: O::Query, place: u64, began: u64)
         requires there { thread < length self.old.threads }
         requires time { self.old.clock < 2 ^ 64 - 1 }
-        requires step { IfSome (slice_get self.old.threads thread) (λ th. step_of O.means self.old thread ≡ answered O.means self.old thread th began place query) }
+        requires step { IfSome (slice_get self.old.threads thread)
+            (λ th. step_of O.means self.old thread ≡ answered O.means self.old thread th began place query) }
         requires unseen { IfSome (slice_get self.old.threads thread) (λ th. seen_in self.old.base th.returned ≤ place) }
         requires within { place ≤ length self.old.trace }
         requires running { IfSome (slice_get self.old.threads thread) (λ th. length th.returned < length th.script) }

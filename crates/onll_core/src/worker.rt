@@ -1,4 +1,5 @@
 ghost use Rattle.std.specs.Prelude.{◌≡◌, ◌+◌, ◌<◌, ◌≤◌, suc, [], length, IfOk};
+ghost use Rattle.onll_model.specs.Limits.{most_threads, most_updates};
 ghost use Rattle.onll_model.specs.Calls.{updates_in};
 ghost use Rattle.onll_pmem.specs.Device.{line_at, FillsWords, after_step, Write, WriteBack};
 ghost use Rattle.std.specs.Vec.{vec_capacity};
@@ -23,7 +24,7 @@ pub fn with_room<T: Drop>(alloc: Global, count: usize) -> Result<Vec<T>, NoMemor
 
 /// How many of these calls are updates.
 fn count_updates<O: Object>(calls: &[Call<O>]) -> u64
-    requires { updates_in calls.now ≤ 4096 }
+    requires { updates_in calls.now ≤ most_updates }
     ensures { result ≡ updates_in calls.now }
 {
     let mut updates = 0;
@@ -68,16 +69,35 @@ impl<O: Object> Model for Worker<O> {
 
     ghost Value = { CoreThread O O.Op O.Query O.Reply };
 
-    ghost view = { λ w. record { head = w.head; script = w.script.items; returned = w.returned.items; phase = w.phase; began = w.began; used = w.used; logged = w.logged; device = w.device.device } };
+    ghost view = { λ w. record {
+      head = w.head;
+      script = w.script.items;
+      returned = w.returned.items;
+      phase = w.phase;
+      began = w.began;
+      used = w.used;
+      logged = w.logged;
+      device = w.device.device;
+    } };
 
-    ghost invariant = { λ w. KeepsWorker w.device.failing (vec_capacity w.returned) (record { head = w.head; script = w.script.items; returned = w.returned.items; phase = w.phase; began = w.began; used = w.used; logged = w.logged; device = w.device.device }) };
+    ghost invariant = { λ w. KeepsWorker w.device.failing (vec_capacity w.returned)
+        (record {
+          head = w.head;
+          script = w.script.items;
+          returned = w.returned.items;
+          phase = w.phase;
+          began = w.began;
+          used = w.used;
+          logged = w.logged;
+          device = w.device.device;
+        }) };
 }
 
 impl<O: Object> Worker<O> {
     /// A thread that has done nothing, with a log that holds its head and has room for an entry of each update.
     pub fn new(alloc: Global, head: LogHead, script: Vec<Call<O>>) -> Result<Worker<O>, NoMemory>
-        requires threads { head.threads ≤ 16 }
-        requires updates { updates_in script.items ≤ 4096 }
+        requires threads { head.threads ≤ most_threads }
+        requires updates { updates_in script.items ≤ most_updates }
         ensures { IfOk result (λ worker. worker ≡ first_thread head script.items) }
     {
         let lines = 1 + count_updates(&script) * (head.threads + 1);

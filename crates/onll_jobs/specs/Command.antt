@@ -1,4 +1,5 @@
 use Rattle.std.specs.Prelude.{ℕ, List, [], ◌∷◌, Option, Some, None, if◌then◌else◌, codes, nat_le, ◌&&◌, ◌≤◌, length, map, string_bytes}
+use Rattle.onll_model.specs.Limits.{most_threads}
 use Rattle.std.specs.Str.{bytes_eq}
 use Rattle.onll_words.specs.Numbers.{number_of}
 use Rattle.onll_jobs.specs.declared.command.Command.{Command}
@@ -14,11 +15,13 @@ pub data Form : Type 0 where
 -- the form of a recovery from the logs of this many threads
 abbrev pub recover_form : (init logs : List ℕ) → Option ℕ → Option Form
 recover_form init logs None = None
-recover_form init logs (Some threads) = if nat_le 1 threads && nat_le threads 16 then Some (Recover init logs threads) else None
+recover_form init logs (Some threads) = if nat_le 1 threads && nat_le threads most_threads then Some (Recover init logs threads) else None
 
 -- the form of a replay of this many scripts
 abbrev pub replay_form : (init schedule logs : List ℕ) → List (List ℕ) → Option Form
-replay_form init schedule logs scripts = if nat_le 1 (length scripts) && nat_le (length scripts) 16 then Some (Replay init schedule logs scripts) else None
+replay_form init schedule logs scripts =
+    if nat_le 1 (length scripts) && nat_le (length scripts) most_threads then Some
+    (Replay init schedule logs scripts) else None
 
 -- the form of a replay, where words have it
 abbrev pub replay_of : List (List ℕ) → Option Form
@@ -41,6 +44,6 @@ form_in (commands.Replay init schedule logs scripts) = Replay init.now schedule.
 
 -- a recovery is from the logs of 1 to 16 threads, and a replay is of 1 to 16 scripts
 abbrev pub IsCommand : Command → Type 0
-IsCommand (commands.Recover init logs threads) = (1 ≤ threads) × (threads ≤ 16)
-IsCommand (commands.Replay init schedule logs scripts) = (1 ≤ length scripts.now) × (length scripts.now ≤ 16)
+IsCommand (commands.Recover init logs threads) = (1 ≤ threads) × (threads ≤ most_threads)
+IsCommand (commands.Replay init schedule logs scripts) = (1 ≤ length scripts.now) × (length scripts.now ≤ most_threads)
 IsCommand command = Unit {0}

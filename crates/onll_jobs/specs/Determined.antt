@@ -30,7 +30,8 @@ use Rattle.onll_jobs.specs.Reports.{fold_data, shown_lines, ShowReads, show_data
 
 -- ---- fold
 -- a script is read from this file, and this text says what its fold gives, and nothing else
-pub record FoldsTo {State Op Query Reply : Type 0} (b : Behaviour State Op Query Reply) (w : Wording State Op Query Reply) (s : State) (store : StoreView) (script text : List ℕ) : Type 0 where
+pub record FoldsTo {State Op Query Reply : Type 0} (b : Behaviour State Op Query Reply)
+    (w : Wording State Op Query Reply) (s : State) (store : StoreView) (script text : List ℕ) : Type 0 where
   pub calls : List (Call State Op Query Reply)
   pub read : Reads store (read_script w) script calls
   pub says : SaysOnly (fold_data_lines b w calls) (FoldDataReads b w calls) text (fold_data b s calls)
@@ -59,7 +60,9 @@ pub record ShowsFile (store : StoreView) (image text : List ℕ) : Type 0 where
 
 -- ---- recover
 -- this text says what these images give, and nothing else
-pub record RecoversTo {State Op Query Reply : Type 0} (b : Behaviour State Op Query Reply) (w : Wording State Op Query Reply) (code : ℕ) (init : List ℕ) (s : State) (images : List (List (List ℕ))) (text : List ℕ) : Type 0 where
+pub record RecoversTo {State Op Query Reply : Type 0} (b : Behaviour State Op Query Reply)
+    (w : Wording State Op Query Reply) (code : ℕ) (init : List ℕ) (s : State) (images : List (List (List ℕ)))
+    (text : List ℕ) : Type 0 where
   pub found : Recovered
   pub is : recovered b code init images ≡ Ok found
   pub says : SaysOnly (recover_data_lines b w) (RecoverReads b w) text (recover_data b s found)
@@ -88,21 +91,25 @@ pub record RecoversFiles (store : StoreView) (init logs : List ℕ) (threads : �
 
 -- ---- replay
 -- this text says the run of this core, its crash, and what these images give, and nothing else
-pub record CrashesTo {State Op Query Reply : Type 0} (b : Behaviour State Op Query Reply) (w : Wording State Op Query Reply) (code : ℕ) (init : List ℕ) (c : CoreState State Op Query Reply) (keep : ℕ)
+pub record CrashesTo {State Op Query Reply : Type 0} (b : Behaviour State Op Query Reply)
+    (w : Wording State Op Query Reply) (code : ℕ) (init : List ℕ) (c : CoreState State Op Query Reply) (keep : ℕ)
     (scripts : List (List (Call State Op Query Reply))) (images : List (List (List ℕ))) (text : List ℕ) : Type 0 where
   pub found : Recovered
   pub is : recovered b code init images ≡ Ok found
   pub says : SaysOnly (run_data_lines b w scripts) (RunReads b w scripts) text (replay_data b c keep found)
 
 -- a schedule of these scripts is read from this file and played, and the core crashes
-pub record PlaysTo {State Op Query Reply : Type 0} (b : Behaviour State Op Query Reply) (w : Wording State Op Query Reply) (code : ℕ) (init : List ℕ) (s : State) (store : StoreView) (schedule : List ℕ)
+pub record PlaysTo {State Op Query Reply : Type 0} (b : Behaviour State Op Query Reply)
+    (w : Wording State Op Query Reply) (code : ℕ) (init : List ℕ) (s : State) (store : StoreView) (schedule : List ℕ)
     (scripts : List (List (Call State Op Query Reply))) (text : List ℕ) : Type 0 where
   pub plan : Schedule
   pub planned : Reads store (schedule_of (length scripts)) schedule plan
-  pub crashes : CrashesTo b w code init (played b code init s scripts plan.turns) plan.keep scripts (images_of plan.keep (played b code init s scripts plan.turns).threads) text
+  pub crashes : CrashesTo b w code init (played b code init s scripts plan.turns) plan.keep scripts
+      (images_of plan.keep (played b code init s scripts plan.turns).threads) text
 
 -- scripts are read from these files
-pub record ReplaysTo {State Op Query Reply : Type 0} (b : Behaviour State Op Query Reply) (w : Wording State Op Query Reply) (code : ℕ) (init : List ℕ) (s : State) (store : StoreView) (schedule : List ℕ)
+pub record ReplaysTo {State Op Query Reply : Type 0} (b : Behaviour State Op Query Reply)
+    (w : Wording State Op Query Reply) (code : ℕ) (init : List ℕ) (s : State) (store : StoreView) (schedule : List ℕ)
     (names : List (List ℕ)) (text : List ℕ) : Type 0 where
   pub scripts : List (List (Call State Op Query Reply))
   pub read : ReadScripts w store names scripts

@@ -29,7 +29,8 @@ use Rattle.onll_jobs.specs.Says.{NoneRose, SaysThis}
 
 -- ---- a replay
 -- a script is read from each of these files
-abbrev pub ReadScripts : {State Op Query Reply : Type 0} → Wording State Op Query Reply → StoreView → List (List ℕ) → List (List (Call State Op Query Reply)) → Type 0
+abbrev pub ReadScripts : {State Op Query Reply : Type 0} → Wording State Op Query Reply → StoreView → List (List ℕ)
+    → List (List (Call State Op Query Reply)) → Type 0
 ReadScripts w store [] [] = Unit {0}
 ReadScripts w store (name ∷ names) (script ∷ scripts) = Reads store (script_of w) name script × ReadScripts w store names scripts
 ReadScripts w store names scripts = ⊥
@@ -42,7 +43,8 @@ with_images store logs i (image ∷ images) = with_images (written store (image_
 -- This text is the report of a run of the scripts that the files hold, by the schedule that a file holds. Every run of these
 -- scripts, by any schedule, is durable at each step; and what is printed of this one is its calls and its trace, and the front
 -- of that trace which the images of its crash recover to. They are in the files of the logs.
-pub record HasReplayed {State Op Query Reply : Type 0} (b : Behaviour State Op Query Reply) (w : Wording State Op Query Reply) (code : ℕ) (init : List ℕ) (s : State)
+pub record HasReplayed {State Op Query Reply : Type 0} (b : Behaviour State Op Query Reply)
+    (w : Wording State Op Query Reply) (code : ℕ) (init : List ℕ) (s : State)
     (store after : StoreView) (schedule logs : List ℕ) (names : List (List ℕ)) (text : List ℕ) : Type 0 where
   pub scripts : List (List (Call State Op Query Reply))
   pub plan : Schedule
@@ -71,7 +73,8 @@ pub record ReplayPut (seen : Seen) (init schedule logs : List ℕ) (names : List
 
 -- a replay that is done
 abbrev pub ReplayIsDurable : Seen → ℕ → Type 0
-ReplayIsDurable seen status = (init schedule logs : List ℕ) (names : List (List ℕ)) → form_of seen.words ≡ Some (Replay init schedule logs names) → status ≡ 0 → ReplayPut seen init schedule logs names
+ReplayIsDurable seen status = (init schedule logs : List ℕ) (names : List (List ℕ))
+    → form_of seen.words ≡ Some (Replay init schedule logs names) → status ≡ 0 → ReplayPut seen init schedule logs names
 
 -- ---- a recovery
 -- the named file is told, and holds an image with these lines
@@ -87,7 +90,8 @@ TellImages store logs i (image ∷ images) = TellsImage store (image_name logs i
 
 -- A crash left the files of the logs: some scripts within the limits were run, by any steps of their threads, and each file
 -- holds any of the images that the thread's device may have.
-pub record IsLeft {State Op Query Reply : Type 0} (b : Behaviour State Op Query Reply) (code : ℕ) (init : List ℕ) (s : State) (store : StoreView) (logs : List ℕ) (threads : ℕ) : Type 0 where
+pub record IsLeft {State Op Query Reply : Type 0} (b : Behaviour State Op Query Reply) (code : ℕ) (init : List ℕ)
+    (s : State) (store : StoreView) (logs : List ℕ) (threads : ℕ) : Type 0 where
   pub scripts : List (List (Call State Op Query Reply))
   pub within : IsWithinLimits code scripts
   pub many : length scripts ≡ threads
@@ -98,9 +102,11 @@ pub record IsLeft {State Op Query Reply : Type 0} (b : Behaviour State Op Query 
 
 -- What is printed is the front of that run's trace which holds every returned update and all that returned reads saw, and the
 -- state after it; or memory could not be had.
-pub record RecoversLeft {State Op Query Reply : Type 0} (b : Behaviour State Op Query Reply) (w : Wording State Op Query Reply) (code : ℕ) (init : List ℕ) (s : State)
+pub record RecoversLeft {State Op Query Reply : Type 0} (b : Behaviour State Op Query Reply)
+    (w : Wording State Op Query Reply) (code : ℕ) (init : List ℕ) (s : State)
     (seen : Seen) (status : ℕ) (logs : List ℕ) (threads : ℕ) (left : IsLeft b code init s seen.store logs threads) : Type 0 where
-  pub crash : RecoversAll b (created_heads code init left.scripts) (steps_of b (created_core s code init left.scripts) left.steps) left.images
+  pub crash : RecoversAll b (created_heads code init left.scripts)
+      (steps_of b (created_core s code init left.scripts) left.steps) left.images
   pub says : SaysThis seen status Done (recover_report b w s (record { logs = crash.recovers.logs; nodes = crash.recovers.nodes }))
 
 -- the same for an object of any kind
@@ -113,5 +119,6 @@ RecoversLeftAny init seen status logs threads object =
 
 -- a recovery over the initial state that a file tells, where no call of the store or of the sink failed
 abbrev pub RecoversCrashes : Seen → ℕ → Type 0
-RecoversCrashes seen status = (init logs bytes : List ℕ) (threads : ℕ) (object : AnyObject) → form_of seen.words ≡ Some (Recover init logs threads)
+RecoversCrashes seen status = (init logs bytes : List ℕ) (threads : ℕ) (object : AnyObject)
+    → form_of seen.words ≡ Some (Recover init logs threads)
     → IsTold seen.store init bytes → init_of bytes ≡ Ok object → NoneRose seen → RecoversLeftAny bytes seen status logs threads object

@@ -12,7 +12,8 @@ use Rattle.onll_jobs.specs.Job.{Job, Say, reading}
 -- What `fold INIT SCRIPT` does.
 
 -- reads a script and says the report of its calls on an object's state
-abbrev pub script_job : {State Op Query Reply : Type 0} → Behaviour State Op Query Reply → Wording State Op Query Reply → State → List ℕ → Job
+abbrev pub script_job : {State Op Query Reply : Type 0} → Behaviour State Op Query Reply → Wording State Op Query Reply
+    → State → List ℕ → Job
 script_job b w s script = reading script (script_of w) (λ calls. Say Done (fold_report b w s calls))
 
 -- the same on an object of any kind

@@ -22,11 +22,13 @@ reading_images logs i (suc threads) next =
 
 -- these images of this many threads were read, and a job that reads them goes on
 abbrev pub ImagesRead : StoreView → StoreView → List ℕ → ℕ → List (List (List ℕ)) → Type 0
-ImagesRead store after logs threads images = (next : List (List (List ℕ)) → Job) → GoesOn store after (reading_images logs 0 threads next) (next images)
+ImagesRead store after logs threads images =
+    (next : List (List (List ℕ)) → Job) → GoesOn store after (reading_images logs 0 threads next) (next images)
 
 -- one of them can't be read, and every job that reads them ends so
 abbrev pub ImagesUnread : StoreView → StoreView → List ℕ → ℕ → Ending → List ℕ → Type 0
-ImagesUnread store after logs threads ending text = (next : List (List (List ℕ)) → Job) → JobEnds store after (reading_images logs 0 threads next) ending text
+ImagesUnread store after logs threads ending text =
+    (next : List (List (List ℕ)) → Job) → JobEnds store after (reading_images logs 0 threads next) ending text
 
 -- the bytes of an image's file
 abbrev pub image_bytes : List (List ℕ) → List ℕ

@@ -19,19 +19,23 @@ pub data Job : Type 0 where
 abbrev pub JobEnds : StoreView → StoreView → Job → Ending → List ℕ → Type 0
 JobEnds store after (Say e t) ending text = (ending ≡ e) × (text ≡ t) × FilesStay store after × SameFaults store after
 JobEnds store after (Read name next) ending text =
-    (CannotRead store after name ending text × FilesStay store after) ⊎ ((bytes : List ℕ) × (Holds store name bytes × JobEnds store after (next bytes) ending text))
-JobEnds store after (Write name bytes next) ending text = CannotWrite store after name ending text ⊎ JobEnds (written store name bytes) after next ending text
+    (CannotRead store after name ending text × FilesStay store after)
+    ⊎ ((bytes : List ℕ) × (Holds store name bytes × JobEnds store after (next bytes) ending text))
+JobEnds store after (Write name bytes next) ending text =
+    CannotWrite store after name ending text ⊎ JobEnds (written store name bytes) after next ending text
 
 -- The job may stop early, and leave the store so: it read files and wrote files, each of them whole, up to one that is as it was,
 -- unless a write of it failed. No other file changes.
 abbrev pub JobCut : StoreView → StoreView → Job → Type 0
 JobCut store after (Say e t) = FilesStay store after
-JobCut store after (Read name next) = FilesStay store after ⊎ ((bytes : List ℕ) × (Holds store name bytes × JobCut store after (next bytes)))
+JobCut store after (Read name next) =
+    FilesStay store after ⊎ ((bytes : List ℕ) × (Holds store name bytes × JobCut store after (next bytes)))
 JobCut store after (Write name bytes next) = WriteStops store after name ⊎ JobCut (written store name bytes) after next
 
 -- whatever the other job does from this store, the job may do from the store before
 pub record GoesOn (store mid : StoreView) (job next : Job) : Type 0 where
-  pub ends : (after : StoreView) (ending : Ending) (text : List ℕ) → JobEnds mid after next ending text → JobEnds store after job ending text
+  pub ends : (after : StoreView) (ending : Ending) (text : List ℕ) → JobEnds mid after next ending text
+      → JobEnds store after job ending text
   pub cut : (after : StoreView) → JobCut mid after next → JobCut store after job
 
 -- the job says this without reading any file

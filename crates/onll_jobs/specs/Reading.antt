@@ -28,7 +28,8 @@ pub record Reads {A : Type 0} (store : StoreView) (grammar : List ℕ → Result
   pub accepted : grammar bytes ≡ Ok value
 
 -- the file has these bytes, and is read as this value
-pub record ReadsWhole {A : Type 0} (store : StoreView) (grammar : List ℕ → Result A Refusal) (name bytes : List ℕ) (value : A) : Type 0 where
+pub record ReadsWhole {A : Type 0} (store : StoreView) (grammar : List ℕ → Result A Refusal) (name bytes : List ℕ)
+    (value : A) : Type 0 where
   pub held : Holds store name bytes
   pub accepted : grammar bytes ≡ Ok value
 

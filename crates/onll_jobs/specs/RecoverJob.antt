@@ -77,16 +77,19 @@ abbrev pub with_logs : List Content → Result (List Node) LogsFault → Result 
 with_logs logs (Ok nodes) = Ok (record { logs = logs; nodes = nodes })
 with_logs logs (Err fault) = Err fault
 
-abbrev pub operations_of : {State Op Query Reply : Type 0} → Behaviour State Op Query Reply → Result (List Node) RecoverFault → Result (List Node) LogsFault
+abbrev pub operations_of : {State Op Query Reply : Type 0} → Behaviour State Op Query Reply
+    → Result (List Node) RecoverFault → Result (List Node) LogsFault
 operations_of b (Ok nodes) = operations b nodes
 operations_of b (Err fault) = Err (NotMerged fault)
 
-abbrev pub merged : {State Op Query Reply : Type 0} → Behaviour State Op Query Reply → List LogHead → Result (List Content) LogsFault → Result Recovered LogsFault
+abbrev pub merged : {State Op Query Reply : Type 0} → Behaviour State Op Query Reply → List LogHead
+    → Result (List Content) LogsFault → Result Recovered LogsFault
 merged b heads (Ok logs) = with_logs logs (operations_of b (merge heads logs))
 merged b heads (Err fault) = Err fault
 
 -- the images are decoded in order, then the logs are merged, then the rows are read as operations
-abbrev pub recovered : {State Op Query Reply : Type 0} → Behaviour State Op Query Reply → ℕ → List ℕ → List (List (List ℕ)) → Result Recovered LogsFault
+abbrev pub recovered : {State Op Query Reply : Type 0} → Behaviour State Op Query Reply → ℕ → List ℕ
+    → List (List (List ℕ)) → Result Recovered LogsFault
 recovered b code init images = merged b (expected_heads code init (length images) 0 images) (contents_from 0 images)
 
 -- ---- the report
@@ -104,20 +107,24 @@ abbrev pub recovered_line : ℕ → List (List ℕ)
 recovered_line nodes = codes "recovered" ∷ decimal nodes ∷ []
 
 -- the lines of the logs, of the trace, and of this state
-abbrev pub lines_with : {State Op Query Reply : Type 0} → Behaviour State Op Query Reply → Wording State Op Query Reply → Recovered → State → List (List (List ℕ))
+abbrev pub lines_with : {State Op Query Reply : Type 0} → Behaviour State Op Query Reply → Wording State Op Query Reply
+    → Recovered → State → List (List (List ℕ))
 lines_with b w r s = log_lines 0 r.logs ++ (recovered_line (length r.nodes) ∷ (node_lines b w 0 r.nodes ++ state_lines w s))
 
 -- the state is that after the trace
-abbrev pub recover_report : {State Op Query Reply : Type 0} → Behaviour State Op Query Reply → Wording State Op Query Reply → State → Recovered → List ℕ
+abbrev pub recover_report : {State Op Query Reply : Type 0} → Behaviour State Op Query Reply
+    → Wording State Op Query Reply → State → Recovered → List ℕ
 recover_report b w s r = flat_map line_text (lines_with b w r (state_after b s r.nodes))
 
 -- ---- the job
-abbrev pub found_says : {State Op Query Reply : Type 0} → Behaviour State Op Query Reply → Wording State Op Query Reply → State → Result Recovered LogsFault → Job
+abbrev pub found_says : {State Op Query Reply : Type 0} → Behaviour State Op Query Reply → Wording State Op Query Reply
+    → State → Result Recovered LogsFault → Job
 found_says b w s (Ok r) = Say Done (recover_report b w s r)
 found_says b w s (Err fault) = Say BadLog (fault_line fault)
 
 -- what is said of these images, over an object of this code whose initial state these bytes say
-abbrev pub recover_on : {State Op Query Reply : Type 0} → Behaviour State Op Query Reply → Wording State Op Query Reply → ℕ → List ℕ → State → List (List (List ℕ)) → Job
+abbrev pub recover_on : {State Op Query Reply : Type 0} → Behaviour State Op Query Reply → Wording State Op Query Reply
+    → ℕ → List ℕ → State → List (List (List ℕ)) → Job
 recover_on b w code init s images = found_says b w s (recovered b code init images)
 
 -- the same for an object of any kind

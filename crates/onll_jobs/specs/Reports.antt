@@ -22,7 +22,8 @@ use Rattle.onll_jobs.specs.ReplayJob.{flagged_lines, crash_line}
 
 -- ---- fold
 -- what the report of a fold says
-abbrev pub fold_data : {State Op Query Reply : Type 0} → Behaviour State Op Query Reply → State → List (Call State Op Query Reply) → FoldData State Op Query Reply
+abbrev pub fold_data : {State Op Query Reply : Type 0} → Behaviour State Op Query Reply → State
+    → List (Call State Op Query Reply) → FoldData State Op Query Reply
 fold_data b s calls = record { ends = fold_ends b s 0 calls; nodes = fold_trace b 0 calls; state = fold_state b s calls }
 
 -- ---- show
@@ -92,8 +93,10 @@ abbrev pub held_lines : ℕ → List (Option HeldData) → List (List (List ℕ)
 held_lines t [] = []
 held_lines t (log ∷ logs) = held_line t log ∷ held_lines (t + 1) logs
 
-abbrev pub recover_data_lines : {State Op Query Reply : Type 0} → Behaviour State Op Query Reply → Wording State Op Query Reply → RecoverData State → List (List (List ℕ))
-recover_data_lines b w said = held_lines 0 said.logs ++ (recovered_line (length said.nodes) ∷ (node_lines b w 0 said.nodes ++ state_lines w said.state))
+abbrev pub recover_data_lines : {State Op Query Reply : Type 0} → Behaviour State Op Query Reply
+    → Wording State Op Query Reply → RecoverData State → List (List (List ℕ))
+recover_data_lines b w said = held_lines 0 said.logs
+    ++ (recovered_line (length said.nodes) ∷ (node_lines b w 0 said.nodes ++ state_lines w said.state))
 
 -- the numbers of a log are of 64 bits
 abbrev pub HeldReads : Option HeldData → Type 0
@@ -101,7 +104,8 @@ HeldReads None = Unit {0}
 HeldReads (Some held) = (held.entries < 2 ^ 64) × (held.lines < 2 ^ 64)
 
 -- all that is said reads back
-pub record RecoverReads {State Op Query Reply : Type 0} (b : Behaviour State Op Query Reply) (w : Wording State Op Query Reply) (said : RecoverData State) : Type 0 where
+pub record RecoverReads {State Op Query Reply : Type 0} (b : Behaviour State Op Query Reply)
+    (w : Wording State Op Query Reply) (said : RecoverData State) : Type 0 where
   pub logs : All HeldReads said.logs
   pub nodes : All (NodeReads b w) said.nodes
   pub state : StateReads w said.state
@@ -140,7 +144,8 @@ pub record RunData (State Op Query Reply : Type 0) : Type 0 where
   pub state : State
 
 -- the lines of the calls of each thread, from thread t on
-abbrev pub thread_lines : {State Op Query Reply : Type 0} → Wording State Op Query Reply → ℕ → List (List (Call State Op Query Reply)) → List (List (CallEnd State Op Query Reply)) → List (List (List ℕ))
+abbrev pub thread_lines : {State Op Query Reply : Type 0} → Wording State Op Query Reply → ℕ
+    → List (List (Call State Op Query Reply)) → List (List (CallEnd State Op Query Reply)) → List (List (List ℕ))
 thread_lines w t (script ∷ scripts) (ends ∷ more) = call_lines w t 0 script ends ++ thread_lines w (t + 1) scripts more
 thread_lines w t scripts ends = []
 
@@ -150,13 +155,16 @@ counted_lines t [] = []
 counted_lines t (log ∷ logs) = log_line t log.entries log.lines (Some log.fences) ∷ counted_lines (t + 1) logs
 
 -- the lines of all of it, for these scripts
-abbrev pub run_data_lines : {State Op Query Reply : Type 0} → Behaviour State Op Query Reply → Wording State Op Query Reply → List (List (Call State Op Query Reply)) → RunData State Op Query Reply → List (List (List ℕ))
+abbrev pub run_data_lines : {State Op Query Reply : Type 0} → Behaviour State Op Query Reply
+    → Wording State Op Query Reply → List (List (Call State Op Query Reply)) → RunData State Op Query Reply
+    → List (List (List ℕ))
 run_data_lines b w scripts said =
     (thread_lines w 0 scripts said.ends ++ (trace_line (length said.nodes) ∷ flagged_lines b w 0 said.nodes said.flags))
     ++ (crash_line said.keep ∷ (counted_lines 0 said.logs ++ (recovered_line said.recovered ∷ state_lines w said.state)))
 
 -- the outcomes of the first calls of each script read back
-abbrev pub EachReads : {State Op Query Reply : Type 0} → Wording State Op Query Reply → List (List (Call State Op Query Reply)) → List (List (CallEnd State Op Query Reply)) → Type 0
+abbrev pub EachReads : {State Op Query Reply : Type 0} → Wording State Op Query Reply
+    → List (List (Call State Op Query Reply)) → List (List (CallEnd State Op Query Reply)) → Type 0
 EachReads w [] [] = Unit {0}
 EachReads w (script ∷ scripts) (ends ∷ more) = EndsRead w script ends × EachReads w scripts more
 EachReads w scripts ends = ⊥
@@ -168,7 +176,9 @@ pub record LogReads (log : LogData) : Type 0 where
   pub fences : log.fences < 2 ^ 64
 
 -- all that is said of these scripts' run reads back
-pub record RunReads {State Op Query Reply : Type 0} (b : Behaviour State Op Query Reply) (w : Wording State Op Query Reply) (scripts : List (List (Call State Op Query Reply))) (said : RunData State Op Query Reply) : Type 0 where
+pub record RunReads {State Op Query Reply : Type 0} (b : Behaviour State Op Query Reply)
+    (w : Wording State Op Query Reply) (scripts : List (List (Call State Op Query Reply)))
+    (said : RunData State Op Query Reply) : Type 0 where
   pub threads : length scripts ≤ 2 ^ 64
   pub ends : EachReads w scripts said.ends
   pub nodes : All (NodeReads b w) said.nodes
@@ -180,11 +190,13 @@ pub record RunReads {State Op Query Reply : Type 0} (b : Behaviour State Op Quer
 
 -- the counts of logs and of their threads' devices
 abbrev pub counts_of : {State Op Query Reply : Type 0} → List Content → List (CoreThread State Op Query Reply) → List LogData
-counts_of (log ∷ logs) (th ∷ ths) = record { entries = length log.entries; lines = used_by log; fences = th.device.fences - 1 } ∷ counts_of logs ths
+counts_of (log ∷ logs) (th ∷ ths) =
+    record { entries = length log.entries; lines = used_by log; fences = th.device.fences - 1 } ∷ counts_of logs ths
 counts_of logs ths = []
 
 -- what the report of a replay says
-abbrev pub replay_data : {State Op Query Reply : Type 0} → Behaviour State Op Query Reply → CoreState State Op Query Reply → ℕ → Recovered → RunData State Op Query Reply
+abbrev pub replay_data : {State Op Query Reply : Type 0} → Behaviour State Op Query Reply
+    → CoreState State Op Query Reply → ℕ → Recovered → RunData State Op Query Reply
 replay_data b c keep r = record {
   ends = map ends_of c.threads;
   nodes = c.trace;

@@ -82,7 +82,8 @@ fn read_replay<'a>(words: &'a [String]) -> Option<Command<'a>>
 impl<'a> Command<'a> {
     /// The command of the words; nothing where they are of no form.
     pub(crate) fn read(words: &'a [String]) -> Option<Command<'a>>
-        ensures form { MatchOption result (form_of (map string_bytes words.now) ≡ None) (λ command. form_of (map string_bytes words.now) ≡ Some (form_in command)) }
+        ensures form { MatchOption result (form_of (map string_bytes words.now) ≡ None)
+            (λ command. form_of (map string_bytes words.now) ≡ Some (form_in command)) }
         ensures command { IfSome result IsCommand }
     {
         match words {

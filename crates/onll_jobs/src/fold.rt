@@ -128,7 +128,8 @@ fn fold_object<O: Texted, S: Store>(
         IfOk result (λ answer. JobEnds (S.seen store.old) (S.seen store.new) job answer.ending answer.text.items) }
     ensures cut { let job = script_job O.means O.wording object.old script.now in
         IfErr result (λ e. JobCut (S.seen store.old) (S.seen store.new) job) }
-    ensures determined { IfOk result (λ answer. answer.ending ≡ Done → FoldsTo O.means O.wording object.old (S.seen store.old) script.now answer.text.items) }
+    ensures determined { IfOk result (λ answer. answer.ending ≡ Done
+        → FoldsTo O.means O.wording object.old (S.seen store.old) script.now answer.text.items) }
     ensures same { SameFiles (S.seen store.old) (S.seen store.new) }
 {
     match script_file::<O, S>(alloc, script, store) {
@@ -150,7 +151,8 @@ fn fold_any<S: Store>(
     script: &str,
     store: &mut S,
 ) -> Result<Answer, NoMemory>
-    ensures says { IfOk result (λ answer. JobEnds (S.seen store.old) (S.seen store.new) (script_job_on script.now object) answer.ending answer.text.items) }
+    ensures says { IfOk result (λ answer. JobEnds (S.seen store.old) (S.seen store.new)
+        (script_job_on script.now object) answer.ending answer.text.items) }
     ensures cut { IfErr result (λ e. JobCut (S.seen store.old) (S.seen store.new) (script_job_on script.now object)) }
     ensures determined { IfOk result (λ answer. answer.ending ≡ Done → FoldsToAny (S.seen store.old) script.now answer.text.items object) }
     ensures same { SameFiles (S.seen store.old) (S.seen store.new) }
@@ -170,9 +172,11 @@ pub(crate) fn answer<S: Store>(
     script: &str,
     store: &mut S,
 ) -> Result<Answer, NoMemory>
-    ensures says { IfOk result (λ answer. JobEnds (S.seen store.old) (S.seen store.new) (fold_job init.now script.now) answer.ending answer.text.items) }
+    ensures says { IfOk result (λ answer. JobEnds (S.seen store.old) (S.seen store.new)
+        (fold_job init.now script.now) answer.ending answer.text.items) }
     ensures cut { IfErr result (λ e. JobCut (S.seen store.old) (S.seen store.new) (fold_job init.now script.now)) }
-    ensures determined { IfOk result (λ answer. answer.ending ≡ Done → FoldsFiles (S.seen store.old) init.now script.now answer.text.items) }
+    ensures determined { IfOk result (λ answer. answer.ending ≡ Done
+        → FoldsFiles (S.seen store.old) init.now script.now answer.text.items) }
     ensures same { SameFiles (S.seen store.old) (S.seen store.new) }
 {
     match init_file(alloc, init, store) {

@@ -126,7 +126,8 @@ fn write_image<S: Store>(
     image: &Image,
     store: &mut S,
 ) -> Result<(), Stop>
-    ensures written { OnOk result (HasWritten (S.seen store.old) (S.seen store.new) (image_name logs.now thread) (image_bytes (words_of image.now))) }
+    ensures written { OnOk result (HasWritten (S.seen store.old) (S.seen store.new) (image_name logs.now thread)
+        (image_bytes (words_of image.now))) }
     ensures stop { IfErr result (λ stop. StopSays stop (CannotWrite (S.seen store.old) (S.seen store.new) (image_name logs.now thread))) }
     ensures cut { IfErr result (λ stop. WriteStops (S.seen store.old) (S.seen store.new) (image_name logs.now thread)) }
     ensures others { SameOthers (image_name logs.now thread) (S.seen store.old) (S.seen store.new) }

@@ -28,7 +28,8 @@ fn command_answer<S: Store>(
     requires { IsCommand command }
     ensures says { let form = form_in command.entry in
         IfOk result (λ answer. FormSays (Some form) (S.seen store.old) (S.seen store.new) answer.ending answer.text.items) }
-    ensures determined { IfOk result (λ answer. answer.ending ≡ Ending.Done → FormDetermined (S.seen store.old) (Some (form_in command.entry)) answer.text.items) }
+    ensures determined { IfOk result (λ answer. answer.ending ≡ Ending.Done
+        → FormDetermined (S.seen store.old) (Some (form_in command.entry)) answer.text.items) }
     ensures cut { IfErr result (λ e. JobCut (S.seen store.old) (S.seen store.new) (job_of (Some (form_in command.entry)))) }
     ensures files { SameBut (writes_of (Some (form_in command.entry))) (S.seen store.old) (S.seen store.new) }
 {
@@ -77,9 +78,11 @@ fn put<K: Sink>(out: &mut K, answer: &Answer) -> Exit
 
 /// Does what the words say.
 fn run<S: Store, K: Sink>(alloc: Global, words: &[String], store: &mut S, out: &mut K) -> Exit
-    ensures says { let seen = seen_by (map string_bytes words.now) (S.seen store.old) (S.seen store.new) (K.held out.old) (K.held out.new) in
+    ensures says { let seen = seen_by (map string_bytes words.now) (S.seen store.old) (S.seen store.new)
+        (K.held out.old) (K.held out.new) in
         ExitSays seen result }
-    ensures determined { let seen = seen_by (map string_bytes words.now) (S.seen store.old) (S.seen store.new) (K.held out.old) (K.held out.new) in
+    ensures determined { let seen = seen_by (map string_bytes words.now) (S.seen store.old) (S.seen store.new)
+        (K.held out.old) (K.held out.new) in
         ExitDetermined seen result }
     ensures files { SameBut (writes_of (form_of (map string_bytes words.now))) (S.seen store.old) (S.seen store.new) }
 {
@@ -94,34 +97,43 @@ fn run<S: Store, K: Sink>(alloc: Global, words: &[String], store: &mut S, out: &
 pub fn onll<S: Store, K: Sink>(alloc: Global, words: &[String], store: &mut S, out: &mut K) -> u8
 
     // The status is that of an exit, which says this of the words, the files and what was put.
-    ensures ended { let seen = seen_by (map string_bytes words.now) (S.seen store.old) (S.seen store.new) (K.held out.old) (K.held out.new) in
+    ensures ended { let seen = seen_by (map string_bytes words.now) (S.seen store.old) (S.seen store.new)
+        (K.held out.old) (K.held out.new) in
         Ended seen result }
 
     // What each status says.
-    ensures done { let seen = seen_by (map string_bytes words.now) (S.seen store.old) (S.seen store.new) (K.held out.old) (K.held out.new) in
+    ensures done { let seen = seen_by (map string_bytes words.now) (S.seen store.old) (S.seen store.new)
+        (K.held out.old) (K.held out.new) in
         result ≡ 0 → PutWhole seen Ending.Done }
     ensures usage { result ≡ 2 →
         (form_of (map string_bytes words.now) ≡ None) × Puts (K.held out.old) (K.held out.new) usage_text }
-    ensures refused { let seen = seen_by (map string_bytes words.now) (S.seen store.old) (S.seen store.new) (K.held out.old) (K.held out.new) in
+    ensures refused { let seen = seen_by (map string_bytes words.now) (S.seen store.old) (S.seen store.new)
+        (K.held out.old) (K.held out.new) in
         result ≡ 3 → PutWhole seen Ending.Refused }
-    ensures bad_log { let seen = seen_by (map string_bytes words.now) (S.seen store.old) (S.seen store.new) (K.held out.old) (K.held out.new) in
+    ensures bad_log { let seen = seen_by (map string_bytes words.now) (S.seen store.old) (S.seen store.new)
+        (K.held out.old) (K.held out.new) in
         result ≡ 4 → PutWhole seen Ending.BadLog }
-    ensures unread { let seen = seen_by (map string_bytes words.now) (S.seen store.old) (S.seen store.new) (K.held out.old) (K.held out.new) in
+    ensures unread { let seen = seen_by (map string_bytes words.now) (S.seen store.old) (S.seen store.new)
+        (K.held out.old) (K.held out.new) in
         result ≡ 5 → PutWhole seen Ending.ReadFault }
-    ensures failed { let seen = seen_by (map string_bytes words.now) (S.seen store.old) (S.seen store.new) (K.held out.old) (K.held out.new) in
+    ensures failed { let seen = seen_by (map string_bytes words.now) (S.seen store.old) (S.seen store.new)
+        (K.held out.old) (K.held out.new) in
         result ≡ 6 → SinkFailed seen ⊎ PutWhole seen Ending.WriteFault }
-    ensures no_memory { let seen = seen_by (map string_bytes words.now) (S.seen store.old) (S.seen store.new) (K.held out.old) (K.held out.new) in
+    ensures no_memory { let seen = seen_by (map string_bytes words.now) (S.seen store.old) (S.seen store.new)
+        (K.held out.old) (K.held out.new) in
         result ≡ 9 → OutOfMemory seen }
 
     // A good ending says that nothing failed, also where no file is told.
-    ensures nothing_failed { let seen = seen_by (map string_bytes words.now) (S.seen store.old) (S.seen store.new) (K.held out.old) (K.held out.new) in
+    ensures nothing_failed { let seen = seen_by (map string_bytes words.now) (S.seen store.old) (S.seen store.new)
+        (K.held out.old) (K.held out.new) in
         (result ≡ 0) ⊎ (result ≡ 2) ⊎ (result ≡ 3) ⊎ (result ≡ 4) → NothingFailed seen }
 
     // Where the sink fails, the status says so, whatever else was found.
     ensures sink_count { (result ≡ 6) ⊎ ((K.held out.new).faults ≡ (K.held out.old).faults) }
 
     // When it comes: where no count of faults rose, the words and the bytes of the files decide, but for memory.
-    ensures decided { let seen = seen_by (map string_bytes words.now) (S.seen store.old) (S.seen store.new) (K.held out.old) (K.held out.new) in
+    ensures decided { let seen = seen_by (map string_bytes words.now) (S.seen store.old) (S.seen store.new)
+        (K.held out.old) (K.held out.new) in
         (ending : Ending) (text : List ℕ) → Decides seen.store (job_of (form_of seen.words)) ending text →
         NoneRose seen → SaysThis seen result ending text }
 
@@ -129,16 +141,19 @@ pub fn onll<S: Store, K: Sink>(alloc: Global, words: &[String], store: &mut S, o
     // back is printed by its bytes: of a fold what became of each call, the trace and the state; of an image the head, the entries
     // with their rows, and the used lines; of a recovery each log, the trace and the state; of a replay what became of the calls of
     // each script, the trace with its flags, the crash, each log, how many nodes are recovered and the state.
-    ensures determined { let seen = seen_by (map string_bytes words.now) (S.seen store.old) (S.seen store.new) (K.held out.old) (K.held out.new) in
+    ensures determined { let seen = seen_by (map string_bytes words.now) (S.seen store.old) (S.seen store.new)
+        (K.held out.old) (K.held out.new) in
         IsDetermined seen result }
 
     // What a replay prints is one run of scripts every run of which is durable at each step: one legal history in real time, an
     // update that fences once, a read that never does, and, whatever a crash leaves, logs that recover to a prefix which holds
     // every returned update and all that returned reads saw. The images that this run's crash leaves are in the files.
-    ensures durable { let seen = seen_by (map string_bytes words.now) (S.seen store.old) (S.seen store.new) (K.held out.old) (K.held out.new) in
+    ensures durable { let seen = seen_by (map string_bytes words.now) (S.seen store.old) (S.seen store.new)
+        (K.held out.old) (K.held out.new) in
         ReplayIsDurable seen result }
     // From such files, whatever crash of whatever run left them, recovery prints that prefix, or the status is 9.
-    ensures crashes { let seen = seen_by (map string_bytes words.now) (S.seen store.old) (S.seen store.new) (K.held out.old) (K.held out.new) in
+    ensures crashes { let seen = seen_by (map string_bytes words.now) (S.seen store.old) (S.seen store.new)
+        (K.held out.old) (K.held out.new) in
         RecoversCrashes seen result }
     // What a crash leaves of a replay always recovers.
     ensures recovers { (init schedule logs : List ℕ) (scripts : List (List ℕ)) →

@@ -1,4 +1,5 @@
 ghost use Rattle.std.specs.Prelude.{◌≡◌, ◌⊎◌, ℕ, ◌≤◌, ◌<◌, ◌^◌, ◌++◌, length, true, Ok, Err, IfOk, IfErr, OnOk, MatchResult};
+ghost use Rattle.onll_model.specs.Limits.{most_threads};
 ghost use Rattle.std.specs.List.{AllByRecursion, flat_map};
 ghost use Rattle.onll_words.specs.Texts.{line_text};
 ghost use Rattle.onll_model.specs.Trace.{state_after};
@@ -36,7 +37,8 @@ use std::alloc::Global;
 
 /// What the images hold, in order. It refuses the first that is no log.
 fn decode_images(alloc: Global, images: &[Image]) -> Result<Vec<Decoded>, LogsFault>
-    ensures logs { MatchResult result (λ logs. contents_from 0 (images_in images.now) ≡ Ok (contents_in logs.items)) (λ fault. (fault ≡ LogsFault.NoMemory) ⊎ (contents_from 0 (images_in images.now) ≡ Err fault)) }
+    ensures logs { MatchResult result (λ logs. contents_from 0 (images_in images.now) ≡ Ok (contents_in logs.items))
+        (λ fault. (fault ≡ LogsFault.NoMemory) ⊎ (contents_from 0 (images_in images.now) ≡ Err fault)) }
     ensures count { IfOk result (λ logs. length logs.items ≡ length images.now) }
     ensures used { IfOk result (λ logs. AllByRecursion (λ d. used_by (content_in d) < 2 ^ 64) logs.items) }
 {
@@ -55,7 +57,7 @@ fn decode_images(alloc: Global, images: &[Image]) -> Result<Vec<Decoded>, LogsFa
 fn head_of(object: u64, init: &[u8], thread: u64, threads: u64, image: &Image) -> LogHead
     requires object { (1 ≤ object) × (object ≤ 4) }
     requires thread { thread < threads }
-    requires threads { threads ≤ 16 }
+    requires threads { threads ≤ most_threads }
     ensures { result ≡ head_for (format_in (words_of image.now)) thread threads object init.now }
 {
     LogHead::of_format(format_of(image.as_slice()), thread, threads, object, init)
@@ -70,8 +72,10 @@ fn heads_of(
     images: &[Image],
 ) -> Result<Vec<LogHead>, LogsFault>
     requires object { (1 ≤ object) × (object ≤ 4) }
-    requires images { length images.now ≤ 16 }
-    ensures heads { MatchResult result (λ heads. heads.items ≡ expected_heads object init.now (length images.now) 0 (images_in images.now)) (λ fault. fault ≡ LogsFault.NoMemory) }
+    requires images { length images.now ≤ most_threads }
+    ensures heads { MatchResult result (λ heads. heads.items
+        ≡ expected_heads object init.now (length images.now) 0 (images_in images.now))
+        (λ fault. fault ≡ LogsFault.NoMemory) }
     ensures count { IfOk result (λ heads. length heads.items ≡ length images.now) }
 {
     let mut heads = Vec::new(alloc);
@@ -83,9 +87,11 @@ fn heads_of(
 
 /// The nodes of the trace that logs hold.
 fn merge(alloc: Global, logs: &[Decoded], heads: &[LogHead]) -> Result<Vec<Node>, LogsFault>
-    requires logs { (1 ≤ length logs.now) × (length logs.now ≤ 16) }
+    requires logs { (1 ≤ length logs.now) × (length logs.now ≤ most_threads) }
     requires heads { length heads.now ≡ length logs.now }
-    ensures { MatchResult result (λ nodes. merge heads.now (contents_in logs.now) ≡ Ok nodes.items) (λ fault. (fault ≡ LogsFault.NoMemory) ⊎ ((e : RecoverFault) × ((fault ≡ LogsFault.NotMerged e) × (merge heads.now (contents_in logs.now) ≡ Err e)))) }
+    ensures { MatchResult result (λ nodes. merge heads.now (contents_in logs.now) ≡ Ok nodes.items)
+        (λ fault. (fault ≡ LogsFault.NoMemory)
+        ⊎ ((e : RecoverFault) × ((fault ≡ LogsFault.NotMerged e) × (merge heads.now (contents_in logs.now) ≡ Err e)))) }
 {
     match onll_merge::recover(alloc, logs, heads) {
         Ok(nodes) => Ok(nodes),
@@ -96,7 +102,8 @@ fn merge(alloc: Global, logs: &[Decoded], heads: &[LogHead]) -> Result<Vec<Node>
 
 /// Applies the rows of nodes to the object. It refuses the first that is no operation.
 fn apply_nodes<O: Object>(object: &mut O, nodes: &[Node]) -> Result<(), LogsFault>
-    ensures nodes { MatchResult result (λ _. operations O.means nodes.now ≡ Ok nodes.now) (λ fault. operations O.means nodes.now ≡ Err fault) }
+    ensures nodes { MatchResult result (λ _. operations O.means nodes.now ≡ Ok nodes.now)
+        (λ fault. operations O.means nodes.now ≡ Err fault) }
     ensures rows { OnOk result (operations_front O.means nodes.now ≡ nodes.now) }
     ensures state { OnOk result (object.new ≡ state_after O.means object.old nodes.now) }
 {
@@ -113,7 +120,7 @@ fn trace_of<O: Object>(
     logs: &[Decoded],
     heads: &[LogHead],
 ) -> Result<Vec<Node>, LogsFault>
-    requires logs { (1 ≤ length logs.now) × (length logs.now ≤ 16) }
+    requires logs { (1 ≤ length logs.now) × (length logs.now ≤ most_threads) }
     requires heads { length heads.now ≡ length logs.now }
     ensures nodes { let found = operations_of O.means (merge heads.now (contents_in logs.now)) in
         MatchResult result (λ nodes. found ≡ Ok nodes.items) (λ fault. (fault ≡ LogsFault.NoMemory) ⊎ (found ≡ Err fault)) }
@@ -139,7 +146,7 @@ pub(crate) fn find<O: Object>(
     init: &[u8],
     images: &[Image],
 ) -> Result<Found, LogsFault>
-    requires { (1 ≤ length images.now) × (length images.now ≤ 16) }
+    requires { (1 ≤ length images.now) × (length images.now ≤ most_threads) }
     ensures found { let found = recovered O.means O.CODE init.now (images_in images.now) in
         MatchResult result (λ f. found ≡ Ok (found_in f)) (λ fault. (fault ≡ LogsFault.NoMemory) ⊎ (found ≡ Err fault)) }
     ensures count { IfOk result (λ f. length f.logs.items ≡ length images.now) }
@@ -200,7 +207,8 @@ pub(crate) fn put_count(nodes: u64, out: &mut Report) -> Result<(), NoMemory>
 fn put_trace<O: Texted>(object: &O, nodes: &[Node], out: &mut Report) -> Result<(), NoMemory>
     requires begins { begins_line out.old ≡ true }
     requires rows { operations_front O.means nodes.now ≡ nodes.now }
-    ensures { OnOk result (out.new ≡ with_lines (with_lines out.old (node_lines O.means O.wording 0 nodes.now)) (state_lines O.wording object.now)) }
+    ensures { OnOk result (out.new ≡ with_lines (with_lines out.old (node_lines O.means O.wording 0 nodes.now))
+        (state_lines O.wording object.now)) }
 {
     put_nodes::<O>(nodes, out)?;
     out.state_lines(object)
@@ -226,10 +234,11 @@ fn recover_on<O: Texted>(
     init: &[u8],
     images: &[Image],
 ) -> Result<Answer, NoMemory>
-    requires { (1 ≤ length images.now) × (length images.now ≤ 16) }
+    requires { (1 ≤ length images.now) × (length images.now ≤ most_threads) }
     ensures says { let job = recover_on O.means O.wording O.CODE init.now object.old (images_in images.now) in
         IfOk result (λ answer. SaysNow job answer.ending answer.text.items) }
-    ensures determined { IfOk result (λ answer. answer.ending ≡ Done → RecoversTo O.means O.wording O.CODE init.now object.old (images_in images.now) answer.text.items) }
+    ensures determined { IfOk result (λ answer. answer.ending ≡ Done
+        → RecoversTo O.means O.wording O.CODE init.now object.old (images_in images.now) answer.text.items) }
 {
     match find(alloc, object, init, images) {
         Ok(found) => {
@@ -252,9 +261,10 @@ fn recover_any(
     init: &[u8],
     images: &[Image],
 ) -> Result<Answer, NoMemory>
-    requires { (1 ≤ length images.now) × (length images.now ≤ 16) }
+    requires { (1 ≤ length images.now) × (length images.now ≤ most_threads) }
     ensures says { IfOk result (λ answer. SaysNow (recover_any init.now object (images_in images.now)) answer.ending answer.text.items) }
-    ensures determined { IfOk result (λ answer. answer.ending ≡ Done → RecoversToAny init.now (images_in images.now) answer.text.items object) }
+    ensures determined { IfOk result (λ answer. answer.ending ≡ Done
+        → RecoversToAny init.now (images_in images.now) answer.text.items object) }
 {
     match object {
         AnyObject::Bank(mut bank) => recover_on(alloc, &mut bank, init, images),
@@ -272,12 +282,13 @@ fn recover_logs<S: Store>(
     threads: u64,
     store: &mut S,
 ) -> Result<Answer, NoMemory>
-    requires { (1 ≤ threads) × (threads ≤ 16) }
+    requires { (1 ≤ threads) × (threads ≤ most_threads) }
     ensures says { let job = reading_images logs.now 0 threads (recover_any init.text.items init.object) in
         IfOk result (λ answer. JobEnds (S.seen store.old) (S.seen store.new) job answer.ending answer.text.items) }
     ensures cut { let job = reading_images logs.now 0 threads (recover_any init.text.items init.object) in
         IfErr result (λ e. JobCut (S.seen store.old) (S.seen store.new) job) }
-    ensures determined { IfOk result (λ answer. answer.ending ≡ Done → RecoversLogs (S.seen store.old) init.text.items logs.now threads answer.text.items init.object) }
+    ensures determined { IfOk result (λ answer. answer.ending ≡ Done
+        → RecoversLogs (S.seen store.old) init.text.items logs.now threads answer.text.items init.object) }
     ensures same { SameFiles (S.seen store.old) (S.seen store.new) }
 {
     match read_images(alloc, logs, threads, store) {
@@ -294,10 +305,12 @@ pub(crate) fn answer<S: Store>(
     threads: u64,
     store: &mut S,
 ) -> Result<Answer, NoMemory>
-    requires { (1 ≤ threads) × (threads ≤ 16) }
-    ensures says { IfOk result (λ answer. JobEnds (S.seen store.old) (S.seen store.new) (recover_job init.now logs.now threads) answer.ending answer.text.items) }
+    requires { (1 ≤ threads) × (threads ≤ most_threads) }
+    ensures says { IfOk result (λ answer. JobEnds (S.seen store.old) (S.seen store.new)
+        (recover_job init.now logs.now threads) answer.ending answer.text.items) }
     ensures cut { IfErr result (λ e. JobCut (S.seen store.old) (S.seen store.new) (recover_job init.now logs.now threads)) }
-    ensures determined { IfOk result (λ answer. answer.ending ≡ Done → RecoversFiles (S.seen store.old) init.now logs.now threads answer.text.items) }
+    ensures determined { IfOk result (λ answer. answer.ending ≡ Done
+        → RecoversFiles (S.seen store.old) init.now logs.now threads answer.text.items) }
     ensures same { SameFiles (S.seen store.old) (S.seen store.new) }
 {
     match init_file(alloc, init, store) {

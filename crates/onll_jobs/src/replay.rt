@@ -1,4 +1,5 @@
 ghost use Rattle.std.specs.Prelude.{IfOk, IfErr, ◌≡◌, ◌++◌, ◌≤◌, ◌<◌, ◌^◌, length, slice_get, true, IsSome, OnOk, All, map, string_bytes};
+ghost use Rattle.onll_model.specs.Limits.{most_threads, most_updates};
 ghost use Rattle.std.specs.List.{AllByRecursion};
 ghost use Rattle.onll_words.specs.Texts.{line_text};
 ghost use Rattle.onll_model.specs.Trace.{state_after};
@@ -65,7 +66,8 @@ fn put_thread<O: Texted>(
     out: &mut Report,
 ) -> Result<(), NoMemory>
     requires { begins_line out.old ≡ true }
-    ensures lines { OnOk result (out.new ≡ with_lines out.old (call_lines O.wording thread 0 script.now (map returned_end returned.now ++ current_ends current))) }
+    ensures lines { OnOk result (out.new ≡ with_lines out.old
+        (call_lines O.wording thread 0 script.now (map returned_end returned.now ++ current_ends current))) }
     ensures begins { OnOk result (begins_line out.new ≡ true) }
 {
     for (index, call) in script.iter().enumerate() {
@@ -213,12 +215,14 @@ fn crash_answer<O: Texted + Drop>(
     images: &[Image],
 ) -> Result<Answer, NoMemory>
     requires operations { AllByRecursion (λ n. IsSome (O.means.op_at n.row)) core.now.trace }
-    requires threads { (1 ≤ length images.now) × (length images.now ≤ 16) }
+    requires threads { (1 ≤ length images.now) × (length images.now ≤ most_threads) }
     requires images { length images.now ≡ length core.now.threads }
     ensures says { let job = crash_says O.means O.wording core.now keep (recovered O.means O.CODE init.now (images_in images.now)) in
         IfOk result (λ answer. SaysNow job answer.ending answer.text.items) }
     ensures determined { let scripts = map script_of core.now.threads in
-        IfOk result (λ answer. answer.ending ≡ Done → CrashesTo O.means O.wording O.CODE init.now core.now keep scripts (images_in images.now) answer.text.items) }
+        IfOk result (λ answer. answer.ending ≡ Done
+        → CrashesTo O.means O.wording O.CODE init.now core.now keep scripts
+        (images_in images.now) answer.text.items) }
 {
     let mut object = core.initial().copy(alloc)?;
     match find(alloc, &mut object, init, images) {
@@ -245,13 +249,15 @@ fn crash<O: Texted + Drop, S: Store>(
     store: &mut S,
 ) -> Result<Answer, NoMemory>
     requires operations { AllByRecursion (λ n. IsSome (O.means.op_at n.row)) core.now.trace }
-    requires threads { (1 ≤ length core.now.threads) × (length core.now.threads ≤ 16) }
+    requires threads { (1 ≤ length core.now.threads) × (length core.now.threads ≤ most_threads) }
     ensures says { let job = crash_job O.means O.wording O.CODE init.now logs.now core.now keep in
         IfOk result (λ answer. JobEnds (S.seen store.old) (S.seen store.new) job answer.ending answer.text.items) }
     ensures cut { let job = crash_job O.means O.wording O.CODE init.now logs.now core.now keep in
         IfErr result (λ e. JobCut (S.seen store.old) (S.seen store.new) job) }
     ensures determined { let scripts = map script_of core.now.threads in
-        IfOk result (λ answer. answer.ending ≡ Done → CrashesTo O.means O.wording O.CODE init.now core.now keep scripts (images_of keep core.now.threads) answer.text.items) }
+        IfOk result (λ answer. answer.ending ≡ Done
+        → CrashesTo O.means O.wording O.CODE init.now core.now keep scripts
+        (images_of keep core.now.threads) answer.text.items) }
     ensures others { SameBut (image_names logs.now 0 (length core.now.threads)) (S.seen store.old) (S.seen store.new) }
 {
     let images = crash_images(alloc, core, keep)?;
@@ -269,10 +275,11 @@ fn played<O: Texted + Drop>(
     scripts: Vec<Vec<Call<O>>>,
     schedule: &Schedule,
 ) -> Result<Core<O>, NoMemory>
-    requires few { length scripts.items ≤ 16 }
-    requires updates { All (λ script. updates_in script.items ≤ 4096) scripts.items }
+    requires few { length scripts.items ≤ most_threads }
+    requires updates { All (λ script. updates_in script.items ≤ most_updates) scripts.items }
     requires playable { IsPlayable (length scripts.items) schedule.now }
-    ensures core { IfOk result (λ core. core ≡ played O.means O.CODE init.now object (map (λ script. script.items) scripts.items) schedule.now.turns) }
+    ensures core { IfOk result (λ core. core
+        ≡ played O.means O.CODE init.now object (map (λ script. script.items) scripts.items) schedule.now.turns) }
     ensures threads { IfOk result (λ core. length core.threads ≡ length scripts.items) }
     ensures operations { IfOk result (λ core. AllByRecursion (λ n. IsSome (O.means.op_at n.row)) core.trace) }
 {
@@ -287,11 +294,14 @@ fn script_files<O: Texted, S: Store>(
     names: &[String],
     store: &mut S,
 ) -> Result<Vec<Vec<Call<O>>>, Stop>
-    ensures read { IfOk result (λ scripts. AreRead O.wording (S.seen store.old) (S.seen store.new) (map string_bytes names.now) (map (λ script. script.items) scripts.items)) }
-    ensures held { IfOk result (λ scripts. ReadScripts O.wording (S.seen store.old) (map string_bytes names.now) (map (λ script. script.items) scripts.items)) }
+    ensures read { IfOk result (λ scripts. AreRead O.wording (S.seen store.old) (S.seen store.new)
+        (map string_bytes names.now) (map (λ script. script.items) scripts.items)) }
+    ensures held { IfOk result (λ scripts. ReadScripts O.wording (S.seen store.old) (map string_bytes names.now)
+        (map (λ script. script.items) scripts.items)) }
     ensures count { IfOk result (λ scripts. length scripts.items ≡ length names.now) }
-    ensures updates { IfOk result (λ scripts. All (λ script. updates_in script.items ≤ 4096) scripts.items) }
-    ensures stop { IfErr result (λ stop. StopSays stop (ScriptsStop O.wording (S.seen store.old) (S.seen store.new) (map string_bytes names.now))) }
+    ensures updates { IfOk result (λ scripts. All (λ script. updates_in script.items ≤ most_updates) scripts.items) }
+    ensures stop { IfErr result (λ stop. StopSays stop
+        (ScriptsStop O.wording (S.seen store.old) (S.seen store.new) (map string_bytes names.now))) }
     ensures same { SameFiles (S.seen store.old) (S.seen store.new) }
 {
     let mut scripts = Vec::new(alloc);
@@ -314,14 +324,18 @@ fn replay_scripts<O: Texted + Drop, S: Store>(
     scripts: Vec<Vec<Call<O>>>,
     store: &mut S,
 ) -> Result<Answer, NoMemory>
-    requires few { (1 ≤ length scripts.items) × (length scripts.items ≤ 16) }
-    requires updates { All (λ script. updates_in script.items ≤ 4096) scripts.items }
-    ensures says { let job = schedule_job O.means O.wording O.CODE init.now object schedule.now logs.now (map (λ script. script.items) scripts.items) in
+    requires few { (1 ≤ length scripts.items) × (length scripts.items ≤ most_threads) }
+    requires updates { All (λ script. updates_in script.items ≤ most_updates) scripts.items }
+    ensures says { let job = schedule_job O.means O.wording O.CODE init.now object schedule.now logs.now
+        (map (λ script. script.items) scripts.items) in
         IfOk result (λ answer. JobEnds (S.seen store.old) (S.seen store.new) job answer.ending answer.text.items) }
-    ensures cut { let job = schedule_job O.means O.wording O.CODE init.now object schedule.now logs.now (map (λ script. script.items) scripts.items) in
+    ensures cut { let job = schedule_job O.means O.wording O.CODE init.now object schedule.now logs.now
+        (map (λ script. script.items) scripts.items) in
         IfErr result (λ e. JobCut (S.seen store.old) (S.seen store.new) job) }
     ensures determined { let calls = map (λ script. script.items) scripts.items in
-        IfOk result (λ answer. answer.ending ≡ Done → PlaysTo O.means O.wording O.CODE init.now object (S.seen store.old) schedule.now calls answer.text.items) }
+        IfOk result (λ answer. answer.ending ≡ Done
+        → PlaysTo O.means O.wording O.CODE init.now object
+        (S.seen store.old) schedule.now calls answer.text.items) }
     ensures others { SameBut (image_names logs.now 0 (length scripts.items)) (S.seen store.old) (S.seen store.new) }
 {
     match schedule_file(alloc, schedule, scripts.len() as u64, store) {
@@ -343,13 +357,15 @@ fn replay_on<O: Texted + Drop, S: Store>(
     scripts: &[String],
     store: &mut S,
 ) -> Result<Answer, NoMemory>
-    requires { (1 ≤ length scripts.now) × (length scripts.now ≤ 16) }
+    requires { (1 ≤ length scripts.now) × (length scripts.now ≤ most_threads) }
     ensures says { let job = replay_on O.means O.wording O.CODE init.now schedule.now logs.now (map string_bytes scripts.now) object in
         IfOk result (λ answer. JobEnds (S.seen store.old) (S.seen store.new) job answer.ending answer.text.items) }
     ensures cut { let job = replay_on O.means O.wording O.CODE init.now schedule.now logs.now (map string_bytes scripts.now) object in
         IfErr result (λ e. JobCut (S.seen store.old) (S.seen store.new) job) }
     ensures determined { let names = map string_bytes scripts.now in
-        IfOk result (λ answer. answer.ending ≡ Done → ReplaysTo O.means O.wording O.CODE init.now object (S.seen store.old) schedule.now names answer.text.items) }
+        IfOk result (λ answer. answer.ending ≡ Done
+        → ReplaysTo O.means O.wording O.CODE init.now object
+        (S.seen store.old) schedule.now names answer.text.items) }
     ensures others { SameBut (image_names logs.now 0 (length scripts.now)) (S.seen store.old) (S.seen store.new) }
 {
     match script_files::<O, S>(alloc, scripts, store) {
@@ -368,13 +384,14 @@ fn replay_any<S: Store>(
     scripts: &[String],
     store: &mut S,
 ) -> Result<Answer, NoMemory>
-    requires { (1 ≤ length scripts.now) × (length scripts.now ≤ 16) }
+    requires { (1 ≤ length scripts.now) × (length scripts.now ≤ most_threads) }
     ensures says { let job = replay_any init.now schedule.now logs.now (map string_bytes scripts.now) object in
         IfOk result (λ answer. JobEnds (S.seen store.old) (S.seen store.new) job answer.ending answer.text.items) }
     ensures cut { let job = replay_any init.now schedule.now logs.now (map string_bytes scripts.now) object in
         IfErr result (λ e. JobCut (S.seen store.old) (S.seen store.new) job) }
     ensures determined { let names = map string_bytes scripts.now in
-        IfOk result (λ answer. answer.ending ≡ Done → ReplaysToAny init.now (S.seen store.old) schedule.now names answer.text.items object) }
+        IfOk result (λ answer. answer.ending ≡ Done
+        → ReplaysToAny init.now (S.seen store.old) schedule.now names answer.text.items object) }
     ensures others { SameBut (image_names logs.now 0 (length scripts.now)) (S.seen store.old) (S.seen store.new) }
 {
     match object {
@@ -394,7 +411,7 @@ pub(crate) fn answer<S: Store>(
     scripts: &[String],
     store: &mut S,
 ) -> Result<Answer, NoMemory>
-    requires { (1 ≤ length scripts.now) × (length scripts.now ≤ 16) }
+    requires { (1 ≤ length scripts.now) × (length scripts.now ≤ most_threads) }
     ensures says { let job = replay_job init.now schedule.now logs.now (map string_bytes scripts.now) in
         IfOk result (λ answer. JobEnds (S.seen store.old) (S.seen store.new) job answer.ending answer.text.items) }
     ensures cut { let job = replay_job init.now schedule.now logs.now (map string_bytes scripts.now) in

@@ -205,7 +205,8 @@ pub(crate) fn answer<S: Store>(
     image: &str,
     store: &mut S,
 ) -> Result<Answer, NoMemory>
-    ensures says { IfOk result (λ answer. JobEnds (S.seen store.old) (S.seen store.new) (show_job image.now) answer.ending answer.text.items) }
+    ensures says { IfOk result (λ answer. JobEnds (S.seen store.old) (S.seen store.new)
+        (show_job image.now) answer.ending answer.text.items) }
     ensures cut { IfErr result (λ e. JobCut (S.seen store.old) (S.seen store.new) (show_job image.now)) }
     ensures determined { IfOk result (λ answer. answer.ending ≡ Done → ShowsFile (S.seen store.old) image.now answer.text.items) }
     ensures same { SameFiles (S.seen store.old) (S.seen store.new) }

@@ -1,4 +1,5 @@
 ghost use Rattle.std.specs.Prelude.{◌≡◌, ◌≤◌, IfOk, IfErr, OnOk};
+ghost use Rattle.onll_model.specs.Limits.{most_updates};
 ghost use Rattle.onll_outside.specs.Views.{SameFiles, SameOthers, SameFaults, FaultsOf};
 ghost use Rattle.onll_outside.specs.declared.store.FaultKind.TheVariants.{Read};
 ghost use Rattle.onll_model.specs.Calls.{updates_in};
@@ -66,7 +67,7 @@ pub(crate) fn script_file<O: Texted, S: Store>(
     store: &mut S,
 ) -> Result<Vec<Call<O>>, Stop>
     ensures calls { IfOk result (λ calls. Reads (S.seen store.old) (script_of O.wording) name.now calls.items) }
-    ensures updates { IfOk result (λ calls. updates_in calls.items ≤ 4096) }
+    ensures updates { IfOk result (λ calls. updates_in calls.items ≤ most_updates) }
     ensures stop { IfErr result (λ stop. StopSays stop (Stops (S.seen store.old) (S.seen store.new) (script_of O.wording) name.now)) }
     ensures same { SameFiles (S.seen store.old) (S.seen store.new) }
     ensures count { OnOk result (SameFaults (S.seen store.old) (S.seen store.new)) }

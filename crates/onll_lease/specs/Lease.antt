@@ -1,6 +1,7 @@
 -- A table of leases is the list of its resources' entries; its capacity is their number.
 
 use Rattle.std.specs.Prelude.{ℕ, List, ◌+◌, ◌≤◌, All, if◌then◌else◌, length, nat_lt, slice_index_or, slice_set}
+use Rattle.onll_model.specs.Limits.{most_elements}
 use Rattle.onll_lease.specs.declared.entry.LeaseEntry.{LeaseEntry}
 use Rattle.onll_lease.specs.declared.operation.LeaseOp.{LeaseOp}
 use Rattle.onll_lease.specs.declared.operation.LeaseOp.TheVariants.{Grant, Renew, Release}
@@ -15,7 +16,7 @@ pub record IsLease (s : List LeaseEntry) : Type 0 where
   pub valid : All IsEntry s
   pub numbers : All OfNumbers s
   pub least : 1 ≤ length s
-  pub greatest : length s ≤ 4096
+  pub greatest : length s ≤ most_elements
 
 -- the entry of a resource; what is no resource has no lease
 abbrev pub entry_at : List LeaseEntry → ℕ → LeaseEntry

@@ -1,6 +1,7 @@
 //! The lease table.
 
 ghost use Rattle.std.specs.Prelude.{◌≡◌, ◌<◌, ◌≤◌, length, replicate, slice_set, IfOk};
+ghost use Rattle.onll_model.specs.Limits.{most_elements};
 ghost use Rattle.std.proofs.Common.{rules};
 ghost use Rattle.onll_lease.specs.Entry.{IsEntry, no_lease};
 ghost use Rattle.onll_lease.specs.Lease.{IsLease, entry_at};
@@ -35,7 +36,7 @@ impl Model for Lease {
 impl Lease {
     /// A table of this many resources, none of which was ever granted.
     pub fn make(alloc: Global, capacity: u64) -> Result<Lease, NoMemory>
-        requires { (1 ≤ capacity) × (capacity ≤ 4096) }
+        requires { (1 ≤ capacity) × (capacity ≤ most_elements) }
         ensures { IfOk result (λ made. made ≡ replicate capacity no_lease) }
     {
         let empty = LeaseEntry {

@@ -22,7 +22,8 @@ use Rattle.onll_locked.specs.Locked.{LockedThread, LockedState, next_call, faile
 
 -- The log is the thread's, over a device of this many lines: its head says so; it is broken exactly where a fence of the
 -- thread has failed; it ends at the thread's last update; and it has room for those that are left.
-pub record IsLogOf {State Op Query Reply Device : Type 0} (c : LockedState State Op Query Reply) (t : ℕ) (log : LogState Device) (lines : ℕ) : Type 0 where
+pub record IsLogOf {State Op Query Reply Device : Type 0} (c : LockedState State Op Query Reply) (t : ℕ)
+    (log : LogState Device) (lines : ℕ) : Type 0 where
   pub thread : log.head.thread ≡ t
   pub threads : log.head.threads ≡ length c.threads
   pub broken : IfSome (slice_get c.threads t) (λ th. log.broken ≡ is_some (failed_at th.ends))
@@ -31,21 +32,26 @@ pub record IsLogOf {State Op Query Reply Device : Type 0} (c : LockedState State
 
 -- A call that has no node can end so: a read is answered at the end of the trace, and an update is broken by the one whose
 -- fence failed.
-abbrev pub EndsSo : {State Op Query Reply : Type 0} → Behaviour State Op Query Reply → LockedState State Op Query Reply → LockedThread State Op Query Reply → Option (Call State Op Query Reply) → LockedEnd State Op Query Reply → Type 0
+abbrev pub EndsSo : {State Op Query Reply : Type 0} → Behaviour State Op Query Reply → LockedState State Op Query Reply
+    → LockedThread State Op Query Reply → Option (Call State Op Query Reply) → LockedEnd State Op Query Reply → Type 0
 EndsSo b c th (Some (Update op)) (ended.Broken place) = failed_at th.ends ≡ Some place
 EndsSo b c th (Some (Ask query)) (ended.Answered place reply) = (place ≡ length c.trace) × (reply ≡ answer_after b c.initial c.trace query)
 EndsSo b c th call e = ⊥
 
 -- the thread has one outcome more
-abbrev pub with_end : {State Op Query Reply : Type 0} → LockedThread State Op Query Reply → LockedEnd State Op Query Reply → LockedThread State Op Query Reply
+abbrev pub with_end : {State Op Query Reply : Type 0} → LockedThread State Op Query Reply
+    → LockedEnd State Op Query Reply → LockedThread State Op Query Reply
 with_end th e = record { script = th.script; ends = th.ends ++ e ∷ [] }
 
 -- a call has ended so, and changed nothing else
-abbrev pub after_end : {State Op Query Reply : Type 0} → LockedState State Op Query Reply → ℕ → LockedThread State Op Query Reply → LockedEnd State Op Query Reply → LockedState State Op Query Reply
+abbrev pub after_end : {State Op Query Reply : Type 0} → LockedState State Op Query Reply → ℕ
+    → LockedThread State Op Query Reply → LockedEnd State Op Query Reply → LockedState State Op Query Reply
 after_end c t th e = record { initial = c.initial; trace = c.trace; flags = c.flags; threads = slice_set c.threads t (with_end th e) }
 
 -- an update has ended so, and its node stands at the end of the trace, with this flag
-abbrev pub after_node : {State Op Query Reply : Type 0} → LockedState State Op Query Reply → ℕ → LockedThread State Op Query Reply → OpRow → Bool → LockedEnd State Op Query Reply → LockedState State Op Query Reply
+abbrev pub after_node : {State Op Query Reply : Type 0} → LockedState State Op Query Reply → ℕ
+    → LockedThread State Op Query Reply → OpRow → Bool → LockedEnd State Op Query Reply
+    → LockedState State Op Query Reply
 after_node c t th row flag e = record {
   initial = c.initial;
   trace = c.trace ++ next_node c.trace t row ∷ [];
@@ -60,7 +66,8 @@ pub record IsNewest (flags : List Bool) (place : ℕ) : Type 0 where
 
 -- The log has one entry more, made with one fence: the nodes of the trace from the newest place that was available, without
 -- it, to the trace's end. All of it stands above the log's last place, and on the device nothing else has changed.
-pub record IsLogged {Device : Type 0} (flags : List Bool) (trace : List Node) (old new : LogState Device) (was is : DeviceView) : Type 0 where
+pub record IsLogged {Device : Type 0} (flags : List Bool) (trace : List Node) (old new : LogState Device)
+    (was is : DeviceView) : Type 0 where
   pub below : ℕ
   pub newest : IsNewest flags below
   pub own : below < length trace
@@ -70,7 +77,9 @@ pub record IsLogged {Device : Type 0} (flags : List Bool) (trace : List Node) (o
   pub fences : new.fences ≡ old.fences + 1
   pub lines : Appends was is (1 + lines_in old.entries) (entry_lines old.head (length old.entries) (window trace below (length trace)))
 
-module _ {State Op Query Reply Device : Type 0} (b : Behaviour State Op Query Reply) (c : LockedState State Op Query Reply) (t : ℕ) (th : LockedThread State Op Query Reply) (new : LockedState State Op Query Reply) (log log' : LogState Device) (was is : DeviceView) where
+module _ {State Op Query Reply Device : Type 0} (b : Behaviour State Op Query Reply)
+    (c : LockedState State Op Query Reply) (t : ℕ) (th : LockedThread State Op Query Reply)
+    (new : LockedState State Op Query Reply) (log log' : LogState Device) (was is : DeviceView) where
   -- an update is answered: its flag is set, its entry is durable, and no fence has failed
   pub record IsUpdated (op : Op) : Type 0 where
     pub whole : failed_at th.ends ≡ None

@@ -28,22 +28,30 @@ MergedLaw = (trace : List Node) (heads : List LogHead) (logs : List Content) →
 module _ {State Op Query Reply : Type 0} (b : Behaviour State Op Query Reply) (Device : Type 0) where
   -- each call leaves logs that hold the whole trace, where the thread's log was the one at its number
   abbrev pub KeptLaw : Type 0
-  KeptLaw = (c new : LockedState State Op Query Reply) (t : ℕ) (th : LockedThread State Op Query Reply) (log log' : LogState Device) (was is : DeviceView) (next : Next) (heads : List LogHead) (logs : List Content)
-      → HasDone b c t th new log log' was is next → slice_get logs t ≡ Some (content_read log) → HoldWhole c.trace heads logs → HoldWhole new.trace heads (slice_set logs t (content_read log'))
+  KeptLaw = (c new : LockedState State Op Query Reply) (t : ℕ) (th : LockedThread State Op Query Reply)
+      (log log' : LogState Device) (was is : DeviceView) (next : Next) (heads : List LogHead) (logs : List Content)
+      → HasDone b c t th new log log' was is next → slice_get logs t ≡ Some (content_read log)
+      → HoldWhole c.trace heads logs → HoldWhole new.trace heads (slice_set logs t (content_read log'))
 
   -- Done comes exactly at the script's end; Broken exactly for an update after one whose fence failed, with its place; and
   -- FenceFailed only where the device's faults rose.
-  pub record AnswersSo (c new : LockedState State Op Query Reply) (t : ℕ) (th : LockedThread State Op Query Reply) (was is : DeviceView) (next : Next) : Type 0 where
+  pub record AnswersSo (c new : LockedState State Op Query Reply) (t : ℕ) (th : LockedThread State Op Query Reply)
+      (was is : DeviceView) (next : Next) : Type 0 where
     pub at_end : (next ≡ Done) ↔ (next_call th ≡ None)
     pub broken : (place : ℕ) → (next ≡ Broken place) ↔ (IsUpdate (next_call th) × (failed_at th.ends ≡ Some place))
     pub failed : (place : ℕ) → next ≡ FenceFailed place → was.faults < is.faults
 
   abbrev pub AnswerLaw : Type 0
-  AnswerLaw = (c new : LockedState State Op Query Reply) (t : ℕ) (th : LockedThread State Op Query Reply) (log log' : LogState Device) (was is : DeviceView) (next : Next) → HasDone b c t th new log log' was is next → AnswersSo c new t th was is next
+  AnswerLaw = (c new : LockedState State Op Query Reply) (t : ℕ) (th : LockedThread State Op Query Reply)
+      (log log' : LogState Device) (was is : DeviceView) (next : Next) → HasDone b c t th new log log' was is next
+      → AnswersSo c new t th was is next
 
 -- A log of a run's head that has no entry, isn't broken and has lines for all updates of the thread's script is the thread's
 -- before any call.
 abbrev pub FirstLogLaw : Type 0 → Type 0 → Type 0 → Type 0 → Type 0 → Type 0
-FirstLogLaw State Op Query Reply Device = (initial : State) (scripts : List (List (Call State Op Query Reply))) (script : List (Call State Op Query Reply)) (t : ℕ) (log : LogState Device) (lines : ℕ)
-    → slice_get scripts t ≡ Some script → log.head.thread ≡ t → log.head.threads ≡ length scripts → log.entries ≡ [] → log.broken ≡ false → 1 + (length scripts + 1) * updates_in script ≤ lines
+FirstLogLaw State Op Query Reply Device =
+    (initial : State) (scripts : List (List (Call State Op Query Reply))) (script : List (Call State Op Query Reply))
+    (t : ℕ) (log : LogState Device) (lines : ℕ)
+    → slice_get scripts t ≡ Some script → log.head.thread ≡ t → log.head.threads ≡ length scripts → log.entries ≡ []
+    → log.broken ≡ false → 1 + (length scripts + 1) * updates_in script ≤ lines
     → IsLogOf (first_state initial scripts) t log lines

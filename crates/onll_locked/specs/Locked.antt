@@ -28,7 +28,8 @@ pub record LockedState (State Op Query Reply : Type 0) : Type 0 where
 abbrev pub first_thread : {State Op Query Reply : Type 0} → List (Call State Op Query Reply) → LockedThread State Op Query Reply
 first_thread script = record { script = script; ends = [] }
 
-abbrev pub first_state : {State Op Query Reply : Type 0} → State → List (List (Call State Op Query Reply)) → LockedState State Op Query Reply
+abbrev pub first_state : {State Op Query Reply : Type 0} → State → List (List (Call State Op Query Reply))
+    → LockedState State Op Query Reply
 first_state initial scripts = record { initial = initial; trace = []; flags = []; threads = map first_thread scripts }
 
 -- an outcome, as a report says it

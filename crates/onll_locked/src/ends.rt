@@ -1,3 +1,5 @@
+//! What becomes of a call that is made under the lock.
+
 ghost use Rattle.std.specs.Prelude.{◌≡◌};
 ghost use Rattle.onll_locked.specs.Locked.{failed_in, update_end};
 

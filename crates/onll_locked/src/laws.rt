@@ -1,3 +1,5 @@
+//! The laws of the object under one lock: its logs merge to its trace.
+
 ghost use Rattle.onll_locked.specs.Laws.{BegunLaw, MergedLaw, KeptLaw, AnswerLaw, FirstLogLaw};
 
 use onll_model::Object;

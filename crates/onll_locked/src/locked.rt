@@ -1,4 +1,7 @@
+//! An object under one lock, whose calls are done in full, one after the other.
+
 ghost use Rattle.std.specs.Prelude.{◌≡◌, ℕ, ◌+◌, ◌<◌, ◌≤◌, ◌≢◌, length, map, replicate, true, false, Some, None, IfSome, IfOk, slice_get};
+ghost use Rattle.onll_model.specs.Limits.{most_threads, most_updates};
 ghost use Rattle.std.specs.List.{All};
 ghost use Rattle.onll_model.specs.declared.call.Call.TheVariants.{Update, Ask};
 ghost use Rattle.onll_model.specs.Calls.{updates_in};
@@ -12,14 +15,14 @@ ghost use Rattle.onll_locked.specs.Kept.{EachLocked, AgreeCounts, FlagsTell, IsL
 use crate::ends::{LockedEnd, Next};
 use crate::progress::{Progress, with_room};
 use onll_log::ThreadLog;
-use onll_model::{Call, Node, Object};
+use onll_model::{Call, MOST_UPDATES, Node, Object};
 use onll_pmem::Pmem;
 use onll_words::NoMemory;
 use std::alloc::Global;
 use std::marker::Model;
 
 /// The most updates of a thread.
-const NAMES: usize = 4096;
+const NAMES: usize = MOST_UPDATES as usize;
 
 /// The newest place whose flag is set, 0 where there is none.
 fn newest_available(flags: &[bool]) -> u64
@@ -85,7 +88,8 @@ impl<O: Object + Drop> Model for Locked<O> {
 
     ghost view = { λ l. record { initial = l.initial; trace = l.trace.items; flags = l.flags.items; threads = l.threads.items } };
 
-    ghost invariant = { λ l. KeepsLocked O.means (vec_capacity l.trace) (vec_capacity l.flags) l.object (record { initial = l.initial; trace = l.trace.items; flags = l.flags.items; threads = l.threads.items }) };
+    ghost invariant = { λ l. KeepsLocked O.means (vec_capacity l.trace) (vec_capacity l.flags) l.object
+        (record { initial = l.initial; trace = l.trace.items; flags = l.flags.items; threads = l.threads.items }) };
 }
 
 impl<O: Object + Drop> Locked<O> {
@@ -96,8 +100,8 @@ impl<O: Object + Drop> Locked<O> {
         object: O,
         scripts: Vec<Vec<Call<O>>>,
     ) -> Result<Locked<O>, NoMemory>
-        requires few { length scripts.items ≤ 16 }
-        requires updates { All (λ script. updates_in script.items ≤ 4096) scripts.items }
+        requires few { length scripts.items ≤ most_threads }
+        requires updates { All (λ script. updates_in script.items ≤ most_updates) scripts.items }
         ensures { IfOk result (λ c. c ≡ first_state object (map (λ script. script.items) scripts.items)) }
     {
         let nodes = NAMES * scripts.len();
@@ -167,7 +171,10 @@ impl<O: Object + Drop> Locked<O> {
     fn read(&mut self, thread: u64, query: O::Query)
         requires there { thread < length self.old.threads }
         requires next { IfSome (slice_get self.old.threads thread) (λ th. next_call th ≡ Some (Ask query)) }
-        ensures { IfSome (slice_get self.old.threads thread) (λ th. self.new ≡ after_end self.old thread th (LockedEnd.Answered (length self.old.trace) (O.means.answer (state_after O.means self.old.initial self.old.trace) query))) }
+        ensures { IfSome (slice_get self.old.threads thread)
+            (λ th. self.new ≡ after_end self.old thread th
+            (LockedEnd.Answered (length self.old.trace)
+            (O.means.answer (state_after O.means self.old.initial self.old.trace) query))) }
     {
         let reply = self.object.ask(query);
         let place = self.trace.len() as u64;
@@ -189,7 +196,9 @@ impl<O: Object + Drop> Locked<O> {
         requires next { IfSome (slice_get self.old.threads thread) (λ th. (next_call th ≡ Some (Update op)) × (failed_at th.ends ≡ None)) }
         requires there { thread < length self.old.threads }
         requires log { IsLogOf self.old thread log.old (length (P.means log.old.device).read) }
-        ensures done { IfSome (slice_get self.old.threads thread) (λ th. HasDone O.means self.old thread th self.new log.old log.new (P.means log.old.device) (P.means log.new.device) result) }
+        ensures done { IfSome (slice_get self.old.threads thread)
+            (λ th. HasDone O.means self.old thread th self.new log.old log.new (P.means log.old.device)
+            (P.means log.new.device) result) }
         ensures ready { IsLogOf self.new thread log.new (length (P.means log.new.device).read) }
     {
         let below = newest_available(&self.flags);
@@ -212,10 +221,13 @@ impl<O: Object + Drop> Locked<O> {
     /// newest flagged place, without it, to its own place. It takes no memory.
     pub fn do_next<P: Pmem>(&mut self, thread: u64, log: &mut ThreadLog<P>) -> Next
         requires { IsLogOf self.old thread log.old (length (P.means log.old.device).read) }
-        ensures done { IfSome (slice_get self.old.threads thread) (λ th. HasDone O.means self.old thread th self.new log.old log.new (P.means log.old.device) (P.means log.new.device) result) }
+        ensures done { IfSome (slice_get self.old.threads thread)
+            (λ th. HasDone O.means self.old thread th self.new log.old log.new (P.means log.old.device)
+            (P.means log.new.device) result) }
         ensures there { thread < length self.old.threads }
         ensures ready { IsLogOf self.new thread log.new (length (P.means log.new.device).read) }
-        ensures others { (u : ℕ) (other : LogState P) (lines : ℕ) → u ≢ thread → IsLogOf self.old u other lines → IsLogOf self.new u other lines }
+        ensures others { (u : ℕ) (other : LogState P) (lines : ℕ) → u ≢ thread → IsLogOf self.old u other lines
+            → IsLogOf self.new u other lines }
     {
         let _ = log.device();
         let progress = &self.threads[thread as usize];

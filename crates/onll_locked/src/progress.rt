@@ -1,3 +1,5 @@
+//! How far each thread of an object under one lock has come.
+
 ghost use Rattle.std.specs.Prelude.{◌≡◌, ◌+◌, ◌<◌, ◌≤◌, ◌++◌, ◌∷◌, [], None, length, IfOk};
 ghost use Rattle.std.specs.Vec.{vec_capacity};
 ghost use Rattle.onll_locked.specs.Locked.{first_thread, next_call, failed_at, own_places, HasNode, HasNoNode};
@@ -36,7 +38,8 @@ impl<O: Object> Model for Progress<O> {
 
     ghost view = { λ p. record { script = p.script.items; ends = p.ends.items } };
 
-    ghost invariant = { λ p. KeepsProgress (vec_capacity p.ends) p.ordered p.failed (record { script = p.script.items; ends = p.ends.items }) };
+    ghost invariant = { λ p. KeepsProgress (vec_capacity p.ends) p.ordered p.failed
+        (record { script = p.script.items; ends = p.ends.items }) };
 }
 
 impl<O: Object> Progress<O> {

@@ -1,4 +1,5 @@
 use Rattle.std.specs.Prelude.{ℕ, ◌≡◌, ◌+◌, ◌*◌, ◌<◌, ◌≤◌, ◌==◌, if◌then◌else◌, List, [], ◌∷◌, ◌++◌, length, map, suc}
+use Rattle.onll_model.specs.Limits.{most_updates}
 use Rattle.std.specs.List.{AllByRecursion, flat_map}
 use Rattle.onll_words.specs.Lines.{bytes_of_words}
 use Rattle.onll_model.specs.declared.node.Node.{Node}
@@ -59,7 +60,7 @@ pub record FitsEntry (threads : ℕ) (s : Segment) : Type 0 where
   pub some_nodes : 1 ≤ length s.nodes
   pub few_nodes : length s.nodes ≤ threads
   pub from_one : length s.nodes ≤ s.place
-  pub place : s.place ≤ 4096 * threads
+  pub place : s.place ≤ most_updates * threads
   pub nodes : AllByRecursion (FitsNode threads) s.nodes
 
 abbrev pub FitEntries : ℕ → List Segment → Type 0

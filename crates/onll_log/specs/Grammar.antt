@@ -1,4 +1,5 @@
 use Rattle.std.specs.Prelude.{ℕ, zero, suc, ◌+◌, ◌*◌, ◌==◌, ◌&&◌, if◌then◌else◌, Bool, true, false, List, [], ◌∷◌, length, take, drop, map, nat_le, Option, Some, None}
+use Rattle.onll_model.specs.Limits.{most_updates}
 use Rattle.onll_model.specs.declared.node.Node.{Node}
 use Rattle.onll_model.specs.Names.{node_of_name}
 use Rattle.onll_model.specs.Segment.{Segment}
@@ -26,9 +27,9 @@ is_entry head before line rest =
     && ((word line 1 == head.thread)
     && ((word line 2 == before + 1)
     && (nat_le 1 (word line 4) && (nat_le (word line 4) head.threads
-    && (nat_le (word line 4) (word line 3) && (nat_le (word line 3) (4096 * head.threads)
+    && (nat_le (word line 4) (word line 3) && (nat_le (word line 3) (most_updates * head.threads)
     && (nat_le (word line 4) (length rest)
-    && (all_named (4096 * head.threads) (take (word line 4) rest)
+    && (all_named (most_updates * head.threads) (take (word line 4) rest)
     && same_words (drop 5 line) (guard head (take 5 line) (take (word line 4) rest))))))))))
 
 abbrev pub node_of_line : List ℕ → Node
@@ -41,7 +42,8 @@ segment_of line rest = record { place = word line 3; nodes = map node_of_line (t
 abbrev pub entries_from : LogHead → ℕ → ℕ → List (List ℕ) → List Segment
 entries_from head before skip [] = []
 entries_from head before (suc skip) (l ∷ ls) = entries_from head before skip ls
-entries_from head before zero (l ∷ ls) = if is_entry head before l ls then segment_of l ls ∷ entries_from head (suc before) (word l 4) ls else []
+entries_from head before zero (l ∷ ls) =
+    if is_entry head before l ls then segment_of l ls ∷ entries_from head (suc before) (word l 4) ls else []
 
 -- what an image holds; an image of zeros has no head and no entry
 pub record Content : Type 0 where

@@ -1,5 +1,6 @@
 -- Laws over the grammar of logs, whatever code reads and writes them.
 use Rattle.std.specs.Prelude.{ℕ, ◌≡◌, ◌+◌, ◌-◌, ◌≤◌, ◌↔◌, List, [], ◌∷◌, ◌++◌, length, take, Some, None, true}
+use Rattle.onll_model.specs.Limits.{most_threads}
 use Rattle.onll_pmem.specs.Device.{DeviceState, Step, after_steps, AreLegal, IsImage, NonePending, zero_lines, FillsLines, Mixed}
 use Rattle.onll_model.specs.Segment.{Segment}
 use Rattle.onll_log.specs.declared.head.LogHead.{LogHead}
@@ -32,7 +33,8 @@ ZerosLaw = (head : LogHead) (before count : ℕ) → entries_from head before 0 
 
 -- a log with zeros after it holds its head and its entries
 abbrev pub ContentLaw : Type 0
-ContentLaw = (head : LogHead) (ss : List Segment) (zeros : ℕ) → FitsHead head → FitEntries head.threads ss → Holds (log_image head ss zeros) head ss
+ContentLaw = (head : LogHead) (ss : List Segment) (zeros : ℕ) → FitsHead head → FitEntries head.threads ss
+    → Holds (log_image head ss zeros) head ss
 
 -- zeros alone are the empty log
 abbrev pub EmptyLaw : Type 0
@@ -40,11 +42,13 @@ EmptyLaw = (count : ℕ) → 1 ≤ count → content_of (zero_lines count) ≡ S
 
 -- an entry more stands after the others
 abbrev pub MoreLaw : Type 0
-MoreLaw = (head : LogHead) (ss : List Segment) (s : Segment) → log_lines head (ss ++ s ∷ []) ≡ log_lines head ss ++ entry_lines head (length ss) s
+MoreLaw = (head : LogHead) (ss : List Segment) (s : Segment)
+    → log_lines head (ss ++ s ∷ []) ≡ log_lines head ss ++ entry_lines head (length ss) s
 
 -- lines of a log have eight words
 abbrev pub EightLaw : Type 0
-EightLaw = (head : LogHead) (ss : List Segment) (zeros : ℕ) → FitsHead head → FitEntries head.threads ss → AreLines (log_image head ss zeros)
+EightLaw = (head : LogHead) (ss : List Segment) (zeros : ℕ) → FitsHead head → FitEntries head.threads ss
+    → AreLines (log_image head ss zeros)
 
 -- entries take as many lines as they are said to
 abbrev pub LinesLaw : Type 0
@@ -59,20 +63,24 @@ TornLaw = (head : LogHead) (ss : List Segment) (s : Segment) (before after : ℕ
 
 -- the same where only some words of the entry were written
 abbrev pub PartLaw : Type 0
-PartLaw = (head : LogHead) (ss : List Segment) (s : Segment) (before after : ℕ) (read image : List (List ℕ)) → FitsHead head → head.format ≡ 2
+PartLaw = (head : LogHead) (ss : List Segment) (s : Segment) (before after : ℕ) (read image : List (List ℕ))
+    → FitsHead head → head.format ≡ 2
     → FitEntries head.threads ss → FitsEntry head.threads s → Among (entry_lines head (length ss) s ++ zero_lines after) read
     → Mixed (log_image head ss before) (log_lines head ss ++ read) image → TornOrWhole head ss s (log_image head (ss ++ s ∷ []) after) image
 
 -- from a device that holds a log, with no word pending, to where it reads as that log with an entry more:
 -- every image of every state on the way holds the entry more exactly where it is the whole
 abbrev pub CrashLaw : Type 0
-CrashLaw = (head : LogHead) (ss : List Segment) (s : Segment) (before after : ℕ) (d : DeviceState) (done rest : List Step) (image : List (List ℕ)) → FitsHead head → head.format ≡ 2
+CrashLaw = (head : LogHead) (ss : List Segment) (s : Segment) (before after : ℕ) (d : DeviceState)
+    (done rest : List Step) (image : List (List ℕ)) → FitsHead head → head.format ≡ 2
     → FitEntries head.threads ss → FitsEntry head.threads s → NonePending d → d.read ≡ log_image head ss before → AreLegal d (done ++ rest)
-    → (after_steps d (done ++ rest)).read ≡ log_image head (ss ++ s ∷ []) after → IsImage (after_steps d done) image → TornOrWhole head ss s (log_image head (ss ++ s ∷ []) after) image
+    → (after_steps d (done ++ rest)).read ≡ log_image head (ss ++ s ∷ []) after → IsImage (after_steps d done) image
+    → TornOrWhole head ss s (log_image head (ss ++ s ∷ []) after) image
 
 -- the first lines and zeros in the place of the others are among the whole
 abbrev pub FrontLaw : Type 0
-FrontLaw = (lines : List (List ℕ)) (front zeros : ℕ) → AreLines lines → Among (lines ++ zero_lines zeros) (take front lines ++ zero_lines (length lines - front + zeros))
+FrontLaw = (lines : List (List ℕ)) (front zeros : ℕ) → AreLines lines
+    → Among (lines ++ zero_lines zeros) (take front lines ++ zero_lines (length lines - front + zeros))
 
 -- while the lines of an entry are written, only words that were zero have changed, to those of the whole
 abbrev pub AppendLaw : Type 0
@@ -81,16 +89,20 @@ AppendLaw = (head : LogHead) (ss : List Segment) (s : Segment) (front zeros : �
 
 -- between a log and that log with an entry more, an image that isn't the whole has remains
 abbrev pub LeavesLaw : Type 0
-LeavesLaw = (head : LogHead) (ss : List Segment) (s : Segment) (before after : ℕ) (image : List (List ℕ)) → head.format ≡ 2 → FitsEntry head.threads s
-    → Mixed (log_image head ss before) (log_image head (ss ++ s ∷ []) after) image → (image ≡ log_image head (ss ++ s ∷ []) after → ⊥) → HasRemains head ss image
+LeavesLaw = (head : LogHead) (ss : List Segment) (s : Segment) (before after : ℕ) (image : List (List ℕ))
+    → head.format ≡ 2 → FitsEntry head.threads s
+    → Mixed (log_image head ss before) (log_image head (ss ++ s ∷ []) after) image
+    → (image ≡ log_image head (ss ++ s ∷ []) after → ⊥) → HasRemains head ss image
 
 -- whatever words of remains are wiped, the entries stay
 abbrev pub WipedLaw : Type 0
-WipedLaw = (head : LogHead) (ss : List Segment) (image wiped : List (List ℕ)) → AreLines image → Holds image head ss → HasRemains head ss image → IsWiped head ss image wiped → Holds wiped head ss
+WipedLaw = (head : LogHead) (ss : List Segment) (image wiped : List (List ℕ)) → AreLines image → Holds image head ss
+    → HasRemains head ss image → IsWiped head ss image wiped → Holds wiped head ss
 
 -- the used lines of any image and then zeros hold what it holds, and nothing stands after it
 abbrev pub CutLaw : Type 0
-CutLaw = (head : LogHead) (ss : List Segment) (image : List (List ℕ)) (zeros : ℕ) → AreLines image → Holds image head ss → IsCut head ss (take (used_with (Some head) ss) image ++ zero_lines zeros)
+CutLaw = (head : LogHead) (ss : List Segment) (image : List (List ℕ)) (zeros : ℕ) → AreLines image → Holds image head ss
+    → IsCut head ss (take (used_with (Some head) ss) image ++ zero_lines zeros)
 
 -- ---- what is read was written
 -- an image holds a head and entries exactly where they are written in it, whatever stands after them
@@ -99,8 +111,9 @@ WrittenLaw = (image : List (List ℕ)) (head : LogHead) (ss : List Segment) → 
 
 -- an image is a log without a head exactly where it is the empty log
 abbrev pub NoHeadLaw : Type 0
-NoHeadLaw = (image : List (List ℕ)) (ss : List Segment) → AreLines image → (content_of image ≡ Some (record { head = None; entries = ss })) ↔ IsEmptyLog image ss
+NoHeadLaw = (image : List (List ℕ)) (ss : List Segment) → AreLines image
+    → (content_of image ≡ Some (record { head = None; entries = ss })) ↔ IsEmptyLog image ss
 
 -- the masks of up to sixteen lines are those of the format
 abbrev pub MasksLaw : Type 0
-MasksLaw = (lines : List (List ℕ)) → AreLines lines → length lines ≤ 16 → AreMasks lines
+MasksLaw = (lines : List (List ℕ)) → AreLines lines → length lines ≤ most_threads → AreMasks lines

@@ -20,7 +20,8 @@ pub record IsBitOf (lines : List (List ℕ)) (mask bit line j : ℕ) : Type 0 wh
 
 pub record AreMasks (lines : List (List ℕ)) : Type 0 where
   -- a bit for a word is 1 exactly where the word is not zero
-  pub each : (mask bit line j : ℕ) → IsBitOf lines mask bit line j → mask_bit lines mask bit ≡ (if word_at lines (line - 1) j == 0 then 0 else 1)
+  pub each : (mask bit line j : ℕ) → IsBitOf lines mask bit line j
+      → mask_bit lines mask bit ≡ (if word_at lines (line - 1) j == 0 then 0 else 1)
   -- bit 63 is always 1
   pub top : (mask : ℕ) → mask < 3 → mask_bit lines mask 63 ≡ 1
   -- all other bits are 0

@@ -1,4 +1,5 @@
 ghost use Rattle.std.specs.Prelude.{◌≡◌, ℕ, ◌+◌, ◌-◌, ◌*◌, ◌<◌, ◌≤◌, ◌^◌, ◌==◌, ◌&&◌, nat_le, length, take, drop};
+ghost use Rattle.onll_model.specs.Limits.{most_threads, most_updates};
 ghost use Rattle.std.specs.List.{All};
 ghost use Rattle.onll_pmem.specs.Pmem.{words_of};
 ghost use Rattle.onll_log.specs.Head.{word};
@@ -8,17 +9,14 @@ ghost use Rattle.onll_log.specs.Grammar.{is_entry, all_named, same_words};
 use crate::digest::Message;
 use crate::head::LogHead;
 use crate::mask::masks;
-use onll_model::{Node, node_line};
+use onll_model::{MOST_THREADS, MOST_UPDATES, Node, node_line};
 use onll_words::Line;
 
 /// The first word of an entry: the bytes `ONLLENT1`.
 const ENTRY_MAGIC: u64 = 0x3154_4e45_4c4c_4e4f;
 
-/// How many names a thread has.
-const NAMES: u64 = 4096;
-
 /// The most nodes of an entry.
-const MOST: usize = 16;
+const MOST: usize = MOST_THREADS as usize;
 
 /// The entry digest over an entry's first five words and its node lines.
 fn entry_digest(head: &LogHead, front: &[u64], lines: &[Line]) -> [u64; 3]
@@ -33,7 +31,7 @@ fn entry_digest(head: &LogHead, front: &[u64], lines: &[Line]) -> [u64; 3]
 
 /// The last three words of an entry's line, which guard its node lines.
 fn guard(head: &LogHead, front: &[u64], lines: &[Line]) -> [u64; 3]
-    requires { length lines.now ≤ 16 }
+    requires { length lines.now ≤ most_threads }
     ensures { result ≡ guard head.now front.now (words_of lines.now) }
 {
     if head.format == 1 {
@@ -45,8 +43,8 @@ fn guard(head: &LogHead, front: &[u64], lines: &[Line]) -> [u64; 3]
 
 /// The lines of up to sixteen nodes, with zeros after them.
 fn node_lines(nodes: &[Node]) -> [Line; MOST]
-    requires few { length nodes.now ≤ 16 }
-    requires nodes { All (CanHold 16) nodes.now }
+    requires few { length nodes.now ≤ most_threads }
+    requires nodes { All (CanHold most_threads) nodes.now }
     ensures { words_of (take (length nodes.now) result) ≡ node_lines nodes.now }
 {
     let mut lines = [Line { w: [0; 8] }; MOST];
@@ -60,11 +58,11 @@ fn node_lines(nodes: &[Node]) -> [Line; MOST]
 /// Its other lines are the nodes' lines.
 pub fn entry_head(head: LogHead, sequence: u64, place: u64, nodes: &[Node]) -> Line
     requires format { (1 ≤ head.format) × (head.format ≤ 2) }
-    requires threads { head.threads ≤ 16 }
+    requires threads { head.threads ≤ most_threads }
     requires some_nodes { 1 ≤ length nodes.now }
     requires few_nodes { length nodes.now ≤ head.threads }
     requires from_one { length nodes.now ≤ place }
-    requires place { place ≤ 4096 * head.threads }
+    requires place { place ≤ most_updates * head.threads }
     requires sequence { 1 ≤ sequence }
     requires nodes { All (CanHold head.threads) nodes.now }
     ensures { result.w ≡ entry_line head (sequence - 1) (record { place = place; nodes = nodes.now }) }
@@ -116,25 +114,32 @@ fn is_next(head: &LogHead, before: u64, line: &Line) -> bool
 
 /// Whether an entry can have this count of nodes and this place, with this many lines after its first.
 fn has_room(threads: u64, count: u64, place: u64, rest: u64) -> bool
-    requires { threads ≤ 16 }
-    ensures { result ≡ nat_le 1 count && (nat_le count threads && (nat_le count place && (nat_le place (4096 * threads) && nat_le count rest))) }
+    requires { threads ≤ most_threads }
+    ensures { result ≡ nat_le 1 count
+        && (nat_le count threads && (nat_le count place
+        && (nat_le place (most_updates * threads) && nat_le count rest))) }
 {
-    1 <= count && count <= threads && count <= place && place <= NAMES * threads && count <= rest
+    1 <= count
+        && count <= threads
+        && count <= place
+        && place <= MOST_UPDATES * threads
+        && count <= rest
 }
 
 /// Whether an entry's node lines have names and are those that its line guards.
 fn is_guarded(head: &LogHead, line: &Line, lines: &[Line]) -> bool
-    requires threads { head.now.threads ≤ 16 }
-    requires few { length lines.now ≤ 16 }
-    ensures { result ≡ all_named (4096 * head.now.threads) (words_of lines.now) && same_words (drop 5 line.now.w) (guard head.now (take 5 line.now.w) (words_of lines.now)) }
+    requires threads { head.now.threads ≤ most_threads }
+    requires few { length lines.now ≤ most_threads }
+    ensures { result ≡ all_named (most_updates * head.now.threads) (words_of lines.now)
+        && same_words (drop 5 line.now.w) (guard head.now (take 5 line.now.w) (words_of lines.now)) }
 {
     let [_, _, _, _, _, a, b, c] = line.w;
-    are_named(NAMES * head.threads, lines) && [a, b, c] == guard(head, &line.w[..5], lines)
+    are_named(MOST_UPDATES * head.threads, lines) && [a, b, c] == guard(head, &line.w[..5], lines)
 }
 
 /// Whether an entry begins with this line before the lines that follow, after this many entries of the log.
 pub fn is_entry(head: &LogHead, before: u64, line: &Line, rest: &[Line]) -> bool
-    requires threads { head.now.threads ≤ 16 }
+    requires threads { head.now.threads ≤ most_threads }
     requires before { before < 2 ^ 64 - 1 }
     ensures { result ≡ is_entry head.now before line.now.w (words_of rest.now) }
 {

@@ -1,9 +1,11 @@
 ghost use Rattle.std.specs.Prelude.{◌≡◌, ◌≤◌, ◌<◌, ◌==◌, ◌&&◌, ◌||◌, nat_lt, nat_le, if◌then◌else◌, Option, Some, None, IfSome};
+ghost use Rattle.onll_model.specs.Limits.{most_threads};
 ghost use Rattle.onll_pmem.specs.Pmem.{words_of};
 ghost use Rattle.onll_log.specs.Head.{head_for, head_line, head_of, is_head, FitsHead, log_magic};
 ghost use Rattle.onll_log.specs.Grammar.{format_in};
 
 use crate::digest::Message;
+use onll_model::MOST_THREADS;
 use onll_words::Line;
 
 /// The first word of a log: the bytes `ONLLLOG1`.
@@ -29,7 +31,7 @@ impl LogHead {
     /// The head of a new log of this thread, over the bytes of the object's initial state.
     pub fn new(thread: u64, threads: u64, object: u64, init: &[u8]) -> LogHead
         requires thread { thread < threads }
-        requires threads { threads ≤ 16 }
+        requires threads { threads ≤ most_threads }
         requires object { (1 ≤ object) × (object ≤ 4) }
         ensures head { result ≡ head_for 2 thread threads object init.now }
         ensures fits { FitsHead result }
@@ -41,7 +43,7 @@ impl LogHead {
     pub fn of_format(format: u64, thread: u64, threads: u64, object: u64, init: &[u8]) -> LogHead
         requires format { (1 ≤ format) × (format ≤ 2) }
         requires thread { thread < threads }
-        requires threads { threads ≤ 16 }
+        requires threads { threads ≤ most_threads }
         requires object { (1 ≤ object) × (object ≤ 4) }
         ensures head { result ≡ head_for format thread threads object init.now }
         ensures fits { FitsHead result }
@@ -106,9 +108,9 @@ fn is_first(magic: u64, format: u64) -> bool
 
 /// Whether a head can say these numbers.
 fn are_in_range(thread: u64, threads: u64, object: u64) -> bool
-    ensures { result ≡ nat_lt thread threads && (nat_le threads 16 && (nat_le 1 object && nat_le object 4)) }
+    ensures { result ≡ nat_lt thread threads && (nat_le threads most_threads && (nat_le 1 object && nat_le object 4)) }
 {
-    thread < threads && threads <= 16 && 1 <= object && object <= 4
+    thread < threads && threads <= MOST_THREADS && 1 <= object && object <= 4
 }
 
 /// The format by which an image is read: 2 where its first line says so, and else 1.

@@ -1,4 +1,5 @@
 ghost use Rattle.std.specs.Prelude.{◌≡◌, ℕ, ◌+◌, ◌*◌, ◌<◌, ◌≤◌, ◌^◌, ◌==◌, length, map, take, drop, true, Some, None, IfOk, OnOk, IfErr, MatchResult};
+ghost use Rattle.onll_model.specs.Limits.{most_threads};
 ghost use Rattle.onll_pmem.specs.Pmem.{words_of};
 ghost use Rattle.onll_log.specs.Head.{is_head, head_of, word};
 ghost use Rattle.onll_log.specs.Grammar.{all_named, is_entry, node_of_line, segment_of, entries_from, is_zero_line, are_zero_lines, content_of, used_by};
@@ -93,7 +94,7 @@ fn entry_of(alloc: Global, number: u64, line: &Line, rest: &[Line]) -> Result<En
 
 /// The accepted entries of a log of this head whose lines these are, all but the first.
 fn entries_of(alloc: Global, head: &LogHead, lines: &[Line]) -> Result<Vec<Entry>, AllocError>
-    requires threads { head.now.threads ≤ 16 }
+    requires threads { head.now.threads ≤ most_threads }
     ensures entries { IfOk result (λ entries. entries.items ≡ placed_from 1 (entries_from head.now 0 0 (words_of lines.now))) }
 {
     let mut entries = Vec::new(alloc);
@@ -112,9 +113,10 @@ fn entries_of(alloc: Global, head: &LogHead, lines: &[Line]) -> Result<Vec<Entry
 
 /// What a log of this head holds, whose lines these are.
 fn log_of(alloc: Global, head: LogHead, lines: &[Line]) -> Result<Decoded, DecodeFault>
-    requires threads { head.threads ≤ 16 }
+    requires threads { head.threads ≤ most_threads }
     requires head { 1 ≤ length lines.now }
-    ensures content { IfOk result (λ d. content_in d ≡ record { head = Some head; entries = entries_from head 0 0 (drop 1 (words_of lines.now)) }) }
+    ensures content { IfOk result (λ d. content_in d
+        ≡ record { head = Some head; entries = entries_from head 0 0 (drop 1 (words_of lines.now)) }) }
     ensures lines { IfOk result (λ d. d.entries ≡ placed_from 1 (segments_in d.entries)) }
     ensures used { IfOk result (λ d. used_by (content_in d) ≤ length lines.now) }
     ensures refused { IfErr result (λ fault. fault ≡ DecodeFault.NoMemory) }

@@ -1,4 +1,5 @@
 ghost use Rattle.std.specs.Prelude.{◌≡◌, ℕ, ◌+◌, ◌-◌, ◌*◌, ◌^◌, ◌<◌, ◌≤◌, ◌⊎◌, List, [], ◌∷◌, ◌++◌, length, take, drop, true, false, is_err, IfNone, IfSome, IfOk, IfErr, OnOk, OnErr, Some};
+ghost use Rattle.onll_model.specs.Limits.{most_threads, most_updates};
 ghost use Rattle.std.specs.List.{All};
 ghost use Rattle.onll_model.specs.Segment.{Segment, last_place};
 ghost use Rattle.onll_pmem.specs.Device.{line_at, zero_line, zero_lines, FillsLines};
@@ -48,7 +49,7 @@ fn put_nodes<P: Pmem>(device: &mut P, from: u64, nodes: &[Node])
     requires within { from + length nodes.now ≤ length (P.means device.old).read }
     requires few { from + length nodes.now < 2 ^ 64 }
     requires zeros { (line : ℕ) → from ≤ line → line < from + length nodes.now → line_at (P.means device.old).read line ≡ zero_line }
-    requires nodes { All (CanHold 16) nodes.now }
+    requires nodes { All (CanHold most_threads) nodes.now }
     ensures lines { Puts (P.means device.old) (P.means device.new) from (node_lines nodes.now) }
     ensures rows { All (λ n. length n.row.w ≡ 7) nodes.now }
 {
@@ -62,7 +63,7 @@ fn put_entry<P: Pmem>(device: &mut P, from: u64, first: Line, nodes: &[Node])
     requires within { from + 1 + length nodes.now ≤ length (P.means device.old).read }
     requires few { from + 1 + length nodes.now < 2 ^ 64 }
     requires zeros { (line : ℕ) → from ≤ line → line < from + 1 + length nodes.now → line_at (P.means device.old).read line ≡ zero_line }
-    requires nodes { All (CanHold 16) nodes.now }
+    requires nodes { All (CanHold most_threads) nodes.now }
     ensures lines { Puts (P.means device.old) (P.means device.new) from (first.w ∷ node_lines nodes.now) }
     ensures rows { All (λ n. length n.row.w ≡ 7) nodes.now }
 {
@@ -107,9 +108,16 @@ impl<P: Pmem> Model for ThreadLog<P> {
 
     ghost Value = { LogState P };
 
-    ghost view = { λ l. record { head = l.head; entries = entries_read l.head (P.means l.device).read; fences = l.fences; broken = l.broken; device = l.device } };
+    ghost view = { λ l. record {
+      head = l.head;
+      entries = entries_read l.head (P.means l.device).read;
+      fences = l.fences;
+      broken = l.broken;
+      device = l.device;
+    } };
 
-    ghost invariant = { λ l. KeepsLog (P.means l.device) l.head (entries_read l.head (P.means l.device).read) l.used l.entries l.last l.fences l.broken };
+    ghost invariant = { λ l. KeepsLog (P.means l.device) l.head
+        (entries_read l.head (P.means l.device).read) l.used l.entries l.last l.fences l.broken };
 }
 
 impl<P: Pmem> ThreadLog<P> {
@@ -278,14 +286,15 @@ impl<P: Pmem> ThreadLog<P> {
         requires few_nodes { length nodes.now ≤ self.old.head.threads }
         requires room { length nodes.now + 1 ≤ free_of (length (P.means self.old.device).read) self.old.entries }
         requires after { last_place 0 self.old.entries + length nodes.now ≤ place }
-        requires place { place ≤ 4096 * self.old.head.threads }
+        requires place { place ≤ most_updates * self.old.head.threads }
         requires nodes { All (CanHold self.old.head.threads) nodes.now }
         ensures head { self.new.head ≡ self.old.head }
         ensures entries { self.new.entries ≡ self.old.entries ++ record { place = place; nodes = nodes.now } ∷ [] }
         ensures fences { self.new.fences ≡ self.old.fences + 1 }
         ensures broken { self.new.broken ≡ is_err result }
         ensures lines { let s : Segment = record { place = place; nodes = nodes.now } in
-            Appends (P.means self.old.device) (P.means self.new.device) (1 + lines_in self.old.entries) (entry_lines self.old.head (length self.old.entries) s) }
+            Appends (P.means self.old.device) (P.means self.new.device) (1 + lines_in self.old.entries)
+            (entry_lines self.old.head (length self.old.entries) s) }
         ensures faults { OnOk result ((P.means self.new.device).faults ≡ (P.means self.old.device).faults) }
         ensures settled { OnOk result (ToldSettled (P.means self.new.device).told (P.means self.new.device).read) }
         ensures failed { OnErr result ((P.means self.new.device).faults ≡ (P.means self.old.device).faults + 1) }

@@ -1,4 +1,5 @@
 ghost use Rattle.std.specs.Prelude.{◌≡◌, ℕ, ◌+◌, ◌*◌, ◌<◌, ◌≤◌, ◌^◌, length, take, drop};
+ghost use Rattle.onll_model.specs.Limits.{most_threads};
 ghost use Rattle.onll_pmem.specs.Pmem.{words_of};
 ghost use Rattle.onll_log.specs.Masks.{marks_in, mask_of, masks, bits_on};
 
@@ -50,7 +51,7 @@ fn rest(lines: &[Line]) -> &[Line]
 
 /// The masks of up to sixteen lines: which of their words are not zero.
 pub fn masks(lines: &[Line]) -> [u64; 3]
-    requires { length lines.now ≤ 16 }
+    requires { length lines.now ≤ most_threads }
     ensures { result ≡ masks (words_of lines.now) }
 {
     let second = rest(lines);

@@ -79,7 +79,7 @@ words_of_its_op (n ∷ a ∷ b ∷ c ∷ d ∷ e ∷ f ∷ []) op h =
     let ks : List ℕ = a ∷ b ∷ c ∷ [] in
     let vs : List ℕ = d ∷ e ∷ f ∷ [] in
     by_tests (n == 1) (n == 2 && (d == 0) && (e == 0) && (f == 0)) (n ∷ a ∷ b ∷ c ∷ d ∷ e ∷ f ∷ [])
-        (put_of (unpacked ks) (unpacked vs)) (del_of (unpacked ks)) op
+    (put_of (unpacked ks) (unpacked vs)) (del_of (unpacked ks)) op
     (λ t o. put_words ks vs (unpacked ks) (unpacked vs) op refl refl o ∙ put_tested n a b c d e f t)
     (λ t o. del_words ks (unpacked ks) op refl o ∙ del_tested n a b c d e f t)
     h

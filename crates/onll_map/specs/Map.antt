@@ -1,6 +1,7 @@
 -- A map is the list of its pairs, a key and its value, in the order of the keys, and the greatest number of pairs.
 
 use Rattle.std.specs.Prelude.{ℕ, Bool, true, false, ◌||◌, List, [], ◌∷◌, Option, Some, None, if◌then◌else◌, length, nat_lt, is_some, IsSome, ◌≡◌, ◌≤◌}
+use Rattle.onll_model.specs.Limits.{most_elements}
 use Rattle.std.specs.declared.cmp.Ordering.{Ordering}
 use Rattle.std.specs.declared.cmp.Ordering.TheVariants.{Less}
 use Rattle.std.specs.Ordering.{nat_cmp, on, is_lt, is_eq}
@@ -32,7 +33,7 @@ pub record IsMap (entries : Entries) : Type 0 where
   pub rising : IsStrictlySortedBy key_cmp (keys_of entries.pairs)
   pub fits : length entries.pairs ≤ entries.room
   pub least_room : 1 ≤ entries.room
-  pub greatest_room : entries.room ≤ 4096
+  pub greatest_room : entries.room ≤ most_elements
 
 -- the value at a key
 abbrev pub value_at : Pairs → ShortText → Option ShortText

@@ -1,6 +1,7 @@
 //! The map.
 
 ghost use Rattle.std.specs.Prelude.{◌≡◌, ◌≢◌, ◌<◌, ◌≤◌, [], length, IfOk, IfErr, MatchOption, Some, slice_get};
+ghost use Rattle.onll_model.specs.Limits.{most_elements};
 ghost use Rattle.std.proofs.Common.{rules};
 ghost use Rattle.onll_map.specs.Map.{IsMap, Sets, IsLeastFrom, NoneFrom, value_at, key_from, map_next, map_reply};
 ghost use Rattle.onll_map.specs.Object.{map_object};
@@ -35,7 +36,7 @@ impl Model for Map {
 impl Map {
     /// An empty map with room for this many pairs.
     pub fn make(alloc: Global, capacity: u64) -> Result<Map, NoMemory>
-        requires { (1 ≤ capacity) × (capacity ≤ 4096) }
+        requires { (1 ≤ capacity) × (capacity ≤ most_elements) }
         ensures { IfOk result (λ made. made ≡ record { pairs = []; room = capacity }) }
     {
         Ok(Map {

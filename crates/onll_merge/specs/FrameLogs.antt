@@ -25,4 +25,5 @@ pub record MergeToFront (f : Frame) (heads : List LogHead) (logs : List Content)
 
 -- whatever is left of the threads of a sound frame
 abbrev pub FrameLogsLaw : Type 0
-FrameLogsLaw = (count : ℕ) (f : Frame) (heads : List LogHead) (logs : List Content) → Sound count f → AreLogsOf f.threads heads logs → MergeToFront f heads logs
+FrameLogsLaw = (count : ℕ) (f : Frame) (heads : List LogHead) (logs : List Content) → Sound count f
+    → AreLogsOf f.threads heads logs → MergeToFront f heads logs

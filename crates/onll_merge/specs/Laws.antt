@@ -34,7 +34,8 @@ pub record HoldOne (trace : List Node) (heads : List LogHead) (logs : List Conte
 
 -- logs that hold one trace merge to its front, as far as the greatest place
 abbrev pub FrontLaw : Type 0
-FrontLaw = (trace : List Node) (heads : List LogHead) (logs : List Content) → HoldOne trace heads logs → merge heads logs ≡ Ok (take (top_of logs) trace)
+FrontLaw = (trace : List Node) (heads : List LogHead) (logs : List Content) → HoldOne trace heads logs
+    → merge heads logs ≡ Ok (take (top_of logs) trace)
 
 -- which holds each place of a segment
 abbrev pub TopLaw : Type 0
@@ -63,5 +64,6 @@ NoOtherLaw = (s : Segment) (p : ℕ) (x : Node) → node_in_segment s p ≡ Some
 
 -- Of segments that rise, the one that holds a place says the log's node there; so no other one holds it.
 abbrev pub OnceLaw : Type 0
-OnceLaw = (ss : List Segment) (i p : ℕ) (x : Node) (d : Segment) → Rises 0 ss → i < length ss → node_in_segment (slice_index_or ss i d) p ≡ Some x
+OnceLaw = (ss : List Segment) (i p : ℕ) (x : Node) (d : Segment) → Rises 0 ss → i < length ss
+    → node_in_segment (slice_index_or ss i d) p ≡ Some x
     → node_in_log ss p ≡ Some x

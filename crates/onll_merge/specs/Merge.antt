@@ -53,7 +53,8 @@ top_of (c ∷ cs) = max (top_in_log c.entries) (top_of cs)
 
 -- ---- a log of another run
 abbrev pub same_head : LogHead → LogHead → Bool
-same_head x y = (x.thread == y.thread) && ((x.threads == y.threads) && ((x.object == y.object) && (same_words x.digest y.digest && (x.format == y.format))))
+same_head x y = (x.thread == y.thread) &&
+    ((x.threads == y.threads) && ((x.object == y.object) && (same_words x.digest y.digest && (x.format == y.format))))
 
 -- a log without a head fits each run
 abbrev pub fits_run : Option LogHead → LogHead → Bool
@@ -71,7 +72,8 @@ foreign i (c ∷ cs) (h ∷ hs) = if fits_run c.head h then foreign (suc i) cs h
 -- place `last` stand before these
 abbrev pub disorder_in : ℕ → ℕ → ℕ → List Segment → Option RecoverFault
 disorder_in i e last [] = None
-disorder_in i e last (s ∷ ss) = if nat_lt s.place (last + length s.nodes) then Some (Disorder i (suc e)) else disorder_in i (suc e) s.place ss
+disorder_in i e last (s ∷ ss) =
+    if nat_lt s.place (last + length s.nodes) then Some (Disorder i (suc e)) else disorder_in i (suc e) s.place ss
 
 -- in the first of these logs that has one; they are numbered from i
 abbrev pub disorder : ℕ → List Content → Option RecoverFault

@@ -11,4 +11,5 @@ ArePassed entries passed place = AllWithin (λ e. e.place < place) entries 0 pas
 
 -- so it is with each log
 abbrev pub ArePassedInAll : List Decoded → List ℕ → ℕ → Type 0
-ArePassedInAll logs passed place = (k : ℕ) (d : Decoded) → k < length logs → ArePassed (slice_index_or logs k d).entries (slice_index passed k) place
+ArePassedInAll logs passed place =
+    (k : ℕ) (d : Decoded) → k < length logs → ArePassed (slice_index_or logs k d).entries (slice_index passed k) place

@@ -22,4 +22,5 @@ pub record CanGoOn (count : ℕ) (nodes : List Node) (logs : List Content) : Typ
 
 -- whatever logs merge, one for each thread, whose segments are those that entries can hold
 abbrev pub ResumableLaw : Type 0
-ResumableLaw = (count : ℕ) (nodes : List Node) (heads : List LogHead) (logs : List Content) → merge heads logs ≡ Ok nodes → length logs ≡ count → EachSegment (FitsEntry count) logs → CanGoOn count nodes logs
+ResumableLaw = (count : ℕ) (nodes : List Node) (heads : List LogHead) (logs : List Content)
+    → merge heads logs ≡ Ok nodes → length logs ≡ count → EachSegment (FitsEntry count) logs → CanGoOn count nodes logs

@@ -11,7 +11,8 @@ use onll_model::Node;
 
 /// Whether each entry of a log begins above the last place of the one before it.
 pub fn check_order(entries: &[Entry], log: u64) -> Result<(), RecoverFault>
-    ensures order { MatchResult result (λ _. disorder_in log 0 0 (segments_in entries.now) ≡ None) (λ e. disorder_in log 0 0 (segments_in entries.now) ≡ Some e) }
+    ensures order { MatchResult result (λ _. disorder_in log 0 0 (segments_in entries.now) ≡ None)
+        (λ e. disorder_in log 0 0 (segments_in entries.now) ≡ Some e) }
     ensures rises { OnOk result (Rises 0 (segments_in entries.now)) }
 {
     let mut last = 0;

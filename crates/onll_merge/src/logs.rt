@@ -1,4 +1,5 @@
 ghost use Rattle.std.specs.Prelude.{◌≡◌, ℕ, ◌+◌, ◌<◌, ◌≤◌, ◌⊎◌, length, drop, Some, None, IfOk, OnOk, MatchResult};
+ghost use Rattle.onll_model.specs.Limits.{most_threads};
 ghost use Rattle.onll_merge.specs.Merge.{AllRise, contents_in, fits_run, foreign, unlike, disorder, top_of, node_in_logs, nodes_to, first_to, differs, clash_at, gap_at};
 ghost use Rattle.onll_merge.specs.Passed.{ArePassedInAll};
 ghost use Rattle.onll_merge.specs.declared.fault.RecoverFault.TheVariants.{NoMemory};
@@ -6,11 +7,11 @@ ghost use Rattle.onll_merge.specs.declared.fault.RecoverFault.TheVariants.{NoMem
 use crate::entries::{agrees, check_order, next_of_log, node_of_log, top_place};
 use crate::fault::RecoverFault;
 use onll_log::{Decoded, LogHead};
-use onll_model::Node;
+use onll_model::{MOST_THREADS, Node};
 use std::alloc::Global;
 
 /// The most logs of a run.
-const LOGS: usize = 16;
+const LOGS: usize = MOST_THREADS as usize;
 
 /// Whether a log with this head can be of the run of the expected head: one without a head fits each run.
 fn fits(head: Option<LogHead>, expected: LogHead) -> bool
@@ -25,7 +26,8 @@ fn fits(head: Option<LogHead>, expected: LogHead) -> bool
 /// Whether each head that a log has is its expected one.
 pub fn check_heads(logs: &[Decoded], heads: &[LogHead]) -> Result<(), RecoverFault>
     requires { length heads.now ≡ length logs.now }
-    ensures { MatchResult result (λ _. foreign 0 (contents_in logs.now) heads.now ≡ None) (λ e. foreign 0 (contents_in logs.now) heads.now ≡ Some e) }
+    ensures { MatchResult result (λ _. foreign 0 (contents_in logs.now) heads.now ≡ None)
+        (λ e. foreign 0 (contents_in logs.now) heads.now ≡ Some e) }
 {
     for (log, decoded) in logs.iter().enumerate() {
         if !fits(decoded.head, heads[log]) {
@@ -86,7 +88,8 @@ fn check_others(
     requires count { length logs.now ≤ length passed.old }
     requires passed { ArePassedInAll logs.now passed.old place }
     requires log { log < length logs.now }
-    ensures others { MatchResult result (λ _. differs place log (log + 1) node (contents_in (drop (log + 1) logs.now)) ≡ None) (λ e. differs place log (log + 1) node (contents_in (drop (log + 1) logs.now)) ≡ Some e) }
+    ensures others { MatchResult result (λ _. differs place log (log + 1) node (contents_in (drop (log + 1) logs.now))
+        ≡ None) (λ e. differs place log (log + 1) node (contents_in (drop (log + 1) logs.now)) ≡ Some e) }
     ensures passed { ArePassedInAll logs.now passed.new place }
 {
     for other in log + 1..logs.len() {
@@ -111,7 +114,8 @@ fn node_of_place(
     requires rise { AllRise (contents_in logs.now) }
     requires count { length logs.now ≤ length passed.old }
     requires passed { ArePassedInAll logs.now passed.old place }
-    ensures clash { MatchResult result (λ _. clash_at (contents_in logs.now) place ≡ None) (λ e. clash_at (contents_in logs.now) place ≡ Some e) }
+    ensures clash { MatchResult result (λ _. clash_at (contents_in logs.now) place ≡ None)
+        (λ e. clash_at (contents_in logs.now) place ≡ Some e) }
     ensures node { IfOk result (λ node. node ≡ node_in_logs (contents_in logs.now) place) }
     ensures passed { ArePassedInAll logs.now passed.new place }
 {
@@ -136,7 +140,8 @@ fn check_above(
     requires passed { ArePassedInAll logs.now passed.old place }
     requires below { first_to (clash_at (contents_in logs.now)) place ≡ None }
     requires top { place ≤ top }
-    ensures { MatchResult result (λ _. first_to (clash_at (contents_in logs.now)) top ≡ None) (λ e. first_to (clash_at (contents_in logs.now)) top ≡ Some e) }
+    ensures { MatchResult result (λ _. first_to (clash_at (contents_in logs.now)) top ≡ None)
+        (λ e. first_to (clash_at (contents_in logs.now)) top ≡ Some e) }
 {
     let mut at = place;
     while at < top {
@@ -149,8 +154,9 @@ fn check_above(
 /// The nodes of the places up to `top`, which the logs hold alike.
 pub fn gather(alloc: Global, logs: &[Decoded], top: u64) -> Result<Vec<Node>, RecoverFault>
     requires rise { AllRise (contents_in logs.now) }
-    requires count { length logs.now ≤ 16 }
-    ensures places { MatchResult result (λ _. unlike (contents_in logs.now) top ≡ None) (λ e. (e ≡ NoMemory) ⊎ (unlike (contents_in logs.now) top ≡ Some e)) }
+    requires count { length logs.now ≤ most_threads }
+    ensures places { MatchResult result (λ _. unlike (contents_in logs.now) top ≡ None)
+        (λ e. (e ≡ NoMemory) ⊎ (unlike (contents_in logs.now) top ≡ Some e)) }
     ensures nodes { IfOk result (λ v. v.items ≡ nodes_to (contents_in logs.now) top) }
 {
     let mut passed = [0; LOGS];

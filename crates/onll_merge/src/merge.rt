@@ -1,4 +1,5 @@
 ghost use Rattle.std.specs.Prelude.{◌≡◌, ◌≤◌, ◌⊎◌, length, Ok, Err, MatchResult};
+ghost use Rattle.onll_model.specs.Limits.{most_threads};
 ghost use Rattle.onll_merge.specs.Merge.{contents_in, merge};
 ghost use Rattle.onll_merge.specs.declared.fault.RecoverFault.TheVariants.{NoMemory};
 
@@ -16,9 +17,10 @@ pub fn recover(
     logs: &[Decoded],
     heads: &[LogHead],
 ) -> Result<Vec<Node>, RecoverFault>
-    requires logs { length logs.now ≤ 16 }
+    requires logs { length logs.now ≤ most_threads }
     requires heads { length heads.now ≡ length logs.now }
-    ensures { MatchResult result (λ v. merge heads.now (contents_in logs.now) ≡ Ok v.items) (λ e. (e ≡ NoMemory) ⊎ (merge heads.now (contents_in logs.now) ≡ Err e)) }
+    ensures { MatchResult result (λ v. merge heads.now (contents_in logs.now) ≡ Ok v.items)
+        (λ e. (e ≡ NoMemory) ⊎ (merge heads.now (contents_in logs.now) ≡ Err e)) }
 {
     check_heads(logs, heads)?;
     check_orders(logs)?;

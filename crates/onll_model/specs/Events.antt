@@ -74,7 +74,13 @@ window trace d p = record { place = p; nodes = nodes_between trace d p }
 
 -- the walk has ended at place d: the window is to be logged
 abbrev pub logging : Thread → List Node → ℕ → ℕ → Thread
-logging th trace d p = record { seen = th.seen; fenced = th.fenced; pending = Some (window trace d p); stuck = th.stuck; activity = Logging p (p - d) }
+logging th trace d p = record {
+  seen = th.seen;
+  fenced = th.fenced;
+  pending = Some (window trace d p);
+  stuck = th.stuck;
+  activity = Logging p (p - d);
+}
 
 -- the pending segment is fenced
 abbrev pub fencing : Thread → ℕ → ℕ → Thread

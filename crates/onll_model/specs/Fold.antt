@@ -15,7 +15,8 @@ fold_trace b n (Update op ∷ calls) = record { thread = 0; number = n + 1; row 
 fold_trace b n (Ask query ∷ calls) = fold_trace b n calls
 
 -- the outcomes of calls on the state s, which n updates have reached
-abbrev pub fold_ends : {State Op Query Reply : Type 0} → Behaviour State Op Query Reply → State → ℕ → List (Call State Op Query Reply) → List (CallEnd State Op Query Reply)
+abbrev pub fold_ends : {State Op Query Reply : Type 0} → Behaviour State Op Query Reply → State → ℕ
+    → List (Call State Op Query Reply) → List (CallEnd State Op Query Reply)
 fold_ends b s n [] = []
 fold_ends b s n (Update op ∷ calls) = Answered (b.reply s op) (n + 1) ∷ fold_ends b (b.next s op) (n + 1) calls
 fold_ends b s n (Ask query ∷ calls) = Answered (b.answer s query) n ∷ fold_ends b s n calls

@@ -18,7 +18,8 @@ AreAnswered calls ends = ⊥
 module _ {State Op Query Reply : Type 0} (b : Behaviour State Op Query Reply) where
   -- the trace and the outcomes are a legal report of this one thread, over no base
   abbrev pub LegalFoldLaw : Type 0
-  LegalFoldLaw = (s : State) (script : List (Call State Op Query Reply)) → IsLegal b s [] (script ∷ []) (fold_trace b 0 script) (fold_ends b s 0 script ∷ [])
+  LegalFoldLaw = (s : State) (script : List (Call State Op Query Reply))
+      → IsLegal b s [] (script ∷ []) (fold_trace b 0 script) (fold_ends b s 0 script ∷ [])
 
   -- the whole script is done
   abbrev pub AnsweredFoldLaw : Type 0

@@ -23,13 +23,15 @@ pub record IsResumable (count : ℕ) (base : List Node) (logs : List (List Segme
   pub threads : length logs ≡ count
   pub numbered : IsNumbered base
   pub below : AllByRecursion (λ (x : Node). x.thread < count) base
-  pub segments : AllByRecursion (λ (ss : List Segment). AllByRecursion (IsSoundSegment count base (fenced_segments (resumed_frame base logs).threads)) ss) logs
+  pub segments : AllByRecursion (λ (ss : List Segment). AllByRecursion
+      (IsSoundSegment count base (fenced_segments (resumed_frame base logs).threads)) ss) logs
   pub rising : AllByRecursion (λ (ss : List Segment). Rises 0 ss) logs
   pub covered : Covers (fenced_segments (resumed_frame base logs).threads) (length base)
 
 -- the first frame over such a base is sound
 abbrev pub ResumedLaw : Type 0
-ResumedLaw = (count : ℕ) (base : List Node) (logs : List (List Segment)) → IsResumable count base logs → SoundOver count (length base) (resumed_frame base logs)
+ResumedLaw = (count : ℕ) (base : List Node) (logs : List (List Segment)) → IsResumable count base logs
+    → SoundOver count (length base) (resumed_frame base logs)
 
 -- so is the first frame of a run that begins anew
 abbrev pub CreatedLaw : Type 0

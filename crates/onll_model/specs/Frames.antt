@@ -98,7 +98,9 @@ IsWindow p n s = (s.place ≡ p) × (length s.nodes ≡ n)
 -- The fenced segments of a thread end at or below its seen place, but for the one that is fenced last and whose node
 -- isn't flagged yet.
 abbrev pub IsSettled : ℕ → List Segment → Activity → Type 0
-IsSettled seen fenced (Fenced p n) = (before : List Segment) × (s : Segment) × (fenced ≡ before ++ s ∷ []) × IsWindow p n s × (last_place 0 before ≤ seen)
+IsSettled seen fenced (Fenced p n) =
+    (before : List Segment) × (s : Segment) × (fenced ≡ before ++ s ∷ []) × IsWindow p n s
+    × (last_place 0 before ≤ seen)
 IsSettled seen fenced a = last_place 0 fenced ≤ seen
 
 -- a segment is pending exactly while it is logged, and for ever where its fence failed
@@ -109,7 +111,8 @@ IsPending pending None a = pending ≡ None
 
 -- the nodes of the places above d, up to p, are of different threads
 abbrev pub AreApart : List Node → ℕ → ℕ → Type 0
-AreApart trace d p = (i j : ℕ) (x y : Node) → d < i → i < j → j ≤ p → node_at trace i ≡ Some x → node_at trace j ≡ Some y → x.thread ≢ y.thread
+AreApart trace d p = (i j : ℕ) (x y : Node) → d < i → i < j → j ≤ p → node_at trace i ≡ Some x
+    → node_at trace j ≡ Some y → x.thread ≢ y.thread
 
 -- how the places of an activity stand to the seen place and to the trace
 abbrev pub Follows : List Node → ℕ → Activity → Type 0
@@ -129,7 +132,8 @@ pub record Sound (count : ℕ) (f : Frame) : Type 0 where
   pub numbered : IsNumbered f.trace
   pub below : AllByRecursion (λ (x : Node). x.thread < count) f.trace
   -- a node with a later one of its thread is flagged
-  pub earlier : (p q : ℕ) (x y : Node) → node_at f.trace p ≡ Some x → node_at f.trace q ≡ Some y → x.thread ≡ y.thread → p < q → IsAvailable f p
+  pub earlier : (p q : ℕ) (x y : Node) → node_at f.trace p ≡ Some x → node_at f.trace q ≡ Some y → x.thread ≡ y.thread
+      → p < q → IsAvailable f p
   -- a thread's last node is unflagged exactly where the thread is about it, or stuck at it
   pub latest : EachThread f (λ t th. (p : ℕ) → IsLast f.trace t p → (is_available f.flags p ≡ false) ↔ (open_place th ≡ Some p))
   -- and what a thread is about, or stuck at, is its last node
@@ -159,4 +163,9 @@ resumed_thread b fenced = record { seen = b; fenced = fenced; pending = None; st
 
 -- the first frame of a run that goes on from a base, with each thread's fenced segments; with none of both it begins anew
 abbrev pub resumed_frame : List Node → List (List Segment) → Frame
-resumed_frame base logs = record { trace = base; flags = replicate (length base) true; threads = map (resumed_thread (length base)) logs; notes = [] }
+resumed_frame base logs = record {
+  trace = base;
+  flags = replicate (length base) true;
+  threads = map (resumed_thread (length base)) logs;
+  notes = [];
+}

@@ -25,7 +25,8 @@ at_place row None = []
 at_place row (Some place) = (row, place) ∷ []
 
 -- a thread's updates that have a place, in script order: their rows and places
-abbrev pub placed_updates : {State Op Query Reply : Type 0} → Behaviour State Op Query Reply → List (Call State Op Query Reply) → List (CallEnd State Op Query Reply) → List (OpRow × ℕ)
+abbrev pub placed_updates : {State Op Query Reply : Type 0} → Behaviour State Op Query Reply
+    → List (Call State Op Query Reply) → List (CallEnd State Op Query Reply) → List (OpRow × ℕ)
 placed_updates b [] ends = []
 placed_updates b (c ∷ calls) [] = []
 placed_updates b (Update op ∷ calls) (e ∷ ends) = at_place (b.row_of op) (place_in e) ++ placed_updates b calls ends
@@ -37,37 +38,46 @@ placed_rows t below [] = []
 placed_rows t below (n ∷ nodes) = (if is_of_thread t n then (n.row, below + 1) ∷ [] else []) ++ placed_rows t (below + 1) nodes
 
 -- each outcome belongs to a call, and has this fact with it
-abbrev pub EachEnd : {State Op Query Reply : Type 0} → (Call State Op Query Reply → CallEnd State Op Query Reply → Type 0) → List (Call State Op Query Reply) → List (CallEnd State Op Query Reply) → Type 0
+abbrev pub EachEnd : {State Op Query Reply : Type 0}
+    → (Call State Op Query Reply → CallEnd State Op Query Reply → Type 0) → List (Call State Op Query Reply)
+    → List (CallEnd State Op Query Reply) → Type 0
 EachEnd P calls [] = Unit {0}
 EachEnd P [] (e ∷ ends) = ⊥
 EachEnd P (c ∷ calls) (e ∷ ends) = P c e × EachEnd P calls ends
 
 -- each outcome has this fact with each later one
-abbrev pub EachLaterEnd : {State Op Query Reply : Type 0} → (Call State Op Query Reply → CallEnd State Op Query Reply → Call State Op Query Reply → CallEnd State Op Query Reply → Type 0) → List (Call State Op Query Reply) → List (CallEnd State Op Query Reply) → Type 0
+abbrev pub EachLaterEnd : {State Op Query Reply : Type 0}
+    → (Call State Op Query Reply → CallEnd State Op Query Reply → Call State Op Query Reply
+    → CallEnd State Op Query Reply → Type 0) → List (Call State Op Query Reply) → List (CallEnd State Op Query Reply)
+    → Type 0
 EachLaterEnd R calls [] = Unit {0}
 EachLaterEnd R [] (e ∷ ends) = ⊥
 EachLaterEnd R (c ∷ calls) (e ∷ ends) = EachEnd (R c e) calls ends × EachLaterEnd R calls ends
 
 -- an answered update has the object's reply after the nodes below its place
-abbrev pub HasReply : {State Op Query Reply : Type 0} → Behaviour State Op Query Reply → State → List Node → Call State Op Query Reply → CallEnd State Op Query Reply → Type 0
+abbrev pub HasReply : {State Op Query Reply : Type 0} → Behaviour State Op Query Reply → State → List Node
+    → Call State Op Query Reply → CallEnd State Op Query Reply → Type 0
 HasReply b s trace (Update op) (Answered reply place) = reply ≡ reply_after b s (take (place - 1) trace) op
 HasReply b s trace c e = Unit {0}
 
 -- an answered read has the object's answer after the nodes up to its place, which is at least that of the base
-abbrev pub HasAnswer : {State Op Query Reply : Type 0} → Behaviour State Op Query Reply → State → ℕ → List Node → Call State Op Query Reply → CallEnd State Op Query Reply → Type 0
+abbrev pub HasAnswer : {State Op Query Reply : Type 0} → Behaviour State Op Query Reply → State → ℕ → List Node
+    → Call State Op Query Reply → CallEnd State Op Query Reply → Type 0
 HasAnswer b s base trace (Ask query) (Answered reply place) =
     (base ≤ place) × (place ≤ length trace) × (reply ≡ answer_after b s (take place trace) query)
 HasAnswer b s base trace c e = Unit {0}
 
 -- a read is answered at or after each earlier answered call of its thread, and below each later update that has a place
-abbrev pub InOrder : {State Op Query Reply : Type 0} → Call State Op Query Reply → CallEnd State Op Query Reply → Call State Op Query Reply → CallEnd State Op Query Reply → Type 0
+abbrev pub InOrder : {State Op Query Reply : Type 0} → Call State Op Query Reply → CallEnd State Op Query Reply
+    → Call State Op Query Reply → CallEnd State Op Query Reply → Type 0
 InOrder c (Answered reply place) (Ask query) (Answered later_reply later_place) = place ≤ later_place
 InOrder (Ask query) (Answered reply place) (Update op) e = IfSome (place_in e) (λ later_place. place < later_place)
 InOrder c e d f = Unit {0}
 
 -- After an update whose fence failed each later update is broken by it, and nothing else is broken; the argument is
 -- the place of the failed update, once there is one. Only updates have a failed fence or are ordered.
-abbrev pub BrokenAfterFailure : {State Op Query Reply : Type 0} → Option ℕ → List (Call State Op Query Reply) → List (CallEnd State Op Query Reply) → Type 0
+abbrev pub BrokenAfterFailure : {State Op Query Reply : Type 0} → Option ℕ → List (Call State Op Query Reply)
+    → List (CallEnd State Op Query Reply) → Type 0
 BrokenAfterFailure failed calls [] = Unit {0}
 BrokenAfterFailure failed [] (e ∷ ends) = ⊥
 BrokenAfterFailure None (Update op ∷ calls) (Answered reply place ∷ ends) = BrokenAfterFailure None calls ends
@@ -94,7 +104,9 @@ OverButLast (e ∷ []) = Unit {0}
 OverButLast (e ∷ f ∷ ends) = IsOver e × OverButLast (f ∷ ends)
 
 -- the outcomes of one thread are legal over the trace
-pub record IsLegalThread {State Op Query Reply : Type 0} (b : Behaviour State Op Query Reply) (s : State) (base : ℕ) (trace : List Node) (t : ℕ) (calls : List (Call State Op Query Reply)) (ends : List (CallEnd State Op Query Reply)) : Type 0 where
+pub record IsLegalThread {State Op Query Reply : Type 0} (b : Behaviour State Op Query Reply) (s : State) (base : ℕ)
+    (trace : List Node) (t : ℕ) (calls : List (Call State Op Query Reply))
+    (ends : List (CallEnd State Op Query Reply)) : Type 0 where
   pub places : placed_updates b calls ends ≡ placed_rows t base (drop base trace)
   pub replies : EachEnd (HasReply b s trace) calls ends
   pub answers : EachEnd (HasAnswer b s base trace) calls ends
@@ -103,15 +115,19 @@ pub record IsLegalThread {State Op Query Reply : Type 0} (b : Behaviour State Op
   pub over : OverButLast ends
 
 -- each thread's outcomes are legal, the first list being that of thread t
-abbrev pub AreLegalThreads : {State Op Query Reply : Type 0} → Behaviour State Op Query Reply → State → ℕ → List Node → ℕ → List (List (Call State Op Query Reply)) → List (List (CallEnd State Op Query Reply)) → Type 0
+abbrev pub AreLegalThreads : {State Op Query Reply : Type 0} → Behaviour State Op Query Reply → State → ℕ → List Node
+    → ℕ → List (List (Call State Op Query Reply)) → List (List (CallEnd State Op Query Reply)) → Type 0
 AreLegalThreads b s base trace t [] [] = Unit {0}
 AreLegalThreads b s base trace t [] (ends ∷ rest) = ⊥
 AreLegalThreads b s base trace t (calls ∷ scripts) [] = ⊥
-AreLegalThreads b s base trace t (calls ∷ scripts) (ends ∷ rest) = IsLegalThread b s base trace t calls ends × AreLegalThreads b s base trace (t + 1) scripts rest
+AreLegalThreads b s base trace t (calls ∷ scripts) (ends ∷ rest) =
+    IsLegalThread b s base trace t calls ends × AreLegalThreads b s base trace (t + 1) scripts rest
 
 -- The report is one legal history of the object from the state s: the trace begins with the base, is numbered and of
 -- the scripts' threads; each thread's outcomes are those of its calls at their places.
-pub record IsLegal {State Op Query Reply : Type 0} (b : Behaviour State Op Query Reply) (s : State) (base : List Node) (scripts : List (List (Call State Op Query Reply))) (trace : List Node) (ends : List (List (CallEnd State Op Query Reply))) : Type 0 where
+pub record IsLegal {State Op Query Reply : Type 0} (b : Behaviour State Op Query Reply) (s : State) (base : List Node)
+    (scripts : List (List (Call State Op Query Reply))) (trace : List Node)
+    (ends : List (List (CallEnd State Op Query Reply))) : Type 0 where
   pub begins : take (length base) trace ≡ base
   pub numbered : IsNumbered trace
   pub threads : AllByRecursion (λ n. n.thread < length scripts) trace

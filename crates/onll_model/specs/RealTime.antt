@@ -21,7 +21,8 @@ pub record TimedCall : Type 0 where
 
 -- where the first call returned before the second began, and the second has a place, the first stands before it
 abbrev pub InTime : TimedCall → TimedCall → Type 0
-InTime a c = IfSome a.ended (λ ended. ended < c.began → IfSome c.stand (λ later. (first : Stand) × (a.stand ≡ Some first) × StandsBefore first later))
+InTime a c = IfSome a.ended (λ ended. ended < c.began
+    → IfSome c.stand (λ later. (first : Stand) × (a.stand ≡ Some first) × StandsBefore first later))
 
 -- the calls of all threads, those in flight among them, stand as they came in time
 abbrev pub IsInRealTime : List TimedCall → Type 0
@@ -29,11 +30,13 @@ IsInRealTime calls = (i j : ℕ) (a c : TimedCall) → slice_get calls i ≡ Som
 
 -- no two calls stand at one point
 abbrev pub StandApart : List TimedCall → Type 0
-StandApart calls = (i j : ℕ) (a c : TimedCall) (point : Stand) → slice_get calls i ≡ Some a → slice_get calls j ≡ Some c → a.stand ≡ Some point → c.stand ≡ Some point → i ≡ j
+StandApart calls = (i j : ℕ) (a c : TimedCall) (point : Stand) → slice_get calls i ≡ Some a → slice_get calls j ≡ Some c
+    → a.stand ≡ Some point → c.stand ≡ Some point → i ≡ j
 
 -- the calls of one thread are made in turn: all but the last have returned, each before the later ones began
 abbrev pub AreInTurn : List TimedCall → Type 0
-AreInTurn calls = (i j : ℕ) (a c : TimedCall) → slice_get calls i ≡ Some a → slice_get calls j ≡ Some c → i < j → (ended : ℕ) × (a.ended ≡ Some ended) × (ended < c.began)
+AreInTurn calls = (i j : ℕ) (a c : TimedCall) → slice_get calls i ≡ Some a → slice_get calls j ≡ Some c → i < j
+    → (ended : ℕ) × (a.ended ≡ Some ended) × (ended < c.began)
 
 -- the order is strict, and any two points of it are comparable
 pub record StandOrder : Type 0 where

@@ -13,13 +13,15 @@ op_of_words (k ∷ a ∷ b ∷ c ∷ d ∷ e ∷ f ∷ []) = cond (k == 1 && (b 
 op_of_words _ = None
 
 -- the row of these words, by the test of them
-by_test : (t : Bool) (ws : List ℕ) (x op : ℕ) → (t ≡ true → (register_row x).w ≡ ws) → cond t (Some x) None ≡ Some op → (register_row op).w ≡ ws
+by_test : (t : Bool) (ws : List ℕ) (x op : ℕ) → (t ≡ true → (register_row x).w ≡ ws) → cond t (Some x) None ≡ Some op
+    → (register_row op).w ≡ ws
 by_test true ws x op f e = let same : x ≡ op = cc e in rw (← same) (f refl)
 by_test false ws x op f e = cc
 
 words_of_its_op : (ws : List ℕ) (op : ℕ) → op_of_words ws ≡ Some op → (register_row op).w ≡ ws
 words_of_its_op (k ∷ a ∷ b ∷ c ∷ d ∷ e ∷ f ∷ []) op h =
-    by_test (k == 1 && (b == 0) && (c == 0) && (d == 0) && (e == 0) && (f == 0)) (k ∷ a ∷ b ∷ c ∷ d ∷ e ∷ f ∷ []) a op (one_argument 1 k a b c d e f) h
+    by_test (k == 1 && (b == 0) && (c == 0) && (d == 0) && (e == 0) && (f == 0)) (k ∷ a ∷ b ∷ c ∷ d ∷ e ∷ f ∷ []) a op
+    (one_argument 1 k a b c d e f) h
 words_of_its_op _ op h = cc
 
 pub row_of_its_op : (row : OpRow) (op : ℕ) → op_of_words row.w ≡ Some op → register_row op ≡ row

@@ -1,3 +1,5 @@
+//! The calls of a script, and what becomes of them.
+
 use crate::object::Object;
 
 /// A call of a script. The calls of one script are made one after the other.

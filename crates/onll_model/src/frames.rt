@@ -1,3 +1,5 @@
+//! The laws of frames, of looks and of the order of updates and reads.
+
 ghost use Rattle.onll_model.specs.FrameLaws.{EventLaw, StepLaw, ResumedLaw, CreatedLaw};
 ghost use Rattle.onll_model.specs.Looks.{LookLaw};
 ghost use Rattle.onll_model.specs.RealTime.{StandOrder};

@@ -1,10 +1,10 @@
+//! The node of a trace, its name, and its line in a log.
+
 ghost use Rattle.std.specs.Prelude.{◌≡◌, ◌≤◌};
 ghost use Rattle.onll_model.specs.Names.{name_of, node_of_name, HasNumber, HasName, words_of_node};
 
+use crate::limits::MOST_UPDATES;
 use onll_words::{Line, OpRow};
-
-/// How many names a thread has, one for each of its updates.
-const NAMES: u64 = 4096;
 
 /// An update in a trace. It doesn't hold its place, which is its number in the trace from 1.
 #[derive(Clone, Copy, Debug, PartialEq, Eq)]
@@ -35,7 +35,7 @@ impl Node {
         ensures name { result ≡ name_of self.now }
         ensures range { (1 ≤ result) × (result ≤ 65536) }
     {
-        self.thread * NAMES + self.number
+        self.thread * MOST_UPDATES + self.number
     }
 
     /// The one node of this name and row.
@@ -46,8 +46,8 @@ impl Node {
         ensures fits { HasName result }
     {
         Node {
-            thread: (name - 1) / NAMES,
-            number: (name - 1) % NAMES + 1,
+            thread: (name - 1) / MOST_UPDATES,
+            number: (name - 1) % MOST_UPDATES + 1,
             row,
         }
     }

@@ -1,3 +1,5 @@
+//! The trait of a deterministic sequential object.
+
 ghost use Rattle.std.specs.Prelude.{◌≡◌, ℕ, ◌≤◌, IfOk};
 ghost use Rattle.onll_model.specs.Object.{Behaviour};
 

@@ -1,3 +1,5 @@
+//! The state that the rows of a trace's nodes give.
+
 ghost use Rattle.std.specs.Prelude.{◌≡◌, ◌+◌, ◌<◌, length, OnOk, IfErr};
 ghost use Rattle.onll_model.specs.Trace.{state_after};
 ghost use Rattle.onll_model.specs.Recovered.{operations_front};
@@ -19,7 +21,8 @@ pub struct NotOp {
 pub fn fold_nodes<O: Object>(object: &mut O, nodes: &[Node]) -> Result<(), NotOp>
     ensures after { object.new ≡ state_after O.means object.old (operations_front O.means nodes.now) }
     ensures ok { OnOk result (operations_front O.means nodes.now ≡ nodes.now) }
-    ensures refused { IfErr result (λ e. (e.place ≡ length (operations_front O.means nodes.now) + 1) × (length (operations_front O.means nodes.now) < length nodes.now)) }
+    ensures refused { IfErr result (λ e. (e.place ≡ length (operations_front O.means nodes.now) + 1)
+        × (length (operations_front O.means nodes.now) < length nodes.now)) }
     ensures capacity { O.means.capacity object.new ≡ O.means.capacity object.old }
 {
     let mut place = 1;

@@ -1,3 +1,5 @@
+-- The last failed call of a store, as its code keeps it.
+
 use Rattle.std.specs.Prelude.{Option, Some, None}
 use Rattle.std.specs.String.{string_bytes}
 use Rattle.onll_outside.specs.declared.faults.Failure.{Failure}

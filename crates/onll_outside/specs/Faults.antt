@@ -1,3 +1,5 @@
+-- How a store counts its failed calls.
+
 use Rattle.std.specs.Prelude.{ℕ, ◌≡◌, ◌+◌, ◌-◌, ◌^◌, min, false, Option, Some, None}
 use Rattle.onll_outside.specs.declared.OutsideFault.{OutsideFault}
 use Rattle.onll_outside.specs.declared.OutsideFault.TheVariants.{Failed, NoMemory}
@@ -26,4 +28,11 @@ pub record CountsSeen : Type 0 where
 
 -- a store that tells its counts alone
 abbrev pub untold : CountsSeen → StoreView
-untold s = record { tells = false; file = λ _. None; faults = s.faults; last = s.last; device_faults = s.device_faults; device_fences = s.device_fences }
+untold s = record {
+  tells = false;
+  file = λ _. None;
+  faults = s.faults;
+  last = s.last;
+  device_faults = s.device_faults;
+  device_fences = s.device_fences;
+}

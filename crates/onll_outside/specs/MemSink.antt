@@ -1,3 +1,5 @@
+-- A sink in memory: what it is, and how a put into it ends.
+
 use Rattle.std.specs.Prelude.{ℕ, Bool, true, false, List, ◌++◌, ◌≡◌, ◌==◌, Result, Ok, Err, Some}
 use Rattle.std.specs.List.{list_any}
 use Rattle.onll_outside.specs.declared.OutsideFault.{OutsideFault}

@@ -1,3 +1,5 @@
+-- A store in memory: what it is, and how each of its calls ends.
+
 use Rattle.std.specs.Prelude.{ℕ, suc, Bool, true, false, List, [], ◌∷◌, ◌≡◌, ◌==◌, Result, Ok, Err, Option, Some, None, if◌then◌else◌}
 use Rattle.std.specs.Str.{bytes_eq}
 use Rattle.std.specs.String.{string_bytes}
@@ -39,7 +41,14 @@ file_in (f ∷ fs) name = if bytes_eq f.0 name then Some f.1 else file_in fs nam
 
 -- it tells its files
 abbrev pub store_of : FilesHeld → StoreView
-store_of s = record { tells = true; file = file_in s.files; faults = s.faults; last = s.last; device_faults = s.device_faults; device_fences = s.device_fences }
+store_of s = record {
+  tells = true;
+  file = file_in s.files;
+  faults = s.faults;
+  last = s.last;
+  device_faults = s.device_faults;
+  device_fences = s.device_fences;
+}
 
 -- the next call's number is one of those that fail
 abbrev pub call_fails : FilesHeld → Bool
@@ -87,7 +96,8 @@ failing_of (f ∷ fs) device = if f.device == device then f.fence ∷ failing_of
 -- a device is made exactly where the call isn't to fail, unless memory runs out; its fences fail as was told beforehand
 abbrev pub MemMakes : FilesHeld → FilesHeld → List ℕ → ℕ → Result MemoryState OutsideFault → Type 0
 MemMakes old new name lines (Ok d) =
-    (call_fails old ≡ false) × (d ≡ record { device = new_device lines; failing = failing_of old.fences old.devices }) × (new ≡ record (called old) { devices = one_more old.devices })
+    (call_fails old ≡ false) × (d ≡ record { device = new_device lines; failing = failing_of old.fences old.devices })
+    × (new ≡ record (called old) { devices = one_more old.devices })
 MemMakes old new name lines (Err Failed) = (call_fails old ≡ true) × (new ≡ failed old (record { kind = Device; name = name }))
 MemMakes old new name lines (Err NoMemory) = new ≡ called old
 
@@ -109,6 +119,8 @@ back s d = record s { device_faults = counted s.device_faults (one_fault d.fault
 
 -- a device is stored as the image of a crash that loses all that is pending, exactly where the call isn't to fail, unless memory runs out
 abbrev pub MemStores : FilesHeld → FilesHeld → List ℕ → MemoryState → Result (Unit {0}) OutsideFault → Type 0
-MemStores old new name d (Ok done) = (call_fails old ≡ false) × (new ≡ record (called old) { files = with_file old.files name (image_bytes (image_of d.device 0)) })
+MemStores old new name d (Ok done) =
+    (call_fails old ≡ false) × (new ≡ record (called old)
+    { files = with_file old.files name (image_bytes (image_of d.device 0)) })
 MemStores old new name d (Err Failed) = (call_fails old ≡ true) × (new ≡ failed old (record { kind = Keep; name = name }))
 MemStores old new name d (Err NoMemory) = new ≡ called old

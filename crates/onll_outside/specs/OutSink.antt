@@ -1,3 +1,5 @@
+-- A writer of the system as a sink.
+
 use Rattle.std.specs.Prelude.{ℕ, None}
 use Rattle.onll_outside.specs.Views.{SinkView}
 

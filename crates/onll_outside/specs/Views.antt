@@ -1,3 +1,5 @@
+-- What a store and a sink tell, and what a call leaves as it was.
+
 use Rattle.std.specs.Prelude.{ℕ, Bool, true, List, ◌++◌, ◌≡◌, ◌+◌, ◌-◌, ◌^◌, ◌≤◌, min, Result, Ok, Err, Option, Some, None, take}
 use Rattle.std.specs.Prelude.{[], ◌*◌, ◌⊎◌, ◌==◌, if◌then◌else◌, length, drop}
 use Rattle.std.specs.List.{All, flat_map}
@@ -107,7 +109,8 @@ SameDevices old new = (new.device_faults ≡ old.device_faults) × (new.device_f
 
 -- this device was handed back, and no other
 abbrev pub HandsBack : DeviceView → StoreView → StoreView → Type 0
-HandsBack d old new = (new.device_faults ≡ counted old.device_faults (one_fault d.faults)) × (new.device_fences ≡ counted old.device_fences d.fences)
+HandsBack d old new = (new.device_faults ≡ counted old.device_faults (one_fault d.faults))
+    × (new.device_fences ≡ counted old.device_fences d.fences)
 
 -- a device that reads so, with no fence and no fault; where it tells its fenced words, nothing is pending
 pub record IsFresh (lines : List (List ℕ)) (d : DeviceView) : Type 0 where

@@ -1,3 +1,5 @@
+//! The count of a store's failed calls, and the last of them.
+
 ghost use Rattle.std.specs.Prelude.{◌≡◌, None, string_bytes};
 ghost use Rattle.onll_outside.specs.Views.{CountOf};
 ghost use Rattle.onll_outside.specs.Faults.{Raises};

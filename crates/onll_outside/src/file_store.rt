@@ -1,3 +1,5 @@
+//! The store over the files of the system.
+
 ghost use Rattle.std.specs.Prelude.{◌≡◌, None};
 ghost use Rattle.std.proofs.Common.{true≢false, sym};
 ghost use Rattle.onll_outside.specs.Faults.{CountsSeen, untold};
@@ -30,7 +32,12 @@ impl<R: Files + Drop> Model for FileStore<R> {
 
     ghost Value = { CountsSeen };
 
-    ghost view = { λ s. record { faults = s.faults.count; last = s.faults.last; device_faults = s.device_faults; device_fences = s.device_fences } };
+    ghost view = { λ s. record {
+      faults = s.faults.count;
+      last = s.faults.last;
+      device_faults = s.device_faults;
+      device_fences = s.device_fences;
+    } };
 }
 
 /// The first `limit` bytes of a file.

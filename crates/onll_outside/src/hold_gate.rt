@@ -1,15 +1,14 @@
 //! A gate that holds threads at points until others have come to theirs.
+
 ghost use Rattle.std.specs.Prelude.{◌≡◌, ◌<◌, ◌*◌, IfOk, length};
 
 use crate::gate::{Gate, Point};
+use onll_model::MOST_THREADS;
 use onll_trace::Spot;
 use onll_words::NoMemory;
 use std::alloc::Global;
 use std::marker::Model;
 use std::sync::atomic::{AtomicBool, Ordering};
-
-/// The most threads that a trace has.
-const THREADS: u64 = 16;
 
 /// How many points there are.
 const POINTS: u64 = 5;
@@ -37,13 +36,14 @@ pub struct HoldGate {
 
 impl Model for HoldGate {
     ghost use Rattle.std.specs.Prelude.{◌≡◌, ◌*◌, length};
+    ghost use Rattle.onll_model.specs.Limits.{most_threads};
     ghost use Rattle.onll_outside.specs.HoldGate.{HoldPlan};
 
     ghost Value = { HoldPlan };
 
     ghost view = { λ g. record { holds = g.holds.items; turns = g.turns } };
 
-    ghost invariant = { λ g. length g.marks.items ≡ 16 * 5 };
+    ghost invariant = { λ g. length g.marks.items ≡ most_threads * 5 };
 }
 
 /// Which of the points it is, from 0.
@@ -93,7 +93,7 @@ impl HoldGate {
 
     /// The mark of a thread at a point; a trace has no such thread where there is none.
     fn mark(&self, thread: u64, point: Point) -> Option<&AtomicBool> {
-        if thread < THREADS {
+        if thread < MOST_THREADS {
             Some(&self.marks[(thread * POINTS + number(point)) as usize])
         } else {
             None

@@ -1,3 +1,5 @@
+//! The sink in memory.
+
 ghost use Rattle.std.specs.Prelude.{◌≡◌, []};
 ghost use Rattle.onll_outside.specs.Views.{PutOf};
 ghost use Rattle.onll_outside.specs.MemSink.{BytesHeld, sink_of, MemPuts};

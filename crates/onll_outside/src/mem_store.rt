@@ -1,3 +1,5 @@
+//! The store in memory.
+
 ghost use Rattle.std.specs.Prelude.{◌≡◌, ◌≤◌, refl, length, MatchOption, None, IfOk, IfErr, OnOk, map};
 ghost use Rattle.std.specs.Option.{option_copied};
 ghost use Rattle.onll_pmem.specs.Device.{zero_lines, fenced_device, image_of, IsImage};
@@ -43,13 +45,24 @@ pub struct MemStore {
 impl Model for MemStore {
     ghost Value = { FilesHeld };
 
-    ghost view = { λ s. record { files = texts_of s.files.items; failing = s.failing.items; fences = s.fences.items; calls = s.calls; faults = s.faults.count; last = s.faults.last; devices = s.devices; device_faults = s.device_faults; device_fences = s.device_fences } };
+    ghost view = { λ s. record {
+      files = texts_of s.files.items;
+      failing = s.failing.items;
+      fences = s.fences.items;
+      calls = s.calls;
+      faults = s.faults.count;
+      last = s.faults.last;
+      devices = s.devices;
+      device_faults = s.device_faults;
+      device_fences = s.device_fences;
+    } };
 }
 
 /// The first file of that name.
 #[tactic(auto, using(crate::proofs::Names::same_names))]
 fn find<'a>(files: &'a [Named], name: &str) -> Option<&'a Named>
-    ensures { MatchOption result (file_in (texts_of files.now) name.now ≡ None) (λ f. file_in (texts_of files.now) name.now ≡ Some f.now.bytes.items) }
+    ensures { MatchOption result (file_in (texts_of files.now) name.now ≡ None)
+        (λ f. file_in (texts_of files.now) name.now ≡ Some f.now.bytes.items) }
 {
     for file in files {
         if file.name.as_str() == name {
@@ -159,7 +172,17 @@ impl MemStore {
     /// A store of these files, of which only the first of each name counts, whose calls of these
     /// numbers fail, and on whose devices these fences fail.
     pub fn new(files: Vec<Named>, failing: Vec<u64>, fences: Vec<FenceAt>) -> MemStore
-        ensures { result ≡ record { files = texts_of files.items; failing = failing.items; fences = fences.items; calls = 0; faults = 0; last = None; devices = 0; device_faults = 0; device_fences = 0 } }
+        ensures { result ≡ record {
+          files = texts_of files.items;
+          failing = failing.items;
+          fences = fences.items;
+          calls = 0;
+          faults = 0;
+          last = None;
+          devices = 0;
+          device_faults = 0;
+          device_fences = 0;
+        } }
     {
         MemStore {
             files,
@@ -231,7 +254,8 @@ impl MemStore {
         lines: Vec<Line>,
     ) -> Result<MemPmem, OutsideFault>
         requires { length lines.items ≤ 1000000 }
-        ensures made { IfOk result (λ d. d ≡ record { device = fenced_device (words_of lines.items); failing = failing_of self.old.fences self.old.devices }) }
+        ensures made { IfOk result (λ d. d ≡ record
+            { device = fenced_device (words_of lines.items); failing = failing_of self.old.fences self.old.devices }) }
         ensures file { OnOk result (self.new ≡ reopened self.old name.now (words_of lines.items)) }
         ensures refused { IfErr result (λ e. (e ≡ OutsideFault.NoMemory) × (self.new ≡ self.old)) }
     {

@@ -1,3 +1,5 @@
+//! The sink over a writer of the system.
+
 ghost use Rattle.std.specs.Prelude.{◌≡◌, OnOk};
 ghost use Rattle.std.specs.Io.KnownBytes.{Appends};
 ghost use Rattle.onll_outside.specs.Views.{PutOf};

@@ -1,3 +1,5 @@
+//! The trait of a sink, which takes the output.
+
 ghost use Rattle.onll_outside.specs.Views.{SinkView, PutOf};
 
 use crate::OutsideFault;

@@ -1,3 +1,5 @@
+//! The trait of a store of files and of devices that are kept in them.
+
 ghost use Rattle.std.specs.Prelude.{◌≡◌, ◌≤◌, ℕ, true, length, IfOk, IfErr, OnOk};
 ghost use Rattle.onll_pmem.specs.Device.{zero_lines};
 ghost use Rattle.onll_pmem.specs.Pmem.{words_of};

@@ -1,3 +1,5 @@
+//! Tests of the stores and of the sinks.
+
 use crate::{FileStore, MemSink, MemStore, Named, OutSink, OutsideFault, Sink, Store};
 use std::alloc::{AllocError, Global};
 use std::cell::Cell;

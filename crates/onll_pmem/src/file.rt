@@ -1,3 +1,5 @@
+//! A device over a file.
+
 ghost use Rattle.std.specs.Prelude.{◌≡◌, ℕ, ◌+◌, ◌-◌, ◌^◌, ◌<◌, ◌≤◌, ◌++◌, Bool, false, refl, length, IfOk, OnOk, OnErr};
 ghost use Rattle.onll_pmem.specs.Device.{zero_lines, line_at, FillsWords, is_marked};
 ghost use Rattle.onll_pmem.specs.Pmem.{words_of};
@@ -122,7 +124,11 @@ impl<F: FileExt + OpenFile + Drop> FilePmem<F> {
     ) -> Result<FilePmem<F>, AllocError>
         requires front { length front.now ≤ lines }
         requires few { lines ≤ 1000000 }
-        ensures { IfOk result (λ d. d ≡ record { read = words_of front.now ++ zero_lines (lines - length front.now); passed = 0; failed = 0 }) }
+        ensures { IfOk result (λ d. d ≡ record {
+          read = words_of front.now ++ zero_lines (lines - length front.now);
+          passed = 0;
+          failed = 0;
+        }) }
     {
         Ok(FilePmem {
             file,
@@ -152,7 +158,11 @@ impl<F: FileExt + OpenFile + Drop> FilePmem<F> {
     ) -> Result<FilePmem<F>, NoMemory>
         requires front { length front.now ≤ lines }
         requires few { lines ≤ 1000000 }
-        ensures { IfOk result (λ d. d ≡ record { read = words_of front.now ++ zero_lines (lines - length front.now); passed = 0; failed = 0 }) }
+        ensures { IfOk result (λ d. d ≡ record {
+          read = words_of front.now ++ zero_lines (lines - length front.now);
+          passed = 0;
+          failed = 0;
+        }) }
     {
         FilePmem::try_reading(alloc, file, front, lines as usize).map_err(|_| NoMemory)
     }

@@ -1,3 +1,5 @@
+//! A device in memory, with fences that fail as told.
+
 ghost use Rattle.std.specs.Prelude.{◌≡◌, ℕ, ◌+◌, ◌-◌, ◌^◌, ◌<◌, ◌≤◌, not, is_ok, true, refl, length, IfOk, OnOk, OnErr};
 ghost use Rattle.onll_pmem.specs.Device.{new_device, fenced_device, image_of, IsImage, zero_lines, line_at, FillsWords, settled, Write, WriteBack, Fence, FailedFence};
 ghost use Rattle.onll_pmem.specs.Pmem.{words_of, EightWords};
@@ -82,7 +84,8 @@ impl Model for MemPmem {
 
     ghost view = { λ m. memory_of (words_of m.fenced.items) (words_of m.read.items) m.backed.items m.fences m.failing.items };
 
-    ghost invariant = { λ m. Keeps (memory_of (words_of m.fenced.items) (words_of m.read.items) m.backed.items m.fences m.failing.items) m.waiting.marks m.faults };
+    ghost invariant = { λ m. Keeps (memory_of (words_of m.fenced.items)
+        (words_of m.read.items) m.backed.items m.fences m.failing.items) m.waiting.marks m.faults };
 }
 
 impl MemPmem {

@@ -1,3 +1,5 @@
+//! The trait of a persistent device: lines that are written, written back and fenced.
+
 ghost use Rattle.std.specs.Prelude.{◌≡◌, ℕ, ◌+◌, ◌-◌, ◌^◌, ◌<◌, ◌≤◌, Bool, is_some, length, slice_set, OnOk, OnErr};
 ghost use Rattle.onll_pmem.specs.Device.{line_at, FillsWords};
 ghost use Rattle.onll_pmem.specs.Pmem.{DeviceView, told_written, told_backed, told_fenced, ToldLines, EightWords};

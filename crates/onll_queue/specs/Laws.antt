@@ -41,7 +41,7 @@ by_tests false false ws x₁ x₂ op f₁ f₂ e = cc
 words_of_its_op : (ws : List ℕ) (op : QueueOp) → op_of_words ws ≡ Some op → (queue_row op).w ≡ ws
 words_of_its_op (k ∷ a ∷ b ∷ c ∷ d ∷ e ∷ f ∷ []) op h =
     by_tests (k == 1 && (b == 0) && (c == 0) && (d == 0) && (e == 0) && (f == 0))
-        (k == 2 && (a == 0) && (b == 0) && (c == 0) && (d == 0) && (e == 0) && (f == 0))
+    (k == 2 && (a == 0) && (b == 0) && (c == 0) && (d == 0) && (e == 0) && (f == 0))
     (k ∷ a ∷ b ∷ c ∷ d ∷ e ∷ f ∷ []) (Push a) Pop op
     (one_argument 1 k a b c d e f) (pop_words k a b c d e f) h
 words_of_its_op _ op h = cc

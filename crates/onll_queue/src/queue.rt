@@ -1,6 +1,7 @@
 //! The queue, on a ring of the kit.
 
 ghost use Rattle.std.specs.Prelude.{◌≡◌, ℕ, ◌<◌, ◌≤◌, [], length, IfOk, slice_index};
+ghost use Rattle.onll_model.specs.Limits.{most_elements};
 ghost use Rattle.std.proofs.Common.{rules};
 ghost use Rattle.onll_queue.specs.Items.{IsQueue};
 ghost use Rattle.onll_queue.specs.Queue.{items_in, queue_reply, queue_next};
@@ -45,7 +46,7 @@ impl Model for Queue {
 impl Queue {
     /// An empty queue that has room for this many items. The room is taken here, so no later call takes memory.
     pub fn make(alloc: Global, capacity: u64) -> Result<Queue, NoMemory>
-        requires { (1 ≤ capacity) × (capacity ≤ 4096) }
+        requires { (1 ≤ capacity) × (capacity ≤ most_elements) }
         ensures { IfOk result (λ made. made ≡ items_in capacity []) }
     {
         let ring = HeapCircularBuffer::with_capacity(alloc, capacity as usize)?;

@@ -73,7 +73,8 @@ pub record IsKept {State Device : Type 0} (f : Frame) (top : ℕ) (pass : PassVi
 
 -- The images are logs, which merge to the first nodes of the trace. These have every place that is available, and all that any
 -- pass has seen: each update that was answered, and all that a read saw.
-pub record Recovers {State Device : Type 0} (f : Frame) (passes : List (PassView State Device)) (images : List (List (List ℕ))) : Type 0 where
+pub record Recovers {State Device : Type 0} (f : Frame) (passes : List (PassView State Device))
+    (images : List (List (List ℕ))) : Type 0 where
   pub logs : List Content
   pub contents : map content_of images ≡ map Some logs
   pub merged : merge (map head_of passes) logs ≡ Ok (take (top_of logs) f.trace)
@@ -83,7 +84,8 @@ pub record Recovers {State Device : Type 0} (f : Frame) (passes : List (PassView
 
 -- Whatever a crash leaves at any moment recovers.
 abbrev pub CrashLaw : (State Device : Type 0) → Type 0
-CrashLaw State Device = (b : TraceView) (f : Frame) (passes : List (PassView State Device)) (images : List (List (List ℕ))) → IsMoment b f passes → AreLeft passes images → Recovers f passes images
+CrashLaw State Device = (b : TraceView) (f : Frame) (passes : List (PassView State Device))
+    (images : List (List (List ℕ))) → IsMoment b f passes → AreLeft passes images → Recovers f passes images
 
 module _ {State Op Query Reply Device : Type 0} (b : Behaviour State Op Query Reply) (means : Device → DeviceView) where
   -- Between its calls a pass has such a log,
@@ -92,5 +94,6 @@ module _ {State Op Query Reply Device : Type 0} (b : Behaviour State Op Query Re
 
   -- and every image that its device may then leave, where it tells its fenced words, is one that a crash may leave.
   abbrev pub ImageLaw : Type 0
-  ImageLaw = (onll : OnllView State) (pass : PassView State Device) (told : Told) (image : List (List ℕ)) → IsTied b means onll pass → (means pass.log.device).told ≡ Some told
+  ImageLaw = (onll : OnllView State) (pass : PassView State Device) (told : Told) (image : List (List ℕ))
+      → IsTied b means onll pass → (means pass.log.device).told ≡ Some told
       → Mixed told.fenced (means pass.log.device).read image → IsLeft pass.log.head pass.spot.me.part image

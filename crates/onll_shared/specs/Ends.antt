@@ -57,6 +57,7 @@ content_in pass = record { head = Some pass.log.head; entries = pass.log.entries
 -- merge to the trace.
 pub record HasClosed {State Device : Type 0} (b : TraceView) (passes : List (PassView State Device)) (trace : List Ended) : Type 0 where
   pub ended : HasEnded b (map spot_of passes) trace
-  pub flags : (p : ℕ) → 1 ≤ p → p ≤ length ended.frame.trace → (is_available ended.frame.flags p ≡ false) ↔ Contains (map broken_of passes) (Some p)
+  pub flags : (p : ℕ) → 1 ≤ p → p ≤ length ended.frame.trace
+      → (is_available ended.frame.flags p ≡ false) ↔ Contains (map broken_of passes) (Some p)
   pub merged : merge (map head_of passes) (map content_in passes) ≡ Ok ended.frame.trace
   pub moment : IsMoment b ended.frame passes

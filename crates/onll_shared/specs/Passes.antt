@@ -39,7 +39,8 @@ FencedAre means log ss = ToldSettled (means log.device).told (log_image log.head
 -- The tie of a pass of this object. Its log as read holds the thread's segments, the pending one last, and is broken where the
 -- pass is; where the device tells, what is durable is the log with the fenced segments alone. Its replica is the object after the
 -- nodes up to a place that was seen.
-pub record IsTied {State Op Query Reply Device : Type 0} (b : Behaviour State Op Query Reply) (means : Device → DeviceView) (onll : OnllView State) (pass : PassView State Device) : Type 0 where
+pub record IsTied {State Op Query Reply Device : Type 0} (b : Behaviour State Op Query Reply)
+    (means : Device → DeviceView) (onll : OnllView State) (pass : PassView State Device) : Type 0 where
   pub of : IsOf onll.trace pass.spot
   pub lawful : IsLawful pass.spot
   pub thread : pass.log.head.thread ≡ pass.spot.me.thread
@@ -64,12 +65,18 @@ pub record IsReady (spot : SpotView) (seen : ℕ) (list : List Node) (list_room 
   pub nodes : spot.plan.nodes * spot.plan.threads ≤ list_room
 
 -- the replica moved forward to a place
-abbrev pub caught_up : {State Op Query Reply Device : Type 0} → Behaviour State Op Query Reply → PassView State Device → ℕ → PassView State Device
+abbrev pub caught_up : {State Op Query Reply Device : Type 0} → Behaviour State Op Query Reply → PassView State Device
+    → ℕ → PassView State Device
 caught_up b pass place = record pass { replica = state_after b pass.replica (nodes_between pass.spot.known pass.at place); at = place }
 
 -- and over one operation more
-abbrev pub answered : {State Op Query Reply Device : Type 0} → Behaviour State Op Query Reply → PassView State Device → ℕ → Op → PassView State Device
-answered b pass place op = record pass { replica = b.next (state_after b pass.replica (nodes_between pass.spot.known pass.at place)) op; at = place + 1 }
+abbrev pub answered : {State Op Query Reply Device : Type 0} → Behaviour State Op Query Reply → PassView State Device
+    → ℕ → Op → PassView State Device
+answered b pass place op = record pass {
+  replica = b.next
+      (state_after b pass.replica (nodes_between pass.spot.known pass.at place)) op;
+  at = place + 1;
+}
 
 abbrev pub spot_of : {State Device : Type 0} → PassView State Device → SpotView
 spot_of pass = pass.spot

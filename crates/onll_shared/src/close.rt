@@ -49,7 +49,16 @@ impl<O: Object, P: Pmem> Model for Rest<O, P> {
 
     ghost Value = { RestView O P };
 
-    ghost view = { λ r. record { log = r.log; replica = r.replica; at = r.at; room = r.room; broken = r.broken; seen = r.seen; list = r.list.items; list_room = vec_capacity r.list } };
+    ghost view = { λ r. record {
+      log = r.log;
+      replica = r.replica;
+      at = r.at;
+      room = r.room;
+      broken = r.broken;
+      seen = r.seen;
+      list = r.list.items;
+      list_room = vec_capacity r.list;
+    } };
 }
 
 #[tactic(auto, using(crate::proofs::Ending::split_none, crate::proofs::Ending::split_more, crate::proofs::Ending::ready_long))]

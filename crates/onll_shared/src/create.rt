@@ -1,6 +1,7 @@
 //! A shared object at its beginning.
 
 ghost use Rattle.std.specs.Prelude.{◌≡◌, ◌≤◌, ◌<◌, ◌*◌, ℕ, [], length, map, replicate, IfOk, None};
+ghost use Rattle.onll_model.specs.Limits.{most_threads, most_updates};
 ghost use Rattle.std.specs.List.{AllByRecursion};
 ghost use Rattle.onll_model.specs.Trace.{state_after};
 ghost use Rattle.onll_model.specs.Marks.{marked};
@@ -57,7 +58,8 @@ fn make_passes<O: Object + Drop, P: Pmem + Drop>(
     requires spots { length spots.items ≡ length rooms.now }
     requires logs { length logs.items ≡ length rooms.now }
     requires plan { HasRoomFor trace.now.plan spots.items }
-    ensures { IfOk result (λ passes. AreMade P.means replica.now (base_place trace.now.plan) spots.items logs.items rooms.now passes.items) }
+    ensures { IfOk result (λ passes. AreMade P.means replica.now
+        (base_place trace.now.plan) spots.items logs.items rooms.now passes.items) }
 {
     let nodes = trace.nodes() * trace.threads();
     let base = trace.base();
@@ -100,8 +102,8 @@ impl<O: Object + Drop> Onll<O> {
         logs: Vec<ThreadLog<P>>,
         nodes: u64,
     ) -> Result<(Onll<O>, Vec<Pass<O, P>>), NoMemory>
-        requires many { (1 ≤ length logs.items) × (length logs.items ≤ 16) }
-        requires nodes { (1 ≤ nodes) × (nodes ≤ 4096) }
+        requires many { (1 ≤ length logs.items) × (length logs.items ≤ most_threads) }
+        requires nodes { (1 ≤ nodes) × (nodes ≤ most_updates) }
         requires logs { AreLogs logs.items }
         requires none { AllByRecursion (λ log. log.entries ≡ []) logs.items }
         ensures object { IfOk result (λ r. (r.0.first ≡ object) × (r.0.trace.plan ≡ new_plan (length logs.items) nodes)) }

@@ -1,3 +1,5 @@
+//! What the tests of the program share: a call of it, and how it ended.
+
 use onll_outside::{MemSink, MemStore, Named};
 use std::alloc::{AllocError, Global};
 use std::process::Abort;
@@ -7,8 +9,12 @@ use std::str;
 pub(crate) const LONGEST: usize = 1_048_576;
 
 /// What is said where the words are no command that is built.
-pub(crate) const USAGE: &str =
-    "usage: onll fold INIT SCRIPT\n       onll show IMAGE\n       onll recover INIT LOGS T\n       onll replay INIT SCHEDULE LOGS SCRIPT..\n       onll run INIT LOGS SCRIPT..\n       onll make T N SEED\n";
+pub(crate) const USAGE: &str = "usage: onll fold INIT SCRIPT\n       \
+     onll show IMAGE\n       \
+     onll recover INIT LOGS T\n       \
+     onll replay INIT SCHEDULE LOGS SCRIPT..\n       \
+     onll run INIT LOGS SCRIPT..\n       \
+     onll make T N SEED\n";
 
 /// One call of the program: its words, the files that are there, and the numbers of the store's calls
 /// and of the sink's puts that fail.

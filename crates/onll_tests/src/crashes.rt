@@ -1,3 +1,5 @@
+//! Crashes of a core of two threads, and what is recovered after each.
+
 ghost use Rattle.std.specs.Prelude.{◌≤◌, IfOk};
 ghost use Rattle.onll_model.specs.Calls.{updates_in};
 

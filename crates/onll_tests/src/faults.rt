@@ -1,3 +1,5 @@
+//! Calls of the program whose reads, writes or puts fail.
+
 use crate::calls::Program;
 use std::test::Fail;
 
@@ -6,8 +8,14 @@ const FILES: &[(&str, &[u8])] = &[
     ("s", b"transfer 0 1 30\nbalance 1\n"),
 ];
 
-const REPORT: &str =
-    "call 0 1 transfer 0 1 30 -> ok at 1\ncall 0 2 balance 1 -> 30 at 1\ntrace 1\nnode 1 0 1 transfer 0 1 30\nstate\nbank 2\naccount 0 70\naccount 1 30\n";
+const REPORT: &str = "call 0 1 transfer 0 1 30 -> ok at 1\n\
+     call 0 2 balance 1 -> 30 at 1\n\
+     trace 1\n\
+     node 1 0 1 transfer 0 1 30\n\
+     state\n\
+     bank 2\n\
+     account 0 70\n\
+     account 1 30\n";
 
 /// A case: the words, the store's calls and the sink's puts that fail, and how it ends.
 struct FaultCase<'a> {

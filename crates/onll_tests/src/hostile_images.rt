@@ -1,3 +1,5 @@
+//! Images with one wrong bit, word or line, shown and recovered.
+
 use crate::calls::{Outcome, Program};
 use crate::images::{
     COUNT_0_ENTRY, COUNT_2_ENTRY, DEPOSIT_5, FORMAT_0_HEAD, FORMAT_9_HEAD, FULL, Image,

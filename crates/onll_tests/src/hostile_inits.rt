@@ -1,3 +1,5 @@
+//! Initial states at the edge of their grammar and beyond it.
+
 use crate::calls::{Case, LONGEST, LongCase, fold};
 use std::test::Fail;
 

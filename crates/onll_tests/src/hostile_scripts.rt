@@ -1,3 +1,5 @@
+//! Scripts at the edge of their grammar and beyond it.
+
 use crate::calls::{Case, LONGEST, LongCase, fold};
 use std::test::Fail;
 
@@ -170,47 +172,107 @@ const ACCEPTED: &[Case<'static>] = &[
     (
         "a line end after each line",
         b"deposit 0 5\nbalance 0\n",
-        "call 0 1 deposit 0 5 -> ok at 1\ncall 0 2 balance 0 -> 5 at 1\ntrace 1\nnode 1 0 1 deposit 0 5\nstate\nbank 1\naccount 0 5\n",
+        "call 0 1 deposit 0 5 -> ok at 1\n\
+         call 0 2 balance 0 -> 5 at 1\n\
+         trace 1\n\
+         node 1 0 1 deposit 0 5\n\
+         state\n\
+         bank 1\n\
+         account 0 5\n",
     ),
     (
         "no line end after the last",
         b"deposit 0 5\nbalance 0",
-        "call 0 1 deposit 0 5 -> ok at 1\ncall 0 2 balance 0 -> 5 at 1\ntrace 1\nnode 1 0 1 deposit 0 5\nstate\nbank 1\naccount 0 5\n",
+        "call 0 1 deposit 0 5 -> ok at 1\n\
+         call 0 2 balance 0 -> 5 at 1\n\
+         trace 1\n\
+         node 1 0 1 deposit 0 5\n\
+         state\n\
+         bank 1\n\
+         account 0 5\n",
     ),
     (
         "carriage returns",
         b"deposit 0 5\r\nbalance 0\r\n",
-        "call 0 1 deposit 0 5 -> ok at 1\ncall 0 2 balance 0 -> 5 at 1\ntrace 1\nnode 1 0 1 deposit 0 5\nstate\nbank 1\naccount 0 5\n",
+        "call 0 1 deposit 0 5 -> ok at 1\n\
+         call 0 2 balance 0 -> 5 at 1\n\
+         trace 1\n\
+         node 1 0 1 deposit 0 5\n\
+         state\n\
+         bank 1\n\
+         account 0 5\n",
     ),
     (
         "carriage returns between words",
         b"\rdeposit\r0\r5\r\n\rbalance\r0",
-        "call 0 1 deposit 0 5 -> ok at 1\ncall 0 2 balance 0 -> 5 at 1\ntrace 1\nnode 1 0 1 deposit 0 5\nstate\nbank 1\naccount 0 5\n",
+        "call 0 1 deposit 0 5 -> ok at 1\n\
+         call 0 2 balance 0 -> 5 at 1\n\
+         trace 1\n\
+         node 1 0 1 deposit 0 5\n\
+         state\n\
+         bank 1\n\
+         account 0 5\n",
     ),
     (
         "tabs",
         b"\tdeposit\t0\t5\t\n\t\tbalance\t\t0\t\n",
-        "call 0 1 deposit 0 5 -> ok at 1\ncall 0 2 balance 0 -> 5 at 1\ntrace 1\nnode 1 0 1 deposit 0 5\nstate\nbank 1\naccount 0 5\n",
+        "call 0 1 deposit 0 5 -> ok at 1\n\
+         call 0 2 balance 0 -> 5 at 1\n\
+         trace 1\n\
+         node 1 0 1 deposit 0 5\n\
+         state\n\
+         bank 1\n\
+         account 0 5\n",
     ),
     (
         "comments and empty lines",
         b"#\n# total\n\ndeposit 0 5\n\t #\xFF\0 total\n\nbalance 0\n\n#",
-        "call 0 1 deposit 0 5 -> ok at 1\ncall 0 2 balance 0 -> 5 at 1\ntrace 1\nnode 1 0 1 deposit 0 5\nstate\nbank 1\naccount 0 5\n",
+        "call 0 1 deposit 0 5 -> ok at 1\n\
+         call 0 2 balance 0 -> 5 at 1\n\
+         trace 1\n\
+         node 1 0 1 deposit 0 5\n\
+         state\n\
+         bank 1\n\
+         account 0 5\n",
     ),
     (
         "20 digits",
         b"deposit 00000000000000000000 00000000000000000005\nbalance 00000000000000000000\n",
-        "call 0 1 deposit 0 5 -> ok at 1\ncall 0 2 balance 0 -> 5 at 1\ntrace 1\nnode 1 0 1 deposit 0 5\nstate\nbank 1\naccount 0 5\n",
+        "call 0 1 deposit 0 5 -> ok at 1\n\
+         call 0 2 balance 0 -> 5 at 1\n\
+         trace 1\n\
+         node 1 0 1 deposit 0 5\n\
+         state\n\
+         bank 1\n\
+         account 0 5\n",
     ),
     (
         "64 bits",
         b"deposit 0 18446744073709551615\ntotal\n",
-        "call 0 1 deposit 0 18446744073709551615 -> ok at 1\ncall 0 2 total -> 18446744073709551615 at 1\ntrace 1\nnode 1 0 1 deposit 0 18446744073709551615\nstate\nbank 1\naccount 0 18446744073709551615\n",
+        "call 0 1 deposit 0 18446744073709551615 -> ok at 1\n\
+         call 0 2 total -> 18446744073709551615 at 1\n\
+         trace 1\n\
+         node 1 0 1 deposit 0 18446744073709551615\n\
+         state\n\
+         bank 1\n\
+         account 0 18446744073709551615\n",
     ),
     (
         "accounts out of range, which the bank answers",
         b"deposit 1 0\nwithdraw 18446744073709551615 1\ntransfer 1 0 0\ntransfer 0 4096 0\nbalance 1\n",
-        "call 0 1 deposit 1 0 -> no-account at 1\ncall 0 2 withdraw 18446744073709551615 1 -> no-account at 2\ncall 0 3 transfer 1 0 0 -> no-account at 3\ncall 0 4 transfer 0 4096 0 -> no-account at 4\ncall 0 5 balance 1 -> no-account at 4\ntrace 4\nnode 1 0 1 deposit 1 0\nnode 2 0 2 withdraw 18446744073709551615 1\nnode 3 0 3 transfer 1 0 0\nnode 4 0 4 transfer 0 4096 0\nstate\nbank 1\naccount 0 0\n",
+        "call 0 1 deposit 1 0 -> no-account at 1\n\
+         call 0 2 withdraw 18446744073709551615 1 -> no-account at 2\n\
+         call 0 3 transfer 1 0 0 -> no-account at 3\n\
+         call 0 4 transfer 0 4096 0 -> no-account at 4\n\
+         call 0 5 balance 1 -> no-account at 4\n\
+         trace 4\n\
+         node 1 0 1 deposit 1 0\n\
+         node 2 0 2 withdraw 18446744073709551615 1\n\
+         node 3 0 3 transfer 1 0 0\n\
+         node 4 0 4 transfer 0 4096 0\n\
+         state\n\
+         bank 1\n\
+         account 0 0\n",
     ),
     ("no bytes", b"", "trace 0\nstate\nbank 1\naccount 0 0\n"),
     (

@@ -1,3 +1,5 @@
+//! The greatest scripts and the greatest bank.
+
 use crate::calls::{fold, repeated};
 use std::alloc::{AllocError, Global};
 use std::fmt::Write;

@@ -1,3 +1,5 @@
+//! Folds of lease tables.
+
 use crate::calls::{Case, fold};
 use std::alloc::{AllocError, Global};
 use std::fmt::Write;
@@ -8,56 +10,242 @@ const REPORTS: &[(&str, &[u8], &[u8], &str)] = &[
     (
         "a lease that ends, a new token, and the old one",
         b"lease 1\n",
-        b"grant 0 7 10 5\ngrant 0 8 14 5\ngrant 0 8 15 5\nrenew 0 1 16 9\ngrant 0 9 20 18446744073709551615\nholder 0 19\n",
-        "call 0 1 grant 0 7 10 5 -> granted 1 at 1\ncall 0 2 grant 0 8 14 5 -> held until 15 at 2\ncall 0 3 grant 0 8 15 5 -> granted 2 at 3\ncall 0 4 renew 0 1 16 9 -> stale at 4\ncall 0 5 grant 0 9 20 18446744073709551615 -> late at 5\ncall 0 6 holder 0 19 -> by 8 token 2 until 20 at 5\ntrace 5\nnode 1 0 1 grant 0 7 10 5\nnode 2 0 2 grant 0 8 14 5\nnode 3 0 3 grant 0 8 15 5\nnode 4 0 4 renew 0 1 16 9\nnode 5 0 5 grant 0 9 20 18446744073709551615\nstate\nlease 1\nheld 0 2 8 20\n",
+        b"grant 0 7 10 5\n\
+          grant 0 8 14 5\n\
+          grant 0 8 15 5\n\
+          renew 0 1 16 9\n\
+          grant 0 9 20 18446744073709551615\n\
+          holder 0 19\n",
+        "call 0 1 grant 0 7 10 5 -> granted 1 at 1\n\
+         call 0 2 grant 0 8 14 5 -> held until 15 at 2\n\
+         call 0 3 grant 0 8 15 5 -> granted 2 at 3\n\
+         call 0 4 renew 0 1 16 9 -> stale at 4\n\
+         call 0 5 grant 0 9 20 18446744073709551615 -> late at 5\n\
+         call 0 6 holder 0 19 -> by 8 token 2 until 20 at 5\n\
+         trace 5\n\
+         node 1 0 1 grant 0 7 10 5\n\
+         node 2 0 2 grant 0 8 14 5\n\
+         node 3 0 3 grant 0 8 15 5\n\
+         node 4 0 4 renew 0 1 16 9\n\
+         node 5 0 5 grant 0 9 20 18446744073709551615\n\
+         state\n\
+         lease 1\n\
+         held 0 2 8 20\n",
     ),
     (
         "a lease that is renewed and released, with carriage returns",
         b"# locks of the print room\r\nlease 3\r\n",
         b"grant 2 41 1000 60\nrenew 2 1 1030 60\nholder 2 1089\nrelease 2 1\nholder 2 1089\n",
-        "call 0 1 grant 2 41 1000 60 -> granted 1 at 1\ncall 0 2 renew 2 1 1030 60 -> renewed 1090 at 2\ncall 0 3 holder 2 1089 -> by 41 token 1 until 1090 at 2\ncall 0 4 release 2 1 -> released at 3\ncall 0 5 holder 2 1089 -> free at 3\ntrace 3\nnode 1 0 1 grant 2 41 1000 60\nnode 2 0 2 renew 2 1 1030 60\nnode 3 0 3 release 2 1\nstate\nlease 3\nheld 2 1 41 0\n",
+        "call 0 1 grant 2 41 1000 60 -> granted 1 at 1\n\
+         call 0 2 renew 2 1 1030 60 -> renewed 1090 at 2\n\
+         call 0 3 holder 2 1089 -> by 41 token 1 until 1090 at 2\n\
+         call 0 4 release 2 1 -> released at 3\n\
+         call 0 5 holder 2 1089 -> free at 3\n\
+         trace 3\n\
+         node 1 0 1 grant 2 41 1000 60\n\
+         node 2 0 2 renew 2 1 1030 60\n\
+         node 3 0 3 release 2 1\n\
+         state\n\
+         lease 3\n\
+         held 2 1 41 0\n",
     ),
     (
         "the moment at which a lease ends, and the one before",
         b"lease 1\nheld 0 1 7 10\n",
-        b"holder 0 9\nholder 0 10\ngrant 0 8 9 5\nrenew 0 1 10 5\ngrant 0 8 10 0\nholder 0 9\nrenew 0 2 9 1\nholder 0 10\n",
-        "call 0 1 holder 0 9 -> by 7 token 1 until 10 at 0\ncall 0 2 holder 0 10 -> free at 0\ncall 0 3 grant 0 8 9 5 -> held until 10 at 1\ncall 0 4 renew 0 1 10 5 -> stale at 2\ncall 0 5 grant 0 8 10 0 -> granted 2 at 3\ncall 0 6 holder 0 9 -> by 8 token 2 until 10 at 3\ncall 0 7 renew 0 2 9 1 -> renewed 10 at 4\ncall 0 8 holder 0 10 -> free at 4\ntrace 4\nnode 1 0 1 grant 0 8 9 5\nnode 2 0 2 renew 0 1 10 5\nnode 3 0 3 grant 0 8 10 0\nnode 4 0 4 renew 0 2 9 1\nstate\nlease 1\nheld 0 2 8 10\n",
+        b"holder 0 9\n\
+          holder 0 10\n\
+          grant 0 8 9 5\n\
+          renew 0 1 10 5\n\
+          grant 0 8 10 0\n\
+          holder 0 9\n\
+          renew 0 2 9 1\n\
+          holder 0 10\n",
+        "call 0 1 holder 0 9 -> by 7 token 1 until 10 at 0\n\
+         call 0 2 holder 0 10 -> free at 0\n\
+         call 0 3 grant 0 8 9 5 -> held until 10 at 1\n\
+         call 0 4 renew 0 1 10 5 -> stale at 2\n\
+         call 0 5 grant 0 8 10 0 -> granted 2 at 3\n\
+         call 0 6 holder 0 9 -> by 8 token 2 until 10 at 3\n\
+         call 0 7 renew 0 2 9 1 -> renewed 10 at 4\n\
+         call 0 8 holder 0 10 -> free at 4\n\
+         trace 4\n\
+         node 1 0 1 grant 0 8 9 5\n\
+         node 2 0 2 renew 0 1 10 5\n\
+         node 3 0 3 grant 0 8 10 0\n\
+         node 4 0 4 renew 0 2 9 1\n\
+         state\n\
+         lease 1\n\
+         held 0 2 8 10\n",
     ),
     (
         "leases that end at the last moment, and after it",
         b"lease 2\n",
-        b"grant 0 7 18446744073709551614 1\ngrant 1 7 18446744073709551615 1\ngrant 1 7 18446744073709551615 0\nholder 1 18446744073709551615\nholder 1 18446744073709551614\nrenew 0 1 18446744073709551614 2\nrenew 0 1 18446744073709551614 1\nrenew 0 2 18446744073709551614 2\ngrant 0 8 18446744073709551615 1\ngrant 0 8 18446744073709551614 2\ngrant 1 8 0 18446744073709551615\n",
-        "call 0 1 grant 0 7 18446744073709551614 1 -> granted 1 at 1\ncall 0 2 grant 1 7 18446744073709551615 1 -> late at 2\ncall 0 3 grant 1 7 18446744073709551615 0 -> granted 1 at 3\ncall 0 4 holder 1 18446744073709551615 -> free at 3\ncall 0 5 holder 1 18446744073709551614 -> by 7 token 1 until 18446744073709551615 at 3\ncall 0 6 renew 0 1 18446744073709551614 2 -> late at 4\ncall 0 7 renew 0 1 18446744073709551614 1 -> renewed 18446744073709551615 at 5\ncall 0 8 renew 0 2 18446744073709551614 2 -> stale at 6\ncall 0 9 grant 0 8 18446744073709551615 1 -> late at 7\ncall 0 10 grant 0 8 18446744073709551614 2 -> held until 18446744073709551615 at 8\ncall 0 11 grant 1 8 0 18446744073709551615 -> held until 18446744073709551615 at 9\ntrace 9\nnode 1 0 1 grant 0 7 18446744073709551614 1\nnode 2 0 2 grant 1 7 18446744073709551615 1\nnode 3 0 3 grant 1 7 18446744073709551615 0\nnode 4 0 4 renew 0 1 18446744073709551614 2\nnode 5 0 5 renew 0 1 18446744073709551614 1\nnode 6 0 6 renew 0 2 18446744073709551614 2\nnode 7 0 7 grant 0 8 18446744073709551615 1\nnode 8 0 8 grant 0 8 18446744073709551614 2\nnode 9 0 9 grant 1 8 0 18446744073709551615\nstate\nlease 2\nheld 0 1 7 18446744073709551615\nheld 1 1 7 18446744073709551615\n",
+        b"grant 0 7 18446744073709551614 1\n\
+          grant 1 7 18446744073709551615 1\n\
+          grant 1 7 18446744073709551615 0\n\
+          holder 1 18446744073709551615\n\
+          holder 1 18446744073709551614\n\
+          renew 0 1 18446744073709551614 2\n\
+          renew 0 1 18446744073709551614 1\n\
+          renew 0 2 18446744073709551614 2\n\
+          grant 0 8 18446744073709551615 1\n\
+          grant 0 8 18446744073709551614 2\n\
+          grant 1 8 0 18446744073709551615\n",
+        "call 0 1 grant 0 7 18446744073709551614 1 -> granted 1 at 1\n\
+         call 0 2 grant 1 7 18446744073709551615 1 -> late at 2\n\
+         call 0 3 grant 1 7 18446744073709551615 0 -> granted 1 at 3\n\
+         call 0 4 holder 1 18446744073709551615 -> free at 3\n\
+         call 0 5 holder 1 18446744073709551614 -> by 7 token 1 until 18446744073709551615 at 3\n\
+         call 0 6 renew 0 1 18446744073709551614 2 -> late at 4\n\
+         call 0 7 renew 0 1 18446744073709551614 1 -> renewed 18446744073709551615 at 5\n\
+         call 0 8 renew 0 2 18446744073709551614 2 -> stale at 6\n\
+         call 0 9 grant 0 8 18446744073709551615 1 -> late at 7\n\
+         call 0 10 grant 0 8 18446744073709551614 2 -> held until 18446744073709551615 at 8\n\
+         call 0 11 grant 1 8 0 18446744073709551615 -> held until 18446744073709551615 at 9\n\
+         trace 9\n\
+         node 1 0 1 grant 0 7 18446744073709551614 1\n\
+         node 2 0 2 grant 1 7 18446744073709551615 1\n\
+         node 3 0 3 grant 1 7 18446744073709551615 0\n\
+         node 4 0 4 renew 0 1 18446744073709551614 2\n\
+         node 5 0 5 renew 0 1 18446744073709551614 1\n\
+         node 6 0 6 renew 0 2 18446744073709551614 2\n\
+         node 7 0 7 grant 0 8 18446744073709551615 1\n\
+         node 8 0 8 grant 0 8 18446744073709551614 2\n\
+         node 9 0 9 grant 1 8 0 18446744073709551615\n\
+         state\n\
+         lease 2\n\
+         held 0 1 7 18446744073709551615\n\
+         held 1 1 7 18446744073709551615\n",
     ),
     (
         "a resource whose tokens are spent",
         b"lease 1\nheld 0 18446744073709551615 5 9\n",
-        b"grant 0 6 8 1\ngrant 0 6 9 18446744073709551615\ngrant 0 6 9 1\nrenew 0 18446744073709551615 8 4\nrelease 0 18446744073709551615\ngrant 0 6 0 1\n",
-        "call 0 1 grant 0 6 8 1 -> held until 9 at 1\ncall 0 2 grant 0 6 9 18446744073709551615 -> late at 2\ncall 0 3 grant 0 6 9 1 -> spent at 3\ncall 0 4 renew 0 18446744073709551615 8 4 -> renewed 12 at 4\ncall 0 5 release 0 18446744073709551615 -> released at 5\ncall 0 6 grant 0 6 0 1 -> spent at 6\ntrace 6\nnode 1 0 1 grant 0 6 8 1\nnode 2 0 2 grant 0 6 9 18446744073709551615\nnode 3 0 3 grant 0 6 9 1\nnode 4 0 4 renew 0 18446744073709551615 8 4\nnode 5 0 5 release 0 18446744073709551615\nnode 6 0 6 grant 0 6 0 1\nstate\nlease 1\nheld 0 18446744073709551615 5 0\n",
+        b"grant 0 6 8 1\n\
+          grant 0 6 9 18446744073709551615\n\
+          grant 0 6 9 1\n\
+          renew 0 18446744073709551615 8 4\n\
+          release 0 18446744073709551615\n\
+          grant 0 6 0 1\n",
+        "call 0 1 grant 0 6 8 1 -> held until 9 at 1\n\
+         call 0 2 grant 0 6 9 18446744073709551615 -> late at 2\n\
+         call 0 3 grant 0 6 9 1 -> spent at 3\n\
+         call 0 4 renew 0 18446744073709551615 8 4 -> renewed 12 at 4\n\
+         call 0 5 release 0 18446744073709551615 -> released at 5\n\
+         call 0 6 grant 0 6 0 1 -> spent at 6\n\
+         trace 6\n\
+         node 1 0 1 grant 0 6 8 1\n\
+         node 2 0 2 grant 0 6 9 18446744073709551615\n\
+         node 3 0 3 grant 0 6 9 1\n\
+         node 4 0 4 renew 0 18446744073709551615 8 4\n\
+         node 5 0 5 release 0 18446744073709551615\n\
+         node 6 0 6 grant 0 6 0 1\n\
+         state\n\
+         lease 1\n\
+         held 0 18446744073709551615 5 0\n",
     ),
     (
         "the last token is given",
         b"lease 1\nheld 0 18446744073709551614 5 9\n",
         b"grant 0 6 9 1\ngrant 0 6 10 1\nrelease 0 18446744073709551614\n",
-        "call 0 1 grant 0 6 9 1 -> granted 18446744073709551615 at 1\ncall 0 2 grant 0 6 10 1 -> spent at 2\ncall 0 3 release 0 18446744073709551614 -> stale at 3\ntrace 3\nnode 1 0 1 grant 0 6 9 1\nnode 2 0 2 grant 0 6 10 1\nnode 3 0 3 release 0 18446744073709551614\nstate\nlease 1\nheld 0 18446744073709551615 6 10\n",
+        "call 0 1 grant 0 6 9 1 -> granted 18446744073709551615 at 1\n\
+         call 0 2 grant 0 6 10 1 -> spent at 2\n\
+         call 0 3 release 0 18446744073709551614 -> stale at 3\n\
+         trace 3\n\
+         node 1 0 1 grant 0 6 9 1\n\
+         node 2 0 2 grant 0 6 10 1\n\
+         node 3 0 3 release 0 18446744073709551614\n\
+         state\n\
+         lease 1\n\
+         held 0 18446744073709551615 6 10\n",
     ),
     (
         "a renewal after the end, and releases of what is released",
         b"lease 1\n",
-        b"grant 0 3 100 10\nrenew 0 1 110 10\nrenew 0 1 109 10\nrelease 0 1\nrelease 0 1\nrenew 0 1 0 10\ngrant 0 4 0 5\nrelease 0 1\nrelease 0 2\ngrant 0 4 50 5\nholder 0 99\nrelease 0 3\n",
-        "call 0 1 grant 0 3 100 10 -> granted 1 at 1\ncall 0 2 renew 0 1 110 10 -> stale at 2\ncall 0 3 renew 0 1 109 10 -> renewed 119 at 3\ncall 0 4 release 0 1 -> released at 4\ncall 0 5 release 0 1 -> stale at 5\ncall 0 6 renew 0 1 0 10 -> stale at 6\ncall 0 7 grant 0 4 0 5 -> granted 2 at 7\ncall 0 8 release 0 1 -> stale at 8\ncall 0 9 release 0 2 -> released at 9\ncall 0 10 grant 0 4 50 5 -> granted 3 at 10\ncall 0 11 holder 0 99 -> free at 10\ncall 0 12 release 0 3 -> released at 11\ntrace 11\nnode 1 0 1 grant 0 3 100 10\nnode 2 0 2 renew 0 1 110 10\nnode 3 0 3 renew 0 1 109 10\nnode 4 0 4 release 0 1\nnode 5 0 5 release 0 1\nnode 6 0 6 renew 0 1 0 10\nnode 7 0 7 grant 0 4 0 5\nnode 8 0 8 release 0 1\nnode 9 0 9 release 0 2\nnode 10 0 10 grant 0 4 50 5\nnode 11 0 11 release 0 3\nstate\nlease 1\nheld 0 3 4 0\n",
+        b"grant 0 3 100 10\n\
+          renew 0 1 110 10\n\
+          renew 0 1 109 10\n\
+          release 0 1\n\
+          release 0 1\n\
+          renew 0 1 0 10\n\
+          grant 0 4 0 5\n\
+          release 0 1\n\
+          release 0 2\n\
+          grant 0 4 50 5\n\
+          holder 0 99\n\
+          release 0 3\n",
+        "call 0 1 grant 0 3 100 10 -> granted 1 at 1\n\
+         call 0 2 renew 0 1 110 10 -> stale at 2\n\
+         call 0 3 renew 0 1 109 10 -> renewed 119 at 3\n\
+         call 0 4 release 0 1 -> released at 4\n\
+         call 0 5 release 0 1 -> stale at 5\n\
+         call 0 6 renew 0 1 0 10 -> stale at 6\n\
+         call 0 7 grant 0 4 0 5 -> granted 2 at 7\n\
+         call 0 8 release 0 1 -> stale at 8\n\
+         call 0 9 release 0 2 -> released at 9\n\
+         call 0 10 grant 0 4 50 5 -> granted 3 at 10\n\
+         call 0 11 holder 0 99 -> free at 10\n\
+         call 0 12 release 0 3 -> released at 11\n\
+         trace 11\n\
+         node 1 0 1 grant 0 3 100 10\n\
+         node 2 0 2 renew 0 1 110 10\n\
+         node 3 0 3 renew 0 1 109 10\n\
+         node 4 0 4 release 0 1\n\
+         node 5 0 5 release 0 1\n\
+         node 6 0 6 renew 0 1 0 10\n\
+         node 7 0 7 grant 0 4 0 5\n\
+         node 8 0 8 release 0 1\n\
+         node 9 0 9 release 0 2\n\
+         node 10 0 10 grant 0 4 50 5\n\
+         node 11 0 11 release 0 3\n\
+         state\n\
+         lease 1\n\
+         held 0 3 4 0\n",
     ),
     (
         "no such resource, and one that was never granted",
         b"lease 1\n",
-        b"grant 1 1 0 1\nrenew 1 0 0 1\nrelease 1 0\nholder 1 0\nholder 18446744073709551615 18446744073709551615\nrelease 0 0\nrenew 0 0 0 1\nholder 0 0\n",
-        "call 0 1 grant 1 1 0 1 -> no-resource at 1\ncall 0 2 renew 1 0 0 1 -> no-resource at 2\ncall 0 3 release 1 0 -> no-resource at 3\ncall 0 4 holder 1 0 -> no-resource at 3\ncall 0 5 holder 18446744073709551615 18446744073709551615 -> no-resource at 3\ncall 0 6 release 0 0 -> stale at 4\ncall 0 7 renew 0 0 0 1 -> stale at 5\ncall 0 8 holder 0 0 -> free at 5\ntrace 5\nnode 1 0 1 grant 1 1 0 1\nnode 2 0 2 renew 1 0 0 1\nnode 3 0 3 release 1 0\nnode 4 0 4 release 0 0\nnode 5 0 5 renew 0 0 0 1\nstate\nlease 1\n",
+        b"grant 1 1 0 1\n\
+          renew 1 0 0 1\n\
+          release 1 0\n\
+          holder 1 0\n\
+          holder 18446744073709551615 18446744073709551615\n\
+          release 0 0\n\
+          renew 0 0 0 1\n\
+          holder 0 0\n",
+        "call 0 1 grant 1 1 0 1 -> no-resource at 1\n\
+         call 0 2 renew 1 0 0 1 -> no-resource at 2\n\
+         call 0 3 release 1 0 -> no-resource at 3\n\
+         call 0 4 holder 1 0 -> no-resource at 3\n\
+         call 0 5 holder 18446744073709551615 18446744073709551615 -> no-resource at 3\n\
+         call 0 6 release 0 0 -> stale at 4\n\
+         call 0 7 renew 0 0 0 1 -> stale at 5\n\
+         call 0 8 holder 0 0 -> free at 5\n\
+         trace 5\n\
+         node 1 0 1 grant 1 1 0 1\n\
+         node 2 0 2 renew 1 0 0 1\n\
+         node 3 0 3 release 1 0\n\
+         node 4 0 4 release 0 0\n\
+         node 5 0 5 renew 0 0 0 1\n\
+         state\n\
+         lease 1\n",
     ),
     (
         "resources in another order, and only those that were ever granted",
         b"lease 5\nheld 3 2 8 20\nheld 1 01 5 0\nheld 4 1 0 0\n",
         b"grant 0 9 1 0\nholder 2 0\nholder 4 0\ngrant 1 9 1 1\n",
-        "call 0 1 grant 0 9 1 0 -> granted 1 at 1\ncall 0 2 holder 2 0 -> free at 1\ncall 0 3 holder 4 0 -> free at 1\ncall 0 4 grant 1 9 1 1 -> granted 2 at 2\ntrace 2\nnode 1 0 1 grant 0 9 1 0\nnode 2 0 2 grant 1 9 1 1\nstate\nlease 5\nheld 0 1 9 1\nheld 1 2 9 2\nheld 3 2 8 20\nheld 4 1 0 0\n",
+        "call 0 1 grant 0 9 1 0 -> granted 1 at 1\n\
+         call 0 2 holder 2 0 -> free at 1\n\
+         call 0 3 holder 4 0 -> free at 1\n\
+         call 0 4 grant 1 9 1 1 -> granted 2 at 2\n\
+         trace 2\n\
+         node 1 0 1 grant 0 9 1 0\n\
+         node 2 0 2 grant 1 9 1 1\n\
+         state\n\
+         lease 5\n\
+         held 0 1 9 1\n\
+         held 1 2 9 2\n\
+         held 3 2 8 20\n\
+         held 4 1 0 0\n",
     ),
 ];
 
@@ -311,7 +499,10 @@ fn as_many_resources_as_there_can_be(rt: HostRuntime) -> Result<(), Fail> {
     let init = backwards(alloc)?;
     let mut report = String::from_str(
         alloc,
-        "call 0 1 holder 4094 0 -> free at 0\ncall 0 2 holder 4095 5 -> by 4095 token 18446744073709547520 until 18446744073709547520 at 0\ntrace 0\nstate\n",
+        "call 0 1 holder 4094 0 -> free at 0\n\
+         call 0 2 holder 4095 5 -> by 4095 token 18446744073709547520 until 18446744073709547520 at 0\n\
+         trace 0\n\
+         state\n",
     )?;
     report.push_str(&held_lines(alloc)?)?;
     let outcome = fold(alloc, init.as_bytes(), b"holder 4094 0\nholder 4095 5\n")?;

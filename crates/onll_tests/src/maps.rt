@@ -1,3 +1,5 @@
+//! Folds of ordered maps.
+
 use crate::calls::{Case, fold};
 use std::alloc::{AllocError, Global};
 use std::fmt::Write;
@@ -9,25 +11,81 @@ const REPORTS: &[(&str, &[u8], &[u8], &str)] = &[
         "a map of one pair: replaced, full, and a key of 23 letters",
         b"map 1\n",
         b"put a x\nput b y\nput a z\nget a\nnext b\nput abcdefghijklmnopqrstuvw z\n",
-        "call 0 1 put a x -> new at 1\ncall 0 2 put b y -> full at 2\ncall 0 3 put a z -> old x at 3\ncall 0 4 get a -> value z at 3\ncall 0 5 next b -> none at 3\ncall 0 6 put abcdefghijklmnopqrstuvw z -> full at 4\ntrace 4\nnode 1 0 1 put a x\nnode 2 0 2 put b y\nnode 3 0 3 put a z\nnode 4 0 4 put abcdefghijklmnopqrstuvw z\nstate\nmap 1\npair a z\n",
+        "call 0 1 put a x -> new at 1\n\
+         call 0 2 put b y -> full at 2\n\
+         call 0 3 put a z -> old x at 3\n\
+         call 0 4 get a -> value z at 3\n\
+         call 0 5 next b -> none at 3\n\
+         call 0 6 put abcdefghijklmnopqrstuvw z -> full at 4\n\
+         trace 4\n\
+         node 1 0 1 put a x\n\
+         node 2 0 2 put b y\n\
+         node 3 0 3 put a z\n\
+         node 4 0 4 put abcdefghijklmnopqrstuvw z\n\
+         state\n\
+         map 1\n\
+         pair a z\n",
     ),
     (
         "deletes, absent keys, counts, and the next key at, below and above all",
         b"map 4\npair m 1\npair c 2\n",
         b"count\nget m\nget x\nnext a\nnext c\nnext d\nnext m\nnext n\ndel c\ndel c\ncount\nnext a\n",
-        "call 0 1 count -> count 2 at 0\ncall 0 2 get m -> value 1 at 0\ncall 0 3 get x -> none at 0\ncall 0 4 next a -> key c at 0\ncall 0 5 next c -> key c at 0\ncall 0 6 next d -> key m at 0\ncall 0 7 next m -> key m at 0\ncall 0 8 next n -> none at 0\ncall 0 9 del c -> old 2 at 1\ncall 0 10 del c -> none at 2\ncall 0 11 count -> count 1 at 2\ncall 0 12 next a -> key m at 2\ntrace 2\nnode 1 0 1 del c\nnode 2 0 2 del c\nstate\nmap 4\npair m 1\n",
+        "call 0 1 count -> count 2 at 0\n\
+         call 0 2 get m -> value 1 at 0\n\
+         call 0 3 get x -> none at 0\n\
+         call 0 4 next a -> key c at 0\n\
+         call 0 5 next c -> key c at 0\n\
+         call 0 6 next d -> key m at 0\n\
+         call 0 7 next m -> key m at 0\n\
+         call 0 8 next n -> none at 0\n\
+         call 0 9 del c -> old 2 at 1\n\
+         call 0 10 del c -> none at 2\n\
+         call 0 11 count -> count 1 at 2\n\
+         call 0 12 next a -> key m at 2\n\
+         trace 2\n\
+         node 1 0 1 del c\n\
+         node 2 0 2 del c\n\
+         state\n\
+         map 4\n\
+         pair m 1\n",
     ),
     (
         "a full map that still replaces and deletes",
         b"map 2\npair a 1\npair b 2\n",
         b"put c 3\nput b 4\ndel a\nput c 3\n",
-        "call 0 1 put c 3 -> full at 1\ncall 0 2 put b 4 -> old 2 at 2\ncall 0 3 del a -> old 1 at 3\ncall 0 4 put c 3 -> new at 4\ntrace 4\nnode 1 0 1 put c 3\nnode 2 0 2 put b 4\nnode 3 0 3 del a\nnode 4 0 4 put c 3\nstate\nmap 2\npair b 4\npair c 3\n",
+        "call 0 1 put c 3 -> full at 1\n\
+         call 0 2 put b 4 -> old 2 at 2\n\
+         call 0 3 del a -> old 1 at 3\n\
+         call 0 4 put c 3 -> new at 4\n\
+         trace 4\n\
+         node 1 0 1 put c 3\n\
+         node 2 0 2 put b 4\n\
+         node 3 0 3 del a\n\
+         node 4 0 4 put c 3\n\
+         state\n\
+         map 2\n\
+         pair b 4\n\
+         pair c 3\n",
     ),
     (
         "keys in the order of their bytes, a prefix first",
         b"map 4\n",
         b"put ab 1\nput b 2\nput a 3\nput B 4\n",
-        "call 0 1 put ab 1 -> new at 1\ncall 0 2 put b 2 -> new at 2\ncall 0 3 put a 3 -> new at 3\ncall 0 4 put B 4 -> new at 4\ntrace 4\nnode 1 0 1 put ab 1\nnode 2 0 2 put b 2\nnode 3 0 3 put a 3\nnode 4 0 4 put B 4\nstate\nmap 4\npair B 4\npair a 3\npair ab 1\npair b 2\n",
+        "call 0 1 put ab 1 -> new at 1\n\
+         call 0 2 put b 2 -> new at 2\n\
+         call 0 3 put a 3 -> new at 3\n\
+         call 0 4 put B 4 -> new at 4\n\
+         trace 4\n\
+         node 1 0 1 put ab 1\n\
+         node 2 0 2 put b 2\n\
+         node 3 0 3 put a 3\n\
+         node 4 0 4 put B 4\n\
+         state\n\
+         map 4\n\
+         pair B 4\n\
+         pair a 3\n\
+         pair ab 1\n\
+         pair b 2\n",
     ),
     (
         "words of other bytes beside blanks",

@@ -1,3 +1,5 @@
+//! Folds of queues.
+
 use crate::calls::{Case, fold};
 use std::alloc::{AllocError, Global};
 use std::fmt::Write;
@@ -9,25 +11,75 @@ const REPORTS: &[(&str, &[u8], &[u8], &str)] = &[
         "a queue of two items: full, emptied, and empty",
         b"queue 2\nitem 4\n",
         b"push 5\npush 6\npop\npop\npop\nlength\n",
-        "call 0 1 push 5 -> ok at 1\ncall 0 2 push 6 -> full at 2\ncall 0 3 pop -> item 4 at 3\ncall 0 4 pop -> item 5 at 4\ncall 0 5 pop -> empty at 5\ncall 0 6 length -> length 0 at 5\ntrace 5\nnode 1 0 1 push 5\nnode 2 0 2 push 6\nnode 3 0 3 pop\nnode 4 0 4 pop\nnode 5 0 5 pop\nstate\nqueue 2\n",
+        "call 0 1 push 5 -> ok at 1\n\
+         call 0 2 push 6 -> full at 2\n\
+         call 0 3 pop -> item 4 at 3\n\
+         call 0 4 pop -> item 5 at 4\n\
+         call 0 5 pop -> empty at 5\n\
+         call 0 6 length -> length 0 at 5\n\
+         trace 5\n\
+         node 1 0 1 push 5\n\
+         node 2 0 2 push 6\n\
+         node 3 0 3 pop\n\
+         node 4 0 4 pop\n\
+         node 5 0 5 pop\n\
+         state\n\
+         queue 2\n",
     ),
     (
         "the front stays, and the items are printed from it",
         b"queue 3\nitem 7\nitem 18446744073709551615\nitem 0\n",
         b"front\nfront\nlength\npush 1\npop\npush 007\nfront\n",
-        "call 0 1 front -> item 7 at 0\ncall 0 2 front -> item 7 at 0\ncall 0 3 length -> length 3 at 0\ncall 0 4 push 1 -> full at 1\ncall 0 5 pop -> item 7 at 2\ncall 0 6 push 7 -> ok at 3\ncall 0 7 front -> item 18446744073709551615 at 3\ntrace 3\nnode 1 0 1 push 1\nnode 2 0 2 pop\nnode 3 0 3 push 7\nstate\nqueue 3\nitem 18446744073709551615\nitem 0\nitem 7\n",
+        "call 0 1 front -> item 7 at 0\n\
+         call 0 2 front -> item 7 at 0\n\
+         call 0 3 length -> length 3 at 0\n\
+         call 0 4 push 1 -> full at 1\n\
+         call 0 5 pop -> item 7 at 2\n\
+         call 0 6 push 7 -> ok at 3\n\
+         call 0 7 front -> item 18446744073709551615 at 3\n\
+         trace 3\n\
+         node 1 0 1 push 1\n\
+         node 2 0 2 pop\n\
+         node 3 0 3 push 7\n\
+         state\n\
+         queue 3\n\
+         item 18446744073709551615\n\
+         item 0\n\
+         item 7\n",
     ),
     (
         "an empty queue",
         b"queue 1\n",
         b"front\nlength\npop\npush 0\nfront\npush 0\nlength\n",
-        "call 0 1 front -> empty at 0\ncall 0 2 length -> length 0 at 0\ncall 0 3 pop -> empty at 1\ncall 0 4 push 0 -> ok at 2\ncall 0 5 front -> item 0 at 2\ncall 0 6 push 0 -> full at 3\ncall 0 7 length -> length 1 at 3\ntrace 3\nnode 1 0 1 pop\nnode 2 0 2 push 0\nnode 3 0 3 push 0\nstate\nqueue 1\nitem 0\n",
+        "call 0 1 front -> empty at 0\n\
+         call 0 2 length -> length 0 at 0\n\
+         call 0 3 pop -> empty at 1\n\
+         call 0 4 push 0 -> ok at 2\n\
+         call 0 5 front -> item 0 at 2\n\
+         call 0 6 push 0 -> full at 3\n\
+         call 0 7 length -> length 1 at 3\n\
+         trace 3\n\
+         node 1 0 1 pop\n\
+         node 2 0 2 push 0\n\
+         node 3 0 3 push 0\n\
+         state\n\
+         queue 1\n\
+         item 0\n",
     ),
     (
         "equal items, one after the other",
         b"# tickets\r\nqueue 3\r\nitem 5\r\n\titem 005\n",
         b"push 5\npop\nlength\n",
-        "call 0 1 push 5 -> ok at 1\ncall 0 2 pop -> item 5 at 2\ncall 0 3 length -> length 2 at 2\ntrace 2\nnode 1 0 1 push 5\nnode 2 0 2 pop\nstate\nqueue 3\nitem 5\nitem 5\n",
+        "call 0 1 push 5 -> ok at 1\n\
+         call 0 2 pop -> item 5 at 2\n\
+         call 0 3 length -> length 2 at 2\n\
+         trace 2\n\
+         node 1 0 1 push 5\n\
+         node 2 0 2 pop\n\
+         state\n\
+         queue 3\n\
+         item 5\n\
+         item 5\n",
     ),
 ];
 

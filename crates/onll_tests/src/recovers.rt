@@ -1,3 +1,5 @@
+//! Recoveries from the logs of one run, and from logs that are not.
+
 use crate::calls::{Outcome, Program, USAGE, named};
 use crate::images::{
     BOTH_AT_2, CODE_9, CODE_9_AT_1, DEPOSIT_0, DEPOSIT_4, DEPOSIT_5, DEPOSIT_7, FIRST_AT_1,
@@ -61,7 +63,15 @@ const RECOVERIES: &[Recovery<'static>] = &[
         ],
         threads: "2",
         status: 0,
-        output: "log 0 entries 0 lines 1\nlog 1 entries 1 lines 4\nrecovered 2\nnode 1 0 1 deposit 0 5\nnode 2 1 1 deposit 1 7\nstate\nbank 2\naccount 0 5\naccount 1 7\n",
+        output: "log 0 entries 0 lines 1\n\
+                 log 1 entries 1 lines 4\n\
+                 recovered 2\n\
+                 node 1 0 1 deposit 0 5\n\
+                 node 2 1 1 deposit 1 7\n\
+                 state\n\
+                 bank 2\n\
+                 account 0 5\n\
+                 account 1 7\n",
     },
     Recovery {
         name: "a number with a zero before it",
@@ -80,7 +90,15 @@ const RECOVERIES: &[Recovery<'static>] = &[
         ],
         threads: "02",
         status: 0,
-        output: "log 0 entries 0 lines 1\nlog 1 entries 1 lines 4\nrecovered 2\nnode 1 0 1 deposit 0 5\nnode 2 1 1 deposit 1 7\nstate\nbank 2\naccount 0 5\naccount 1 7\n",
+        output: "log 0 entries 0 lines 1\n\
+                 log 1 entries 1 lines 4\n\
+                 recovered 2\n\
+                 node 1 0 1 deposit 0 5\n\
+                 node 2 1 1 deposit 1 7\n\
+                 state\n\
+                 bank 2\n\
+                 account 0 5\n\
+                 account 1 7\n",
     },
     Recovery {
         name: "the same logs in format 1",
@@ -99,7 +117,15 @@ const RECOVERIES: &[Recovery<'static>] = &[
         ],
         threads: "2",
         status: 0,
-        output: "log 0 entries 0 lines 1\nlog 1 entries 1 lines 4\nrecovered 2\nnode 1 0 1 deposit 0 5\nnode 2 1 1 deposit 1 7\nstate\nbank 2\naccount 0 5\naccount 1 7\n",
+        output: "log 0 entries 0 lines 1\n\
+                 log 1 entries 1 lines 4\n\
+                 recovered 2\n\
+                 node 1 0 1 deposit 0 5\n\
+                 node 2 1 1 deposit 1 7\n\
+                 state\n\
+                 bank 2\n\
+                 account 0 5\n\
+                 account 1 7\n",
     },
     Recovery {
         name: "one log of each format",
@@ -118,7 +144,15 @@ const RECOVERIES: &[Recovery<'static>] = &[
         ],
         threads: "2",
         status: 0,
-        output: "log 0 entries 0 lines 1\nlog 1 entries 1 lines 4\nrecovered 2\nnode 1 0 1 deposit 0 5\nnode 2 1 1 deposit 1 7\nstate\nbank 2\naccount 0 5\naccount 1 7\n",
+        output: "log 0 entries 0 lines 1\n\
+                 log 1 entries 1 lines 4\n\
+                 recovered 2\n\
+                 node 1 0 1 deposit 0 5\n\
+                 node 2 1 1 deposit 1 7\n\
+                 state\n\
+                 bank 2\n\
+                 account 0 5\n\
+                 account 1 7\n",
     },
     Recovery {
         name: "an image of zeros",
@@ -149,7 +183,15 @@ const RECOVERIES: &[Recovery<'static>] = &[
         ],
         threads: "2",
         status: 0,
-        output: "log 0 empty\nlog 1 entries 1 lines 4\nrecovered 2\nnode 1 0 1 deposit 0 5\nnode 2 1 1 deposit 1 7\nstate\nbank 2\naccount 0 5\naccount 1 7\n",
+        output: "log 0 empty\n\
+                 log 1 entries 1 lines 4\n\
+                 recovered 2\n\
+                 node 1 0 1 deposit 0 5\n\
+                 node 2 1 1 deposit 1 7\n\
+                 state\n\
+                 bank 2\n\
+                 account 0 5\n\
+                 account 1 7\n",
     },
     Recovery {
         name: "an image that is cut inside an entry",
@@ -192,7 +234,15 @@ const RECOVERIES: &[Recovery<'static>] = &[
         ],
         threads: "2",
         status: 0,
-        output: "log 0 entries 1 lines 3\nlog 1 entries 1 lines 3\nrecovered 2\nnode 1 0 1 deposit 0 5\nnode 2 1 1 deposit 1 7\nstate\nbank 2\naccount 0 5\naccount 1 7\n",
+        output: "log 0 entries 1 lines 3\n\
+                 log 1 entries 1 lines 3\n\
+                 recovered 2\n\
+                 node 1 0 1 deposit 0 5\n\
+                 node 2 1 1 deposit 1 7\n\
+                 state\n\
+                 bank 2\n\
+                 account 0 5\n\
+                 account 1 7\n",
     },
     Recovery {
         name: "a changed byte in format 1",
@@ -249,7 +299,15 @@ const RECOVERIES: &[Recovery<'static>] = &[
         ],
         threads: "2",
         status: 0,
-        output: "log 0 entries 1 lines 3\nlog 1 entries 1 lines 3\nrecovered 2\nnode 1 0 1 deposit 0 4\nnode 2 1 1 deposit 1 7\nstate\nbank 2\naccount 0 4\naccount 1 7\n",
+        output: "log 0 entries 1 lines 3\n\
+                 log 1 entries 1 lines 3\n\
+                 recovered 2\n\
+                 node 1 0 1 deposit 0 4\n\
+                 node 2 1 1 deposit 1 7\n\
+                 state\n\
+                 bank 2\n\
+                 account 0 4\n\
+                 account 1 7\n",
     },
     Recovery {
         name: "two nodes at one place",

@@ -1,3 +1,5 @@
+//! Replays of schedules that crash.
+
 use crate::calls::{Program, USAGE};
 use crate::images::{BOTH_AT_2, DEPOSIT_5, DEPOSIT_7, HEAD_0, HEAD_1, Image, ZERO};
 use onll_outside::MemStore;
@@ -42,8 +44,19 @@ const HELPED_FILES: &[(&str, &[u8])] = &[
     ("s1", b"deposit 1 7\n"),
 ];
 
-const HELPED: &str =
-    "call 0 1 deposit 0 5 -> ordered at 1\ncall 1 1 deposit 1 7 -> ok at 2\ntrace 2\nnode 1 0 1 unset deposit 0 5\nnode 2 1 1 set deposit 1 7\ncrash 0\nlog 0 entries 0 lines 1 fences 0\nlog 1 entries 1 lines 4 fences 1\nrecovered 2\nstate\nbank 2\naccount 0 5\naccount 1 7\n";
+const HELPED: &str = "call 0 1 deposit 0 5 -> ordered at 1\n\
+     call 1 1 deposit 1 7 -> ok at 2\n\
+     trace 2\n\
+     node 1 0 1 unset deposit 0 5\n\
+     node 2 1 1 set deposit 1 7\n\
+     crash 0\n\
+     log 0 entries 0 lines 1 fences 0\n\
+     log 1 entries 1 lines 4 fences 1\n\
+     recovered 2\n\
+     state\n\
+     bank 2\n\
+     account 0 5\n\
+     account 1 7\n";
 
 /// Sixteen threads, the last of which logs the updates of all.
 const SIXTEEN_FILES: &[(&str, &[u8])] = &[
@@ -76,7 +89,14 @@ const REPLAYS: &[Replay<'static>] = &[
             ("s0", b"deposit 0 5\n"),
         ],
         status: 0,
-        output: "call 0 1 deposit 0 5 -> running\ntrace 0\ncrash 0\nlog 0 entries 0 lines 1 fences 0\nrecovered 0\nstate\nbank 1\naccount 0 0\n",
+        output: "call 0 1 deposit 0 5 -> running\n\
+                 trace 0\n\
+                 crash 0\n\
+                 log 0 entries 0 lines 1 fences 0\n\
+                 recovered 0\n\
+                 state\n\
+                 bank 1\n\
+                 account 0 0\n",
     },
     Replay {
         name: "written back and not fenced, and no word is kept",
@@ -87,7 +107,15 @@ const REPLAYS: &[Replay<'static>] = &[
             ("s0", b"deposit 0 5\n"),
         ],
         status: 0,
-        output: "call 0 1 deposit 0 5 -> ordered at 1\ntrace 1\nnode 1 0 1 unset deposit 0 5\ncrash 0\nlog 0 entries 0 lines 1 fences 0\nrecovered 0\nstate\nbank 1\naccount 0 0\n",
+        output: "call 0 1 deposit 0 5 -> ordered at 1\n\
+                 trace 1\n\
+                 node 1 0 1 unset deposit 0 5\n\
+                 crash 0\n\
+                 log 0 entries 0 lines 1 fences 0\n\
+                 recovered 0\n\
+                 state\n\
+                 bank 1\n\
+                 account 0 0\n",
     },
     Replay {
         name: "the same, and each word is kept",
@@ -98,7 +126,15 @@ const REPLAYS: &[Replay<'static>] = &[
             ("s0", b"deposit 0 5\n"),
         ],
         status: 0,
-        output: "call 0 1 deposit 0 5 -> ordered at 1\ntrace 1\nnode 1 0 1 unset deposit 0 5\ncrash 18446744073709551615\nlog 0 entries 1 lines 3 fences 0\nrecovered 1\nstate\nbank 1\naccount 0 5\n",
+        output: "call 0 1 deposit 0 5 -> ordered at 1\n\
+                 trace 1\n\
+                 node 1 0 1 unset deposit 0 5\n\
+                 crash 18446744073709551615\n\
+                 log 0 entries 1 lines 3 fences 0\n\
+                 recovered 1\n\
+                 state\n\
+                 bank 1\n\
+                 account 0 5\n",
     },
     Replay {
         name: "the same, and the entry's magic is kept",
@@ -109,7 +145,15 @@ const REPLAYS: &[Replay<'static>] = &[
             ("s0", b"deposit 0 5\n"),
         ],
         status: 0,
-        output: "call 0 1 deposit 0 5 -> ordered at 1\ntrace 1\nnode 1 0 1 unset deposit 0 5\ncrash 1\nlog 0 entries 0 lines 1 fences 0\nrecovered 0\nstate\nbank 1\naccount 0 0\n",
+        output: "call 0 1 deposit 0 5 -> ordered at 1\n\
+                 trace 1\n\
+                 node 1 0 1 unset deposit 0 5\n\
+                 crash 1\n\
+                 log 0 entries 0 lines 1 fences 0\n\
+                 recovered 0\n\
+                 state\n\
+                 bank 1\n\
+                 account 0 0\n",
     },
     Replay {
         name: "fenced, and not yet flagged",
@@ -120,7 +164,15 @@ const REPLAYS: &[Replay<'static>] = &[
             ("s0", b"deposit 0 5\n"),
         ],
         status: 0,
-        output: "call 0 1 deposit 0 5 -> ordered at 1\ntrace 1\nnode 1 0 1 unset deposit 0 5\ncrash 0\nlog 0 entries 1 lines 3 fences 1\nrecovered 1\nstate\nbank 1\naccount 0 5\n",
+        output: "call 0 1 deposit 0 5 -> ordered at 1\n\
+                 trace 1\n\
+                 node 1 0 1 unset deposit 0 5\n\
+                 crash 0\n\
+                 log 0 entries 1 lines 3 fences 1\n\
+                 recovered 1\n\
+                 state\n\
+                 bank 1\n\
+                 account 0 5\n",
     },
     Replay {
         name: "returned",
@@ -131,7 +183,15 @@ const REPLAYS: &[Replay<'static>] = &[
             ("s0", b"deposit 0 5\n"),
         ],
         status: 0,
-        output: "call 0 1 deposit 0 5 -> ok at 1\ntrace 1\nnode 1 0 1 set deposit 0 5\ncrash 0\nlog 0 entries 1 lines 3 fences 1\nrecovered 1\nstate\nbank 1\naccount 0 5\n",
+        output: "call 0 1 deposit 0 5 -> ok at 1\n\
+                 trace 1\n\
+                 node 1 0 1 set deposit 0 5\n\
+                 crash 0\n\
+                 log 0 entries 1 lines 3 fences 1\n\
+                 recovered 1\n\
+                 state\n\
+                 bank 1\n\
+                 account 0 5\n",
     },
     Replay {
         name: "more steps than the script takes",
@@ -142,7 +202,15 @@ const REPLAYS: &[Replay<'static>] = &[
             ("s0", b"deposit 0 5\n"),
         ],
         status: 0,
-        output: "call 0 1 deposit 0 5 -> ok at 1\ntrace 1\nnode 1 0 1 set deposit 0 5\ncrash 0\nlog 0 entries 1 lines 3 fences 1\nrecovered 1\nstate\nbank 1\naccount 0 5\n",
+        output: "call 0 1 deposit 0 5 -> ok at 1\n\
+                 trace 1\n\
+                 node 1 0 1 set deposit 0 5\n\
+                 crash 0\n\
+                 log 0 entries 1 lines 3 fences 1\n\
+                 recovered 1\n\
+                 state\n\
+                 bank 1\n\
+                 account 0 5\n",
     },
     Replay {
         name: "an update that stands only in the other log",
@@ -161,7 +229,19 @@ const REPLAYS: &[Replay<'static>] = &[
             ("s1", b"deposit 1 7\n"),
         ],
         status: 0,
-        output: "call 0 1 deposit 0 5 -> ordered at 2\ncall 1 1 deposit 1 7 -> ordered at 1\ntrace 2\nnode 1 1 1 unset deposit 1 7\nnode 2 0 1 unset deposit 0 5\ncrash 0\nlog 0 entries 0 lines 1 fences 0\nlog 1 entries 0 lines 1 fences 0\nrecovered 0\nstate\nbank 2\naccount 0 0\naccount 1 0\n",
+        output: "call 0 1 deposit 0 5 -> ordered at 2\n\
+                 call 1 1 deposit 1 7 -> ordered at 1\n\
+                 trace 2\n\
+                 node 1 1 1 unset deposit 1 7\n\
+                 node 2 0 1 unset deposit 0 5\n\
+                 crash 0\n\
+                 log 0 entries 0 lines 1 fences 0\n\
+                 log 1 entries 0 lines 1 fences 0\n\
+                 recovered 0\n\
+                 state\n\
+                 bank 2\n\
+                 account 0 0\n\
+                 account 1 0\n",
     },
     Replay {
         name: "a read beside unset flags",
@@ -174,7 +254,21 @@ const REPLAYS: &[Replay<'static>] = &[
             ("s2", b"balance 0\nbalance 0\n"),
         ],
         status: 0,
-        output: "call 0 1 deposit 0 5 -> ok at 1\ncall 1 1 deposit 0 7 -> ok at 2\ncall 2 1 balance 0 -> 0 at 0\ncall 2 2 balance 0 -> 12 at 2\ntrace 2\nnode 1 0 1 set deposit 0 5\nnode 2 1 1 set deposit 0 7\ncrash 0\nlog 0 entries 1 lines 3 fences 1\nlog 1 entries 1 lines 3 fences 1\nlog 2 entries 0 lines 1 fences 0\nrecovered 2\nstate\nbank 1\naccount 0 12\n",
+        output: "call 0 1 deposit 0 5 -> ok at 1\n\
+                 call 1 1 deposit 0 7 -> ok at 2\n\
+                 call 2 1 balance 0 -> 0 at 0\n\
+                 call 2 2 balance 0 -> 12 at 2\n\
+                 trace 2\n\
+                 node 1 0 1 set deposit 0 5\n\
+                 node 2 1 1 set deposit 0 7\n\
+                 crash 0\n\
+                 log 0 entries 1 lines 3 fences 1\n\
+                 log 1 entries 1 lines 3 fences 1\n\
+                 log 2 entries 0 lines 1 fences 0\n\
+                 recovered 2\n\
+                 state\n\
+                 bank 1\n\
+                 account 0 12\n",
     },
     Replay {
         name: "a read that answers below a newer available place",
@@ -188,14 +282,83 @@ const REPLAYS: &[Replay<'static>] = &[
             ("s3", b"balance 0\n"),
         ],
         status: 0,
-        output: "call 0 1 deposit 0 1 -> ok at 1\ncall 1 1 deposit 0 2 -> ordered at 2\ncall 2 1 deposit 0 4 -> ok at 3\ncall 3 1 balance 0 -> 1 at 1\ntrace 3\nnode 1 0 1 set deposit 0 1\nnode 2 1 1 unset deposit 0 2\nnode 3 2 1 set deposit 0 4\ncrash 0\nlog 0 entries 1 lines 3 fences 1\nlog 1 entries 0 lines 1 fences 0\nlog 2 entries 1 lines 5 fences 1\nlog 3 entries 0 lines 1 fences 0\nrecovered 3\nstate\nbank 1\naccount 0 7\n",
+        output: "call 0 1 deposit 0 1 -> ok at 1\n\
+                 call 1 1 deposit 0 2 -> ordered at 2\n\
+                 call 2 1 deposit 0 4 -> ok at 3\n\
+                 call 3 1 balance 0 -> 1 at 1\n\
+                 trace 3\n\
+                 node 1 0 1 set deposit 0 1\n\
+                 node 2 1 1 unset deposit 0 2\n\
+                 node 3 2 1 set deposit 0 4\n\
+                 crash 0\n\
+                 log 0 entries 1 lines 3 fences 1\n\
+                 log 1 entries 0 lines 1 fences 0\n\
+                 log 2 entries 1 lines 5 fences 1\n\
+                 log 3 entries 0 lines 1 fences 0\n\
+                 recovered 3\n\
+                 state\n\
+                 bank 1\n\
+                 account 0 7\n",
     },
     Replay {
         name: "the greatest window",
         words: SIXTEEN,
         files: SIXTEEN_FILES,
         status: 0,
-        output: "call 0 1 deposit 0 1 -> ordered at 1\ncall 1 1 deposit 0 1 -> ordered at 2\ncall 2 1 deposit 0 1 -> ordered at 3\ncall 3 1 deposit 0 1 -> ordered at 4\ncall 4 1 deposit 0 1 -> ordered at 5\ncall 5 1 deposit 0 1 -> ordered at 6\ncall 6 1 deposit 0 1 -> ordered at 7\ncall 7 1 deposit 0 1 -> ordered at 8\ncall 8 1 deposit 0 1 -> ordered at 9\ncall 9 1 deposit 0 1 -> ordered at 10\ncall 10 1 deposit 0 1 -> ordered at 11\ncall 11 1 deposit 0 1 -> ordered at 12\ncall 12 1 deposit 0 1 -> ordered at 13\ncall 13 1 deposit 0 1 -> ordered at 14\ncall 14 1 deposit 0 1 -> ordered at 15\ncall 15 1 deposit 0 1 -> ok at 16\ntrace 16\nnode 1 0 1 unset deposit 0 1\nnode 2 1 1 unset deposit 0 1\nnode 3 2 1 unset deposit 0 1\nnode 4 3 1 unset deposit 0 1\nnode 5 4 1 unset deposit 0 1\nnode 6 5 1 unset deposit 0 1\nnode 7 6 1 unset deposit 0 1\nnode 8 7 1 unset deposit 0 1\nnode 9 8 1 unset deposit 0 1\nnode 10 9 1 unset deposit 0 1\nnode 11 10 1 unset deposit 0 1\nnode 12 11 1 unset deposit 0 1\nnode 13 12 1 unset deposit 0 1\nnode 14 13 1 unset deposit 0 1\nnode 15 14 1 unset deposit 0 1\nnode 16 15 1 set deposit 0 1\ncrash 0\nlog 0 entries 0 lines 1 fences 0\nlog 1 entries 0 lines 1 fences 0\nlog 2 entries 0 lines 1 fences 0\nlog 3 entries 0 lines 1 fences 0\nlog 4 entries 0 lines 1 fences 0\nlog 5 entries 0 lines 1 fences 0\nlog 6 entries 0 lines 1 fences 0\nlog 7 entries 0 lines 1 fences 0\nlog 8 entries 0 lines 1 fences 0\nlog 9 entries 0 lines 1 fences 0\nlog 10 entries 0 lines 1 fences 0\nlog 11 entries 0 lines 1 fences 0\nlog 12 entries 0 lines 1 fences 0\nlog 13 entries 0 lines 1 fences 0\nlog 14 entries 0 lines 1 fences 0\nlog 15 entries 1 lines 18 fences 1\nrecovered 16\nstate\nbank 1\naccount 0 16\n",
+        output: "call 0 1 deposit 0 1 -> ordered at 1\n\
+                 call 1 1 deposit 0 1 -> ordered at 2\n\
+                 call 2 1 deposit 0 1 -> ordered at 3\n\
+                 call 3 1 deposit 0 1 -> ordered at 4\n\
+                 call 4 1 deposit 0 1 -> ordered at 5\n\
+                 call 5 1 deposit 0 1 -> ordered at 6\n\
+                 call 6 1 deposit 0 1 -> ordered at 7\n\
+                 call 7 1 deposit 0 1 -> ordered at 8\n\
+                 call 8 1 deposit 0 1 -> ordered at 9\n\
+                 call 9 1 deposit 0 1 -> ordered at 10\n\
+                 call 10 1 deposit 0 1 -> ordered at 11\n\
+                 call 11 1 deposit 0 1 -> ordered at 12\n\
+                 call 12 1 deposit 0 1 -> ordered at 13\n\
+                 call 13 1 deposit 0 1 -> ordered at 14\n\
+                 call 14 1 deposit 0 1 -> ordered at 15\n\
+                 call 15 1 deposit 0 1 -> ok at 16\n\
+                 trace 16\n\
+                 node 1 0 1 unset deposit 0 1\n\
+                 node 2 1 1 unset deposit 0 1\n\
+                 node 3 2 1 unset deposit 0 1\n\
+                 node 4 3 1 unset deposit 0 1\n\
+                 node 5 4 1 unset deposit 0 1\n\
+                 node 6 5 1 unset deposit 0 1\n\
+                 node 7 6 1 unset deposit 0 1\n\
+                 node 8 7 1 unset deposit 0 1\n\
+                 node 9 8 1 unset deposit 0 1\n\
+                 node 10 9 1 unset deposit 0 1\n\
+                 node 11 10 1 unset deposit 0 1\n\
+                 node 12 11 1 unset deposit 0 1\n\
+                 node 13 12 1 unset deposit 0 1\n\
+                 node 14 13 1 unset deposit 0 1\n\
+                 node 15 14 1 unset deposit 0 1\n\
+                 node 16 15 1 set deposit 0 1\n\
+                 crash 0\n\
+                 log 0 entries 0 lines 1 fences 0\n\
+                 log 1 entries 0 lines 1 fences 0\n\
+                 log 2 entries 0 lines 1 fences 0\n\
+                 log 3 entries 0 lines 1 fences 0\n\
+                 log 4 entries 0 lines 1 fences 0\n\
+                 log 5 entries 0 lines 1 fences 0\n\
+                 log 6 entries 0 lines 1 fences 0\n\
+                 log 7 entries 0 lines 1 fences 0\n\
+                 log 8 entries 0 lines 1 fences 0\n\
+                 log 9 entries 0 lines 1 fences 0\n\
+                 log 10 entries 0 lines 1 fences 0\n\
+                 log 11 entries 0 lines 1 fences 0\n\
+                 log 12 entries 0 lines 1 fences 0\n\
+                 log 13 entries 0 lines 1 fences 0\n\
+                 log 14 entries 0 lines 1 fences 0\n\
+                 log 15 entries 1 lines 18 fences 1\n\
+                 recovered 16\n\
+                 state\n\
+                 bank 1\n\
+                 account 0 16\n",
     },
     Replay {
         name: "a map",
@@ -207,7 +370,19 @@ const REPLAYS: &[Replay<'static>] = &[
             ("s1", b"next b\ndel a\n"),
         ],
         status: 0,
-        output: "call 0 1 put b 2 -> new at 1\ncall 1 1 next b -> key b at 1\ncall 1 2 del a -> running\ntrace 1\nnode 1 0 1 set put b 2\ncrash 0\nlog 0 entries 1 lines 3 fences 1\nlog 1 entries 0 lines 1 fences 0\nrecovered 1\nstate\nmap 2\npair a 1\npair b 2\n",
+        output: "call 0 1 put b 2 -> new at 1\n\
+                 call 1 1 next b -> key b at 1\n\
+                 call 1 2 del a -> running\n\
+                 trace 1\n\
+                 node 1 0 1 set put b 2\n\
+                 crash 0\n\
+                 log 0 entries 1 lines 3 fences 1\n\
+                 log 1 entries 0 lines 1 fences 0\n\
+                 recovered 1\n\
+                 state\n\
+                 map 2\n\
+                 pair a 1\n\
+                 pair b 2\n",
     },
     Replay {
         name: "a queue",
@@ -218,7 +393,17 @@ const REPLAYS: &[Replay<'static>] = &[
             ("s0", b"pop\npush 5\n"),
         ],
         status: 0,
-        output: "call 0 1 pop -> item 4 at 1\ncall 0 2 push 5 -> ok at 2\ntrace 2\nnode 1 0 1 set pop\nnode 2 0 2 set push 5\ncrash 0\nlog 0 entries 2 lines 5 fences 2\nrecovered 2\nstate\nqueue 2\nitem 5\n",
+        output: "call 0 1 pop -> item 4 at 1\n\
+                 call 0 2 push 5 -> ok at 2\n\
+                 trace 2\n\
+                 node 1 0 1 set pop\n\
+                 node 2 0 2 set push 5\n\
+                 crash 0\n\
+                 log 0 entries 2 lines 5 fences 2\n\
+                 recovered 2\n\
+                 state\n\
+                 queue 2\n\
+                 item 5\n",
     },
     Replay {
         name: "a lease table",
@@ -229,7 +414,15 @@ const REPLAYS: &[Replay<'static>] = &[
             ("s0", b"grant 0 7 10 5\n"),
         ],
         status: 0,
-        output: "call 0 1 grant 0 7 10 5 -> granted 1 at 1\ntrace 1\nnode 1 0 1 set grant 0 7 10 5\ncrash 0\nlog 0 entries 1 lines 3 fences 1\nrecovered 1\nstate\nlease 1\nheld 0 1 7 15\n",
+        output: "call 0 1 grant 0 7 10 5 -> granted 1 at 1\n\
+                 trace 1\n\
+                 node 1 0 1 set grant 0 7 10 5\n\
+                 crash 0\n\
+                 log 0 entries 1 lines 3 fences 1\n\
+                 recovered 1\n\
+                 state\n\
+                 lease 1\n\
+                 held 0 1 7 15\n",
     },
 ];
 
@@ -555,7 +748,11 @@ fn what_a_crash_left_is_recovered(rt: HostRuntime) -> Result<(), Fail> {
         &rt,
         "the second log",
         0,
-        "log thread 1 threads 2 object bank\nentry 1 place 2 count 2\nrow 1 0 1 1 0 5 0 0 0 0\nrow 2 1 1 1 1 7 0 0 0 0\nentries 1 lines 4\n",
+        "log thread 1 threads 2 object bank\n\
+         entry 1 place 2 count 2\n\
+         row 1 0 1 1 0 5 0 0 0 0\n\
+         row 2 1 1 1 1 7 0 0 0 0\n\
+         entries 1 lines 4\n",
     );
     recovers(
         &rt,
@@ -563,7 +760,15 @@ fn what_a_crash_left_is_recovered(rt: HostRuntime) -> Result<(), Fail> {
         b"bank 2\n",
         (&first, &second),
         0,
-        "log 0 entries 0 lines 1\nlog 1 entries 1 lines 4\nrecovered 2\nnode 1 0 1 deposit 0 5\nnode 2 1 1 deposit 1 7\nstate\nbank 2\naccount 0 5\naccount 1 7\n",
+        "log 0 entries 0 lines 1\n\
+         log 1 entries 1 lines 4\n\
+         recovered 2\n\
+         node 1 0 1 deposit 0 5\n\
+         node 2 1 1 deposit 1 7\n\
+         state\n\
+         bank 2\n\
+         account 0 5\n\
+         account 1 7\n",
     )?;
     recovers(
         &rt,
@@ -577,8 +782,42 @@ fn what_a_crash_left_is_recovered(rt: HostRuntime) -> Result<(), Fail> {
 }
 
 /// What is recovered of the logs of sixteen threads.
-const SIXTEEN_RECOVERED: &str =
-    "log 0 entries 0 lines 1\nlog 1 entries 0 lines 1\nlog 2 entries 0 lines 1\nlog 3 entries 0 lines 1\nlog 4 entries 0 lines 1\nlog 5 entries 0 lines 1\nlog 6 entries 0 lines 1\nlog 7 entries 0 lines 1\nlog 8 entries 0 lines 1\nlog 9 entries 0 lines 1\nlog 10 entries 0 lines 1\nlog 11 entries 0 lines 1\nlog 12 entries 0 lines 1\nlog 13 entries 0 lines 1\nlog 14 entries 0 lines 1\nlog 15 entries 1 lines 18\nrecovered 16\nnode 1 0 1 deposit 0 1\nnode 2 1 1 deposit 0 1\nnode 3 2 1 deposit 0 1\nnode 4 3 1 deposit 0 1\nnode 5 4 1 deposit 0 1\nnode 6 5 1 deposit 0 1\nnode 7 6 1 deposit 0 1\nnode 8 7 1 deposit 0 1\nnode 9 8 1 deposit 0 1\nnode 10 9 1 deposit 0 1\nnode 11 10 1 deposit 0 1\nnode 12 11 1 deposit 0 1\nnode 13 12 1 deposit 0 1\nnode 14 13 1 deposit 0 1\nnode 15 14 1 deposit 0 1\nnode 16 15 1 deposit 0 1\nstate\nbank 1\naccount 0 16\n";
+const SIXTEEN_RECOVERED: &str = "log 0 entries 0 lines 1\n\
+     log 1 entries 0 lines 1\n\
+     log 2 entries 0 lines 1\n\
+     log 3 entries 0 lines 1\n\
+     log 4 entries 0 lines 1\n\
+     log 5 entries 0 lines 1\n\
+     log 6 entries 0 lines 1\n\
+     log 7 entries 0 lines 1\n\
+     log 8 entries 0 lines 1\n\
+     log 9 entries 0 lines 1\n\
+     log 10 entries 0 lines 1\n\
+     log 11 entries 0 lines 1\n\
+     log 12 entries 0 lines 1\n\
+     log 13 entries 0 lines 1\n\
+     log 14 entries 0 lines 1\n\
+     log 15 entries 1 lines 18\n\
+     recovered 16\n\
+     node 1 0 1 deposit 0 1\n\
+     node 2 1 1 deposit 0 1\n\
+     node 3 2 1 deposit 0 1\n\
+     node 4 3 1 deposit 0 1\n\
+     node 5 4 1 deposit 0 1\n\
+     node 6 5 1 deposit 0 1\n\
+     node 7 6 1 deposit 0 1\n\
+     node 8 7 1 deposit 0 1\n\
+     node 9 8 1 deposit 0 1\n\
+     node 10 9 1 deposit 0 1\n\
+     node 11 10 1 deposit 0 1\n\
+     node 12 11 1 deposit 0 1\n\
+     node 13 12 1 deposit 0 1\n\
+     node 14 13 1 deposit 0 1\n\
+     node 15 14 1 deposit 0 1\n\
+     node 16 15 1 deposit 0 1\n\
+     state\n\
+     bank 1\n\
+     account 0 16\n";
 
 #[test]
 fn sixteen_logs_are_recovered(rt: HostRuntime) -> Result<(), Fail> {
@@ -643,7 +882,15 @@ fn one_changed_byte(rt: HostRuntime) -> Result<(), Fail> {
         b"bank 2\n",
         (&changed, &second),
         0,
-        "log 0 entries 1 lines 3\nlog 1 entries 1 lines 3\nrecovered 2\nnode 1 0 1 deposit 0 4\nnode 2 1 1 deposit 1 7\nstate\nbank 2\naccount 0 4\naccount 1 7\n",
+        "log 0 entries 1 lines 3\n\
+         log 1 entries 1 lines 3\n\
+         recovered 2\n\
+         node 1 0 1 deposit 0 4\n\
+         node 2 1 1 deposit 1 7\n\
+         state\n\
+         bank 2\n\
+         account 0 4\n\
+         account 1 7\n",
     )?;
     Ok(())
 }

@@ -1,3 +1,5 @@
+//! Images of logs that are shown.
+
 use crate::calls::{Program, repeated};
 use crate::images::{
     BOTH_AT_2, DEPOSIT_5, DEPOSIT_7, FULL, HEAD_1, Image, LEASE_HEAD, OLD_BOTH_AT_2, OLD_HEAD_1,
@@ -22,7 +24,11 @@ const SHOWS: &[Shown<'static>] = &[
             length: 256,
         },
         status: 0,
-        output: "log thread 1 threads 2 object bank\nentry 1 place 2 count 2\nrow 1 0 1 1 0 5 0 0 0 0\nrow 2 1 1 1 1 7 0 0 0 0\nentries 1 lines 4\n",
+        output: "log thread 1 threads 2 object bank\n\
+                 entry 1 place 2 count 2\n\
+                 row 1 0 1 1 0 5 0 0 0 0\n\
+                 row 2 1 1 1 1 7 0 0 0 0\n\
+                 entries 1 lines 4\n",
     },
     Shown {
         name: "a log of two updates and lines that are left",
@@ -34,7 +40,11 @@ const SHOWS: &[Shown<'static>] = &[
             length: 512,
         },
         status: 0,
-        output: "log thread 1 threads 2 object bank\nentry 1 place 2 count 2\nrow 1 0 1 1 0 5 0 0 0 0\nrow 2 1 1 1 1 7 0 0 0 0\nentries 1 lines 4\n",
+        output: "log thread 1 threads 2 object bank\n\
+                 entry 1 place 2 count 2\n\
+                 row 1 0 1 1 0 5 0 0 0 0\n\
+                 row 2 1 1 1 1 7 0 0 0 0\n\
+                 entries 1 lines 4\n",
     },
     Shown {
         name: "the same in format 1",
@@ -44,7 +54,11 @@ const SHOWS: &[Shown<'static>] = &[
             length: 256,
         },
         status: 0,
-        output: "log thread 1 threads 2 object bank\nentry 1 place 2 count 2\nrow 1 0 1 1 0 5 0 0 0 0\nrow 2 1 1 1 1 7 0 0 0 0\nentries 1 lines 4\n",
+        output: "log thread 1 threads 2 object bank\n\
+                 entry 1 place 2 count 2\n\
+                 row 1 0 1 1 0 5 0 0 0 0\n\
+                 row 2 1 1 1 1 7 0 0 0 0\n\
+                 entries 1 lines 4\n",
     },
     Shown {
         name: "a head whose entry was not fenced",
@@ -64,7 +78,11 @@ const SHOWS: &[Shown<'static>] = &[
             length: 300,
         },
         status: 0,
-        output: "log thread 1 threads 2 object bank\nentry 1 place 2 count 2\nrow 1 0 1 1 0 5 0 0 0 0\nrow 2 1 1 1 1 7 0 0 0 0\nentries 1 lines 4\n",
+        output: "log thread 1 threads 2 object bank\n\
+                 entry 1 place 2 count 2\n\
+                 row 1 0 1 1 0 5 0 0 0 0\n\
+                 row 2 1 1 1 1 7 0 0 0 0\n\
+                 entries 1 lines 4\n",
     },
     Shown {
         name: "two entries",
@@ -74,7 +92,12 @@ const SHOWS: &[Shown<'static>] = &[
             length: 320,
         },
         status: 0,
-        output: "log thread 0 threads 1 object bank\nentry 1 place 2 count 1\nrow 2 0 1 1 0 5 0 0 0 0\nentry 2 place 2 count 1\nrow 2 0 2 1 0 5 0 0 0 0\nentries 2 lines 5\n",
+        output: "log thread 0 threads 1 object bank\n\
+                 entry 1 place 2 count 1\n\
+                 row 2 0 1 1 0 5 0 0 0 0\n\
+                 entry 2 place 2 count 1\n\
+                 row 2 0 2 1 0 5 0 0 0 0\n\
+                 entries 2 lines 5\n",
     },
     Shown {
         name: "a map",
@@ -84,7 +107,10 @@ const SHOWS: &[Shown<'static>] = &[
             length: 192,
         },
         status: 0,
-        output: "log thread 0 threads 1 object map\nentry 1 place 1 count 1\nrow 1 0 1 1 6989586621679009792 0 1 8646911284551352320 0 1\nentries 1 lines 3\n",
+        output: "log thread 0 threads 1 object map\n\
+                 entry 1 place 1 count 1\n\
+                 row 1 0 1 1 6989586621679009792 0 1 8646911284551352320 0 1\n\
+                 entries 1 lines 3\n",
     },
     Shown {
         name: "a queue",

@@ -1,3 +1,5 @@
+//! The worked cases of a bank, and words that are no command.
+
 use crate::calls::{Program, USAGE, fold};
 use std::test::Fail;
 
@@ -5,8 +7,14 @@ const TRANSFER_INIT: &[u8] = b"bank 2\naccount 0 100\n";
 
 const TRANSFER_SCRIPT: &[u8] = b"transfer 0 1 30\nbalance 1\n";
 
-const TRANSFER_REPORT: &str =
-    "call 0 1 transfer 0 1 30 -> ok at 1\ncall 0 2 balance 1 -> 30 at 1\ntrace 1\nnode 1 0 1 transfer 0 1 30\nstate\nbank 2\naccount 0 70\naccount 1 30\n";
+const TRANSFER_REPORT: &str = "call 0 1 transfer 0 1 30 -> ok at 1\n\
+     call 0 2 balance 1 -> 30 at 1\n\
+     trace 1\n\
+     node 1 0 1 transfer 0 1 30\n\
+     state\n\
+     bank 2\n\
+     account 0 70\n\
+     account 1 30\n";
 
 /// The name of a case, an initial state, a script and its report.
 const REPORTS: &[(&str, &[u8], &[u8], &str)] = &[
@@ -26,25 +34,74 @@ const REPORTS: &[(&str, &[u8], &[u8], &str)] = &[
         "deposits into a full bank and into no account",
         b"bank 1\naccount 0 18446744073709551615\n",
         b"deposit 0 1\ndeposit 0 0\ndeposit 1 0\n",
-        "call 0 1 deposit 0 1 -> over at 1\ncall 0 2 deposit 0 0 -> ok at 2\ncall 0 3 deposit 1 0 -> no-account at 3\ntrace 3\nnode 1 0 1 deposit 0 1\nnode 2 0 2 deposit 0 0\nnode 3 0 3 deposit 1 0\nstate\nbank 1\naccount 0 18446744073709551615\n",
+        "call 0 1 deposit 0 1 -> over at 1\n\
+         call 0 2 deposit 0 0 -> ok at 2\n\
+         call 0 3 deposit 1 0 -> no-account at 3\n\
+         trace 3\n\
+         node 1 0 1 deposit 0 1\n\
+         node 2 0 2 deposit 0 0\n\
+         node 3 0 3 deposit 1 0\n\
+         state\n\
+         bank 1\n\
+         account 0 18446744073709551615\n",
     ),
     (
         "withdrawals, and reads before and after them",
         b"bank 2\naccount 1 5\naccount 0 10\n",
         b"total\nwithdraw 0 11\nwithdraw 0 4\nwithdraw 2 1\nbalance 0\nbalance 2\ntotal\n",
-        "call 0 1 total -> 15 at 0\ncall 0 2 withdraw 0 11 -> short at 1\ncall 0 3 withdraw 0 4 -> ok at 2\ncall 0 4 withdraw 2 1 -> no-account at 3\ncall 0 5 balance 0 -> 6 at 3\ncall 0 6 balance 2 -> no-account at 3\ncall 0 7 total -> 11 at 3\ntrace 3\nnode 1 0 1 withdraw 0 11\nnode 2 0 2 withdraw 0 4\nnode 3 0 3 withdraw 2 1\nstate\nbank 2\naccount 0 6\naccount 1 5\n",
+        "call 0 1 total -> 15 at 0\n\
+         call 0 2 withdraw 0 11 -> short at 1\n\
+         call 0 3 withdraw 0 4 -> ok at 2\n\
+         call 0 4 withdraw 2 1 -> no-account at 3\n\
+         call 0 5 balance 0 -> 6 at 3\n\
+         call 0 6 balance 2 -> no-account at 3\n\
+         call 0 7 total -> 11 at 3\n\
+         trace 3\n\
+         node 1 0 1 withdraw 0 11\n\
+         node 2 0 2 withdraw 0 4\n\
+         node 3 0 3 withdraw 2 1\n\
+         state\n\
+         bank 2\n\
+         account 0 6\n\
+         account 1 5\n",
     ),
     (
         "transfers to the same account and to no account",
         b"bank 2\naccount 0 6\naccount 1 5\n",
         b"transfer 1 1 5\ntransfer 1 1 6\ntransfer 0 2 1\ntransfer 2 0 0\ntransfer 0 1 7\ntransfer 0 1 6\ntotal\n",
-        "call 0 1 transfer 1 1 5 -> ok at 1\ncall 0 2 transfer 1 1 6 -> short at 2\ncall 0 3 transfer 0 2 1 -> no-account at 3\ncall 0 4 transfer 2 0 0 -> no-account at 4\ncall 0 5 transfer 0 1 7 -> short at 5\ncall 0 6 transfer 0 1 6 -> ok at 6\ncall 0 7 total -> 11 at 6\ntrace 6\nnode 1 0 1 transfer 1 1 5\nnode 2 0 2 transfer 1 1 6\nnode 3 0 3 transfer 0 2 1\nnode 4 0 4 transfer 2 0 0\nnode 5 0 5 transfer 0 1 7\nnode 6 0 6 transfer 0 1 6\nstate\nbank 2\naccount 0 0\naccount 1 11\n",
+        "call 0 1 transfer 1 1 5 -> ok at 1\n\
+         call 0 2 transfer 1 1 6 -> short at 2\n\
+         call 0 3 transfer 0 2 1 -> no-account at 3\n\
+         call 0 4 transfer 2 0 0 -> no-account at 4\n\
+         call 0 5 transfer 0 1 7 -> short at 5\n\
+         call 0 6 transfer 0 1 6 -> ok at 6\n\
+         call 0 7 total -> 11 at 6\n\
+         trace 6\n\
+         node 1 0 1 transfer 1 1 5\n\
+         node 2 0 2 transfer 1 1 6\n\
+         node 3 0 3 transfer 0 2 1\n\
+         node 4 0 4 transfer 2 0 0\n\
+         node 5 0 5 transfer 0 1 7\n\
+         node 6 0 6 transfer 0 1 6\n\
+         state\n\
+         bank 2\n\
+         account 0 0\n\
+         account 1 11\n",
     ),
     (
         "a deposit that the total has no room for, though its account has",
         b"bank 2\naccount 0 18446744073709551614\n",
         b"deposit 1 2\ndeposit 1 1\ntotal\n",
-        "call 0 1 deposit 1 2 -> over at 1\ncall 0 2 deposit 1 1 -> ok at 2\ncall 0 3 total -> 18446744073709551615 at 2\ntrace 2\nnode 1 0 1 deposit 1 2\nnode 2 0 2 deposit 1 1\nstate\nbank 2\naccount 0 18446744073709551614\naccount 1 1\n",
+        "call 0 1 deposit 1 2 -> over at 1\n\
+         call 0 2 deposit 1 1 -> ok at 2\n\
+         call 0 3 total -> 18446744073709551615 at 2\n\
+         trace 2\n\
+         node 1 0 1 deposit 1 2\n\
+         node 2 0 2 deposit 1 1\n\
+         state\n\
+         bank 2\n\
+         account 0 18446744073709551614\n\
+         account 1 1\n",
     ),
 ];
 

@@ -46,8 +46,11 @@ fn device_of_both(alloc: Global, failing: &[u64]) -> Result<MemPmem, Fail> {
     Ok(log.into_device())
 }
 
-const BOTH_SHOWN: &str =
-    "log thread 1 threads 2 object bank\nentry 1 place 2 count 2\nrow 1 0 1 1 0 5 0 0 0 0\nrow 2 1 1 1 1 7 0 0 0 0\nentries 1 lines 4\n";
+const BOTH_SHOWN: &str = "log thread 1 threads 2 object bank\n\
+     entry 1 place 2 count 2\n\
+     row 1 0 1 1 0 5 0 0 0 0\n\
+     row 2 1 1 1 1 7 0 0 0 0\n\
+     entries 1 lines 4\n";
 
 const NONE_SHOWN: &str = "log thread 1 threads 2 object bank\nentries 0 lines 1\n";
 
@@ -139,7 +142,17 @@ fn what_stands_before_a_torn_tail(rt: HostRuntime) -> Result<(), Fail> {
         &rt,
         rt.alloc(),
         TORN_FILES,
-        "call 0 1 deposit 0 5 -> ok at 1\ncall 0 2 deposit 0 7 -> ordered at 2\ntrace 2\nnode 1 0 1 set deposit 0 5\nnode 2 0 2 unset deposit 0 7\ncrash 1\nlog 0 entries 1 lines 3 fences 1\nrecovered 1\nstate\nbank 1\naccount 0 5\n",
+        "call 0 1 deposit 0 5 -> ok at 1\n\
+         call 0 2 deposit 0 7 -> ordered at 2\n\
+         trace 2\n\
+         node 1 0 1 set deposit 0 5\n\
+         node 2 0 2 unset deposit 0 7\n\
+         crash 1\n\
+         log 0 entries 1 lines 3 fences 1\n\
+         recovered 1\n\
+         state\n\
+         bank 1\n\
+         account 0 5\n",
     )?;
     let begun = image.get(192..200).unwrap_or(b"");
     assert!(rt;
@@ -161,7 +174,15 @@ fn a_replayed_image_that_is_cut(rt: HostRuntime) -> Result<(), Fail> {
         &rt,
         rt.alloc(),
         FENCED_FILES,
-        "call 0 1 deposit 0 5 -> ordered at 1\ntrace 1\nnode 1 0 1 unset deposit 0 5\ncrash 0\nlog 0 entries 1 lines 3 fences 1\nrecovered 1\nstate\nbank 1\naccount 0 5\n",
+        "call 0 1 deposit 0 5 -> ordered at 1\n\
+         trace 1\n\
+         node 1 0 1 unset deposit 0 5\n\
+         crash 0\n\
+         log 0 entries 1 lines 3 fences 1\n\
+         recovered 1\n\
+         state\n\
+         bank 1\n\
+         account 0 5\n",
     )?;
     image.truncate(150);
     recovers(

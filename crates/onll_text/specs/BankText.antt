@@ -114,7 +114,7 @@ with_account made n =
     only_if (is_account made.balances n.0) OutOfRange made
     >>= (λ m. only_if (not (is_named m n.0)) Repeated m)
     >>= (λ m. only_if (not (nat_lt greatest_total (sum m.balances + n.1))) TooLarge
-        (record { balances = raised m.balances n.0 n.1; named = slice_set m.named n.0 true }))
+    (record { balances = raised m.balances n.0 n.1; named = slice_set m.named n.0 true }))
 
 -- one line more, by its words
 abbrev pub with_account_line : Accounts → List (List ℕ) → Result Accounts Reason

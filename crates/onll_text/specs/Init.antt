@@ -2,6 +2,7 @@
 
 use Rattle.std.specs.Prelude.{ℕ, List, [], ◌∷◌, Result, Ok, Err, if◌then◌else◌, codes, nat_le, ◌&&◌}
 use Rattle.std.specs.Str.{bytes_eq}
+use Rattle.onll_model.specs.Limits.{most_elements}
 use Rattle.onll_words.specs.Texts.{Numbered, words_of, meaningful_lines}
 use Rattle.onll_text.specs.declared.reason.Reason.{Reason}
 use Rattle.onll_text.specs.declared.reason.Reason.TheVariants.{TooLong, Missing, UnknownObject, OutOfRange}
@@ -38,7 +39,7 @@ kind_of word = kind_in named_kinds word
 
 -- the capacity of an object
 abbrev pub capacity_of : List (List ℕ) → Result ℕ Reason
-capacity_of args = one_number args >>= λ n. only_if (nat_le 1 n && nat_le n 4096) OutOfRange n
+capacity_of args = one_number args >>= λ n. only_if (nat_le 1 n && nat_le n most_elements) OutOfRange n
 
 -- the first line of an initial state, by its words
 abbrev pub head_of : List (List ℕ) → Result Head Reason

@@ -18,12 +18,14 @@ use Rattle.onll_text.specs.Refusal.{Refusal}
 use Rattle.onll_text.specs.Init.{init_of}
 
 pub op_in_words : (op : LeaseOp) → AreWords (lease_op_words op)
-op_in_words (Grant r h now ttl) =
-    (record { some = refl; bytes = refl },
-    (IsWord-decimal r, (IsWord-decimal h, (IsWord-decimal now, (IsWord-decimal ttl, tt)))))
-op_in_words (Renew r t now ttl) =
-    (record { some = refl; bytes = refl },
-    (IsWord-decimal r, (IsWord-decimal t, (IsWord-decimal now, (IsWord-decimal ttl, tt)))))
+op_in_words (Grant r h now ttl) = (
+  record { some = refl; bytes = refl },
+  (IsWord-decimal r, (IsWord-decimal h, (IsWord-decimal now, (IsWord-decimal ttl, tt)))),
+)
+op_in_words (Renew r t now ttl) = (
+  record { some = refl; bytes = refl },
+  (IsWord-decimal r, (IsWord-decimal t, (IsWord-decimal now, (IsWord-decimal ttl, tt)))),
+)
 op_in_words (Release r t) = (record { some = refl; bytes = refl }, (IsWord-decimal r, (IsWord-decimal t, tt)))
 
 pub query_in_words : (query : LeaseQuery) → AreWords (lease_query_words query)
@@ -40,8 +42,13 @@ reply_in_words Stale = (record { some = refl; bytes = refl }, tt)
 reply_in_words Released = (record { some = refl; bytes = refl }, tt)
 reply_in_words (HeldBy h t u) = (
   record { some = refl; bytes = refl },
-  (IsWord-decimal h, (record { some = refl; bytes = refl },
-      (IsWord-decimal t, (record { some = refl; bytes = refl }, (IsWord-decimal u, tt))))),
+  (
+    IsWord-decimal h,
+    (
+      record { some = refl; bytes = refl },
+      (IsWord-decimal t, (record { some = refl; bytes = refl }, (IsWord-decimal u, tt))),
+    ),
+  ),
 )
 reply_in_words Free = (record { some = refl; bytes = refl }, tt)
 
@@ -49,9 +56,14 @@ reply_in_words Free = (record { some = refl; bytes = refl }, tt)
 one_in_lines : (b : Bool) (r : ℕ) (e : LeaseEntry) (lines : List (List (List ℕ))) → AreMeaningful lines
     → AreMeaningful ((if b then [] else held_line r e ∷ []) ++ lines)
 one_in_lines true r e lines h = h
-one_in_lines false r e lines h =
-    ((record { some = refl; bytes = refl },
-        (IsWord-decimal r, (IsWord-decimal e.token, (IsWord-decimal e.holder, (IsWord-decimal e.until, tt))))), refl, h)
+one_in_lines false r e lines h = (
+  (
+    record { some = refl; bytes = refl },
+    (IsWord-decimal r, (IsWord-decimal e.token, (IsWord-decimal e.holder, (IsWord-decimal e.until, tt)))),
+  ),
+  refl,
+  h,
+)
 
 held_in_lines : (r : ℕ) (entries : List LeaseEntry) → AreMeaningful (held_lines r entries)
 held_in_lines r [] = tt

@@ -60,7 +60,7 @@ TextDeterminedLaw = (lines others : List (List (List ℕ))) → AreMeaningful li
 abbrev pub CallsDeterminedLaw : {State Op Query Reply : Type 0} → Wording State Op Query Reply → Type 0
 CallsDeterminedLaw {State} {Op} {Query} {Reply} w =
     (thread : ℕ) (script : List (Call State Op Query Reply)) (ends others : List (CallEnd State Op Query Reply))
-        (lines more : List (List (List ℕ)))
+    (lines more : List (List (List ℕ)))
     → EndsRead w script ends → EndsRead w script others → NoCallNext thread lines → NoCallNext thread more
     → call_lines w thread 0 script ends ++ lines ≡ call_lines w thread 0 script others ++ more → (ends ≡ others) × (lines ≡ more)
 
@@ -68,7 +68,7 @@ CallsDeterminedLaw {State} {Op} {Query} {Reply} w =
 abbrev pub NodesDeterminedLaw : {State Op Query Reply : Type 0} → Behaviour State Op Query Reply → Wording State Op Query Reply → Type 0
 NodesDeterminedLaw b w =
     (nodes others : List Node) (lines more : List (List (List ℕ))) → All (NodeReads b w) nodes
-        → All (NodeReads b w) others → NoNodeNext lines → NoNodeNext more
+    → All (NodeReads b w) others → NoNodeNext lines → NoNodeNext more
     → node_lines b w 0 nodes ++ lines ≡ node_lines b w 0 others ++ more → (nodes ≡ others) × (lines ≡ more)
 
 -- the lines of a state determine it
@@ -104,7 +104,7 @@ pub record FoldDataReads {State Op Query Reply : Type 0} (b : Behaviour State Op
 abbrev pub FoldDeterminedLaw : {State Op Query Reply : Type 0} → Behaviour State Op Query Reply → Wording State Op Query Reply → Type 0
 FoldDeterminedLaw {State} {Op} {Query} {Reply} b w =
     (script : List (Call State Op Query Reply)) (said other : FoldData State Op Query Reply)
-        → FoldDataReads b w script said → FoldDataReads b w script other
+    → FoldDataReads b w script said → FoldDataReads b w script other
     → flat_map line_text (fold_data_lines b w script said) ≡ flat_map line_text (fold_data_lines b w script other) → said ≡ other
 
 -- ---- any report

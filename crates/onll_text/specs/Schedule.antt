@@ -63,7 +63,7 @@ abbrev pub schedule_in : ℕ → ℕ → List Numbered → Result Schedule Refus
 schedule_in threads steps [] = Err (refused 0 Missing)
 schedule_in threads steps (l ∷ lines) =
     at_line l.number (line_after threads steps (words_of l.line)) >>= λ said.
-        from_line said lines (λ count. schedule_in threads (steps + count) lines)
+    from_line said lines (λ count. schedule_in threads (steps + count) lines)
 
 -- the schedule of a text for so many threads, or why the text is none
 abbrev pub schedule_of : ℕ → List ℕ → Result Schedule Refusal

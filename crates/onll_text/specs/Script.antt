@@ -1,6 +1,7 @@
 -- The grammar of scripts.
 
 use Rattle.std.specs.Prelude.{ℕ, Bool, List, [], ◌∷◌, ◌+◌, Result, Ok, Err, if◌then◌else◌, length, nat_lt}
+use Rattle.onll_model.specs.Limits.{most_updates}
 use Rattle.onll_words.specs.Texts.{Numbered, words_of, meaningful_lines}
 use Rattle.onll_model.specs.declared.call.Call.{Call}
 use Rattle.onll_model.specs.declared.call.Call.TheVariants.{Update, Ask}
@@ -19,7 +20,7 @@ is_too_long text = nat_lt longest_text (length text)
 
 -- a script has at most so many updates, and at most so many reads
 abbrev pub most_calls : ℕ
-most_calls = 4096
+most_calls = most_updates
 
 -- how many calls there are with one more
 abbrev pub counted : {State Op Query Reply : Type 0} → Counts → Call State Op Query Reply → Result Counts Reason

@@ -1,6 +1,7 @@
 //! An initial bank in the making.
 
 ghost use Rattle.std.specs.Prelude.{◌≡◌, ◌≤◌, MatchResult, IfOk, OnErr, Ok, Err};
+ghost use Rattle.onll_model.specs.Limits.{most_elements};
 ghost use Rattle.onll_text.specs.Refusal.{Fails};
 ghost use Rattle.onll_words.specs.Texts.{words_of};
 ghost use Rattle.onll_text.specs.BankText.{no_accounts, with_account, with_account_line, bank_of_lines};
@@ -35,7 +36,7 @@ impl Model for BankInit {
 impl BankInit {
     /// A bank of this many accounts, of which none was named.
     pub(crate) fn begin(alloc: Global, capacity: u64) -> Result<BankInit, NoMemory>
-        requires { (1 ≤ capacity) × (capacity ≤ 4096) }
+        requires { (1 ≤ capacity) × (capacity ≤ most_elements) }
         ensures { IfOk result (λ made. made ≡ no_accounts capacity) }
     {
         let bank = Bank::make(alloc, capacity)?;
@@ -88,7 +89,7 @@ impl Initial for BankInit {
 
 /// The bank of this many accounts, with the lines that are left.
 pub(crate) fn read_bank(alloc: Global, capacity: u64, lines: &mut Lines<'_>) -> Result<Bank, TextFault>
-    requires { (1 ≤ capacity) × (capacity ≤ 4096) }
+    requires { (1 ≤ capacity) × (capacity ≤ most_elements) }
     ensures { MatchResult result (λ bank. bank_of_lines capacity lines.old ≡ Ok bank)
         (λ fault. Fails fault (bank_of_lines capacity lines.old)) }
 {

@@ -1,6 +1,7 @@
 //! The reader of initial states.
 
 ghost use Rattle.std.specs.Prelude.{◌≡◌, ◌≤◌, ℕ, List, Result, MatchResult, IfOk, OnErr};
+ghost use Rattle.onll_model.specs.Limits.{most_elements};
 ghost use Rattle.onll_text.specs.declared.reason.Reason.{Reason};
 ghost use Rattle.onll_words.specs.Texts.{words_of};
 ghost use Rattle.onll_text.specs.Refusal.{Fails};
@@ -15,6 +16,7 @@ use crate::queue::read_queue;
 use crate::reason::{Reason, TextFault};
 use crate::script::is_too_long;
 use crate::words::one_number;
+use onll_model::MOST_ELEMENTS;
 use onll_words::{Cut, Lines, NumberedLine, split_word};
 use std::alloc::Global;
 
@@ -56,10 +58,10 @@ pub(crate) struct Head {
 
 fn read_capacity(args: &[u8]) -> Result<u64, Reason>
     ensures capacity { result ≡ capacity_of (words_of args.now) }
-    ensures range { IfOk result (λ n. (1 ≤ n) × (n ≤ 4096)) }
+    ensures range { IfOk result (λ n. (1 ≤ n) × (n ≤ most_elements)) }
 {
     let n = one_number(args)?;
-    if n < 1 || n > 4096 {
+    if n < 1 || n > MOST_ELEMENTS {
         return Err(Reason::OutOfRange);
     }
     Ok(n)
@@ -67,7 +69,7 @@ fn read_capacity(args: &[u8]) -> Result<u64, Reason>
 
 fn read_head(line: &[u8]) -> Result<Head, Reason>
     ensures head { result ≡ head_of (words_of line.now) }
-    ensures range { IfOk result (λ head. (1 ≤ head.capacity) × (head.capacity ≤ 4096)) }
+    ensures range { IfOk result (λ head. (1 ≤ head.capacity) × (head.capacity ≤ most_elements)) }
 {
     let Some(Cut { word, rest }) = split_word(line) else {
         return Err(Reason::UnknownObject);
@@ -78,7 +80,7 @@ fn read_head(line: &[u8]) -> Result<Head, Reason>
 }
 
 fn read_object(alloc: Global, head: Head, lines: &mut Lines<'_>) -> Result<AnyObject, TextFault>
-    requires { (1 ≤ head.capacity) × (head.capacity ≤ 4096) }
+    requires { (1 ≤ head.capacity) × (head.capacity ≤ most_elements) }
     ensures { MatchResult result (λ object. object_of head.kind head.capacity lines.old ≡ Ok object)
         (λ fault. Fails fault (object_of head.kind head.capacity lines.old)) }
 {

@@ -1,6 +1,7 @@
 //! The texts of a lease table, which is its own initial state in the making.
 
 ghost use Rattle.std.specs.Prelude.{◌≡◌, ◌++◌, ◌<◌, length, true, OnOk, OnErr, MatchResult, Ok, Err, ◌≤◌};
+ghost use Rattle.onll_model.specs.Limits.{most_elements};
 ghost use Rattle.onll_text.specs.Refusal.{Fails};
 ghost use Rattle.onll_words.specs.Texts.{words_of, line_text};
 ghost use Rattle.onll_text.specs.Bytes.{begins_line, with_lines, IsFront};
@@ -280,7 +281,7 @@ impl Initial for Lease {
 
 /// The leases of this many resources, with the lines that are left.
 pub(crate) fn read_lease(alloc: Global, capacity: u64, lines: &mut Lines<'_>) -> Result<Lease, TextFault>
-    requires { (1 ≤ capacity) × (capacity ≤ 4096) }
+    requires { (1 ≤ capacity) × (capacity ≤ most_elements) }
     ensures { MatchResult result (λ lease. lease_of_lines capacity lines.old ≡ Ok lease)
         (λ fault. Fails fault (lease_of_lines capacity lines.old)) }
 {

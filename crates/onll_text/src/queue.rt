@@ -1,6 +1,7 @@
 //! The texts of a queue, which is its own initial state in the making.
 
 ghost use Rattle.std.specs.Prelude.{◌≡◌, ◌++◌, true, OnOk, OnErr, MatchResult, Ok, Err, ◌≤◌};
+ghost use Rattle.onll_model.specs.Limits.{most_elements};
 ghost use Rattle.onll_text.specs.Refusal.{Fails};
 ghost use Rattle.onll_words.specs.Texts.{words_of, line_text};
 ghost use Rattle.onll_text.specs.Bytes.{begins_line, with_lines, IsFront};
@@ -187,7 +188,7 @@ impl Initial for Queue {
 
 /// The queue of at most so many items, with the lines that are left.
 pub(crate) fn read_queue(alloc: Global, capacity: u64, lines: &mut Lines<'_>) -> Result<Queue, TextFault>
-    requires { (1 ≤ capacity) × (capacity ≤ 4096) }
+    requires { (1 ≤ capacity) × (capacity ≤ most_elements) }
     ensures { MatchResult result (λ queue. queue_of_lines capacity lines.old ≡ Ok queue)
         (λ fault. Fails fault (queue_of_lines capacity lines.old)) }
 {

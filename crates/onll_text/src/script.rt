@@ -8,7 +8,7 @@ ghost use Rattle.onll_text.specs.Script.{most_calls, script_of, is_too_long, cou
 
 use crate::reason::{Reason, TextFault};
 use crate::texted::Texted;
-use onll_model::Call;
+use onll_model::{Call, MOST_UPDATES};
 use onll_words::{Lines, NumberedLine};
 use std::alloc::Global;
 
@@ -16,7 +16,7 @@ use std::alloc::Global;
 pub const LONGEST_TEXT: usize = 1_048_576;
 
 /// A script has at most so many updates, and at most so many reads.
-const MOST_CALLS: u64 = 4096;
+const MOST_CALLS: u64 = MOST_UPDATES;
 
 /// How many calls a script has so far.
 #[derive(Clone, Copy)]

@@ -1,4 +1,5 @@
 use Rattle.std.specs.Prelude.{ℕ, zero, suc, Bool, true, false, List, [], ◌∷◌, ◌++◌, ◌≡◌, ◌+◌, ◌*◌, ◌<◌, ◌≤◌, ◌==◌, length, option_to_list, None, Some, slice_get, slice_index, slice_set}
+use Rattle.onll_model.specs.Limits.{most_updates}
 use mathlib.Core.Option.{some, none}
 use prog.Atomic.{either}
 use lib.ListN.{get_elem?}
@@ -26,7 +27,8 @@ LeadTo b f (e ∷ es) g = Possible f e × LeadTo b (after b f e) es g
 -- Whatever sound frame a table of this plan shows when the seat steps on word i, the step makes these events of it: the seat has a
 -- view with which the new table shows the frame that they lead to, and `then` holds of the word found and of the seat.
 -- The events may depend on the word that the step finds.
-pub record StepMakes (k : Plan) (id : ℕ) (me : Mine) (i : ℕ) (new : ℕ → ℕ) (then : ℕ → Mine → Type 0) (events : ℕ → List Event) : Type 0 where
+pub record StepMakes (k : Plan) (id : ℕ) (me : Mine) (i : ℕ) (new : ℕ → ℕ) (then : ℕ → Mine → Type 0)
+    (events : ℕ → List Event) : Type 0 where
   pub makes : (s : State (Unit {0}) View) (f : Frame) → IsPlan k → SoundOver k.threads (base_place k) f
       → Shows k s.words s.views f → get_elem? s.views id ≡ some me.0
       → (w : View) × (g : Frame) × LeadTo (base_place k) f (events (slice_index s.words i)) g
@@ -100,8 +102,9 @@ pub record StepLaw : Type 0 where
       → h.part.activity ≡ Loaded (length me.0.known)
       → old ≡ name_at (base_in me.0) me.0.known (length me.0.known) → h.draft ≡ row ++ old ∷ (length me.0.known + 1) ∷ []
       → length row ≡ 7
-      → count_of h.thread me.0.known < me.0.plan.nodes → new ≡ h.thread * 4096 + (count_of h.thread me.0.known + 1)
-      → StepMakes k id me 0 (λ n. either (n == old) new n) (Linked (step slots 0 old new none) me) (λ n. exchange_events h.thread (drafted_row h) (n == old))
+      → count_of h.thread me.0.known < me.0.plan.nodes → new ≡ h.thread * most_updates + (count_of h.thread me.0.known + 1)
+      → StepMakes k id me 0 (λ n. either (n == old) new n) (Linked (step slots 0 old new none) me)
+      (λ n. exchange_events h.thread (drafted_row h) (n == old))
   -- a load of the flag that comes next
   pub flag_loaded : (k : Plan) (slots id i q : ℕ) (me : Mine) (h : Hand) (x : Node) → me.0.hands ≡ h ∷ []
       → LoadsNext (λ d. d ≡ q + 1) h.part.activity → base_in me.0 ≤ q → slice_get me.0.known q ≡ Some x
@@ -127,7 +130,8 @@ pub record StepLaw : Type 0 where
   -- a spot takes in a note
   pub note_learnt : (k : Plan) (id : ℕ) (v : View) (other : ℕ) (w : View) (h : Hand) (p : ℕ) → v.hands ≡ h ∷ []
       → MayAsk h.part.activity → w.note ≡ Some p
-      → JoinMakes k id v other w (with_note v w) (λ views. failed_events h.thread h.part.activity ++ Learn h.thread (note_index views other) ∷ [])
+      → JoinMakes k id v other w (with_note v w)
+      (λ views. failed_events h.thread h.part.activity ++ Learn h.thread (note_index views other) ∷ [])
   -- at the end a seat takes in all others
   pub seat_gathered : (k : Plan) (id : ℕ) (v : View) (other : ℕ) (w : View) → v.plan ≡ k → v.note ≡ None → w.note ≡ None
       → JoinMakes k id v other w (gathering v w) (λ _. [])

@@ -67,5 +67,6 @@ unfoldable pub unpacked : List ℕ → Option ShortText
 unpacked words = if bytes_eq (packed (bytes_in words)) words then short_of (bytes_in words) else None
 
 -- a packing is the packing of its text
-pub packed-bytes_in : (words : List ℕ) → IsShort (bytes_in words) → packed (bytes_in words) ≡ words → packed (short_at (bytes_in words)).bytes ≡ words
+pub packed-bytes_in : (words : List ℕ) → IsShort (bytes_in words) → packed (bytes_in words) ≡ words
+    → packed (short_at (bytes_in words)).bytes ≡ words
 packed-bytes_in words h e = ap (λ text. packed text.bytes) (short_at-bytes (record { bytes = bytes_in words; short = h })) ∙ e

@@ -1,3 +1,5 @@
+//! The line of a log and the row of an operation, and their bytes.
+
 ghost use Rattle.std.specs.Prelude.{◌≡◌};
 ghost use Rattle.onll_words.specs.Lines.{bytes_of_words, words_of_bytes};
 

@@ -1,3 +1,5 @@
+//! Tests of numbers, lines, words and short texts.
+
 use crate::{Line, Lines, Short, line_bytes, line_of_bytes, number_at, split_word, whole_number};
 use std::test::Fail;
 

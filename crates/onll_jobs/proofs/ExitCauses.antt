@@ -15,7 +15,7 @@ use Rattle.onll_jobs.specs.declared.ending.Exit.TheVariants.{Said, SinkFault, No
 use Rattle.onll_jobs.specs.Seen.{Seen}
 use Rattle.onll_jobs.specs.Command.{Form, Fold, Show, Recover, Replay, form_of}
 use Rattle.onll_jobs.specs.Printed.{usage_text, status_of, exit_status}
-use Rattle.onll_jobs.specs.Job.{Say, JobEnds, Never, Decides}
+use Rattle.onll_jobs.specs.Job.{Job, Say, JobEnds, Never, Decides}
 use Rattle.onll_log.specs.Grammar.{Content, content_of}
 use Rattle.onll_log.specs.ImageFile.{image_lines}
 use Rattle.onll_jobs.specs.ShowJob.{shown}
@@ -105,8 +105,8 @@ found_never b w s (Err fault) = λ e. cc
 
 recover_never : (init : List ℕ) (object : AnyObject) (images : List (List (List ℕ))) → Never Usage (recover_any init object images)
 recover_never init object images =
-    each_object (λ k s. recover_on k.means k.wording k.code init s images) (Never Usage)
-    (λ k s known. found_never k.means k.wording s (recovered k.means k.code init images)) object
+    each_object {A = List (List (List ℕ)) → Job} (λ k s images. recover_on k.means k.wording k.code init s images) (λ next. (images : List (List (List ℕ))) → Never Usage (next images))
+    (λ k s known images. found_never k.means k.wording s (recovered k.means k.code init images)) object images
 
 -- words of a form never get the usage text
 not_usage : (w : Seen) (form : Form) → form_of w.words ≡ Some form → Never Usage (job_of (Some form)) → PutWhole w Usage → ⊥

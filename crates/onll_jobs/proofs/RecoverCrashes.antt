@@ -75,10 +75,10 @@ module _ (seen : Seen) (x : Exit) (says : ExitSays seen x) (init logs bytes : Li
 
 pub recovers_crashes : (seen : Seen) (x : Exit) → ExitSays seen x → RecoversCrashes seen (exit_status x)
 recovers_crashes seen x says init logs bytes threads object form told accepted none =
-    each_goes (λ k s images. recover_on k.means k.wording k.code bytes s images)
+    each_goes {A = List (List (List ℕ)) → Job} (λ k s images. recover_on k.means k.wording k.code bytes s images)
     (λ next. (text : List ℕ) → Decides seen.store (reading_images logs 0 threads next) Done text → SaysThis seen (exit_status x) Done text)
     (λ k s. (left : IsLeft k.means k.code bytes s seen.store logs threads)
-      → RecoversLeft k.means k.wording k.code bytes s seen (exit_status x) logs threads left)
+    → RecoversLeft k.means k.wording k.code bytes s seen (exit_status x) logs threads left)
     (λ says. says)
     (λ k s known say left. left_recovers seen x says init logs bytes threads object form told accepted none k.means k.wording k.code s say left)
     object (object_says seen x says init logs bytes threads object form told accepted none)

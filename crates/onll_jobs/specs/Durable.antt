@@ -114,7 +114,7 @@ abbrev pub RecoversLeftAny : (init : List ℕ) → Seen → (status : ℕ) → (
 RecoversLeftAny init seen status logs threads object =
     on_object
     (λ k s. (left : IsLeft k.means k.code init s seen.store logs threads)
-      → RecoversLeft k.means k.wording k.code init s seen status logs threads left)
+    → RecoversLeft k.means k.wording k.code init s seen status logs threads left)
     object
 
 -- a recovery over the initial state that a file tells, where no call of the store or of the sink failed

@@ -129,7 +129,7 @@ recover_on b w code init s images = found_says b w s (recovered b code init imag
 
 -- the same for an object of any kind
 abbrev pub recover_any : List ℕ → AnyObject → List (List (List ℕ)) → Job
-recover_any init object images = on_object (λ k s. recover_on k.means k.wording k.code init s images) object
+recover_any init object = on_object (λ k s images. recover_on k.means k.wording k.code init s images) object
 
 -- the initial state is read first, then all images
 abbrev pub recover_job : (init logs : List ℕ) (threads : ℕ) → Job

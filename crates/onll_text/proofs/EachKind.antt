@@ -19,8 +19,8 @@ IsKnown k = (1 ≤ k.code) × (k.code ≤ length named_kinds)
 -- An object is of one kind, whose code is known, and in one state of it: what is said of it, as one thing or as another, is said of these.
 pub by_kind {ℓ κ μ} : {A : Type κ} {B : Type μ} (P : AnyObject → Type ℓ)
     → ((k : ObjectKind) (s : k.State) (object : AnyObject) → IsKnown k
-      → ((f : (k : ObjectKind) → k.State → A) → on_object f object ≡ f k s) → ((g : (k : ObjectKind) → k.State → B) → on_object g object ≡ g k s)
-      → P object)
+    → ((f : (k : ObjectKind) → k.State → A) → on_object f object ≡ f k s) → ((g : (k : ObjectKind) → k.State → B) → on_object g object ≡ g k s)
+    → P object)
     → (object : AnyObject) → P object
 by_kind P step (objects.Bank s) = step (kind_at kinds.Bank) s (objects.Bank s) (omega arith, omega arith) (λ f. refl) (λ g. refl)
 by_kind P step (objects.Map s) = step (kind_at kinds.Map) s (objects.Map s) (omega arith, omega arith) (λ f. refl) (λ g. refl)
@@ -51,10 +51,7 @@ of_object {A = A} {B = B} f g object =
 names_are_words : AllByRecursion (λ (k : Kind × List ℕ). IsWord k.1) named_kinds
 names_are_words = (
   record { some = refl; bytes = refl },
-  record { some = refl; bytes = refl },
-  record { some = refl; bytes = refl },
-  record { some = refl; bytes = refl },
-  tt,
+  (record { some = refl; bytes = refl }, (record { some = refl; bytes = refl }, (record { some = refl; bytes = refl }, tt))),
 )
 
 either_word : (b : Bool) (x y : List ℕ) → IsWord x → IsWord y → IsWord (cond b x y)

@@ -10,6 +10,7 @@ pub mod MapReadBack
 pub mod QueueReadBack
 pub mod LeaseReadBack
 pub mod EachKind
+mod KindList
 pub mod Keeping
 mod LineFronts
 pub mod Determined

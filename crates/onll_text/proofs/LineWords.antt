@@ -1,6 +1,5 @@
-use Rattle.std.proofs.Common.{ℕ, Bool, true, false, List, [], ◌∷◌, ◌++◌, ◌≡◌, Option, Some, None, codes, decimal, refl, sym, ap, ◌∙◌, ◌+◌, ◌<◌, ◌≤◌, length, map, drop, slice_get, slice_index_or, append_assoc}
-use Rattle.std.specs.List.{flat_map}
-use Rattle.std.proofs.lemmas.List.{append-nil, drop_more}
+use Rattle.std.proofs.Common.{ℕ, Bool, true, false, List, [], ◌∷◌, ◌++◌, ◌≡◌, Option, Some, None, codes, decimal, refl, sym, ap, ◌∙◌, ◌≤◌, length, map}
+use Rattle.std.proofs.lemmas.List.{append-nil}
 use Rattle.onll_words.specs.Texts.{line_text, AreWords}
 use Rattle.onll_words.proofs.Decimals.{IsWord-decimal}
 use Rattle.onll_model.specs.declared.node.Node.{Node}

@@ -1,4 +1,4 @@
-use Rattle.std.proofs.Common.{ℕ, true, List, [], ◌∷◌, ◌++◌, ◌≡◌, ◌+◌, ◌*◌, ◌^◌, ◌<◌, ◌≤◌, not, length, map, decimal, codes, get_or, sym, ap, subst, ◌∙◌, arith, Option, None, Ok, Result, append_assoc, length-append, drop, slice_get, Some}
+use Rattle.std.proofs.Common.{ℕ, true, List, [], ◌∷◌, ◌++◌, ◌≡◌, ◌+◌, ◌*◌, ◌^◌, ◌<◌, ◌≤◌, not, length, map, decimal, codes, get_or, sym, ap, subst, ◌∙◌, arith, Option, None, Ok, Result, append_assoc, length-append, drop, slice_get, Some, refl}
 use Rattle.std.specs.List.{flat_map}
 use Rattle.std.specs.List.Sorted.{IsStrictlySortedBy}
 use Rattle.std.specs.Map.{keys_of}

@@ -88,7 +88,11 @@ impl Initial for BankInit {
 }
 
 /// The bank of this many accounts, with the lines that are left.
-pub(crate) fn read_bank(alloc: Global, capacity: u64, lines: &mut Lines<'_>) -> Result<Bank, TextFault>
+pub(crate) fn read_bank(
+    alloc: Global,
+    capacity: u64,
+    lines: &mut Lines<'_>,
+) -> Result<Bank, TextFault>
     requires { (1 ≤ capacity) × (capacity ≤ most_elements) }
     ensures { MatchResult result (λ bank. bank_of_lines capacity lines.old ≡ Ok bank)
         (λ fault. Fails fault (bank_of_lines capacity lines.old)) }

@@ -280,7 +280,11 @@ impl Initial for Lease {
 }
 
 /// The leases of this many resources, with the lines that are left.
-pub(crate) fn read_lease(alloc: Global, capacity: u64, lines: &mut Lines<'_>) -> Result<Lease, TextFault>
+pub(crate) fn read_lease(
+    alloc: Global,
+    capacity: u64,
+    lines: &mut Lines<'_>,
+) -> Result<Lease, TextFault>
     requires { (1 ≤ capacity) × (capacity ≤ most_elements) }
     ensures { MatchResult result (λ lease. lease_of_lines capacity lines.old ≡ Ok lease)
         (λ fault. Fails fault (lease_of_lines capacity lines.old)) }

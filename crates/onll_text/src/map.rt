@@ -214,7 +214,11 @@ impl Initial for Map {
 }
 
 /// The map of at most so many pairs, with the lines that are left.
-pub(crate) fn read_map(alloc: Global, capacity: u64, lines: &mut Lines<'_>) -> Result<Map, TextFault>
+pub(crate) fn read_map(
+    alloc: Global,
+    capacity: u64,
+    lines: &mut Lines<'_>,
+) -> Result<Map, TextFault>
     requires { (1 ≤ capacity) × (capacity ≤ most_elements) }
     ensures { MatchResult result (λ map. map_of_lines capacity lines.old ≡ Ok map)
         (λ fault. Fails fault (map_of_lines capacity lines.old)) }

@@ -187,7 +187,11 @@ impl Initial for Queue {
 }
 
 /// The queue of at most so many items, with the lines that are left.
-pub(crate) fn read_queue(alloc: Global, capacity: u64, lines: &mut Lines<'_>) -> Result<Queue, TextFault>
+pub(crate) fn read_queue(
+    alloc: Global,
+    capacity: u64,
+    lines: &mut Lines<'_>,
+) -> Result<Queue, TextFault>
     requires { (1 ≤ capacity) × (capacity ≤ most_elements) }
     ensures { MatchResult result (λ queue. queue_of_lines capacity lines.old ≡ Ok queue)
         (λ fault. Fails fault (queue_of_lines capacity lines.old)) }

@@ -2,6 +2,7 @@
 #![tactic(auto)]
 
 mod cause;
+mod cursor;
 mod decoded;
 mod digest;
 mod entry;
@@ -15,6 +16,7 @@ mod mask;
 mod tests;
 
 pub use cause::MakeCause;
+pub use cursor::{EntryView, LogCursor};
 pub use decoded::{Decoded, Entries, Entry, Nodes};
 pub use entry::entry_head;
 pub use head::{LogHead, format_of};

@@ -129,7 +129,8 @@ impl<'a> LogCursor<'a> {
 
     /// How many entries were gone past.
     pub fn passed(&self) -> u64
-        ensures { result ≡ self.now.passed }
+        ensures count { result ≡ self.now.passed }
+        ensures few { result < 2 ^ 64 - 1 }
     {
         self.passed
     }

@@ -19,6 +19,7 @@ use onll_words::Line;
 use std::alloc::Global;
 
 /// What one log holds, and its greatest last place, 0 where there is no entry.
+#[derive(Clone, Copy)]
 struct Measured {
     counts: LogCounts,
     top: u64,
@@ -68,10 +69,10 @@ fn check_heads(cursors: &[LogCursor<'_>], heads: &[LogHead]) -> Result<(), Recov
 /// What a log holds whose entries rise. It refuses the first entry that does not begin above the one before it.
 fn measure(log: u64, mut cursor: LogCursor<'_>) -> Result<Measured, RecoverFault>
     requires { cursor.passed ≡ 0 }
-    ensures order { let found = disorder_in log 0 0 cursor.content.entries in MatchResult result (λ _. found ≡ None) (λ e. found ≡ Some e) }
-    ensures rises { OnOk result (Rises 0 cursor.content.entries) }
-    ensures counts { IfOk result (λ m. m.counts ≡ log_counts cursor.content) }
-    ensures top { IfOk result (λ m. m.top ≡ top_in_log cursor.content.entries) }
+    ensures order { let found = disorder_in log 0 0 cursor.entry.content.entries in MatchResult result (λ _. found ≡ None) (λ e. found ≡ Some e) }
+    ensures rises { OnOk result (Rises 0 cursor.entry.content.entries) }
+    ensures counts { IfOk result (λ m. m.counts ≡ log_counts cursor.entry.content) }
+    ensures top { IfOk result (λ m. m.top ≡ top_in_log cursor.entry.content.entries) }
 {
     let mut last = 0;
     let mut top = 0;
@@ -99,11 +100,11 @@ fn measure(log: u64, mut cursor: LogCursor<'_>) -> Result<Measured, RecoverFault
 /// What logs hold whose entries rise. It refuses the first entry of the first log that is out of order.
 fn measure_all(alloc: Global, cursors: Vec<LogCursor<'_>>) -> Result<Survey, RecoverFault>
     requires { AllByRecursion (λ c. c.passed ≡ 0) cursors.items }
-    ensures order { let found = disorder 0 (contents_under cursors.items) in
+    ensures order { let found = disorder 0 (contents_under cursors.entry.items) in
         MatchResult result (λ _. found ≡ None) (λ e. (e ≡ OutOfMemory) ⊎ (found ≡ Some e)) }
-    ensures rise { OnOk result (AllRise (contents_under cursors.items)) }
-    ensures counts { IfOk result (λ s. s.logs.items ≡ map log_counts (contents_under cursors.items)) }
-    ensures top { IfOk result (λ s. s.top ≡ top_of (contents_under cursors.items)) }
+    ensures rise { OnOk result (AllRise (contents_under cursors.entry.items)) }
+    ensures counts { IfOk result (λ s. s.logs.items ≡ map log_counts (contents_under cursors.entry.items)) }
+    ensures top { IfOk result (λ s. s.top ≡ top_of (contents_under cursors.entry.items)) }
 {
     let mut logs = Vec::new(alloc);
     let mut top = 0;
@@ -125,11 +126,11 @@ pub fn survey_logs(
 ) -> Result<Survey, RecoverFault>
     requires heads { length heads.now ≡ length cursors.items }
     requires first { AllByRecursion (λ c. c.passed ≡ 0) cursors.items }
-    ensures refused { let logs = contents_under cursors.items in let found = option_or (foreign 0 logs heads.now) (disorder 0 logs) in
+    ensures refused { let logs = contents_under cursors.entry.items in let found = option_or (foreign 0 logs heads.now) (disorder 0 logs) in
         MatchResult result (λ _. found ≡ None) (λ e. (e ≡ OutOfMemory) ⊎ (found ≡ Some e)) }
-    ensures rise { OnOk result (AllRise (contents_under cursors.items)) }
-    ensures counts { IfOk result (λ s. s.logs.items ≡ map log_counts (contents_under cursors.items)) }
-    ensures top { IfOk result (λ s. s.top ≡ top_of (contents_under cursors.items)) }
+    ensures rise { OnOk result (AllRise (contents_under cursors.entry.items)) }
+    ensures counts { IfOk result (λ s. s.logs.items ≡ map log_counts (contents_under cursors.entry.items)) }
+    ensures top { IfOk result (λ s. s.top ≡ top_of (contents_under cursors.entry.items)) }
 {
     check_heads(&cursors, heads)?;
     measure_all(alloc, cursors)

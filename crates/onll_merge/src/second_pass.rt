@@ -1,13 +1,13 @@
 //! The second pass over images: which node stands at each place.
 
-ghost use Rattle.std.specs.Prelude.{◌≡◌, ℕ, suc, ◌+◌, ◌<◌, ◌≤◌, ◌⊎◌, List, ◌∷◌, length, Some, None, IfOk, MatchResult};
-ghost use Rattle.std.specs.Option.{option_or};
+ghost use Rattle.std.specs.Prelude.{◌≡◌, ℕ, suc, ◌+◌, ◌<◌, ◌≤◌, ◌⊎◌, List, ◌∷◌, ◌++◌, length, Some, None, IfOk, OnOk, MatchResult};
+ghost use Rattle.std.specs.Option.{option_or, option_map_or, option_to_list};
 ghost use Rattle.onll_model.specs.Segment.{Rises};
 ghost use Rattle.onll_log.specs.Grammar.{Content};
 ghost use Rattle.onll_log.specs.Cursor.{entries_left};
 ghost use Rattle.onll_merge.specs.Merge.{AllRise, unlike, node_in_log, node_in_logs, nodes_to, clash_at};
-ghost use Rattle.onll_merge.specs.Standing.{contents_under, StandsBelow, StandBelow, Reaches, clash_with, held_node};
-ghost use Rattle.onll_merge.specs.declared.fault.RecoverFault.TheVariants.{NoMemory};
+ghost use Rattle.onll_merge.specs.Standing.{contents_under, StandsBelow, StandBelow, Reaches, clash_with, held_node, gap_fault};
+ghost use Rattle.onll_merge.specs.declared.fault.RecoverFault.TheVariants.{NoMemory, Gap};
 
 use crate::fault::RecoverFault;
 use onll_log::LogCursor;
@@ -45,12 +45,16 @@ fn node_of_log(cursor: &mut LogCursor<'_>, place: u64) -> Option<Node>
     ensures below { StandsBelow place cursor.new }
 {
     pass_below(cursor, place);
-    let entry = cursor.peek()?;
-    let above = entry.place - place;
-    if above < entry.count {
-        Some(cursor.node(entry.count - 1 - above))
-    } else {
-        None
+    match cursor.peek() {
+        Some(entry) => {
+            let above = entry.place - place;
+            if above < entry.count {
+                Some(cursor.node(entry.count - 1 - above))
+            } else {
+                None
+            }
+        }
+        None => None,
     }
 }
 
@@ -104,6 +108,26 @@ fn node_of_place(
     Ok(found.map(|holder| holder.node))
 }
 
+/// Adds the node of a place to those of the places below; where no log holds the place, this is noted if no lower one was.
+fn add(
+    nodes: &mut Vec<Node>,
+    gap: Option<u64>,
+    node: Option<Node>,
+    place: u64,
+) -> Result<Option<u64>, RecoverFault>
+    ensures nodes { OnOk result (nodes.new.items ≡ nodes.old.items ++ option_to_list node) }
+    ensures gap { MatchResult result
+        (λ next. gap_fault next ≡ option_or (gap_fault gap) (option_map_or (λ x. None) node (Some (Gap place)))) (λ e. e ≡ NoMemory) }
+{
+    match node {
+        Some(node) => {
+            nodes.push(node)?;
+            Ok(gap)
+        }
+        None => Ok(gap.or(Some(place))),
+    }
+}
+
 /// The nodes of the places up to `top`, which the logs hold alike. A place that no log holds is refused only when no two logs
 /// differ.
 pub fn gather(
@@ -120,15 +144,8 @@ pub fn gather(
     let mut nodes = Vec::new(alloc);
     let mut gap = None;
     for below in 0..top {
-        let place = below + 1;
-        match node_of_place(cursors, place)? {
-            Some(node) => nodes.push(node)?,
-            None => {
-                if gap.is_none() {
-                    gap = Some(place);
-                }
-            }
-        }
+        let node = node_of_place(cursors, below + 1)?;
+        gap = add(&mut nodes, gap, node, below + 1)?;
     }
     match gap {
         Some(place) => Err(RecoverFault::Gap { place }),

@@ -11,8 +11,8 @@ use Rattle.onll_model.specs.Segment.{Segment}
 use Rattle.onll_log.specs.declared.head.LogHead.{LogHead}
 use Rattle.onll_log.specs.declared.cursor.EntryView.{EntryView}
 use Rattle.onll_log.specs.Head.{word}
-use Rattle.onll_log.specs.Grammar.{all_named, is_entry, node_of_line, segment_of, entries_from, lines_in}
-use Rattle.onll_log.specs.Cursor.{first_view, first_nodes, entries_under, StandsAt}
+use Rattle.onll_log.specs.Grammar.{all_named, entries_from, is_entry, lines_in, node_of_line, segment_of, used_by, used_with}
+use Rattle.onll_log.specs.Cursor.{CursorState, StandsAt, entries_left, entries_passed, entries_under, first_nodes, first_view, lines_passed}
 use Rattle.onll_log.proofs.Accepted.{both_true, entries_from-entry, entries_from-none, entries_from-drop, Accepted-if}
 use Rattle.onll_log.proofs.Decoding.{all_named-le}
 use Rattle.onll_log.proofs.Encoded.{lines_in-append}
@@ -129,7 +129,7 @@ line_of_looked head lines passed at e i h l =
     let named = all_named-le (4096 * head.threads) 65536 (take (word f.line 4) f.rest) (omega arith) ok.named in
     let to : at + (1 + i) ≡ at + 1 + i = omega arith in
     let here : (z : List ℕ) → get_or (take (word f.line 4) f.rest) i z ≡ get_or lines (at + 1 + i) z = λ z.
-        get_or-take (word f.line 4) f.rest i z i_in ∙ (ap (λ (xs : List (List ℕ)). get_or xs (suc i) z) (sym f.split) ∙ (get_or-drop at lines (suc i) z ∙ ap (λ (n : ℕ). get_or lines n z) (let q : at + suc i ≡ at + 1 + i = omega arith in q))) in
+    get_or-take (word f.line 4) f.rest i z i_in ∙ (ap (λ (xs : List (List ℕ)). get_or xs (suc i) z) (sym f.split) ∙ (get_or-drop at lines (suc i) z ∙ ap (λ (n : ℕ). get_or lines n z) (let q : at + suc i ≡ at + 1 + i = omega arith in q))) in
     record {
       within = omega (arith, length-drop at lines, ap length f.split);
       low = λ z. subst (λ (x : List ℕ). 1 ≤ word x 0) (here z) (named_at 65536 (take (word f.line 4) f.rest) i z named i_taken).0;
@@ -222,3 +222,9 @@ pub within_further : (head : Option LogHead) (lines : List (List ℕ)) (passed a
     → at + (1 + e.count) ≤ length lines
 within_further head lines passed at next h e s is looked =
     (further head lines passed at next h e (first_view (at + (1 + e.count)) (entries_from h (passed + 1) 0 (drop (at + (1 + e.count)) lines))) s is looked refl).within
+
+-- where none is shown
+pub all_shown : (c : CursorState) → first_view (lines_passed c) (entries_left c) ≡ None → (entries_passed c ≡ c.content.entries) × (lines_passed c ≡ used_by c.content)
+all_shown c e =
+    let gone = all_gone c.content.entries c.passed (not_viewed (lines_passed c) (entries_left c) (sym e)) in
+    (gone, ap (used_with c.content.head) gone)

@@ -22,5 +22,5 @@ pub use entry::entry_head;
 pub use head::{LogHead, format_of};
 pub use image::{DecodeFault, decode};
 pub use image_file::{LONGEST_IMAGE, image_lines};
-pub use laws::{encoded_laws, masks_law, remains_laws, torn_laws, written_laws};
+pub use laws::{cursor_law, encoded_laws, masks_law, remains_laws, torn_laws, written_laws};
 pub use log::{MakeFault, ThreadLog};

@@ -1,5 +1,5 @@
 -- What cursors that stand below a place tell of it.
-use Rattle.std.proofs.Common.{◌≡◌, ℕ, zero, suc, ◌+◌, ◌-◌, ◌<◌, ◌≤◌, Bool, true, false, List, [], ◌∷◌, ◌++◌, length, get_or, take, drop, map, set, sym, refl, ap, ◌∙◌, subst, arith, append_assoc, cond, Option, Some, None, Result, Ok, Err, MatchResult}
+use Rattle.std.proofs.Common.{◌≡◌, ℕ, zero, suc, ◌+◌, ◌<◌, ◌≤◌, Bool, false, List, [], ◌∷◌, ◌++◌, length, get_or, take, drop, map, set, sym, refl, ap, ◌∙◌, subst, arith, append_assoc, cond, Option, Some, None, Result, Ok, Err}
 use Rattle.std.specs.List.{AllByRecursion, slice_get}
 use Rattle.std.specs.Option.{option_or, option_map_or, option_to_list, is_some}
 use Rattle.std.specs.Prelude.{nat_lt}
@@ -7,7 +7,6 @@ use Rattle.std.proofs.lemmas.Bool.Decides.{nat_tests}
 use Rattle.std.proofs.lemmas.List.{take-append-drop, drop-map, drop_more, map-append, length-drop}
 use Rattle.onll_model.specs.declared.node.Node.{Node}
 use Rattle.onll_model.specs.Segment.{Segment, Rises}
-use Rattle.onll_log.specs.declared.cursor.EntryView.{EntryView}
 use Rattle.onll_log.specs.Grammar.{Content, content_of, used_with, used_by}
 use Rattle.onll_log.specs.Cursor.{CursorState, entries_passed, entries_left, lines_passed}
 use Rattle.onll_log.proofs.Cursors.{all_gone}
@@ -15,11 +14,11 @@ use Rattle.onll_merge.specs.declared.fault.RecoverFault.{RecoverFault}
 use Rattle.onll_merge.specs.declared.fault.RecoverFault.TheVariants.{Gap, Disorder}
 use Rattle.onll_merge.specs.declared.fault.ImagesFault.{ImagesFault}
 use Rattle.onll_merge.specs.declared.counts.LogCounts.{LogCounts}
-use Rattle.onll_merge.specs.Merge.{AllRise, disorder_in, node_among, node_in_segment, node_in_log, node_in_logs, nodes_to, first_to, clash_at, gap_at}
+use Rattle.onll_merge.specs.Merge.{AllRise, disorder_in, node_in_segment, node_in_log, node_in_logs, nodes_to, first_to, clash_at, gap_at}
 use Rattle.onll_merge.specs.Recovered.{content_before, contents_from, log_counts}
 use Rattle.onll_merge.proofs.Decoding.{onto}
 use Rattle.onll_merge.specs.Standing.{contents_under, StandsBelow, StandBelow, gap_fault}
-use Rattle.onll_merge.proofs.Places.{node_among-above, node_among-below, node_among-at, node_in_log-low}
+use Rattle.onll_merge.proofs.Places.{node_among-above, node_in_log-low}
 
 -- ---- the node of a place
 

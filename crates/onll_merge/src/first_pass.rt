@@ -33,10 +33,7 @@ pub struct Survey {
 }
 
 /// A cursor over each image, in order. It refuses the first that is no log.
-pub fn open_all(
-    alloc: Global,
-    images: &[Vec<Line>],
-) -> Result<Vec<LogCursor<'_>>, ImagesFault>
+pub fn open_all(alloc: Global, images: &[Vec<Line>]) -> Result<Vec<LogCursor<'_>>, ImagesFault>
     ensures logs { let held = contents_from 0 (map (λ image. words_of image.items) images.now) in
         MatchResult result (λ cursors. held ≡ Ok (contents_under cursors.items)) (λ e. (e ≡ Recover OutOfMemory) ⊎ (held ≡ Err e)) }
     ensures first { IfOk result (λ cursors. AllByRecursion (λ c. c.passed ≡ 0) cursors.items) }

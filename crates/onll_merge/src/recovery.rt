@@ -19,7 +19,6 @@ use crate::fault::{ImagesFault, RecoverFault, StateFault};
 use crate::first_pass::{open_all, survey_logs};
 use crate::numbers::check_numbers;
 use crate::second_pass::gather;
-
 use onll_log::{LogCursor, LogHead, format_of};
 use onll_model::{Node, Object, fold_nodes};
 use onll_words::Line;
@@ -75,8 +74,7 @@ pub fn merge_images(
     images: &[Vec<Line>],
     heads: &[LogHead],
 ) -> Result<Vec<Node>, ImagesFault>
-    requires images { length images.now ≤ most_threads }
-    requires heads { length heads.now ≡ length images.now }
+    requires { length heads.now ≡ length images.now }
     ensures { let merged = merge_images heads.now (map (λ image. words_of image.items) images.now) in
         MatchResult result (λ nodes. merged ≡ Ok nodes.items) (λ e. (e ≡ Recover OutOfMemory) ⊎ (merged ≡ Err e)) }
 {

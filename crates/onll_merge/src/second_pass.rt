@@ -88,10 +88,7 @@ fn join(
 }
 
 /// The node of a place in the logs that hold it, none where no log does; it refuses logs that hold different nodes.
-fn node_of_place(
-    cursors: &mut [LogCursor<'_>],
-    place: u64,
-) -> Result<Option<Node>, RecoverFault>
+fn node_of_place(cursors: &mut [LogCursor<'_>], place: u64) -> Result<Option<Node>, RecoverFault>
     requires rise { AllRise (contents_under cursors.old) }
     requires below { StandBelow place cursors.old }
     ensures clash { let logs = contents_under cursors.old in
@@ -141,7 +138,9 @@ pub fn gather(
         MatchResult result (λ _. unlike logs top ≡ None) (λ e. (e ≡ NoMemory) ⊎ (unlike logs top ≡ Some e)) }
     ensures nodes { IfOk result (λ v. v.items ≡ nodes_to (contents_under cursors.old) top) }
 {
-    let mut nodes = Vec::new(alloc);
+    let Ok(mut nodes) = Vec::with_capacity(alloc, top as usize) else {
+        return Err(RecoverFault::NoMemory);
+    };
     let mut gap = None;
     for below in 0..top {
         let node = node_of_place(cursors, below + 1)?;

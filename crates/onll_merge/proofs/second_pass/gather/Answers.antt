@@ -1,4 +1,4 @@
-use Rattle.std.proofs.Common.{◌≡◌, ◌+◌, suc, None, Some, inr, sym, ap, ◌∙◌, subst, arith, List, MatchResult}
+use Rattle.std.proofs.Common.{◌≡◌, ◌+◌, None, Some, inr, ap, ◌∙◌, subst, arith, List}
 use Rattle.std.specs.Option.{option_or}
 use Rattle.std.proofs.lemmas.Result.{err_from_is_err_and}
 use Rattle.onll_log.specs.Grammar.{Content}

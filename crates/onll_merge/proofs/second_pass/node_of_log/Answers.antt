@@ -1,5 +1,5 @@
 use Rattle.std.specs.List.{slice_get}
-use Rattle.std.proofs.Common.{◌≡◌, ◌-◌, ◌≤◌, List, length, Some, sym, ap, ◌∙◌, subst, arith}
+use Rattle.std.proofs.Common.{◌-◌, ◌≤◌, List, Some, sym, ap, ◌∙◌, subst, arith}
 use Rattle.onll_model.specs.declared.node.Node.{Node}
 use Rattle.onll_model.specs.Segment.{Segment, Rises}
 use Rattle.onll_log.specs.Grammar.{Content}

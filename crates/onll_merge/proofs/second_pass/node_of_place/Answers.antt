@@ -1,11 +1,11 @@
-use Rattle.std.proofs.Common.{◌≡◌, ◌+◌, ◌∷◌, suc, drop, get_or, length, sym, ap, ◌∙◌, subst, arith, Option, List}
+use Rattle.std.proofs.Common.{◌≡◌, ◌+◌, suc, drop, get_or, sym, ap, ◌∙◌, subst, arith, Option, List}
 use Rattle.std.specs.Option.{option_or}
 use Rattle.std.proofs.lemmas.Result.{err_from_is_err_and}
 use Rattle.onll_model.specs.declared.node.Node.{Node}
 use Rattle.onll_log.specs.Grammar.{Content}
 use Rattle.onll_merge.specs.Merge.{AllRise, node_in_logs}
 use Rattle.onll_merge.specs.Standing.{contents_under, StandsBelow, clash_with, held_node}
-use Rattle.onll_merge.proofs.Standings.{rise_at, log_left, same_under, all_set, all_get, or_or}
+use Rattle.onll_merge.proofs.Standings.{rise_at, log_left, same_under, all_set, or_or}
 use Rattle.onll_merge.proofs.second_pass.node_of_place.Goals as goal
 
 pub node_of_log-node-requires-clause-rises : goal.node_of_log-node-requires-clause-rises

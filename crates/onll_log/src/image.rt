@@ -52,7 +52,7 @@ pub fn are_zero(lines: &[Line]) -> bool
 }
 
 /// The node that a line holds.
-fn node_of(line: &Line) -> Node
+pub fn node_of(line: &Line) -> Node
     requires { (1 ≤ word line.now.w 0) × (word line.now.w 0 ≤ 65536) }
     ensures { result ≡ node_of_line line.now.w }
 {

@@ -14,7 +14,7 @@ use std::alloc::Global;
 const LOGS: usize = MOST_THREADS as usize;
 
 /// Whether a log with this head can be of the run of the expected head: one without a head fits each run.
-fn fits(head: Option<LogHead>, expected: LogHead) -> bool
+pub fn fits(head: Option<LogHead>, expected: LogHead) -> bool
     ensures { result ≡ fits_run head expected }
 {
     match head {

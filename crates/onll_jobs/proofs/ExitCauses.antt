@@ -26,11 +26,11 @@ use Rattle.onll_jobs.specs.Printed.{usage_text, status_of, exit_status}
 use Rattle.onll_jobs.specs.Job.{Say, JobEnds, Never, Decides}
 use Rattle.onll_log.specs.Grammar.{Content, content_of}
 use Rattle.onll_log.specs.ImageFile.{image_lines}
-use Rattle.onll_jobs.specs.ShowJob.{shown}
+use Rattle.onll_jobs.specs.ShowJob.{shown_task}
 use Rattle.onll_jobs.specs.declared.bad_logs.LogsFault.{LogsFault}
 use Rattle.onll_jobs.specs.Images.{reading_images}
 use Rattle.onll_jobs.specs.RecoverJob.{Recovered, recovered, found_says, recover_any}
-use Rattle.onll_jobs.specs.FoldJob.{script_job, script_job_on}
+use Rattle.onll_jobs.specs.FoldJob.{script_task, script_task_on}
 use Rattle.onll_jobs.specs.Exits.{PutExits}
 use Rattle.onll_jobs.specs.Says.{job_of, Allows, PutWhole, OutOfMemory, SinkFailed, ExitSays, NothingFailed, NoneRose, SaysThis}
 use Rattle.onll_jobs.proofs.Onwards.{ends_cut}
@@ -94,18 +94,18 @@ no_memory_of w (Said e) h s = absurd (not_nine e h)
 no_memory_of w SinkFault h s = absurd (omega arith)
 no_memory_of w NoMemory h s = s
 
-report_never : {State Op Query Reply : Type 0} (b : Behaviour State Op Query Reply) (w : Wording State Op Query Reply) (s : State) (script : List ℕ) → Never Usage (script_job b w s script)
+report_never : {State Op Query Reply : Type 0} (b : Behaviour State Op Query Reply) (w : Wording State Op Query Reply) (s : State) (script : List ℕ) → Never Usage (script_task b w s script).job
 report_never {State} {Op} {Query} {Reply} b w s script =
     let never : (calls : List (Call State Op Query Reply)) → Done ≡ Usage → ⊥ = (λ calls e. cc) in
     reading_never script (script_of w) (λ calls. Say Done (fold_report b w s calls)) never
 
-script_never : (script : List ℕ) (object : AnyObject) → Never Usage (script_job_on script object)
+script_never : (script : List ℕ) (object : AnyObject) → Never Usage (script_task_on script object).job
 script_never script (objects.Bank s) = report_never bank bank_wording s script
 script_never script (objects.Map s) = report_never map_object map_wording s script
 script_never script (objects.Queue s) = report_never queue queue_wording s script
 script_never script (objects.Lease s) = report_never lease lease_wording s script
 
-content_never : (content : Option Content) → Never Usage (shown content)
+content_never : (content : Option Content) → Never Usage (shown_task content).job
 content_never None = λ e. cc
 content_never (Some content) = λ e. cc
 
@@ -124,7 +124,7 @@ not_usage : (w : Seen) (form : Form) → form_of w.words ≡ Some form → Never
 not_usage w form e never h = never_says w.store w.store_after (job_of (Some form)) h.text never (subst (λ f. JobEnds w.store w.store_after (job_of f) Usage h.text) e h.allowed)
 
 form_not_usage : (w : Seen) (form : Form) → form_of w.words ≡ Some form → PutWhole w Usage → ⊥
-form_not_usage w (Fold init script) e h = not_usage w (Fold init script) e (reading_never init init_of (script_job_on script) (script_never script)) h
+form_not_usage w (Fold init script) e h = not_usage w (Fold init script) e (reading_never init init_of (λ object. (script_task_on script object).job) (script_never script)) h
 form_not_usage w (Show image) e h = not_usage w (Show image) e (λ bytes. content_never (content_of (image_lines bytes))) h
 form_not_usage w (Recover init logs threads) e h =
     not_usage w (Recover init logs threads) e

@@ -33,12 +33,12 @@ use Rattle.onll_jobs.specs.declared.ending.Ending.TheVariants.{Done, Usage, Refu
 use Rattle.onll_jobs.specs.declared.ending.Exit.{Exit}
 use Rattle.onll_jobs.specs.declared.ending.Exit.TheVariants.{Said, SinkFault, NoMemory}
 use Rattle.onll_jobs.specs.Reading.{Reads, HoldsImage}
-use Rattle.onll_jobs.specs.Images.{image_name, image_bytes, images_in, reading_images, writing_images}
+use Rattle.onll_jobs.specs.Images.{image_name, image_bytes, images_in, HoldImages, reading_images, writing_images}
 use Rattle.onll_jobs.specs.Writing.{written}
 use Rattle.onll_jobs.specs.Job.{Say, JobEnds, on_value}
-use Rattle.onll_jobs.specs.ReplayJob.{played, reading_scripts}
-use Rattle.onll_jobs.specs.Durable.{ReadScripts}
-use Rattle.onll_jobs.specs.Determined.{FoldsTo, FoldsToAny, HoldImages, RecoversLogs, CrashesTo, PlaysTo, ReplaysTo, ReplaysToAny, FormDetermined, ExitDetermined}
+use Rattle.onll_jobs.specs.ReplayJob.{played, ReadScripts, reading_scripts}
+use Rattle.onll_jobs.specs.Determined.{RecoversLogs, CrashesTo, PlaysTo, ReplaysTo, ReplaysToAny}
+use Rattle.onll_jobs.specs.Says.{work_of, ExitDetermined}
 use Rattle.onll_jobs.specs.Seen.{Seen}
 use Rattle.onll_jobs.specs.Command.{form_of}
 use Rattle.onll_jobs.specs.Exits.{PutExits}
@@ -61,9 +61,6 @@ pub logs_before : (store mid : StoreView) (init logs : List ℕ) (threads : ℕ)
 logs_before store mid init logs threads text object same r = record { images = r.images; many = r.many; held = images_before store mid logs 0 r.images same r.held; recovers = r.recovers }
 
 module _ {State Op Query Reply : Type 0} (b : Behaviour State Op Query Reply) (w : Wording State Op Query Reply) where
-  folds_to_before : (s : State) (store mid : StoreView) (script text : List ℕ) → SameFiles store mid → FoldsTo b w s mid script text → FoldsTo b w s store script text
-  folds_to_before s store mid script text same f = record { calls = f.calls; read = reads_before store mid (read_script w) script f.calls same f.read; says = f.says }
-
   scripts_before : (store mid : StoreView) (names : List (List ℕ)) (scripts : List (List (Call State Op Query Reply))) → SameFiles store mid → ReadScripts w mid names scripts → ReadScripts w store names scripts
   scripts_before store mid [] [] same h = tt
   scripts_before store mid [] (script ∷ scripts) same h = h
@@ -91,12 +88,6 @@ module _ {State Op Query Reply : Type 0} (b : Behaviour State Op Query Reply) (w
   script_held store mid names left before name scripts all calls split same r e on rest h =
       subst (ReadScripts w store names) (sym (ap (λ l. l ++ rest) e ∙ append_assoc scripts (calls ∷ []) rest))
       (on (calls ∷ rest) (subst (λ l. ReadScripts w store l (calls ∷ rest)) (sym split) (reads_before store mid (read_script w) name calls same r, h)))
-
-pub folds_before : (store mid : StoreView) (script text : List ℕ) (object : AnyObject) → SameFiles store mid → FoldsToAny mid script text object → FoldsToAny store script text object
-folds_before store mid script text (objects.Bank s) same f = folds_to_before bank bank_wording s store mid script text same f
-folds_before store mid script text (objects.Map s) same f = folds_to_before map_object map_wording s store mid script text same f
-folds_before store mid script text (objects.Queue s) same f = folds_to_before queue queue_wording s store mid script text same f
-folds_before store mid script text (objects.Lease s) same f = folds_to_before lease lease_wording s store mid script text same f
 
 pub replays_before : (init : List ℕ) (store mid : StoreView) (schedule : List ℕ) (names : List (List ℕ)) (text : List ℕ) (object : AnyObject) → SameFiles store mid
     → ReplaysToAny init mid schedule names text object → ReplaysToAny init store schedule names text object
@@ -161,7 +152,7 @@ plays_to {State} {Op} {Query} {Reply} b w code init s store schedule scripts thr
     }
 
 -- ---- the exits of a text that is put
-pub put_determined : (seen : Seen) (ending : Ending) (text : List ℕ) (exit : Exit) → (ending ≡ Done → FormDetermined seen.store (form_of seen.words) text) → PutExits seen.sink seen.sink_after ending text exit → ExitDetermined seen exit
+pub put_determined : (seen : Seen) (ending : Ending) (text : List ℕ) (exit : Exit) → (ending ≡ Done → (work_of (form_of seen.words)).task.reports seen.store text) → PutExits seen.sink seen.sink_after ending text exit → ExitDetermined seen exit
 put_determined seen ending text (Said said) h p e = record { text = text; says = h (sym p.0 ∙ said_done said e); put = p.1 }
   where
     said_done : (said : Ending) → Said said ≡ Said Done → said ≡ Done

@@ -26,7 +26,7 @@ use Rattle.onll_jobs.proofs.Stops.{StopSays-weaker}
 
 -- How jobs that read and write go on.
 
-stay_more : (store mid after : StoreView) → FilesStay store mid → FilesStay mid after → FilesStay store after
+pub stay_more : (store mid after : StoreView) → FilesStay store mid → FilesStay mid after → FilesStay store after
 stay_more store mid after first then_ = record { tells = then_.tells ∙ first.tells; file = λ tells name. then_.file (first.tells ∙ tells) name ∙ first.file tells name }
 
 faults_more : (store mid after : StoreView) → SameFaults store mid → SameFaults mid after → SameFaults store after

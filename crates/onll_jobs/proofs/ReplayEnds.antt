@@ -40,8 +40,8 @@ use Rattle.onll_jobs.specs.Seen.{Seen}
 use Rattle.onll_jobs.specs.Command.{form_of, Replay}
 use Rattle.onll_jobs.specs.Says.{job_of, PutWhole}
 use Rattle.onll_jobs.specs.RecoverJob.{Recovered, recovered}
-use Rattle.onll_jobs.specs.ReplayJob.{played, replay_report, crash_says, crash_job, reading_scripts, schedule_job, replay_on, replay_any, replay_job}
-use Rattle.onll_jobs.specs.Durable.{ReadScripts, with_images, HasReplayed, HasReplayedAny, ReplayPut}
+use Rattle.onll_jobs.specs.ReplayJob.{played, ReadScripts, replay_report, crash_says, crash_job, reading_scripts, schedule_job, replay_on, replay_any, replay_job}
+use Rattle.onll_jobs.specs.Durable.{with_images, HasReplayed, HasReplayedAny, ReplayPut}
 use Rattle.onll_jobs.proofs.Crashes.{crash_recovered}
 use Rattle.onll_jobs.proofs.Forms.{few-scripts}
 

@@ -11,7 +11,7 @@ use Rattle.onll_log.specs.Grammar.{Content, used_by}
 use Rattle.onll_text.specs.Reports.{SaysOnly}
 use Rattle.onll_text.proofs.Determined.{text_determined, AreMeaningful-append, line_same, line_none, says_only}
 use Rattle.onll_jobs.specs.ShowJob.{object_name, head_line, row_line, row_lines, entry_words, entry_lines, entries_lines, count_words, content_lines, show_report}
-use Rattle.onll_jobs.specs.Reports.{ShownLog, shown_lines, RowReads, EntryReads, LogShownReads, ShowReads, shown_with, show_data}
+use Rattle.onll_jobs.specs.ShowJob.{ShownLog, shown_lines, RowReads, EntryReads, LogShownReads, ShowReads, shown_with, show_data}
 use Rattle.onll_jobs.proofs.ShowWords.{head_line_in_words, row_in_words, entry_in_words, count_in_words}
 
 -- The bytes of the report of an image determine what they say of it.

@@ -1,7 +1,9 @@
-use Rattle.std.specs.Prelude.{ℕ, suc, ◌≡◌, List, [], ◌∷◌, length, Option, Some, None, Ok}
+-- What the text of each command that is done says of the files that the command read: the data that they give, all of which reads
+-- back, and nothing else that reads back.
+
+use Rattle.std.specs.Prelude.{ℕ, ◌≡◌, List, [], length, Ok}
 use Rattle.onll_model.specs.declared.call.Call.{Call}
 use Rattle.onll_model.specs.Object.{Behaviour}
-use Rattle.onll_log.specs.Grammar.{Content, content_of}
 use Rattle.onll_core.specs.Core.{CoreState}
 use Rattle.onll_core.specs.Crash.{images_of}
 use Rattle.onll_bank.specs.Object.{bank}
@@ -16,58 +18,16 @@ use Rattle.onll_text.specs.BankWording.{bank_wording}
 use Rattle.onll_text.specs.MapWording.{map_wording}
 use Rattle.onll_text.specs.QueueWording.{queue_wording}
 use Rattle.onll_text.specs.LeaseWording.{lease_wording}
-use Rattle.onll_text.specs.Script.{script_of as read_script}
 use Rattle.onll_text.specs.Schedule.{schedule_of}
 use Rattle.onll_text.specs.Init.{init_of}
-use Rattle.onll_text.specs.Reports.{fold_data_lines, FoldDataReads, SaysOnly}
-use Rattle.onll_outside.specs.Views.{StoreView, Puts}
-use Rattle.onll_jobs.specs.declared.ending.Ending.TheVariants.{Done}
-use Rattle.onll_jobs.specs.declared.ending.Exit.{Exit}
-use Rattle.onll_jobs.specs.declared.ending.Exit.TheVariants.{Said}
-use Rattle.onll_jobs.specs.Reading.{Reads, ReadsWhole, HoldsImage}
-use Rattle.onll_jobs.specs.Command.{Form, Fold, Show, Recover, Replay, form_of}
-use Rattle.onll_jobs.specs.Seen.{Seen}
-use Rattle.onll_jobs.specs.Images.{image_name}
-use Rattle.onll_jobs.specs.RecoverJob.{Recovered, recovered}
-use Rattle.onll_jobs.specs.ReplayJob.{played}
-use Rattle.onll_jobs.specs.Durable.{ReadScripts}
-use Rattle.onll_jobs.specs.Reports.{fold_data, shown_lines, ShowReads, show_data, recover_data_lines, RecoverReads, recover_data, run_data_lines, RunReads, replay_data}
-
--- What the text of each command that is done says of the files that the command read: the data that they give, all of which reads
--- back, and nothing else that reads back.
-
--- ---- fold
--- a script is read from this file, and this text says what its fold gives, and nothing else
-pub record FoldsTo {State Op Query Reply : Type 0} (b : Behaviour State Op Query Reply)
-    (w : Wording State Op Query Reply) (s : State) (store : StoreView) (script text : List ℕ) : Type 0 where
-  pub calls : List (Call State Op Query Reply)
-  pub read : Reads store (read_script w) script calls
-  pub says : SaysOnly (fold_data_lines b w calls) (FoldDataReads b w calls) text (fold_data b s calls)
-
--- the same for an object of any kind
-abbrev pub FoldsToAny : StoreView → (script text : List ℕ) → AnyObject → Type 0
-FoldsToAny store script text (objects.Bank s) = FoldsTo bank bank_wording s store script text
-FoldsToAny store script text (objects.Map s) = FoldsTo map_object map_wording s store script text
-FoldsToAny store script text (objects.Queue s) = FoldsTo queue queue_wording s store script text
-FoldsToAny store script text (objects.Lease s) = FoldsTo lease lease_wording s store script text
-
--- an initial state is read from the one file, and the other's script is folded on it
-pub record FoldsFiles (store : StoreView) (init script text : List ℕ) : Type 0 where
-  pub object : AnyObject
-  pub read : Reads store init_of init object
-  pub folds : FoldsToAny store script text object
-
--- ---- show
--- this text says what these lines of an image hold, and nothing else
-pub record ShowsImage (lines : List (List ℕ)) (text : List ℕ) : Type 0 where
-  pub content : Content
-  pub is : content_of lines ≡ Some content
-  pub says : SaysOnly shown_lines ShowReads text (show_data content)
-
-pub record ShowsFile (store : StoreView) (image text : List ℕ) : Type 0 where
-  pub lines : List (List ℕ)
-  pub held : HoldsImage store image lines
-  pub shows : ShowsImage lines text
+use Rattle.onll_text.specs.Reports.{SaysOnly}
+use Rattle.onll_outside.specs.Views.{StoreView}
+use Rattle.onll_jobs.specs.Reading.{Reads, ReadsWhole}
+use Rattle.onll_jobs.specs.Images.{HoldImages, image_names}
+use Rattle.onll_jobs.specs.Doing.{Work}
+use Rattle.onll_jobs.specs.RecoverJob.{Recovered, recovered, recover_job}
+use Rattle.onll_jobs.specs.ReplayJob.{played, ReadScripts, replay_job}
+use Rattle.onll_jobs.specs.Reports.{recover_data_lines, RecoverReads, recover_data, run_data_lines, RunReads, replay_data}
 
 -- ---- recover
 -- this text says what these images give, and nothing else
@@ -84,11 +44,6 @@ RecoversToAny init images text (objects.Bank s) = RecoversTo bank bank_wording 1
 RecoversToAny init images text (objects.Map s) = RecoversTo map_object map_wording 2 init s images text
 RecoversToAny init images text (objects.Queue s) = RecoversTo queue queue_wording 3 init s images text
 RecoversToAny init images text (objects.Lease s) = RecoversTo lease lease_wording 4 init s images text
-
--- the files of the threads from i on hold these images
-abbrev pub HoldImages : StoreView → List ℕ → ℕ → List (List (List ℕ)) → Type 0
-HoldImages store logs i [] = Unit {0}
-HoldImages store logs i (image ∷ images) = HoldsImage store (image_name logs i) image × HoldImages store logs (suc i) images
 
 -- images of this many threads are read, and recovered over this object
 pub record RecoversLogs (store : StoreView) (init logs : List ℕ) (threads : ℕ) (text : List ℕ) (object : AnyObject) : Type 0 where
@@ -142,24 +97,13 @@ pub record ReplaysFiles (store : StoreView) (init schedule : List ℕ) (names : 
   pub read : ReadsWhole store init_of init bytes object
   pub replays : ReplaysToAny bytes store schedule names text object
 
--- ---- any command
--- what the text of words of this form says, where they are done; words of no form never are
-abbrev pub FormDetermined : StoreView → Option Form → List ℕ → Type 0
-FormDetermined store None text = ⊥
-FormDetermined store (Some (Fold init script)) text = FoldsFiles store init script text
-FormDetermined store (Some (Show image)) text = ShowsFile store image text
-FormDetermined store (Some (Recover init logs threads)) text = RecoversFiles store init logs threads text
-FormDetermined store (Some (Replay init schedule logs scripts)) text = ReplaysFiles store init schedule scripts text
+-- ---- the works
+abbrev pub recover_work : (init logs : List ℕ) (threads : ℕ) → Work
+recover_work init logs threads =
+    record { task = record { job = recover_job init logs threads; reports = λ store text. RecoversFiles store init logs threads text }; writes = [] }
 
--- a text that says so was put
-pub record DeterminedPut (seen : Seen) : Type 0 where
-  pub text : List ℕ
-  pub says : FormDetermined seen.store (form_of seen.words) text
-  pub put : Puts seen.sink seen.sink_after text
-
--- words that are done, by their exit and by their status
-abbrev pub ExitDetermined : Seen → Exit → Type 0
-ExitDetermined seen exit = exit ≡ Said Done → DeterminedPut seen
-
-abbrev pub IsDetermined : Seen → ℕ → Type 0
-IsDetermined seen status = status ≡ 0 → DeterminedPut seen
+abbrev pub replay_work : (init schedule logs : List ℕ) → List (List ℕ) → Work
+replay_work init schedule logs scripts = record {
+  task = record { job = replay_job init schedule logs scripts; reports = λ store text. ReplaysFiles store init schedule scripts text };
+  writes = image_names logs 0 (length scripts);
+}

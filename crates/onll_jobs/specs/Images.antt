@@ -1,5 +1,7 @@
+-- The images of the logs of one run: one file for each thread.
+
 use Rattle.std.specs.List.{flat_map}
-use Rattle.std.specs.Prelude.{ℕ, zero, suc, List, [], ◌∷◌, ◌++◌, map, codes, decimal}
+use Rattle.std.specs.Prelude.{ℕ, zero, suc, ◌≡◌, List, [], ◌∷◌, ◌++◌, length, map, codes, decimal}
 use Rattle.onll_words.specs.declared.line.Line.{Line}
 use Rattle.onll_words.specs.Lines.{bytes_of_words}
 use Rattle.onll_pmem.specs.Pmem.{words_of}
@@ -7,8 +9,9 @@ use Rattle.onll_log.specs.ImageFile.{image_lines}
 use Rattle.onll_outside.specs.Views.{StoreView}
 use Rattle.onll_jobs.specs.declared.ending.Ending.{Ending}
 use Rattle.onll_jobs.specs.Job.{Job, Read, Write, JobEnds, JobCut, GoesOn}
+use Rattle.onll_jobs.specs.Reading.{HoldsImage}
+use Rattle.onll_jobs.specs.Doing.{Stage}
 
--- The images of the logs of one run: one file for each thread.
 
 -- the name of a thread's image
 abbrev pub image_name : List ℕ → ℕ → List ℕ
@@ -60,3 +63,19 @@ ImagesCut store after logs images = (next : Job) → JobCut store after (writing
 -- the lines of images, as words
 abbrev pub images_in : List (List Line) → List (List (List ℕ))
 images_in images = map words_of images
+
+-- ---- stages
+-- the files of the threads from i on hold these images
+abbrev pub HoldImages : StoreView → List ℕ → ℕ → List (List (List ℕ)) → Type 0
+HoldImages store logs i [] = Unit {0}
+HoldImages store logs i (image ∷ images) = HoldsImage store (image_name logs i) image × HoldImages store logs (suc i) images
+
+-- the images of the logs of this many threads are read
+abbrev pub images_stage : List ℕ → ℕ → Stage (List (List (List ℕ)))
+images_stage logs threads =
+    record { job = reading_images logs 0 threads; known = λ store images. (length images ≡ threads) × HoldImages store logs 0 images }
+
+-- these images are made the files of the logs
+abbrev pub writing_stage : List ℕ → List (List (List ℕ)) → Stage (Unit {0})
+writing_stage logs images =
+    record { job = λ (next : Unit {0} → Job). writing_images logs 0 images (next tt); known = λ _ _. Unit {0} }

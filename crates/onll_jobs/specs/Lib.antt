@@ -17,3 +17,4 @@ pub mod Writing
 pub mod Durable
 pub mod Reports
 pub mod Determined
+pub mod Doing

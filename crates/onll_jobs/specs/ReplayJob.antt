@@ -34,6 +34,7 @@ use Rattle.onll_jobs.specs.declared.bad_logs.LogsFault.{LogsFault}
 use Rattle.onll_outside.specs.Views.{StoreView}
 use Rattle.onll_jobs.specs.declared.ending.Ending.{Ending}
 use Rattle.onll_jobs.specs.Job.{Job, Say, reading, reading_whole, JobEnds, GoesOn}
+use Rattle.onll_jobs.specs.Reading.{Reads}
 use Rattle.onll_jobs.specs.Images.{writing_images}
 use Rattle.onll_jobs.specs.RecoverJob.{Recovered, recovered, fault_line, recovered_line}
 
@@ -98,6 +99,12 @@ abbrev pub reading_scripts : {State Op Query Reply : Type 0} → Wording State O
     → (List (List (Call State Op Query Reply)) → Job) → Job
 reading_scripts w [] next = next []
 reading_scripts w (name ∷ names) next = reading name (script_of w) (λ calls. reading_scripts w names (λ scripts. next (calls ∷ scripts)))
+
+-- a script is read from each of these files
+abbrev pub ReadScripts : {State Op Query Reply : Type 0} → Wording State Op Query Reply → StoreView → List (List ℕ) → List (List (Call State Op Query Reply)) → Type 0
+ReadScripts w store [] [] = Unit {0}
+ReadScripts w store (name ∷ names) (script ∷ scripts) = Reads store (script_of w) name script × ReadScripts w store names scripts
+ReadScripts w store names scripts = ⊥
 
 -- these scripts were read, and a job that reads them goes on
 abbrev pub AreRead : {State Op Query Reply : Type 0} → Wording State Op Query Reply → StoreView → StoreView

@@ -1,3 +1,5 @@
+-- What the reports of `recover` and `replay` say: the data of each, the lines that say them, and when they read back where they are printed.
+
 use Rattle.std.specs.Prelude.{ℕ, ◌≡◌, ◌<◌, ◌≤◌, ◌^◌, ◌+◌, ◌-◌, Bool, List, [], ◌∷◌, ◌++◌, Option, Some, None, codes, decimal, length, map}
 use Rattle.std.specs.List.{All}
 use Rattle.onll_model.specs.declared.node.Node.{Node}
@@ -5,7 +7,6 @@ use Rattle.onll_model.specs.declared.call.Call.{Call}
 use Rattle.onll_model.specs.declared.call.CallEnd.{CallEnd}
 use Rattle.onll_model.specs.Object.{Behaviour}
 use Rattle.onll_model.specs.Trace.{state_after}
-use Rattle.onll_model.specs.Fold.{fold_trace, fold_ends, fold_state}
 use Rattle.onll_model.specs.Segment.{Segment}
 use Rattle.onll_log.specs.declared.head.LogHead.{LogHead}
 use Rattle.onll_log.specs.Grammar.{Content, used_by, used_with}
@@ -13,64 +14,9 @@ use Rattle.onll_core.specs.Core.{CoreThread, CoreState}
 use Rattle.onll_core.specs.Outcomes.{ends_of}
 use Rattle.onll_text.specs.Wording.{Wording}
 use Rattle.onll_text.specs.Lines.{call_lines, trace_line, node_lines, log_line, state_lines}
-use Rattle.onll_text.specs.Reports.{EndsRead, NodeReads, StateReads, FoldData}
-use Rattle.onll_jobs.specs.ShowJob.{head_line, entries_lines, count_words}
+use Rattle.onll_text.specs.Reports.{EndsRead, NodeReads, StateReads}
 use Rattle.onll_jobs.specs.RecoverJob.{Recovered, recovered_line}
 use Rattle.onll_jobs.specs.ReplayJob.{flagged_lines, crash_line}
-
--- What the reports of the commands say: the data of each, the lines that say them, and when they read back where they are printed.
-
--- ---- fold
--- what the report of a fold says
-abbrev pub fold_data : {State Op Query Reply : Type 0} → Behaviour State Op Query Reply → State
-    → List (Call State Op Query Reply) → FoldData State Op Query Reply
-fold_data b s calls = record { ends = fold_ends b s 0 calls; nodes = fold_trace b 0 calls; state = fold_state b s calls }
-
--- ---- show
--- what is said of a log with a head: the head, the entries with their places, counts and rows, and the lines that they use
-pub record ShownLog : Type 0 where
-  pub thread : ℕ
-  pub threads : ℕ
-  pub object : ℕ
-  pub entries : List Segment
-  pub lines : ℕ
-
--- the lines of what an image holds, which is nothing where it has no head
-abbrev pub shown_lines : Option ShownLog → List (List (List ℕ))
-shown_lines None = (codes "empty" ∷ []) ∷ []
-shown_lines (Some log) =
-    head_line log.thread log.threads log.object ∷ (entries_lines 0 log.entries ++ count_words (length log.entries) log.lines ∷ [])
-
--- the numbers of a node, and the words of its row, are of 64 bits
-pub record RowReads (node : Node) : Type 0 where
-  pub thread : node.thread < 2 ^ 64
-  pub number : node.number < 2 ^ 64
-  pub words : All (λ n. n < 2 ^ 64) node.row.w
-
-pub record EntryReads (s : Segment) : Type 0 where
-  pub place : s.place < 2 ^ 64
-  pub nodes : All RowReads s.nodes
-
--- a log with a head is of one of the four objects, and its numbers are of 64 bits
-pub record LogShownReads (log : ShownLog) : Type 0 where
-  pub thread : log.thread < 2 ^ 64
-  pub threads : log.threads < 2 ^ 64
-  pub object : (1 ≤ log.object) × (log.object ≤ 4)
-  pub entries : All EntryReads log.entries
-  pub lines : log.lines < 2 ^ 64
-
-abbrev pub ShowReads : Option ShownLog → Type 0
-ShowReads None = Unit {0}
-ShowReads (Some log) = LogShownReads log
-
-abbrev pub shown_with : Option LogHead → List Segment → ℕ → Option ShownLog
-shown_with None entries lines = None
-shown_with (Some head) entries lines =
-    Some (record { thread = head.thread; threads = head.threads; object = head.object; entries = entries; lines = lines })
-
--- what the report of an image says
-abbrev pub show_data : Content → Option ShownLog
-show_data c = shown_with c.head c.entries (used_by c)
 
 -- ---- recover
 -- what is said of a log with a head: its entries and its lines

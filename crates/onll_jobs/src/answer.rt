@@ -1,3 +1,5 @@
+//! What is said in place of a report, and why.
+
 ghost use Rattle.std.specs.Prelude.{◌≡◌, IfOk, MatchResult};
 ghost use Rattle.onll_text.specs.Refusal.{refused};
 ghost use Rattle.onll_jobs.specs.Printed.{usage_text, refusal_text, read_fault_text, write_fault_text};
@@ -62,6 +64,23 @@ impl Stop {
             Stop::Says(answer) => Ok(answer),
             Stop::NoMemory => Err(NoMemory),
         }
+    }
+
+    /// A text that is no report, with its ending.
+    pub(crate) fn says(alloc: Global, ending: Ending, text: &[u8]) -> Stop
+        ensures { StopSays result (λ end said. (end ≡ ending) × (said ≡ text.now)) }
+    {
+        match Vec::from_slice(alloc, text) {
+            Ok(text) => Stop::Says(Answer { ending, text }),
+            Err(_) => Stop::NoMemory,
+        }
+    }
+
+    /// The usage text.
+    pub(crate) fn usage(alloc: Global) -> Stop
+        ensures { StopSays result (λ end said. (end ≡ Ending.Usage) × (said ≡ usage_text)) }
+    {
+        Stop::says(alloc, Ending::Usage, USAGE)
     }
 
     /// The line of a refused text.
@@ -134,14 +153,4 @@ fn write_fault_text(alloc: Global, name: &str) -> Result<Vec<u8>, AllocError>
     text.extend_from_slice(name.as_bytes())?;
     text.extend_from_slice(b"\n")?;
     Ok(text)
-}
-
-/// The usage text.
-pub(crate) fn usage(alloc: Global) -> Result<Answer, NoMemory>
-    ensures { IfOk result (λ answer. (answer.ending ≡ Ending.Usage) × (answer.text.items ≡ usage_text)) }
-{
-    Ok(Answer {
-        ending: Ending::Usage,
-        text: Vec::from_slice(alloc, USAGE)?,
-    })
 }

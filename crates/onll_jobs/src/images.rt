@@ -5,7 +5,7 @@ ghost use Rattle.onll_jobs.specs.Reading.{HoldsImage, CannotRead};
 ghost use Rattle.onll_jobs.specs.Images.{image_name, images_in, ImagesRead, ImagesUnread, image_bytes, image_names, AreWritten, ImagesStop, ImagesCut};
 ghost use Rattle.onll_jobs.specs.Writing.{SameBut, HasWritten, CannotWrite, WriteStops};
 ghost use Rattle.onll_jobs.specs.Stop.{StopSays};
-ghost use Rattle.onll_jobs.specs.Determined.{HoldImages};
+ghost use Rattle.onll_jobs.specs.Images.{HoldImages};
 
 use crate::answer::Stop;
 use crate::texts::{image_file, write_file};

@@ -21,7 +21,7 @@ ghost use Rattle.onll_jobs.specs.Stop.{StopSays};
 ghost use Rattle.onll_jobs.specs.Writing.{SameBut};
 ghost use Rattle.onll_jobs.specs.ReplayJob.{begun_lines, flagged_lines, crash_line, fenced_lines, run_lines, crash_lines, replay_report, crash_says, crash_job, played, AreRead, ScriptsStop, schedule_job, replay_on, replay_any, replay_job};
 ghost use Rattle.onll_jobs.specs.declared.ending.Ending.TheVariants.{Done};
-ghost use Rattle.onll_jobs.specs.Durable.{ReadScripts};
+ghost use Rattle.onll_jobs.specs.ReplayJob.{ReadScripts};
 ghost use Rattle.onll_jobs.specs.Determined.{CrashesTo, PlaysTo, ReplaysTo, ReplaysToAny, ReplaysFiles};
 
 use crate::answer::{Answer, Stop};

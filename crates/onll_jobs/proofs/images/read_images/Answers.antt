@@ -3,7 +3,7 @@ use Rattle.onll_jobs.specs.Images.{images_in, reading_images}
 use Rattle.onll_jobs.proofs.Onwards.{ReadSo, none_read}
 use Rattle.onll_jobs.proofs.ImageFiles.{image_next, image_stopped, images_read}
 use Rattle.std.proofs.lemmas.List.{append-nil}
-use Rattle.onll_jobs.specs.Determined.{HoldImages}
+use Rattle.onll_jobs.specs.Images.{HoldImages}
 use Rattle.onll_jobs.proofs.FormsDetermined.{image_held}
 use Rattle.onll_jobs.proofs.images.read_images.Goals as goal
 

@@ -6,7 +6,7 @@ use Rattle.onll_model.specs.Calls.{updates_in}
 use Rattle.onll_jobs.specs.ReplayJob.{reading_scripts}
 use Rattle.onll_jobs.proofs.Onwards.{none_read, values_read}
 use Rattle.onll_jobs.proofs.Replays.{name_next, script_next, script_stopped}
-use Rattle.onll_jobs.specs.Durable.{ReadScripts}
+use Rattle.onll_jobs.specs.ReplayJob.{ReadScripts}
 use Rattle.onll_jobs.proofs.FormsDetermined.{script_held}
 use Rattle.onll_jobs.proofs.replay.script_files.Goals as goal
 

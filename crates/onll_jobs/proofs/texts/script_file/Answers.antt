@@ -1,6 +1,7 @@
 use Rattle.std.proofs.Common.{◌∙◌, sym, ap}
 use Rattle.onll_text.specs.Script.{script_of}
 use Rattle.onll_jobs.proofs.Cuts.{script_of-cut}
+use Rattle.onll_jobs.proofs.Stages.{read_begins, refused_begins, stops_begins, unread_stops, cannot_stops}
 use Rattle.onll_jobs.proofs.Stops.{reads_cut, stops_refused}
 use Rattle.onll_jobs.proofs.texts.script_file.Goals as goal
 
@@ -20,3 +21,15 @@ returns-in-Err-Refused-clause-stop g c =
     stops_refused store (g.S.Store.seen c.read_text.new.store) (script_of w) c.args.name.now c.in-Ok.text.items c.in-Err-Refused.line c.in-Err-Refused.reason c.refused.result
     cut (script_of-cut w store c.args.name.now c.in-Ok.text.items cut)
     (sym (ap (script_of w) c.deref.ensures.value) ∙ (rw c.in-Err-Refused.field-0-is at c.in-Err-Refused.ensures.calls)) c.in-Ok.ensures.faults c.refused.ensures
+
+pub returns-in-Err-clause-begins : goal.returns-in-Err-clause-begins
+returns-in-Err-clause-begins g c = stops_begins c.in-Err.stop (λ next. unread_stops _ _ _ _ c.in-Err.stop c.in-Err.ensures.stop c.in-Err.ensures.same) c.in-Err.ensures.same
+
+pub returns-in-Err-clause-stop : goal.returns-in-Err-clause-stop
+returns-in-Err-clause-stop g c = cannot_stops _ _ (script_of g.O.Texted.wording) c.args.name.now c.in-Err.stop c.in-Err.ensures.stop
+
+pub returns-in-Ok-read_script-clause-begins : goal.returns-in-Ok-read_script-clause-begins
+returns-in-Ok-read_script-clause-begins g c = read_begins _ (returns-in-Ok-read_script-clause-calls g c) c.in-Ok.ensures.same c.in-Ok.ensures.faults
+
+pub returns-in-Err-Refused-clause-begins : goal.returns-in-Err-Refused-clause-begins
+returns-in-Err-Refused-clause-begins g c = refused_begins c.args.name.now (script_of g.O.Texted.wording) c.refused.result (returns-in-Err-Refused-clause-stop g c) c.in-Ok.ensures.same

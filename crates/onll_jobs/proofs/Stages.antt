@@ -37,7 +37,7 @@ then_changes names store mid after first then_ =
 wider : (names : List (List ℕ)) (store after : StoreView) → SameBut [] store after → SameBut names store after
 wider names store after same = record { tells = same.tells; file = λ other differs. same.file other tt }
 
-stay_same : (store : StoreView) → FilesStay store store
+pub stay_same : (store : StoreView) → FilesStay store store
 stay_same store = record { tells = refl; file = λ tells name. refl }
 
 -- what was held after calls that changed no file was held before them

@@ -27,9 +27,10 @@ use Rattle.onll_jobs.specs.Job.{Say, JobEnds, Never, Decides}
 use Rattle.onll_log.specs.Grammar.{Content, content_of}
 use Rattle.onll_log.specs.ImageFile.{image_lines}
 use Rattle.onll_jobs.specs.ShowJob.{shown}
-use Rattle.onll_jobs.specs.declared.bad_logs.LogsFault.{LogsFault}
+use Rattle.onll_merge.specs.declared.fault.StateFault.{StateFault}
 use Rattle.onll_jobs.specs.Images.{reading_images}
-use Rattle.onll_jobs.specs.RecoverJob.{Recovered, recovered, found_says, recover_any}
+use Rattle.onll_jobs.specs.RecoverJob.{found_says, recover_any}
+use Rattle.onll_merge.specs.Recovered.{Recovered, state_recovered}
 use Rattle.onll_jobs.specs.FoldJob.{script_job, script_job_on}
 use Rattle.onll_jobs.specs.Exits.{PutExits}
 use Rattle.onll_jobs.specs.Says.{job_of, Allows, PutWhole, OutOfMemory, SinkFailed, ExitSays, NothingFailed, NoneRose, SaysThis}
@@ -109,15 +110,15 @@ content_never : (content : Option Content) → Never Usage (shown content)
 content_never None = λ e. cc
 content_never (Some content) = λ e. cc
 
-found_never : {State Op Query Reply : Type 0} (b : Behaviour State Op Query Reply) (w : Wording State Op Query Reply) (s : State) (r : Result Recovered LogsFault) → Never Usage (found_says b w s r)
+found_never : {State Op Query Reply : Type 0} (b : Behaviour State Op Query Reply) (w : Wording State Op Query Reply) (s : State) (r : Result Recovered StateFault) → Never Usage (found_says b w s r)
 found_never b w s (Ok r) = λ e. cc
 found_never b w s (Err fault) = λ e. cc
 
 recover_never : (init : List ℕ) (object : AnyObject) (images : List (List (List ℕ))) → Never Usage (recover_any init object images)
-recover_never init (objects.Bank s) images = found_never bank bank_wording s (recovered bank 1 init images)
-recover_never init (objects.Map s) images = found_never map_object map_wording s (recovered map_object 2 init images)
-recover_never init (objects.Queue s) images = found_never queue queue_wording s (recovered queue 3 init images)
-recover_never init (objects.Lease s) images = found_never lease lease_wording s (recovered lease 4 init images)
+recover_never init (objects.Bank s) images = found_never bank bank_wording s (state_recovered bank 1 init images)
+recover_never init (objects.Map s) images = found_never map_object map_wording s (state_recovered map_object 2 init images)
+recover_never init (objects.Queue s) images = found_never queue queue_wording s (state_recovered queue 3 init images)
+recover_never init (objects.Lease s) images = found_never lease lease_wording s (state_recovered lease 4 init images)
 
 -- words of a form never get the usage text
 not_usage : (w : Seen) (form : Form) → form_of w.words ≡ Some form → Never Usage (job_of (Some form)) → PutWhole w Usage → ⊥

@@ -1,4 +1,4 @@
-use Rattle.std.proofs.Common.{ℕ, zero, suc, ◌≡◌, ◌+◌, ◌∷◌, ◌++◌, List, [], inl, inr, length, map, Result, Ok, Err, refl, sym, ap, subst, arith, ◌∙◌, append_assoc}
+use Rattle.std.proofs.Common.{Vec, Global, ℕ, zero, suc, ◌≡◌, ◌+◌, ◌∷◌, ◌++◌, List, [], inl, inr, length, map, Result, Ok, Err, refl, sym, ap, subst, arith, ◌∙◌, append_assoc}
 use Rattle.std.proofs.lemmas.List.{map-append}
 use Rattle.onll_words.specs.declared.line.Line.{Line}
 use Rattle.onll_pmem.specs.Pmem.{words_of}
@@ -110,12 +110,12 @@ abbrev pub ImagesHeld : StoreView → List ℕ → ℕ → List (List (List ℕ)
 ImagesHeld store logs i images = (rest : List (List (List ℕ))) → HoldImages store logs i rest → HoldImages store logs 0 (images ++ rest)
 
 -- one image more before those that are left
-pub image_held : (store mid : StoreView) (logs : List ℕ) (i : ℕ) (images more : List (List Line)) (image : List Line) → SameFiles store mid → HoldsImage mid (image_name logs i) (words_of image) → more ≡ images ++ image ∷ []
+pub image_held : (store mid : StoreView) (logs : List ℕ) (i : ℕ) (images more : List (Vec Line Global)) (image : Vec Line Global) → SameFiles store mid → HoldsImage mid (image_name logs i) (words_of image.items) → more ≡ images ++ image ∷ []
     → ImagesHeld store logs i (images_in images) → ImagesHeld store logs (i + 1) (images_in more)
 image_held store mid logs i images more image same held e on rest h =
     let up : i + 1 ≡ suc i = omega arith in
-    subst (HoldImages store logs 0) (sym (ap (λ l. l ++ rest) (ap images_in e ∙ map-append words_of images (image ∷ [])) ∙ append_assoc (images_in images) (words_of image ∷ []) rest))
-    (on (words_of image ∷ rest) (image_before store mid (image_name logs i) (words_of image) same held, subst (λ j. HoldImages store logs j rest) up h))
+    subst (HoldImages store logs 0) (sym (ap (λ l. l ++ rest) (ap images_in e ∙ map-append (λ (image : Vec Line Global). words_of image.items) images (image ∷ [])) ∙ append_assoc (images_in images) (words_of image.items ∷ []) rest))
+    (on (words_of image.items ∷ rest) (image_before store mid (image_name logs i) (words_of image.items) same held, subst (λ j. HoldImages store logs j rest) up h))
 
 -- ---- where a file can't be read or written, nothing is done
 pub unread_images : (store after : StoreView) (logs : List ℕ) (i threads : ℕ) (text : List ℕ) → JobEnds store after (reading_images logs i threads (λ images. Say Usage [])) Done text → ⊥

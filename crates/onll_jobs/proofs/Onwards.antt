@@ -1,4 +1,4 @@
-use Rattle.std.proofs.Common.{ℕ, zero, suc, true, false, List, [], ◌∷◌, ◌++◌, ◌≡◌, inl, inr, ⊎_elim, Option, Some, cond, ◌+◌, ◌<◌, length, drop, get_or, true≢false, Result, Ok, Err, refl, sym, ap, ◌∙◌, subst, arith, append_assoc, append-nil}
+use Rattle.std.proofs.Common.{Vec, Global, ℕ, zero, suc, true, false, List, [], ◌∷◌, ◌++◌, ◌≡◌, inl, inr, ⊎_elim, Option, Some, cond, ◌+◌, ◌<◌, length, drop, get_or, true≢false, Result, Ok, Err, refl, sym, ap, ◌∙◌, subst, arith, append_assoc, append-nil}
 use Rattle.std.proofs.lemmas.List.{drop_more}
 use Rattle.std.proofs.lemmas.Bool.{cases_Bool}
 use Rattle.std.proofs.lemmas.Slice.Eq.{bytes_eq-Decides}
@@ -233,7 +233,7 @@ others_stay name old new h = record { tells = h.tells; file = λ tells. h.file }
 
 -- ---- images
 -- so many images were written, and the rest is left
-pub record WroteSo (store mid : StoreView) (logs : List ℕ) (images : List (List Line)) (i : ℕ) : Type 0 where
+pub record WroteSo (store mid : StoreView) (logs : List ℕ) (images : List (Vec Line Global)) (i : ℕ) : Type 0 where
   pub on : (next : Job) → GoesOn store mid (writing_images logs 0 (images_in images) next) (writing_images logs i (images_in (drop i images)) next)
   pub others : SameBut (image_names logs 0 (length images)) store mid
 
@@ -247,22 +247,22 @@ others_on store mid new logs n i h before after =
     record { tells = after.tells ∙ before.tells; file = λ other differs. after.file other (let e : 0 + i ≡ i = omega arith in subst (λ m. other ≡ image_name logs m → ⊥) e (names_at (λ name. other ≡ name → ⊥) logs 0 n i h differs)) ∙ before.file other differs }
 
 -- one image more
-pub wrote_next : (store mid new : StoreView) (logs : List ℕ) (images : List (List Line)) (image : List Line) (i : ℕ) → i < length images → image ≡ get_or images i image
-    → WroteSo store mid logs images i → HasWritten mid new (image_name logs i) (image_bytes (words_of image)) → SameOthers (image_name logs i) mid new → WroteSo store new logs images (i + 1)
+pub wrote_next : (store mid new : StoreView) (logs : List ℕ) (images : List (Vec Line Global)) (image : Vec Line Global) (i : ℕ) → i < length images → image ≡ get_or images i image
+    → WroteSo store mid logs images i → HasWritten mid new (image_name logs i) (image_bytes (words_of image.items)) → SameOthers (image_name logs i) mid new → WroteSo store new logs images (i + 1)
 wrote_next store mid new logs images image i h same so w others = record {
   on = λ next.
       let rest : Job = writing_images logs (suc i) (images_in (drop (i + 1) images)) next in
       let e : i + 1 ≡ suc i = omega arith in
       goes_after store mid new (writing_images logs 0 (images_in images) next) (writing_images logs i (images_in (drop i images)) next) (writing_images logs (i + 1) (images_in (drop (i + 1) images)) next) (so.on next)
       (subst (λ l. GoesOn mid new (writing_images logs i (images_in l) next) (writing_images logs (i + 1) (images_in (drop (i + 1) images)) next)) (sym (drop_more images i image h))
-      (subst (λ (x : List Line). GoesOn mid new (Write (image_name logs i) (image_bytes (words_of x)) rest) (writing_images logs (i + 1) (images_in (drop (i + 1) images)) next)) same
-      (subst (λ j. GoesOn mid new (Write (image_name logs i) (image_bytes (words_of image)) rest) (writing_images logs j (images_in (drop (i + 1) images)) next)) (sym e)
-      (on_write mid new (image_name logs i) (image_bytes (words_of image)) rest w))));
+      (subst (λ (x : Vec Line Global). GoesOn mid new (Write (image_name logs i) (image_bytes (words_of x.items)) rest) (writing_images logs (i + 1) (images_in (drop (i + 1) images)) next)) same
+      (subst (λ j. GoesOn mid new (Write (image_name logs i) (image_bytes (words_of image.items)) rest) (writing_images logs j (images_in (drop (i + 1) images)) next)) (sym e)
+      (on_write mid new (image_name logs i) (image_bytes (words_of image.items)) rest w))));
   others = others_on store mid new logs (length images) i h so.others others;
 }
 
 -- the next image can't be written
-pub wrote_stopped : (store mid after : StoreView) (logs : List ℕ) (images : List (List Line)) (image : List Line) (i : ℕ) (s : Stop) → i < length images → image ≡ get_or images i image
+pub wrote_stopped : (store mid after : StoreView) (logs : List ℕ) (images : List (Vec Line Global)) (image : Vec Line Global) (i : ℕ) (s : Stop) → i < length images → image ≡ get_or images i image
     → WroteSo store mid logs images i → StopSays s (CannotWrite mid after (image_name logs i)) → StopSays s (ImagesStop store after logs (images_in images))
 wrote_stopped store mid after logs images image i s h same so stop =
     StopSays-weaker s (CannotWrite mid after (image_name logs i)) (ImagesStop store after logs (images_in images))
@@ -270,7 +270,7 @@ wrote_stopped store mid after logs images image i s h same so stop =
     (subst (λ l. JobEnds mid after (writing_images logs i (images_in l) next) ending text) (sym (drop_more images i image h)) (inl k))) stop
 
 -- the next image is not written
-pub wrote_cut : (store mid new : StoreView) (logs : List ℕ) (images : List (List Line)) (image : List Line) (i : ℕ) → i < length images → image ≡ get_or images i image
+pub wrote_cut : (store mid new : StoreView) (logs : List ℕ) (images : List (Vec Line Global)) (image : Vec Line Global) (i : ℕ) → i < length images → image ≡ get_or images i image
     → WroteSo store mid logs images i → WriteStops mid new (image_name logs i) → ImagesCut store new logs (images_in images)
 wrote_cut store mid new logs images image i h same so stops next =
     (so.on next).cut new (subst (λ l. JobCut mid new (writing_images logs i (images_in l) next)) (sym (drop_more images i image h)) (inl stops))

@@ -24,7 +24,7 @@ use Rattle.onll_outside.specs.Views.{StoreView}
 use Rattle.onll_jobs.specs.declared.ending.Ending.{Ending}
 use Rattle.onll_jobs.specs.declared.ending.Ending.TheVariants.{Done}
 use Rattle.onll_jobs.specs.declared.ending.Exit.{Exit}
-use Rattle.onll_jobs.specs.declared.bad_logs.LogsFault.{LogsFault}
+use Rattle.onll_merge.specs.declared.fault.StateFault.{StateFault}
 use Rattle.onll_jobs.specs.Reading.{IsTold}
 use Rattle.onll_jobs.specs.Job.{Job, Decides, on_value}
 use Rattle.onll_jobs.specs.Images.{reading_images}
@@ -32,7 +32,8 @@ use Rattle.onll_jobs.specs.Seen.{Seen}
 use Rattle.onll_jobs.specs.Command.{form_of, Recover}
 use Rattle.onll_jobs.specs.Printed.{exit_status}
 use Rattle.onll_jobs.specs.Says.{job_of, ExitSays, NoneRose, SaysThis}
-use Rattle.onll_jobs.specs.RecoverJob.{Recovered, recovered, recover_report, found_says, recover_on, recover_any, recover_job}
+use Rattle.onll_jobs.specs.RecoverJob.{recover_report, found_says, recover_on, recover_any, recover_job}
+use Rattle.onll_merge.specs.Recovered.{Recovered, recovered_with, state_recovered}
 use Rattle.onll_jobs.specs.Durable.{TellImages, IsLeft, RecoversLeft, RecoversCrashes}
 use Rattle.onll_jobs.proofs.Crashes.{crash_recovered}
 use Rattle.onll_jobs.proofs.ExitCauses.{decided_exactly}
@@ -52,9 +53,9 @@ decides_images store logs i (image ∷ images) next ending text told d =
       ),
     )
 
-found_decides : {State Op Query Reply : Type 0} (b : Behaviour State Op Query Reply) (w : Wording State Op Query Reply) (store : StoreView) (s : State) (found : Result Recovered LogsFault) (r : Recovered) → found ≡ Ok r
+found_decides : {State Op Query Reply : Type 0} (b : Behaviour State Op Query Reply) (w : Wording State Op Query Reply) (store : StoreView) (s : State) (found : Result Recovered StateFault) (r : Recovered) → found ≡ Ok r
     → Decides store (found_says b w s found) Done (recover_report b w s r)
-found_decides b w store s found r e = subst (λ (x : Result Recovered LogsFault). Decides store (found_says b w s x) Done (recover_report b w s r)) (sym e) (refl, refl)
+found_decides b w store s found r e = subst (λ (x : Result Recovered StateFault). Decides store (found_says b w s x) Done (recover_report b w s r)) (sym e) (refl, refl)
 
 -- the call says what the told files decide
 module _ (seen : Seen) (x : Exit) (says : ExitSays seen x) (init logs bytes : List ℕ) (threads : ℕ) (object : AnyObject)
@@ -72,8 +73,8 @@ module _ (seen : Seen) (x : Exit) (says : ExitSays seen x) (init logs bytes : Li
       let first = created_core s code bytes left.scripts in
       let core = steps_of b first left.steps in
       let crash = (always_durable b code bytes s left.scripts left.within left.steps).crash left.images left.left in
-      let r : Recovered = record { logs = crash.recovers.logs; nodes = crash.recovers.nodes } in
-      let found = found_decides b w seen.store s (recovered b code bytes left.images) r (crash_recovered b code bytes s left.scripts left.steps left.images left.within left.left crash.recovers) in
+      let r : Recovered = recovered_with crash.recovers.logs crash.recovers.nodes in
+      let found = found_decides b w seen.store s (state_recovered b code bytes left.images) r (crash_recovered b code bytes s left.scripts left.steps left.images left.within left.left crash.recovers) in
       let many : length left.images ≡ threads = images_many core.threads left.images left.left ∙ ((steps_stay b first left.steps).all_threads ∙ (created_threads s code bytes left.scripts ∙ left.many)) in
       record {
         crash = crash;

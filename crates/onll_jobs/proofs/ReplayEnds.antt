@@ -31,7 +31,7 @@ use Rattle.onll_text.proofs.FewCalls.{few_calls}
 use Rattle.onll_outside.specs.Views.{StoreView, SameFaults}
 use Rattle.onll_jobs.specs.declared.ending.Ending.{Ending}
 use Rattle.onll_jobs.specs.declared.ending.Ending.TheVariants.{Done, Usage, Refused, BadLog, ReadFault, WriteFault}
-use Rattle.onll_jobs.specs.declared.bad_logs.LogsFault.{LogsFault}
+use Rattle.onll_merge.specs.declared.fault.StateFault.{StateFault}
 use Rattle.onll_jobs.specs.Reading.{ReadsWhole, CannotRead}
 use Rattle.onll_jobs.specs.Writing.{FilesStay, CannotWrite, written}
 use Rattle.onll_jobs.specs.Job.{Job, JobEnds, on_value, reading_whole}
@@ -39,7 +39,7 @@ use Rattle.onll_jobs.specs.Images.{image_name, image_bytes, writing_images}
 use Rattle.onll_jobs.specs.Seen.{Seen}
 use Rattle.onll_jobs.specs.Command.{form_of, Replay}
 use Rattle.onll_jobs.specs.Says.{job_of, PutWhole}
-use Rattle.onll_jobs.specs.RecoverJob.{Recovered, recovered}
+use Rattle.onll_merge.specs.Recovered.{Recovered, recovered_with, state_recovered}
 use Rattle.onll_jobs.specs.ReplayJob.{played, replay_report, crash_says, crash_job, reading_scripts, schedule_job, replay_on, replay_any, replay_job}
 use Rattle.onll_jobs.specs.Durable.{ReadScripts, with_images, HasReplayed, HasReplayedAny, ReplayPut}
 use Rattle.onll_jobs.proofs.Crashes.{crash_recovered}
@@ -134,9 +134,9 @@ module _ (after : StoreView) (ending : Ending) (text : List ℕ) (said : IsSaid 
     -- ---- what was replayed
     module _ (code : ℕ) (is : (1 ≤ code) × (code ≤ 4)) (init : List ℕ) (s : State) (schedule logs : List ℕ) (names : List (List ℕ)) (few : length names ≤ 16) where
       -- what a crash says of a core that was played
-      crash_ends : (c : CoreState State Op Query Reply) (keep : ℕ) (store' : StoreView) (found : Result Recovered LogsFault) (r : Recovered) → found ≡ Ok r → JobEnds store' after (crash_says b w c keep found) ending text
+      crash_ends : (c : CoreState State Op Query Reply) (keep : ℕ) (store' : StoreView) (found : Result Recovered StateFault) (r : Recovered) → found ≡ Ok r → JobEnds store' after (crash_says b w c keep found) ending text
           → (ending ≡ Done) × (text ≡ replay_report b w c keep r) × FilesStay store' after × SameFaults store' after
-      crash_ends c keep store' found r e h = subst (λ (x : Result Recovered LogsFault). JobEnds store' after (crash_says b w c keep x) ending text) e h
+      crash_ends c keep store' found r e h = subst (λ (x : Result Recovered StateFault). JobEnds store' after (crash_says b w c keep x) ending text) e h
 
       on_ends : JobEnds store after (replay_on b w code init schedule logs names s) ending text → (ending ≡ Done) × HasReplayed b w code init s store after schedule logs names text
       on_ends h =
@@ -147,13 +147,13 @@ module _ (after : StoreView) (ending : Ending) (text : List ℕ) (said : IsSaid 
           let plan = planned.value in
           let core = played b code init s scripts plan.turns in
           let images = images_of plan.keep core.threads in
-          let found = recovered b code init images in
+          let found = state_recovered b code init images in
           let within : IsWithinLimits code scripts = record { code = is; few = subst (λ (n : ℕ). n ≤ 16) (sym (many_scripts names scripts read.read)) few; updates = few_updates names scripts read.read } in
           let durable = always_durable b code init s scripts within in
           let left = picked_images count core plan.keep (steps_consistent b count (created_core s code init scripts) (turns_of plan.turns) (created_consistent s code init scripts within)) in
           let crash = (durable (turns_of plan.turns)).crash images left in
           let is_found = crash_recovered b code init s scripts (turns_of plan.turns) images within left crash.recovers in
-          let end = crash_ends core plan.keep (with_images store logs 0 images) found (record { logs = crash.recovers.logs; nodes = crash.recovers.nodes }) is_found (images_end store logs 0 images (crash_says b w core plan.keep found) planned.ends) in (
+          let end = crash_ends core plan.keep (with_images store logs 0 images) found (recovered_with crash.recovers.logs crash.recovers.nodes) is_found (images_end store logs 0 images (crash_says b w core plan.keep found) planned.ends) in (
             end.0,
             record {
               scripts = scripts;

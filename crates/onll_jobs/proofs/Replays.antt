@@ -1,4 +1,4 @@
-use Rattle.std.proofs.Common.{ℕ, ◌≡◌, ◌+◌, ◌<◌, List, [], ◌∷◌, ◌++◌, IsSome, length, drop, get_or, map, refl, sym, ap, ◌∙◌, subst}
+use Rattle.std.proofs.Common.{Vec, Global, ℕ, ◌≡◌, ◌+◌, ◌<◌, List, [], ◌∷◌, ◌++◌, IsSome, length, drop, get_or, map, refl, sym, ap, ◌∙◌, subst}
 use Rattle.std.proofs.lemmas.List.{drop_more}
 use Rattle.std.specs.List.{AllByRecursion}
 use Rattle.onll_words.specs.declared.line.Line.{Line}
@@ -24,7 +24,7 @@ use Rattle.onll_jobs.specs.Stop.{StopSays}
 use Rattle.onll_jobs.specs.Reading.{Reads, Stops}
 use Rattle.onll_jobs.specs.Writing.{SameBut}
 use Rattle.onll_jobs.specs.Images.{images_in, writing_images, AreWritten, ImagesStop, ImagesCut}
-use Rattle.onll_jobs.specs.RecoverJob.{recovered}
+use Rattle.onll_merge.specs.Recovered.{state_recovered}
 use Rattle.onll_jobs.specs.Job.{Job, JobEnds, JobCut, GoesOn, SaysNow}
 use Rattle.onll_jobs.specs.ReplayJob.{reading_scripts, ScriptsStop, played, crash_says, crash_job, schedule_job}
 use Rattle.onll_jobs.proofs.Onwards.{ReadSo, stay_cut, now_ends, on_text, value_next, value_stopped, stopped_ends}
@@ -63,41 +63,33 @@ module _ {State Op Query Reply : Type 0} (w : Wording State Op Query Reply) wher
       (stopped_ends mid after name (script_of w) (λ bytes c. reading_scripts w left (λ rest. next (c ∷ rest))) ending text files k))) stop
 
 -- ---- the crash
--- the images of lines are those that the lines are
-words_in : {V : Type 0} (items : V → List Line) (made : List V) → images_in (map items made) ≡ map (λ (image : V). words_of (items image)) made
-words_in items [] = refl
-words_in items (x ∷ made) = ap (λ l. words_of (items x) ∷ l) (words_in items made)
-
-pub images_are : {V : Type 0} (items : V → List Line) (all : List (List Line)) (made : List V) (images : List (List (List ℕ))) → all ≡ map items made → map (λ (image : V). words_of (items image)) made ≡ images → images_in all ≡ images
-images_are items all made images e h = ap images_in e ∙ words_in items made ∙ h
-
 module _ {State Op Query Reply : Type 0} (b : Behaviour State Op Query Reply) (w : Wording State Op Query Reply) (code : ℕ) (init logs : List ℕ) where
   -- the images were written, and this is said of what they give
   pub crash_ends : (c : CoreState State Op Query Reply) (keep : ℕ) (store mid : StoreView) (images : List (List (List ℕ))) (ending : Ending) (text : List ℕ) → images ≡ images_of keep c.threads
-      → AreWritten store mid logs images → SaysNow (crash_says b w c keep (recovered b code init images)) ending text → JobEnds store mid (crash_job b w code init logs c keep) ending text
+      → AreWritten store mid logs images → SaysNow (crash_says b w c keep (state_recovered b code init images)) ending text → JobEnds store mid (crash_job b w code init logs c keep) ending text
   crash_ends c keep store mid images ending text e written h =
-      subst (λ l. JobEnds store mid (writing_images logs 0 l (crash_says b w c keep (recovered b code init l))) ending text) e
-      ((written (crash_says b w c keep (recovered b code init images))).ends mid ending text (now_ends mid (crash_says b w c keep (recovered b code init images)) ending text h))
+      subst (λ l. JobEnds store mid (writing_images logs 0 l (crash_says b w c keep (state_recovered b code init l))) ending text) e
+      ((written (crash_says b w c keep (state_recovered b code init images))).ends mid ending text (now_ends mid (crash_says b w c keep (state_recovered b code init images)) ending text h))
 
   -- they were written, and then memory could not be had
   pub crash_cut : (c : CoreState State Op Query Reply) (keep : ℕ) (store mid : StoreView) (images : List (List (List ℕ))) → images ≡ images_of keep c.threads
       → AreWritten store mid logs images → JobCut store mid (crash_job b w code init logs c keep)
   crash_cut c keep store mid images e written =
-      let next = crash_says b w c keep (recovered b code init images) in
-      subst (λ l. JobCut store mid (writing_images logs 0 l (crash_says b w c keep (recovered b code init l)))) e
+      let next = crash_says b w c keep (state_recovered b code init images) in
+      subst (λ l. JobCut store mid (writing_images logs 0 l (crash_says b w c keep (state_recovered b code init l)))) e
       ((written next).cut mid (stay_cut mid mid next (record { tells = refl; file = λ tells name. refl })))
 
   -- one was not written
   pub crash_cut_short : (c : CoreState State Op Query Reply) (keep : ℕ) (store after : StoreView) (images : List (List (List ℕ))) → images ≡ images_of keep c.threads
       → ImagesCut store after logs images → JobCut store after (crash_job b w code init logs c keep)
   crash_cut_short c keep store after images e h =
-      subst (λ l. JobCut store after (writing_images logs 0 l (crash_says b w c keep (recovered b code init l)))) e (h (crash_says b w c keep (recovered b code init images)))
+      subst (λ l. JobCut store after (writing_images logs 0 l (crash_says b w c keep (state_recovered b code init l)))) e (h (crash_says b w c keep (state_recovered b code init images)))
 
   -- one of the images could not be written
   pub crash_stopped : (c : CoreState State Op Query Reply) (keep : ℕ) (store after : StoreView) (images : List (List (List ℕ))) (ending : Ending) (text : List ℕ) → images ≡ images_of keep c.threads
       → ImagesStop store after logs images ending text → JobEnds store after (crash_job b w code init logs c keep) ending text
   crash_stopped c keep store after images ending text e h =
-      subst (λ l. JobEnds store after (writing_images logs 0 l (crash_says b w c keep (recovered b code init l))) ending text) e (h (crash_says b w c keep (recovered b code init images)))
+      subst (λ l. JobEnds store after (writing_images logs 0 l (crash_says b w c keep (state_recovered b code init l))) ending text) e (h (crash_says b w c keep (state_recovered b code init images)))
 
   -- the schedule was read, and its core crashes
   pub schedule_on : (s : State) (schedule : List ℕ) (scripts : List (List (Call State Op Query Reply))) (threads : ℕ) (plan : Schedule) (c : CoreState State Op Query Reply) (store mid : StoreView)

@@ -28,7 +28,7 @@ use Rattle.onll_jobs.specs.Reading.{Reads, ReadsWhole, HoldsImage}
 use Rattle.onll_jobs.specs.Command.{Form, Fold, Show, Recover, Replay, form_of}
 use Rattle.onll_jobs.specs.Seen.{Seen}
 use Rattle.onll_jobs.specs.Images.{image_name}
-use Rattle.onll_jobs.specs.RecoverJob.{Recovered, recovered}
+use Rattle.onll_merge.specs.Recovered.{Recovered, state_recovered}
 use Rattle.onll_jobs.specs.ReplayJob.{played}
 use Rattle.onll_jobs.specs.Durable.{ReadScripts}
 use Rattle.onll_jobs.specs.Reports.{fold_data, shown_lines, ShowReads, show_data, recover_data_lines, RecoverReads, recover_data, run_data_lines, RunReads, replay_data}
@@ -75,7 +75,7 @@ pub record RecoversTo {State Op Query Reply : Type 0} (b : Behaviour State Op Qu
     (w : Wording State Op Query Reply) (code : ℕ) (init : List ℕ) (s : State) (images : List (List (List ℕ)))
     (text : List ℕ) : Type 0 where
   pub found : Recovered
-  pub is : recovered b code init images ≡ Ok found
+  pub is : state_recovered b code init images ≡ Ok found
   pub says : SaysOnly (recover_data_lines b w) (RecoverReads b w) text (recover_data b s found)
 
 -- the same for an object of any kind
@@ -109,7 +109,7 @@ pub record CrashesTo {State Op Query Reply : Type 0} (b : Behaviour State Op Que
     (w : Wording State Op Query Reply) (code : ℕ) (init : List ℕ) (c : CoreState State Op Query Reply) (keep : ℕ)
     (scripts : List (List (Call State Op Query Reply))) (images : List (List (List ℕ))) (text : List ℕ) : Type 0 where
   pub found : Recovered
-  pub is : recovered b code init images ≡ Ok found
+  pub is : state_recovered b code init images ≡ Ok found
   pub says : SaysOnly (run_data_lines b w scripts) (RunReads b w scripts) text (replay_data b c keep found)
 
 -- a schedule of these scripts is read from this file and played, and the core crashes

@@ -1,5 +1,7 @@
 use Rattle.std.specs.List.{flat_map}
 use Rattle.std.specs.Prelude.{ℕ, zero, suc, List, [], ◌∷◌, ◌++◌, map, codes, decimal}
+use Rattle.std.specs.declared.vec.Vec.{Vec}
+use Rattle.std.specs.declared.alloc.Global.{Global}
 use Rattle.onll_words.specs.declared.line.Line.{Line}
 use Rattle.onll_words.specs.Lines.{bytes_of_words}
 use Rattle.onll_pmem.specs.Pmem.{words_of}
@@ -58,5 +60,5 @@ abbrev pub ImagesCut : StoreView → StoreView → List ℕ → List (List (List
 ImagesCut store after logs images = (next : Job) → JobCut store after (writing_images logs 0 images next)
 
 -- the lines of images, as words
-abbrev pub images_in : List (List Line) → List (List (List ℕ))
-images_in images = map words_of images
+abbrev pub images_in : List (Vec Line Global) → List (List (List ℕ))
+images_in images = map (λ image. words_of image.items) images

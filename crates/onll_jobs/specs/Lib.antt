@@ -2,7 +2,6 @@ pub mod Command
 pub mod Exits
 pub mod Fold
 pub mod FoldJob
-pub mod Found
 pub mod Images
 pub mod Job
 pub mod Printed

@@ -6,7 +6,6 @@ use Rattle.onll_model.specs.declared.call.Call.{Call}
 use Rattle.onll_model.specs.declared.turn.Turn.{Turn}
 use Rattle.onll_model.specs.Object.{Behaviour}
 use Rattle.onll_model.specs.Trace.{state_after}
-use Rattle.onll_log.specs.Grammar.{Content, used_by}
 use Rattle.onll_core.specs.Core.{CoreThread, CoreState}
 use Rattle.onll_core.specs.Step.{steps_of}
 use Rattle.onll_core.specs.Turns.{turns_of}
@@ -30,12 +29,14 @@ use Rattle.onll_text.specs.Init.{init_of}
 use Rattle.onll_text.specs.Script.{script_of}
 use Rattle.onll_text.specs.Schedule.{schedule_of}
 use Rattle.onll_jobs.specs.declared.ending.Ending.TheVariants.{Done, BadLog}
-use Rattle.onll_jobs.specs.declared.bad_logs.LogsFault.{LogsFault}
+use Rattle.onll_merge.specs.declared.fault.StateFault.{StateFault}
 use Rattle.onll_outside.specs.Views.{StoreView}
 use Rattle.onll_jobs.specs.declared.ending.Ending.{Ending}
 use Rattle.onll_jobs.specs.Job.{Job, Say, reading, reading_whole, JobEnds, GoesOn}
 use Rattle.onll_jobs.specs.Images.{writing_images}
-use Rattle.onll_jobs.specs.RecoverJob.{Recovered, recovered, fault_line, recovered_line}
+use Rattle.onll_jobs.specs.RecoverJob.{fault_line, recovered_line}
+use Rattle.onll_merge.specs.declared.counts.LogCounts.{LogCounts}
+use Rattle.onll_merge.specs.Recovered.{Recovered, state_recovered}
 
 -- What `replay INIT SCHEDULE LOGS SCRIPT..` does: it plays a schedule on the step core, crashes it, writes the images, and says
 -- the run and what recovery finds.
@@ -62,9 +63,10 @@ abbrev pub crash_line : ℕ → List (List ℕ)
 crash_line keep = codes "crash" ∷ decimal keep ∷ []
 
 -- the line of each thread's log, from thread t on: what its image holds, and the fences after the header's
-abbrev pub fenced_lines : {State Op Query Reply : Type 0} → ℕ → List Content → List (CoreThread State Op Query Reply) → List (List (List ℕ))
+abbrev pub fenced_lines : {State Op Query Reply : Type 0} → ℕ → List LogCounts → List (CoreThread State Op Query Reply)
+    → List (List (List ℕ))
 fenced_lines t (log ∷ logs) (th ∷ ths) =
-    log_line t (length log.entries) (used_by log) (Some (th.device.fences - 1)) ∷ fenced_lines (t + 1) logs ths
+    log_line t log.entries log.lines (Some (th.device.fences - 1)) ∷ fenced_lines (t + 1) logs ths
 fenced_lines t logs ths = []
 
 -- the lines of the core's calls and trace
@@ -83,7 +85,7 @@ replay_report b w c keep r = flat_map line_text (run_lines b w c ++ crash_lines 
 
 -- ---- the job
 abbrev pub crash_says : {State Op Query Reply : Type 0} → Behaviour State Op Query Reply → Wording State Op Query Reply
-    → CoreState State Op Query Reply → ℕ → Result Recovered LogsFault → Job
+    → CoreState State Op Query Reply → ℕ → Result Recovered StateFault → Job
 crash_says b w c keep (Ok r) = Say Done (replay_report b w c keep r)
 crash_says b w c keep (Err fault) = Say BadLog (fault_line fault)
 
@@ -91,7 +93,7 @@ crash_says b w c keep (Err fault) = Say BadLog (fault_line fault)
 abbrev pub crash_job : {State Op Query Reply : Type 0} → Behaviour State Op Query Reply → Wording State Op Query Reply
     → ℕ → List ℕ → List ℕ → CoreState State Op Query Reply → ℕ → Job
 crash_job b w code init logs c keep =
-    writing_images logs 0 (images_of keep c.threads) (crash_says b w c keep (recovered b code init (images_of keep c.threads)))
+    writing_images logs 0 (images_of keep c.threads) (crash_says b w c keep (state_recovered b code init (images_of keep c.threads)))
 
 -- reads scripts, one after the other, and goes on with the calls of each
 abbrev pub reading_scripts : {State Op Query Reply : Type 0} → Wording State Op Query Reply → List (List ℕ)

@@ -1,4 +1,4 @@
-use Rattle.std.specs.Prelude.{ℕ, ◌≡◌, ◌<◌, ◌≤◌, ◌^◌, ◌+◌, ◌-◌, Bool, List, [], ◌∷◌, ◌++◌, Option, Some, None, codes, decimal, length, map}
+use Rattle.std.specs.Prelude.{ℕ, ◌≡◌, ◌<◌, ◌≤◌, ◌^◌, ◌+◌, ◌-◌, Bool, true, false, List, [], ◌∷◌, ◌++◌, Option, Some, None, codes, decimal, length, map}
 use Rattle.std.specs.List.{All}
 use Rattle.onll_model.specs.declared.node.Node.{Node}
 use Rattle.onll_model.specs.declared.call.Call.{Call}
@@ -8,14 +8,16 @@ use Rattle.onll_model.specs.Trace.{state_after}
 use Rattle.onll_model.specs.Fold.{fold_trace, fold_ends, fold_state}
 use Rattle.onll_model.specs.Segment.{Segment}
 use Rattle.onll_log.specs.declared.head.LogHead.{LogHead}
-use Rattle.onll_log.specs.Grammar.{Content, used_by, used_with}
+use Rattle.onll_log.specs.Grammar.{Content, used_by}
 use Rattle.onll_core.specs.Core.{CoreThread, CoreState}
 use Rattle.onll_core.specs.Outcomes.{ends_of}
 use Rattle.onll_text.specs.Wording.{Wording}
 use Rattle.onll_text.specs.Lines.{call_lines, trace_line, node_lines, log_line, state_lines}
 use Rattle.onll_text.specs.Reports.{EndsRead, NodeReads, StateReads, FoldData}
 use Rattle.onll_jobs.specs.ShowJob.{head_line, entries_lines, count_words}
-use Rattle.onll_jobs.specs.RecoverJob.{Recovered, recovered_line}
+use Rattle.onll_merge.specs.declared.counts.LogCounts.{LogCounts}
+use Rattle.onll_merge.specs.Recovered.{Recovered}
+use Rattle.onll_jobs.specs.RecoverJob.{recovered_line}
 use Rattle.onll_jobs.specs.ReplayJob.{flagged_lines, crash_line}
 
 -- What the reports of the commands say: the data of each, the lines that say them, and when they read back where they are printed.
@@ -110,12 +112,12 @@ pub record RecoverReads {State Op Query Reply : Type 0} (b : Behaviour State Op 
   pub nodes : All (NodeReads b w) said.nodes
   pub state : StateReads w said.state
 
-abbrev pub held_with : Option LogHead → List Segment → Option HeldData
-held_with None entries = None
-held_with (Some head) entries = Some (record { entries = length entries; lines = used_with (Some head) entries })
+abbrev pub held_with : Bool → (entries lines : ℕ) → Option HeldData
+held_with false entries lines = None
+held_with true entries lines = Some (record { entries = entries; lines = lines })
 
-abbrev pub held_of : Content → Option HeldData
-held_of log = held_with log.head log.entries
+abbrev pub held_of : LogCounts → Option HeldData
+held_of log = held_with log.head log.entries log.lines
 
 -- what the report of a recovery says, with this state
 abbrev pub found_data : {State : Type 0} → Recovered → State → RecoverData State
@@ -189,9 +191,9 @@ pub record RunReads {State Op Query Reply : Type 0} (b : Behaviour State Op Quer
   pub state : StateReads w said.state
 
 -- the counts of logs and of their threads' devices
-abbrev pub counts_of : {State Op Query Reply : Type 0} → List Content → List (CoreThread State Op Query Reply) → List LogData
+abbrev pub counts_of : {State Op Query Reply : Type 0} → List LogCounts → List (CoreThread State Op Query Reply) → List LogData
 counts_of (log ∷ logs) (th ∷ ths) =
-    record { entries = length log.entries; lines = used_by log; fences = th.device.fences - 1 } ∷ counts_of logs ths
+    record { entries = log.entries; lines = log.lines; fences = th.device.fences - 1 } ∷ counts_of logs ths
 counts_of logs ths = []
 
 -- what the report of a replay says

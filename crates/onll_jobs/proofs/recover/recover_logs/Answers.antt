@@ -37,7 +37,7 @@ returns-in-Ok-clause-determined g c =
     IfOk-weaker r
     (λ answer. answer.ending ≡ Done → RecoversToAny init images answer.text.items object)
     (λ answer. answer.ending ≡ Done → RecoversLogs (g.S.Store.seen c.args.store.now) init c.args.logs.now c.args.threads answer.text.items object)
-    (λ answer h e. record { images = images; many = length-map c.in-Ok.images.items words_of ∙ c.in-Ok.ensures.count; held = c.in-Ok.ensures.held; recovers = h e })
+    (λ answer h e. record { images = images; many = length-map c.in-Ok.images.items (λ image. words_of image.items) ∙ c.in-Ok.ensures.count; held = c.in-Ok.ensures.held; recovers = h e })
     (subst (λ l. IfOk r (λ answer. answer.ending ≡ Done → RecoversToAny init (images_in l) answer.text.items object)) c.deref-in-Ok.ensures.value
     (subst (λ i. IfOk r (λ answer. answer.ending ≡ Done → RecoversToAny i (images_in c.deref-in-Ok.result.now) answer.text.items object)) c.deref.ensures.value c.recover_any.ensures.determined))
 

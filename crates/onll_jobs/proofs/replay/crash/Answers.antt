@@ -22,7 +22,7 @@ returns-in-Ok-clause-determined g c =
     let core = c.args.core.now in
     let tells : List (List (List ℕ)) → Type 0 = λ images. IfOk c.crash_answer.result (λ answer. answer.ending ≡ Done
     → CrashesTo g.O.Object.means g.O.Texted.wording g.O.Object.CODE c.args.init.now core c.args.keep (map script_of core.threads) images answer.text.items) in
-    subst tells c.in_ok-images.ensures (subst (λ l. tells (images_in l)) c.deref-in-Ok.ensures.value c.crash_answer.ensures.determined)
+    subst tells c.in_ok-images.ensures.exact (subst (λ l. tells (images_in l)) c.deref-in-Ok.ensures.value c.crash_answer.ensures.determined)
 
 pub returns-clause-determined : goal.returns-clause-determined
 returns-clause-determined g c =

@@ -1,18 +1,14 @@
-ghost use Rattle.std.specs.Prelude.{◌≡◌, ◌≤◌, ◌⊎◌, length, map, Some, None, Ok, Err, IfOk, MatchResult};
-ghost use Rattle.onll_model.specs.Limits.{most_threads};
+ghost use Rattle.std.specs.Prelude.{◌≡◌, ◌⊎◌, length, map, Ok, Err, IfOk, MatchResult};
 ghost use Rattle.onll_pmem.specs.Pmem.{words_of};
-ghost use Rattle.onll_log.specs.Grammar.{content_of};
-ghost use Rattle.onll_log.specs.Decoded.{content_in};
-ghost use Rattle.onll_merge.specs.Merge.{contents_in};
-ghost use Rattle.onll_merge.specs.Images.{not_log, merge_images};
+ghost use Rattle.onll_merge.specs.Recovered.{merge_images};
 ghost use Rattle.onll_merge.specs.declared.fault.RecoverFault.TheVariants.{NoMemory as OutOfMemory};
-ghost use Rattle.onll_merge.specs.declared.fault.ImagesFault.TheVariants.{NotLog, Recover};
+ghost use Rattle.onll_merge.specs.declared.fault.ImagesFault.TheVariants.{Recover};
 ghost use Rattle.onll_core.specs.Crash.{AreImages, images_of, heads_of, RecoversAll};
 
 use crate::step_core::Core;
 use crate::worker::Worker;
-use onll_log::{DecodeFault, Decoded, LogHead, decode};
-use onll_merge::{ImagesFault, RecoverFault, recover};
+use onll_log::LogHead;
+use onll_merge::{ImagesFault, RecoverFault, merge_images};
 use onll_model::{Node, Object};
 use onll_words::{Line, NoMemory};
 use std::alloc::{AllocError, Global};
@@ -44,50 +40,6 @@ fn heads_of<O: Object>(alloc: Global, workers: &[Worker<O>]) -> Result<Vec<LogHe
     Ok(heads)
 }
 
-/// What the image of this number holds.
-fn decode_one(alloc: Global, log: u64, image: &[Line]) -> Result<Decoded, ImagesFault>
-    ensures { let content = content_of (words_of image.now) in
-        MatchResult result (λ decoded. content ≡ Some (content_in decoded))
-        (λ e. (e ≡ Recover OutOfMemory) ⊎ ((content ≡ None) × (e ≡ NotLog log))) }
-{
-    match decode(alloc, image) {
-        Ok(decoded) => Ok(decoded),
-        Err(DecodeFault::NotLog) => Err(ImagesFault::NotLog { log }),
-        Err(DecodeFault::NoMemory) => Err(ImagesFault::Recover(RecoverFault::NoMemory)),
-    }
-}
-
-/// What all images hold.
-fn decode_all(alloc: Global, images: &[Vec<Line>]) -> Result<Vec<Decoded>, ImagesFault>
-    ensures { let lines = map (λ image. words_of image.items) images.now in
-        MatchResult result (λ logs. map content_of lines ≡ map Some (contents_in logs.items))
-        (λ e. (e ≡ Recover OutOfMemory) ⊎ (not_log 0 lines ≡ Some e)) }
-{
-    let mut logs = Vec::new(alloc);
-    for (log, image) in images.iter().enumerate() {
-        logs.push(decode_one(alloc, log as u64, image)?)?;
-    }
-    Ok(logs)
-}
-
-/// The nodes that images hold as logs with these heads.
-fn recover_images(
-    alloc: Global,
-    heads: &[LogHead],
-    images: &[Vec<Line>],
-) -> Result<Vec<Node>, ImagesFault>
-    requires few { length images.now ≤ most_threads }
-    requires heads { length heads.now ≡ length images.now }
-    ensures { let merged = merge_images heads.now (map (λ image. words_of image.items) images.now) in
-        MatchResult result (λ nodes. merged ≡ Ok nodes.items) (λ e. (e ≡ Recover OutOfMemory) ⊎ (merged ≡ Err e)) }
-{
-    let logs = decode_all(alloc, images)?;
-    match recover(alloc, &logs, heads) {
-        Ok(nodes) => Ok(nodes),
-        Err(fault) => Err(ImagesFault::Recover(fault)),
-    }
-}
-
 impl<O: Object + Drop> Core<O> {
     /// What a crash leaves: one image for each thread's device, in each of which this number picks the pending words that
     /// are kept.
@@ -117,7 +69,7 @@ impl<O: Object + Drop> Core<O> {
     {
         self.reached();
         match heads_of(alloc, self.workers()) {
-            Ok(heads) => recover_images(alloc, &heads, images),
+            Ok(heads) => merge_images(alloc, images, &heads),
             Err(_) => Err(ImagesFault::Recover(RecoverFault::NoMemory)),
         }
     }

@@ -25,9 +25,11 @@ use Rattle.onll_core.proofs.Images.{image_either}
 use Rattle.onll_core.proofs.Crashed.{images_many, are_held, steps_heads}
 use Rattle.onll_core.proofs.Recovered.{first_heads}
 use Rattle.onll_core.proofs.Operations.{AllOperations, steps_operations}
-use Rattle.onll_jobs.specs.declared.bad_logs.LogsFault.{LogsFault}
-use Rattle.onll_jobs.specs.declared.bad_logs.LogsFault.TheVariants.{NotOperation}
-use Rattle.onll_jobs.specs.RecoverJob.{content_before, contents_from, expected_heads, operations, operations_of, with_logs, merged, recovered}
+use Rattle.onll_merge.specs.declared.fault.StateFault.{StateFault}
+use Rattle.onll_merge.specs.declared.fault.StateFault.TheVariants.{NotOperation}
+use Rattle.onll_merge.specs.declared.fault.RecoverFault.{RecoverFault}
+use Rattle.onll_merge.specs.declared.fault.ImagesFault.{ImagesFault}
+use Rattle.onll_merge.specs.Recovered.{Recovered, recovered_with, content_before, contents_from, expected_heads, with_logs, merged, with_operations, state_recovered}
 
 -- The images of a core that was made of scripts are logs of this run, and what is recovered from them are operations.
 
@@ -111,35 +113,36 @@ module _ {State Op Query Reply : Type 0} (b : Behaviour State Op Query Reply) wh
   take_operations (suc k) [] h = tt
   take_operations (suc k) (n ∷ nodes) h = (h.0, take_operations k nodes h.1)
 
-  abbrev rows_by : List Node → List Node → Result (List Node) LogsFault
-  rows_by nodes front = cond (length front == length nodes) (Ok nodes) (Err (NotOperation (length front + 1)))
+  abbrev rows_by : Recovered → List Node → Result Recovered StateFault
+  rows_by r front = cond (length front == length r.nodes) (Ok r) (Err (NotOperation (length front + 1)))
 
-  operations_are : (nodes : List Node) → AllOperations b nodes → operations b nodes ≡ Ok nodes
-  operations_are nodes h = ap (rows_by nodes) (front_is nodes h) ∙ equal (length nodes) (Ok nodes) (Err (NotOperation (length nodes + 1)))
+  operations_are : (r : Recovered) → AllOperations b r.nodes → with_operations b (Ok r) ≡ Ok r
+  operations_are r h = ap (rows_by r) (front_is r.nodes h) ∙ equal (length r.nodes) (Ok r) (Err (NotOperation (length r.nodes + 1)))
 
   -- ---- what is recovered
   recovered_is : (code : ℕ) (init : List ℕ) (images : List (List (List ℕ))) (heads : List LogHead) (logs : List Content) (nodes : List Node) → expected_heads code init (length images) 0 images ≡ heads
-      → contents_from 0 images ≡ Ok logs → merge heads logs ≡ Ok nodes → operations b nodes ≡ Ok nodes → recovered b code init images ≡ Ok (record { logs = logs; nodes = nodes })
+      → contents_from 0 images ≡ Ok logs → merge heads logs ≡ Ok nodes → AllOperations b nodes → state_recovered b code init images ≡ Ok (recovered_with logs nodes)
   recovered_is code init images heads logs nodes h c m o =
-      ap (λ (hs : List LogHead). merged b hs (contents_from 0 images)) h ∙ ap (merged b heads) c ∙ ap (λ r. with_logs logs (operations_of b r)) m ∙ ap (with_logs logs) o
+      ap (λ (hs : List LogHead). with_operations b (merged hs (contents_from 0 images))) h ∙ ap (λ (cs : Result (List Content) ImagesFault). with_operations b (merged heads cs)) c
+      ∙ ap (λ (r : Result (List Node) RecoverFault). with_operations b (with_logs logs r)) m ∙ operations_are (recovered_with logs nodes) o
 
   -- images of a consistent core whose heads are those of its number of threads
   core_recovers : (count code : ℕ) (init : List ℕ) (c : CoreState State Op Query Reply) (images : List (List (List ℕ))) → IsConsistent count c → AllOperations b c.trace
       → heads_of c.threads ≡ heads_from count code init 0 count → AreImages c.threads images → (r : Recovers (heads_from count code init 0 count) c images)
-      → recovered b code init images ≡ Ok (record { logs = r.logs; nodes = r.nodes })
+      → state_recovered b code init images ≡ Ok (recovered_with r.logs r.nodes)
   core_recovers count code init c images k rows same a r =
       let held = are_held c.base c.trace c.threads images a (λ t th at image i. image_either count c k t th at image i) in
       let formats = formats_are (map (frame_thread c.base c.trace) c.threads) (heads_of c.threads) held.logs images held.left held.contents (subst HaveFormat2 (sym same) (heads_have_format count code init 0 count)) in
       let many : length images ≡ count = images_many c.threads images a ∙ sym (length-map c.threads (λ (th : CoreThread State Op Query Reply). th.head)) ∙ ap length same ∙ length-heads_from count code init 0 count in
       let heads : expected_heads code init (length images) 0 images ≡ heads_from count code init 0 count =
       heads_expected (length images) code init 0 images formats ∙ ap (λ (n : ℕ). heads_from n code init 0 n) many in
-      let ops = subst (λ (nodes : List Node). operations b nodes ≡ Ok nodes) (sym r.front) (operations_are (take (top_of r.logs) c.trace) (take_operations (top_of r.logs) c.trace rows)) in
+      let ops = subst (AllOperations b) (sym r.front) (take_operations (top_of r.logs) c.trace rows) in
       recovered_is code init images (heads_from count code init 0 count) r.logs r.nodes heads (contents_are 0 images r.logs r.contents) r.recovered ops
 
   -- a crash of a core that was made of scripts is recovered, after any steps, whatever it leaves of each device
   pub crash_recovered : (code : ℕ) (init : List ℕ) (s : State) (scripts : List (List (Call State Op Query Reply))) (ts : List ℕ) (images : List (List (List ℕ))) → IsWithinLimits code scripts
       → AreImages (steps_of b (created_core s code init scripts) ts).threads images → (r : Recovers (created_heads code init scripts) (steps_of b (created_core s code init scripts) ts) images)
-      → recovered b code init images ≡ Ok (record { logs = r.logs; nodes = r.nodes })
+      → state_recovered b code init images ≡ Ok (recovered_with r.logs r.nodes)
   crash_recovered code init s scripts ts images l a r =
       let count = length scripts in
       let c = created_core s code init scripts in

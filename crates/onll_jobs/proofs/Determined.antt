@@ -1,4 +1,4 @@
-use Rattle.std.proofs.Common.{ℕ, Bool, true, ◌≡◌, ◌≢◌, ◌+◌, ◌-◌, ◌<◌, ◌≤◌, ◌^◌, List, [], ◌∷◌, ◌++◌, Option, Some, None, codes, decimal, length, map, drop, refl, sym, ap, ◌∙◌, subst, arith, append_assoc}
+use Rattle.std.proofs.Common.{false, ℕ, Bool, true, ◌≡◌, ◌≢◌, ◌+◌, ◌-◌, ◌<◌, ◌≤◌, ◌^◌, List, [], ◌∷◌, ◌++◌, Option, Some, None, codes, decimal, length, map, drop, refl, sym, ap, ◌∙◌, subst, arith, append_assoc}
 use Rattle.std.specs.List.{All, flat_map}
 use Rattle.std.proofs.lemmas.Fmt.{decimal_injective}
 use Rattle.std.proofs.lemmas.List.Elements.{All-head, All-tail}
@@ -19,9 +19,12 @@ use Rattle.onll_text.specs.Lines.{call_words, end_words, call_line, call_lines, 
 use Rattle.onll_text.specs.Reports.{NodeReads, NoCallNext, NoNodeNext, SaysOnly}
 use Rattle.onll_text.proofs.LineWords.{node_line_in_words, log_line_in_words}
 use Rattle.onll_text.proofs.Determined.{text_determined, AreMeaningful-append, line_same, line_none, calls_determined, nodes_determined, nodes_meaningful, flagged_line_determined, no_node_next, state_determined, calls_meaningful, state_meaningful, says_only}
-use Rattle.onll_jobs.specs.RecoverJob.{Recovered, content_line, log_lines, recovered_line, lines_with}
+use Rattle.onll_merge.specs.declared.counts.LogCounts.{LogCounts}
+use Rattle.onll_merge.specs.Recovered.{Recovered}
+use Rattle.onll_jobs.specs.RecoverJob.{content_line, log_lines, recovered_line, lines_with}
 use Rattle.onll_jobs.specs.ReplayJob.{begun_lines, flagged_lines, crash_line, fenced_lines, replay_report}
-use Rattle.onll_jobs.specs.Reports.{HeldData, RecoverData, held_line, held_lines, recover_data_lines, HeldReads, RecoverReads, held_with, held_of, found_data, recover_data, LogData, RunData, thread_lines, counted_lines, run_data_lines, EachReads, LogReads, RunReads, counts_of, replay_data}
+use Rattle.onll_jobs.specs.RecoverJob.{HeldData, RecoverData, held_line, held_lines, recover_data_lines, HeldReads, RecoverReads, held_with, held_of, found_data, recover_data}
+use Rattle.onll_jobs.specs.ReplayJob.{LogData, RunData, thread_lines, counted_lines, run_data_lines, EachReads, LogReads, RunReads, counts_of, replay_data}
 use Rattle.onll_jobs.proofs.ReplaySteps.{crash_in_words}
 use Rattle.onll_jobs.proofs.RecoverSteps.{recovered_in_words}
 
@@ -114,14 +117,14 @@ helds_meaningful : (t : ℕ) (logs : List (Option HeldData)) → AreMeaningful (
 helds_meaningful t [] = tt
 helds_meaningful t (l ∷ logs) = (held_in_words t l, held_says t l, helds_meaningful (t + 1) logs)
 
-content-data : (t : ℕ) (head : Option LogHead) (entries : List Segment) → content_line t head entries ≡ held_line t (held_with head entries)
-content-data t None entries = refl
-content-data t (Some head) entries = refl
+content-data : (t : ℕ) (head : Bool) (entries lines : ℕ) → content_line t head entries lines ≡ held_line t (held_with head entries lines)
+content-data t false entries lines = refl
+content-data t true entries lines = refl
 
-logs-data : (t : ℕ) (logs : List Content) → log_lines t logs ≡ held_lines t (map held_of logs)
+logs-data : (t : ℕ) (logs : List LogCounts) → log_lines t logs ≡ held_lines t (map held_of logs)
 logs-data t [] = refl
 logs-data t (log ∷ logs) =
-    ap (λ ws. ws ∷ log_lines (t + 1) logs) (content-data t log.head log.entries) ∙ ap (λ ls. held_line t (held_of log) ∷ ls) (logs-data (t + 1) logs)
+    ap (λ ws. ws ∷ log_lines (t + 1) logs) (content-data t log.head log.entries log.lines) ∙ ap (λ ls. held_line t (held_of log) ∷ ls) (logs-data (t + 1) logs)
 
 recover_same : {State : Type 0} (a b : RecoverData State) → a.logs ≡ b.logs → a.nodes ≡ b.nodes → a.state ≡ b.state → a ≡ b
 recover_same {State} a b e₁ e₂ e₃ =
@@ -271,11 +274,11 @@ module _ {State Op Query Reply : Type 0} where
   begun-said w t [] = refl
   begun-said w t (th ∷ ths) = ap (λ ls. call_lines w t 0 th.script (ends_of th) ++ ls) (begun-said w (t + 1) ths)
 
-  fenced-said : (t : ℕ) (logs : List Content) (ths : List (CoreThread State Op Query Reply)) → fenced_lines t logs ths ≡ counted_lines t (counts_of logs ths)
+  fenced-said : (t : ℕ) (logs : List LogCounts) (ths : List (CoreThread State Op Query Reply)) → fenced_lines t logs ths ≡ counted_lines t (counts_of logs ths)
   fenced-said t [] [] = refl
   fenced-said t [] (th ∷ ths) = refl
   fenced-said t (log ∷ logs) [] = refl
-  fenced-said t (log ∷ logs) (th ∷ ths) = ap (λ ls. log_line t (length log.entries) (used_by log) (Some (th.device.fences - 1)) ∷ ls) (fenced-said (t + 1) logs ths)
+  fenced-said t (log ∷ logs) (th ∷ ths) = ap (λ ls. log_line t log.entries log.lines (Some (th.device.fences - 1)) ∷ ls) (fenced-said (t + 1) logs ths)
 
   replay_report-said : (b : Behaviour State Op Query Reply) (w : Wording State Op Query Reply) (c : CoreState State Op Query Reply) (keep : ℕ) (r : Recovered)
       → replay_report b w c keep r ≡ flat_map line_text (run_data_lines b w (map script_of c.threads) (replay_data b c keep r))

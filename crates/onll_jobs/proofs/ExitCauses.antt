@@ -27,9 +27,9 @@ use Rattle.onll_jobs.specs.Job.{Say, JobEnds, Never, Decides}
 use Rattle.onll_log.specs.Grammar.{Content, content_of}
 use Rattle.onll_log.specs.ImageFile.{image_lines}
 use Rattle.onll_jobs.specs.ShowJob.{shown_task}
-use Rattle.onll_jobs.specs.declared.bad_logs.LogsFault.{LogsFault}
-use Rattle.onll_jobs.specs.Images.{reading_images}
-use Rattle.onll_jobs.specs.RecoverJob.{Recovered, recovered, found_says, recover_any}
+use Rattle.onll_merge.specs.declared.fault.StateFault.{StateFault}
+use Rattle.onll_merge.specs.Recovered.{Recovered, state_recovered}
+use Rattle.onll_jobs.specs.RecoverJob.{found_task, images_task_on, logs_task}
 use Rattle.onll_jobs.specs.FoldJob.{script_task, script_task_on}
 use Rattle.onll_jobs.specs.Exits.{PutExits}
 use Rattle.onll_jobs.specs.Says.{job_of, Allows, PutWhole, OutOfMemory, SinkFailed, ExitSays, NothingFailed, NoneRose, SaysThis}
@@ -109,15 +109,15 @@ content_never : (content : Option Content) → Never Usage (shown_task content).
 content_never None = λ e. cc
 content_never (Some content) = λ e. cc
 
-found_never : {State Op Query Reply : Type 0} (b : Behaviour State Op Query Reply) (w : Wording State Op Query Reply) (s : State) (r : Result Recovered LogsFault) → Never Usage (found_says b w s r)
+found_never : {State Op Query Reply : Type 0} (b : Behaviour State Op Query Reply) (w : Wording State Op Query Reply) (s : State) (r : Result Recovered StateFault) → Never Usage (found_task b w s r).job
 found_never b w s (Ok r) = λ e. cc
 found_never b w s (Err fault) = λ e. cc
 
-recover_never : (init : List ℕ) (object : AnyObject) (images : List (List (List ℕ))) → Never Usage (recover_any init object images)
-recover_never init (objects.Bank s) images = found_never bank bank_wording s (recovered bank 1 init images)
-recover_never init (objects.Map s) images = found_never map_object map_wording s (recovered map_object 2 init images)
-recover_never init (objects.Queue s) images = found_never queue queue_wording s (recovered queue 3 init images)
-recover_never init (objects.Lease s) images = found_never lease lease_wording s (recovered lease 4 init images)
+recover_never : (init : List ℕ) (object : AnyObject) (images : List (List (List ℕ))) → Never Usage (images_task_on init object images).job
+recover_never init (objects.Bank s) images = found_never bank bank_wording s (state_recovered bank 1 init images)
+recover_never init (objects.Map s) images = found_never map_object map_wording s (state_recovered map_object 2 init images)
+recover_never init (objects.Queue s) images = found_never queue queue_wording s (state_recovered queue 3 init images)
+recover_never init (objects.Lease s) images = found_never lease lease_wording s (state_recovered lease 4 init images)
 
 -- words of a form never get the usage text
 not_usage : (w : Seen) (form : Form) → form_of w.words ≡ Some form → Never Usage (job_of (Some form)) → PutWhole w Usage → ⊥
@@ -128,8 +128,8 @@ form_not_usage w (Fold init script) e h = not_usage w (Fold init script) e (read
 form_not_usage w (Show image) e h = not_usage w (Show image) e (λ bytes. content_never (content_of (image_lines bytes))) h
 form_not_usage w (Recover init logs threads) e h =
     not_usage w (Recover init logs threads) e
-    (reading_whole_never init init_of (λ bytes object. reading_images logs 0 threads (recover_any bytes object))
-    (λ bytes object. reading_images_never logs threads 0 (recover_any bytes object) (recover_never bytes object))) h
+    (reading_whole_never init init_of (λ bytes object. (logs_task bytes object logs threads).job)
+    (λ bytes object. reading_images_never logs threads 0 (λ images. (images_task_on bytes object images).job) (recover_never bytes object))) h
 form_not_usage w (Replay init schedule logs scripts) e h = replay_not_usage w init schedule logs scripts e h
 
 usage_put : (w : Seen) (form : Option Form) → form_of w.words ≡ form → PutWhole w Usage → (form ≡ None) × Puts w.sink w.sink_after usage_text

@@ -1,4 +1,4 @@
-use Rattle.std.proofs.Common.{ℕ, zero, suc, ◌≡◌, ◌+◌, ◌-◌, ◌<◌, ◌≤◌, ◌^◌, List, [], ◌∷◌, ◌++◌, Option, Some, None, length, drop, get_or, map, sym, ap, ◌∙◌, subst, arith}
+use Rattle.std.proofs.Common.{ℕ, zero, suc, ◌≡◌, ◌+◌, ◌-◌, ◌<◌, ◌≤◌, ◌^◌, Bool, true, false, List, [], ◌∷◌, ◌++◌, Option, Some, None, length, drop, get_or, map, sym, ap, ◌∙◌, subst, arith}
 use Rattle.std.specs.List.{All, slice_get}
 use Rattle.std.specs.Option.{IfSome}
 use Rattle.std.proofs.lemmas.List.{drop_more}
@@ -15,13 +15,11 @@ use Rattle.onll_core.specs.Core.{CoreThread}
 use Rattle.onll_core.specs.Outcomes.{returned_end, current_ends, current_in, ends_of, script_of}
 use Rattle.onll_model.specs.Segment.{Segment}
 use Rattle.onll_log.specs.declared.head.LogHead.{LogHead}
-use Rattle.onll_log.specs.declared.decoded.Decoded.{Decoded}
-use Rattle.onll_log.specs.Grammar.{used_by, used_with}
-use Rattle.onll_log.specs.Decoded.{content_in}
-use Rattle.onll_merge.specs.Merge.{contents_in}
+use Rattle.onll_merge.specs.declared.counts.LogCounts.{LogCounts}
 use Rattle.onll_text.specs.Wording.{Wording}
 use Rattle.onll_text.specs.Reports.{EndReads}
-use Rattle.onll_jobs.specs.Reports.{EachReads, LogData, LogReads, counts_of, HeldReads, held_with, held_of}
+use Rattle.onll_jobs.specs.RecoverJob.{HeldReads, held_with, held_of}
+use Rattle.onll_jobs.specs.ReplayJob.{EachReads, LogData, LogReads, counts_of}
 use Rattle.onll_jobs.specs.ShowJob.{EntryReads, ShowReads, shown_with}
 use Rattle.onll_jobs.proofs.ReplaySteps.{if_at, thread_at}
 
@@ -67,34 +65,34 @@ module _ {State Op Query Reply : Type 0} where
       subst (λ (l : List (Returned State Op Query Reply)). All (EndReads w) (map returned_end l ++ more)) (sym left) (All-cons (EndReads w) (returned_end r) (map returned_end (drop (i + 1) rs) ++ more) reads rest)
 
   -- one log's numbers before those of the rest
-  pub logs_more : (t : ℕ) (logs : List Decoded) (ths : List (CoreThread State Op Query Reply)) (d : Decoded) (fences : ℕ) → t < length logs → t < length ths
-      → IfSome (slice_get ths t) (λ th. fences + 1 ≡ th.device.fences) → d ≡ get_or logs t d → length (content_in d).entries < 2 ^ 64 → used_by (content_in d) < 2 ^ 64 → fences < 2 ^ 64
-      → All LogReads (counts_of (contents_in (drop (t + 1) logs)) (drop (t + 1) ths)) → All LogReads (counts_of (contents_in (drop t logs)) (drop t ths))
-  logs_more t logs ths d fences h k hf same entries used fits rest =
+  pub logs_more : (t : ℕ) (logs : List LogCounts) (ths : List (CoreThread State Op Query Reply)) (none d : LogCounts) (fences : ℕ) → t < length logs → t < length ths
+      → IfSome (slice_get ths t) (λ th. fences + 1 ≡ th.device.fences) → d ≡ get_or logs t none → d.entries < 2 ^ 64 → d.lines < 2 ^ 64 → fences < 2 ^ 64
+      → All LogReads (counts_of (drop (t + 1) logs) (drop (t + 1) ths)) → All LogReads (counts_of (drop t logs) (drop t ths))
+  logs_more t logs ths none d fences h k hf same entries used fits rest =
       let x = thread_at ths t k in
       let th = x.0 in
       let s : t + 1 ≡ suc t = omega arith in
       let made = if_at (λ z. fences + 1 ≡ z.device.fences) ths t th x.1 hf in
       let few : th.device.fences - 1 < 2 ^ 64 = omega (arith, made) in
-      let left : drop t logs ≡ d ∷ drop (t + 1) logs = drop_more logs t d h ∙ ap (λ (y : Decoded). y ∷ drop (t + 1) logs) (sym same) in
-      let told : LogData = record { entries = length (content_in d).entries; lines = used_by (content_in d); fences = th.device.fences - 1 } in
-      let more : All LogReads (counts_of (contents_in (drop (t + 1) logs)) (drop (suc t) ths)) = subst (λ j. All LogReads (counts_of (contents_in (drop (t + 1) logs)) (drop j ths))) s rest in
-      subst (λ (l : List (CoreThread State Op Query Reply)). All LogReads (counts_of (contents_in (drop t logs)) l)) (sym x.2)
-      (subst (λ (l : List Decoded). All LogReads (counts_of (contents_in l) (th ∷ drop (suc t) ths))) (sym left)
-      (All-cons LogReads told (counts_of (contents_in (drop (t + 1) logs)) (drop (suc t) ths)) (record { entries = entries; lines = used; fences = few }) more))
+      let left : drop t logs ≡ d ∷ drop (t + 1) logs = drop_more logs t none h ∙ ap (λ (y : LogCounts). y ∷ drop (t + 1) logs) (sym same) in
+      let told : LogData = record { entries = d.entries; lines = d.lines; fences = th.device.fences - 1 } in
+      let more : All LogReads (counts_of (drop (t + 1) logs) (drop (suc t) ths)) = subst (λ j. All LogReads (counts_of (drop (t + 1) logs) (drop j ths))) s rest in
+      subst (λ (l : List (CoreThread State Op Query Reply)). All LogReads (counts_of (drop t logs) l)) (sym x.2)
+      (subst (λ (l : List LogCounts). All LogReads (counts_of l (th ∷ drop (suc t) ths))) (sym left)
+      (All-cons LogReads told (counts_of (drop (t + 1) logs) (drop (suc t) ths)) (record { entries = entries; lines = used; fences = few }) more))
 
 -- a log's numbers, where it has a head
-held_reads : (head : Option LogHead) (entries : List Segment) → length entries < 2 ^ 64 → used_with head entries < 2 ^ 64 → HeldReads (held_with head entries)
-held_reads None entries g h = tt
-held_reads (Some head) entries g h = (g, h)
+held_reads : (head : Bool) (entries lines : ℕ) → entries < 2 ^ 64 → lines < 2 ^ 64 → HeldReads (held_with head entries lines)
+held_reads false entries lines g h = tt
+held_reads true entries lines g h = (g, h)
 
 -- one of them before those of the rest
-pub helds_more : (i : ℕ) (logs : List Decoded) (d : Decoded) → i < length logs → d ≡ get_or logs i d → length (content_in d).entries < 2 ^ 64 → used_by (content_in d) < 2 ^ 64
-    → All HeldReads (map held_of (contents_in (drop (i + 1) logs))) → All HeldReads (map held_of (contents_in (drop i logs)))
-helds_more i logs d h same entries used rest =
-    let left : drop i logs ≡ d ∷ drop (i + 1) logs = drop_more logs i d h ∙ ap (λ (y : Decoded). y ∷ drop (i + 1) logs) (sym same) in
-    subst (λ (l : List Decoded). All HeldReads (map held_of (contents_in l))) (sym left)
-    (All-cons HeldReads (held_of (content_in d)) (map held_of (contents_in (drop (i + 1) logs))) (held_reads d.head (content_in d).entries entries used) rest)
+pub helds_more : (i : ℕ) (logs : List LogCounts) (none d : LogCounts) → i < length logs → d ≡ get_or logs i none → d.entries < 2 ^ 64 → d.lines < 2 ^ 64
+    → All HeldReads (map held_of (drop (i + 1) logs)) → All HeldReads (map held_of (drop i logs))
+helds_more i logs none d h same entries used rest =
+    let left : drop i logs ≡ d ∷ drop (i + 1) logs = drop_more logs i none h ∙ ap (λ (y : LogCounts). y ∷ drop (i + 1) logs) (sym same) in
+    subst (λ (l : List LogCounts). All HeldReads (map held_of l)) (sym left)
+    (All-cons HeldReads (held_of d) (map held_of (drop (i + 1) logs)) (held_reads d.head d.entries d.lines entries used) rest)
 
 -- one element of what a list is made into before those of the rest
 pub made_one_more : {X Y : Type 0} (f : X → Y) (P : Y → Type 0) (xs : List X) (i : ℕ) (x : X) → i < length xs → x ≡ get_or xs i x → P (f x) → All P (map f (drop (i + 1) xs)) → All P (map f (drop i xs))

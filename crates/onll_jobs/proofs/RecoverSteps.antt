@@ -1,4 +1,4 @@
-use Rattle.std.proofs.Common.{ℕ, ◌≡◌, ◌+◌, ◌<◌, ◌^◌, List, [], ◌∷◌, ◌++◌, Option, Some, None, IsSome, Result, Ok, Err, length, drop, get_or, refl, sym, ap, ◌∙◌, append_assoc}
+use Rattle.std.proofs.Common.{ℕ, false, ◌≡◌, ◌+◌, ◌<◌, ◌^◌, List, [], ◌∷◌, ◌++◌, Option, Some, None, IsSome, Result, Ok, Err, length, drop, get_or, refl, sym, ap, ◌∙◌, append_assoc}
 use Rattle.std.proofs.lemmas.List.{drop_more}
 use Rattle.std.specs.List.{AllByRecursion}
 use Rattle.onll_words.specs.declared.line.Line.{Line}
@@ -13,39 +13,16 @@ use Rattle.onll_log.specs.declared.decoded.Decoded.{Decoded}
 use Rattle.onll_log.specs.Head.{head_for}
 use Rattle.onll_log.specs.Grammar.{Content, format_in, used_by}
 use Rattle.onll_log.specs.Decoded.{content_in}
-use Rattle.onll_jobs.specs.declared.bad_logs.LogsFault.{LogsFault}
-use Rattle.onll_jobs.specs.Images.{images_in}
-use Rattle.onll_jobs.specs.RecoverJob.{expected_heads, content_line, recovered_line}
+use Rattle.onll_jobs.specs.RecoverJob.{content_line, recovered_line}
 
 -- The parts of a recovery, as they are done one after the other.
 
 -- ---- words
-pub empty_in_words : (thread : ℕ) → AreWords (content_line thread None [])
+pub empty_in_words : (thread : ℕ) → AreWords (content_line thread false 0 0)
 empty_in_words thread = (record { some = refl; bytes = refl }, (IsWord-decimal thread, (record { some = refl; bytes = refl }, tt)))
 
 pub recovered_in_words : (nodes : ℕ) → AreWords (recovered_line nodes)
 recovered_in_words nodes = (record { some = refl; bytes = refl }, (IsWord-decimal nodes, tt))
-
--- ---- what images hold
--- these logs before those that follow
-abbrev pub onto : List Content → Result (List Content) LogsFault → Result (List Content) LogsFault
-onto front (Ok contents) = Ok (front ++ contents)
-onto front (Err fault) = Err fault
-
--- each of these logs uses a number of lines that fits a word
-abbrev pub FewUsed : Decoded → Type 0
-FewUsed d = used_by (content_in d) < 2 ^ 64
-
--- ---- heads
-pub head_more : (code threads i : ℕ) (init : List ℕ) (heads : List LogHead) (images : List (List Line)) (image : List Line) (head : LogHead) → i < length images → image ≡ get_or images i image
-    → head ≡ head_for (format_in (words_of image)) i threads code init
-    → (heads ++ head ∷ []) ++ expected_heads code init threads (i + 1) (images_in (drop (i + 1) images)) ≡ heads ++ expected_heads code init threads i (images_in (drop i images))
-head_more code threads i init heads images image head h same e =
-    let rest = expected_heads code init threads (i + 1) (images_in (drop (i + 1) images)) in
-    append_assoc heads (head ∷ []) rest
-    ∙ ap (λ (x : LogHead). heads ++ x ∷ rest) e
-    ∙ ap (λ (x : List Line). heads ++ head_for (format_in (words_of x)) i threads code init ∷ rest) same
-    ∙ ap (λ l. heads ++ expected_heads code init threads i (images_in l)) (sym (drop_more images i image h))
 
 -- ---- rows
 -- nodes all of whose rows are operations

@@ -31,7 +31,7 @@ use Rattle.onll_text.proofs.FewCalls.{few_calls}
 use Rattle.onll_outside.specs.Views.{StoreView, SameFaults}
 use Rattle.onll_jobs.specs.declared.ending.Ending.{Ending}
 use Rattle.onll_jobs.specs.declared.ending.Ending.TheVariants.{Done, Usage, Refused, BadLog, ReadFault, WriteFault}
-use Rattle.onll_jobs.specs.declared.bad_logs.LogsFault.{LogsFault}
+use Rattle.onll_merge.specs.declared.fault.StateFault.{StateFault}
 use Rattle.onll_jobs.specs.Reading.{ReadsWhole, CannotRead}
 use Rattle.onll_jobs.specs.Writing.{FilesStay, CannotWrite, written}
 use Rattle.onll_jobs.specs.Job.{Job, JobEnds, on_value, reading_whole}
@@ -39,8 +39,8 @@ use Rattle.onll_jobs.specs.Images.{image_name, image_bytes, writing_images}
 use Rattle.onll_jobs.specs.Seen.{Seen}
 use Rattle.onll_jobs.specs.Command.{form_of, Replay}
 use Rattle.onll_jobs.specs.Says.{job_of, PutWhole}
-use Rattle.onll_jobs.specs.RecoverJob.{Recovered, recovered}
-use Rattle.onll_jobs.specs.ReplayJob.{played, ReadScripts, replay_report, crash_says, crash_job, reading_scripts, schedule_job, replay_on, replay_any, replay_job}
+use Rattle.onll_merge.specs.Recovered.{Recovered, recovered_with, state_recovered}
+use Rattle.onll_jobs.specs.ReplayJob.{played, ReadScripts, replay_report, run_task, crash_task, schedule_task, scripts_stage, scripts_task, scripts_task_on, replay_work}
 use Rattle.onll_jobs.specs.Durable.{with_images, HasReplayed, HasReplayedAny, ReplayPut}
 use Rattle.onll_jobs.proofs.Crashes.{crash_recovered}
 use Rattle.onll_jobs.proofs.Forms.{few-scripts}
@@ -112,10 +112,10 @@ module _ (after : StoreView) (ending : Ending) (text : List ℕ) (said : IsSaid 
   images_end store logs i (image ∷ images) next (inr h) = images_end (written store (image_name logs i) (image_bytes image)) logs (suc i) images next h
 
   module _ {State Op Query Reply : Type 0} (b : Behaviour State Op Query Reply) (w : Wording State Op Query Reply) (store : StoreView) where
-    scripts_end : (names : List (List ℕ)) (next : List (List (Call State Op Query Reply)) → Job) → JobEnds store after (reading_scripts w names next) ending text → ScriptsEnd w store after names next ending text
+    scripts_end : (names : List (List ℕ)) (next : List (List (Call State Op Query Reply)) → Job) → JobEnds store after ((scripts_stage w names).job next) ending text → ScriptsEnd w store after names next ending text
     scripts_end [] next h = record { scripts = []; read = tt; ends = h }
     scripts_end (name ∷ names) next h =
-        let first = whole_ends store name (script_of w) (λ bytes calls. reading_scripts w names (λ scripts. next (calls ∷ scripts))) h in
+        let first = whole_ends store name (script_of w) (λ bytes calls. (scripts_stage w names).job (λ scripts. next (calls ∷ scripts))) h in
         let rest = scripts_end names (λ scripts. next (first.value ∷ scripts)) first.ends in
         record { scripts = first.value ∷ rest.scripts; read = (record { bytes = first.bytes; held = first.read.held; accepted = first.read.accepted }, rest.read); ends = rest.ends }
 
@@ -134,26 +134,26 @@ module _ (after : StoreView) (ending : Ending) (text : List ℕ) (said : IsSaid 
     -- ---- what was replayed
     module _ (code : ℕ) (is : (1 ≤ code) × (code ≤ 4)) (init : List ℕ) (s : State) (schedule logs : List ℕ) (names : List (List ℕ)) (few : length names ≤ 16) where
       -- what a crash says of a core that was played
-      crash_ends : (c : CoreState State Op Query Reply) (keep : ℕ) (store' : StoreView) (found : Result Recovered LogsFault) (r : Recovered) → found ≡ Ok r → JobEnds store' after (crash_says b w c keep found) ending text
+      crash_ends : (scripts : List (List (Call State Op Query Reply))) (c : CoreState State Op Query Reply) (keep : ℕ) (store' : StoreView) (found : Result Recovered StateFault) (r : Recovered) → found ≡ Ok r → JobEnds store' after (run_task b w scripts c keep found).job ending text
           → (ending ≡ Done) × (text ≡ replay_report b w c keep r) × FilesStay store' after × SameFaults store' after
-      crash_ends c keep store' found r e h = subst (λ (x : Result Recovered LogsFault). JobEnds store' after (crash_says b w c keep x) ending text) e h
+      crash_ends scripts c keep store' found r e h = subst (λ (x : Result Recovered StateFault). JobEnds store' after (run_task b w scripts c keep x).job ending text) e h
 
-      on_ends : JobEnds store after (replay_on b w code init schedule logs names s) ending text → (ending ≡ Done) × HasReplayed b w code init s store after schedule logs names text
+      on_ends : JobEnds store after (scripts_task b w code init schedule logs names s).job ending text → (ending ≡ Done) × HasReplayed b w code init s store after schedule logs names text
       on_ends h =
-          let read = scripts_end names (schedule_job b w code init s schedule logs) h in
+          let read = scripts_end names (λ scripts. (schedule_task b w code init s schedule logs scripts).job) h in
           let scripts = read.scripts in
           let count = length scripts in
-          let planned = whole_ends store schedule (schedule_of count) (λ bytes (plan : Schedule). crash_job b w code init logs (played b code init s scripts plan.turns) plan.keep) read.ends in
+          let planned = whole_ends store schedule (schedule_of count) (λ bytes (plan : Schedule). (crash_task b w code init logs scripts (played b code init s scripts plan.turns) plan.keep).job) read.ends in
           let plan = planned.value in
           let core = played b code init s scripts plan.turns in
           let images = images_of plan.keep core.threads in
-          let found = recovered b code init images in
+          let found = state_recovered b code init images in
           let within : IsWithinLimits code scripts = record { code = is; few = subst (λ (n : ℕ). n ≤ 16) (sym (many_scripts names scripts read.read)) few; updates = few_updates names scripts read.read } in
           let durable = always_durable b code init s scripts within in
           let left = picked_images count core plan.keep (steps_consistent b count (created_core s code init scripts) (turns_of plan.turns) (created_consistent s code init scripts within)) in
           let crash = (durable (turns_of plan.turns)).crash images left in
           let is_found = crash_recovered b code init s scripts (turns_of plan.turns) images within left crash.recovers in
-          let end = crash_ends core plan.keep (with_images store logs 0 images) found (record { logs = crash.recovers.logs; nodes = crash.recovers.nodes }) is_found (images_end store logs 0 images (crash_says b w core plan.keep found) planned.ends) in (
+          let end = crash_ends scripts core plan.keep (with_images store logs 0 images) found (recovered_with crash.recovers.logs crash.recovers.nodes) is_found (images_end store logs 0 images (run_task b w scripts core plan.keep found).job planned.ends) in (
             end.0,
             record {
               scripts = scripts;
@@ -169,16 +169,16 @@ module _ (after : StoreView) (ending : Ending) (text : List ℕ) (said : IsSaid 
             },
           )
 
-  any_ends : (store : StoreView) (init schedule logs : List ℕ) (names : List (List ℕ)) (object : AnyObject) → length names ≤ 16 → JobEnds store after (replay_any init schedule logs names object) ending text
+  any_ends : (store : StoreView) (init schedule logs : List ℕ) (names : List (List ℕ)) (object : AnyObject) → length names ≤ 16 → JobEnds store after (scripts_task_on init schedule logs names object).job ending text
       → (ending ≡ Done) × HasReplayedAny init store after schedule logs names text object
   any_ends store init schedule logs names (objects.Bank s) few h = on_ends bank bank_wording store 1 (omega arith, omega arith) init s schedule logs names few h
   any_ends store init schedule logs names (objects.Map s) few h = on_ends map_object map_wording store 2 (omega arith, omega arith) init s schedule logs names few h
   any_ends store init schedule logs names (objects.Queue s) few h = on_ends queue queue_wording store 3 (omega arith, omega arith) init s schedule logs names few h
   any_ends store init schedule logs names (objects.Lease s) few h = on_ends lease lease_wording store 4 (omega arith, omega arith) init s schedule logs names few h
 
-  job_ends : (store : StoreView) (init schedule logs : List ℕ) (names : List (List ℕ)) → length names ≤ 16 → JobEnds store after (replay_job init schedule logs names) ending text → ReplayEnds store after init schedule logs names ending text
+  job_ends : (store : StoreView) (init schedule logs : List ℕ) (names : List (List ℕ)) → length names ≤ 16 → JobEnds store after (replay_work init schedule logs names).task.job ending text → ReplayEnds store after init schedule logs names ending text
   job_ends store init schedule logs names few h =
-      let read = whole_ends store init init_of (λ bytes object. replay_any bytes schedule logs names object) h in
+      let read = whole_ends store init init_of (λ bytes object. (scripts_task_on bytes schedule logs names object).job) h in
       let end = any_ends store read.bytes schedule logs names read.value few read.ends in
       record { done = end.0; bytes = read.bytes; object = read.value; read = read.read; replayed = end.1 }
 

@@ -12,10 +12,7 @@ use Rattle.std.specs.Option.{IfSome}
 use Rattle.onll_core.specs.declared.returned.Current.{Current}
 use Rattle.onll_core.specs.Core.{CoreThread, CoreState}
 use Rattle.onll_core.specs.Outcomes.{returned_end, current_ends, current_in, ends_of}
-use Rattle.onll_log.specs.declared.decoded.Decoded.{Decoded}
-use Rattle.onll_log.specs.Grammar.{used_by}
-use Rattle.onll_log.specs.Decoded.{content_in}
-use Rattle.onll_merge.specs.Merge.{contents_in}
+use Rattle.onll_merge.specs.declared.counts.LogCounts.{LogCounts}
 use Rattle.onll_text.specs.Wording.{Wording}
 use Rattle.onll_text.specs.Bytes.{with_lines}
 use Rattle.onll_text.specs.Lines.{call_line, call_lines, trace_line, node_line, log_line}
@@ -150,31 +147,31 @@ module _ {State Op Query Reply : Type 0} where
       ∙ ap (λ (l : List Bool). with_lines old (begun_lines w 0 c.threads ++ trace_line (length c.trace) ∷ flagged_lines b w 0 c.trace l)) ef
 
   -- one log's line before those of the rest
-  pub fenced_more : (out text : List ℕ) (t : ℕ) (logs : List Decoded) (ths : List (CoreThread State Op Query Reply)) (d : Decoded) (fences : ℕ) → t < length logs → t < length ths
-      → IfSome (slice_get ths t) (λ th. fences + 1 ≡ th.device.fences) → d ≡ get_or logs t d
-      → text ≡ out ++ line_text (log_line t (length (content_in d).entries) (used_by (content_in d)) (Some fences))
-      → with_lines text (fenced_lines (t + 1) (contents_in (drop (t + 1) logs)) (drop (t + 1) ths)) ≡ with_lines out (fenced_lines t (contents_in (drop t logs)) (drop t ths))
-  fenced_more out text t logs ths d fences h k hf same e =
+  pub fenced_more : (out text : List ℕ) (t : ℕ) (logs : List LogCounts) (ths : List (CoreThread State Op Query Reply)) (none d : LogCounts) (fences : ℕ) → t < length logs → t < length ths
+      → IfSome (slice_get ths t) (λ th. fences + 1 ≡ th.device.fences) → d ≡ get_or logs t none
+      → text ≡ out ++ line_text (log_line t d.entries d.lines (Some fences))
+      → with_lines text (fenced_lines (t + 1) (drop (t + 1) logs) (drop (t + 1) ths)) ≡ with_lines out (fenced_lines t (drop t logs) (drop t ths))
+  fenced_more out text t logs ths none d fences h k hf same e =
       let x = thread_at ths t k in
       let th = x.0 in
       let s : t + 1 ≡ suc t = omega arith in
-      let rest = fenced_lines (t + 1) (contents_in (drop (t + 1) logs)) (drop (t + 1) ths) in
+      let rest = fenced_lines (t + 1) (drop (t + 1) logs) (drop (t + 1) ths) in
       let made = if_at (λ z. fences + 1 ≡ z.device.fences) ths t th x.1 hf in
       let ef : fences ≡ th.device.fences - 1 = omega (arith, made) in
-      let line : ℕ → List (List ℕ) = (λ n. log_line t (length (content_in d).entries) (used_by (content_in d)) (Some n)) in
+      let line : ℕ → List (List ℕ) = (λ n. log_line t d.entries d.lines (Some n)) in
       ap (λ z. with_lines z rest) e
       ∙ sym (with_lines-one out (line fences) rest)
       ∙ ap (λ n. with_lines out (line n ∷ rest)) ef
-      ∙ ap (λ j. with_lines out (line (th.device.fences - 1) ∷ fenced_lines (t + 1) (contents_in (drop (t + 1) logs)) (drop j ths))) s
-      ∙ ap (λ (y : Decoded). with_lines out (fenced_lines t (content_in y ∷ contents_in (drop (t + 1) logs)) (th ∷ drop (suc t) ths))) same
-      ∙ sym (ap (λ (l : List Decoded). with_lines out (fenced_lines t (contents_in l) (th ∷ drop (suc t) ths))) (drop_more logs t d h))
-      ∙ sym (ap (λ (l : List (CoreThread State Op Query Reply)). with_lines out (fenced_lines t (contents_in (drop t logs)) l)) x.2)
+      ∙ ap (λ j. with_lines out (line (th.device.fences - 1) ∷ fenced_lines (t + 1) (drop (t + 1) logs) (drop j ths))) s
+      ∙ ap (λ (y : LogCounts). with_lines out (fenced_lines t (y ∷ drop (t + 1) logs) (th ∷ drop (suc t) ths))) same
+      ∙ sym (ap (λ (l : List LogCounts). with_lines out (fenced_lines t l (th ∷ drop (suc t) ths))) (drop_more logs t none h))
+      ∙ sym (ap (λ (l : List (CoreThread State Op Query Reply)). with_lines out (fenced_lines t (drop t logs) l)) x.2)
 
   -- the same, where the threads are counted by themselves
-  pub fenced_next : (out text : List ℕ) (t i : ℕ) (logs : List Decoded) (ths : List (CoreThread State Op Query Reply)) (d : Decoded) (fences : ℕ) → t ≡ i → i < length logs → i < length ths
-      → IfSome (slice_get ths t) (λ th. fences + 1 ≡ th.device.fences) → d ≡ get_or logs i d
-      → text ≡ out ++ line_text (log_line t (length (content_in d).entries) (used_by (content_in d)) (Some fences))
-      → with_lines text (fenced_lines (t + 1) (contents_in (drop (i + 1) logs)) (drop (t + 1) ths)) ≡ with_lines out (fenced_lines t (contents_in (drop i logs)) (drop t ths))
-  fenced_next out text t i logs ths d fences same h k hf is e =
-      subst (λ j. with_lines text (fenced_lines (t + 1) (contents_in (drop (j + 1) logs)) (drop (t + 1) ths)) ≡ with_lines out (fenced_lines t (contents_in (drop j logs)) (drop t ths))) same
-      (fenced_more out text t logs ths d fences (omega (arith, same, h)) (omega (arith, same, k)) hf (subst (λ j. d ≡ get_or logs j d) (sym same) is) e)
+  pub fenced_next : (out text : List ℕ) (t i : ℕ) (logs : List LogCounts) (ths : List (CoreThread State Op Query Reply)) (none d : LogCounts) (fences : ℕ) → t ≡ i → i < length logs → i < length ths
+      → IfSome (slice_get ths t) (λ th. fences + 1 ≡ th.device.fences) → d ≡ get_or logs i none
+      → text ≡ out ++ line_text (log_line t d.entries d.lines (Some fences))
+      → with_lines text (fenced_lines (t + 1) (drop (i + 1) logs) (drop (t + 1) ths)) ≡ with_lines out (fenced_lines t (drop i logs) (drop t ths))
+  fenced_next out text t i logs ths none d fences same h k hf is e =
+      subst (λ j. with_lines text (fenced_lines (t + 1) (drop (j + 1) logs) (drop (t + 1) ths)) ≡ with_lines out (fenced_lines t (drop j logs) (drop t ths))) same
+      (fenced_more out text t logs ths none d fences (omega (arith, same, h)) (omega (arith, same, k)) hf (subst (λ j. d ≡ get_or logs j none) (sym same) is) e)

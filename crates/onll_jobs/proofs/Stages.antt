@@ -1,8 +1,10 @@
 -- How the functions of a command do a task, one stage after the other.
 
-use Rattle.std.proofs.Common.{ℕ, List, [], ◌∷◌, ◌++◌, ◌≡◌, Result, Ok, Err, inl, refl, sym, ap, ◌∙◌, subst, append_assoc, append-nil}
+use Rattle.std.proofs.Common.{Vec, Global, ℕ, suc, ◌+◌, ◌<◌, ◌≤◌, List, [], ◌∷◌, ◌++◌, ◌≡◌, length, drop, get_or, Result, Ok, Err, inl, refl, sym, ap, ◌∙◌, subst, append_assoc, append-nil}
 use Rattle.std.specs.Result.{IfOk, IsErrAnd}
-use Rattle.std.specs.declared.vec.Vec.{Vec}
+use Rattle.std.proofs.lemmas.List.{drop_more, drop_all}
+use Rattle.onll_words.specs.declared.line.Line.{Line}
+use Rattle.onll_pmem.specs.Pmem.{words_of}
 use Rattle.std.proofs.lemmas.Result.{err_from_is_err_and}
 use Rattle.onll_outside.specs.Views.{StoreView, SameFiles, SameOthers, SameFaults}
 use Rattle.onll_text.specs.Refusal.{Refusal}
@@ -11,14 +13,14 @@ use Rattle.onll_jobs.specs.declared.ending.Ending.TheVariants.{Done, Usage, Refu
 use Rattle.onll_jobs.specs.declared.answer.Answer.{Answer}
 use Rattle.onll_jobs.specs.declared.answer.Stop.{Stop}
 use Rattle.onll_jobs.specs.declared.answer.Stop.TheVariants.{Says, NoMemory}
-use Rattle.onll_jobs.specs.Doing.{Task, Stage, Reached, after_stage, report_task, say_task, text_stage, whole_stage, lines_stage, file_stage, each_job, AreKnown, each_stage, StopsSo, Does, Begins}
+use Rattle.onll_jobs.specs.Doing.{Task, Stage, Reached, after_stage, report_task, say_task, text_stage, whole_stage, lines_stage, each_job, AreKnown, each_stage, StopsSo, Does, Begins}
 use Rattle.onll_jobs.specs.Job.{Job, Say, Read, Write, JobEnds, JobCut, GoesOn, reading, reading_whole}
 use Rattle.onll_jobs.specs.Reading.{Reads, ReadsWhole, HoldsImage, CannotRead, Stops}
+use Rattle.onll_jobs.specs.Images.{image_name, image_names, images_in, image_bytes, writing_images, writing_stage}
 use Rattle.onll_jobs.specs.Stop.{StopSays}
-use Rattle.onll_jobs.specs.Writing.{FilesStay, SameBut, HasWritten, CannotWrite, WriteStops}
-use Rattle.onll_jobs.proofs.Onwards.{on_whole, on_text, on_image, on_write, stay_cut, stay_more, stopped_ends, goes_same, goes_after}
+use Rattle.onll_jobs.specs.Writing.{FilesStay, SameBut, CannotWrite, WriteStops}
+use Rattle.onll_jobs.proofs.Onwards.{on_whole, on_text, on_image, stay_cut, stay_more, stopped_ends, goes_same, goes_after, WroteSo, others_on}
 use Rattle.onll_jobs.proofs.Jobs.{files_stay}
-use Rattle.onll_jobs.proofs.Stops.{StopSays-weaker}
 
 -- ---- what changes no files, or few
 pub same_none : {store after : StoreView} → SameFiles store after → SameBut [] store after
@@ -27,12 +29,18 @@ same_none same = record { tells = same.tells; file = λ other differs. same.file
 pub none_stays : {store after : StoreView} → SameBut [] store after → FilesStay store after
 none_stays same = record { tells = same.tells; file = λ tells name. same.file name tt }
 
+pub none_changed : (store : StoreView) → SameBut [] store store
+none_changed store = record { tells = refl; file = λ other differs. refl }
+
 none_changes : (names : List (List ℕ)) (store : StoreView) → SameBut names store store
 none_changes names store = record { tells = refl; file = λ other differs. refl }
 
 then_changes : (names : List (List ℕ)) (store mid after : StoreView) → SameBut names store mid → SameBut names mid after → SameBut names store after
 then_changes names store mid after first then_ =
     record { tells = then_.tells ∙ first.tells; file = λ other differs. then_.file other differs ∙ first.file other differs }
+
+pub none_then : {store mid after : StoreView} → SameBut [] store mid → SameBut [] mid after → SameBut [] store after
+none_then {store} {mid} {after} first then_ = then_changes [] store mid after first then_
 
 wider : (names : List (List ℕ)) (store after : StoreView) → SameBut [] store after → SameBut names store after
 wider names store after same = record { tells = same.tells; file = λ other differs. same.file other tt }
@@ -85,18 +93,6 @@ pub unread_stops : (store after : StoreView) (name : List ℕ) (next : List ℕ 
 unread_stops store after name next s h same =
     says_stops store after (Read name next) s (CannotRead store after name) (files_stay store after same) (λ ending text k. (cannot_end store after name ending text k, inl (k, files_stay store after same))) h
 
--- so it is not read as a text
-pub cannot_stops : {A : Type 0} (store after : StoreView) (grammar : List ℕ → Result A Refusal) (name : List ℕ) (s : Stop) → StopSays s (CannotRead store after name) → StopSays s (Stops store after grammar name)
-cannot_stops store after grammar name s h = StopSays-weaker s (CannotRead store after name) (Stops store after grammar name) by h
-  where
-    by : (ending : Ending) (text : List ℕ) → CannotRead store after name ending text → Stops store after grammar name ending text
-    by Done text k = k
-    by Usage text k = k
-    by Refused text k = absurd k
-    by BadLog text k = k
-    by ReadFault text k = k
-    by WriteFault text k = k
-
 -- ---- tasks
 -- a stage that reads, before a function that does the rest
 pub read_does : {X V A : Type 0} {names : List (List ℕ)} {store mid after : StoreView} {stage : Stage X} {value : V → X} {v : V} {r : Result (Vec ℕ A) Stop} (next : X → Task)
@@ -114,18 +110,17 @@ read_does {X} {names = names} {store} {mid} {after} {stage} {value} {v} {r = Err
   files = then_changes names store mid after (wider names store mid first.files) then_.files;
 }
 
--- a stage that writes, before a function that says the rest, whatever the files are
+-- a stage that writes, before a function that says the rest without the store
 pub wrote_does : {X V A : Type 0} {names : List (List ℕ)} {store mid : StoreView} {stage : Stage X} {value : V → X} {v : V} {r : Result (Vec ℕ A) Stop} (next : X → Task)
-    → ((before : StoreView) (text : List ℕ) → (next (value v)).reports mid text → (next (value v)).reports before text)
-    → Begins names store mid stage value (Ok v) → Does [] mid mid (next (value v)) r → Does names store mid (after_stage stage next) r
-wrote_does {X} {names = names} {store} {mid} {value = value} {v} {r = Ok text} next told first then_ = record {
-  done = (first.goes (λ (x : X). (next x).job)).ends mid Done text.items then_.done;
-  reports = λ before same. record { value = value v; known = first.gives before same; reports = told before text.items (then_.reports mid (stay_same mid)) };
+    → Begins names store mid stage value (Ok v) → ((any : StoreView) → Does [] any any (next (value v)) r) → Does names store mid (after_stage stage next) r
+wrote_does {X} {names = names} {store} {mid} {stage} {value} {v} {r = Ok text} next first says = record {
+  done = (first.goes (λ (x : X). (next x).job)).ends mid Done text.items (says mid).done;
+  reports = λ before same. record { value = value v; known = first.gives before same; reports = (says before).reports before (stay_same before) };
   stops = tt;
   files = first.files;
 }
-wrote_does {X} {names = names} {store} {mid} {stage} {value} {v} {r = Err s} next told first then_ =
-    record { done = tt; reports = tt; stops = StopsSo-on store mid mid (stage.job (λ (x : X). (next x).job)) (next (value v)).job s (first.goes (λ (x : X). (next x).job)) then_.stops; files = first.files }
+wrote_does {X} {names = names} {store} {mid} {stage} {value} {v} {r = Err s} next first says =
+    record { done = tt; reports = tt; stops = StopsSo-on store mid mid (stage.job (λ (x : X). (next x).job)) (next (value v)).job s (first.goes (λ (x : X). (next x).job)) (says mid).stops; files = first.files }
 
 -- what stopped the stage stops the task
 pub stop_does : {X V A : Type 0} {names : List (List ℕ)} {store after : StoreView} {stage : Stage X} {value : V → X} {s : Stop} (next : X → Task)
@@ -170,11 +165,11 @@ pub stops_begins : {V X : Type 0} {store after : StoreView} {stage : Stage X} {v
 stops_begins s stops same = record { goes = tt; gives = tt; stops = stops; files = same_none same }
 
 -- memory could not be had
-pub none_begins : {V X : Type 0} {store after : StoreView} {stage : Stage X} {value : V → X} {r : Result V Stop} → IsErrAnd r (λ stop. stop ≡ NoMemory) → SameFiles store after → Begins [] store after stage value r
+pub none_begins : {V X : Type 0} {store after : StoreView} {stage : Stage X} {value : V → X} {r : Result V Stop} → IsErrAnd r (λ stop. stop ≡ NoMemory) → SameBut [] store after → Begins [] store after stage value r
 none_begins {store = store} {after} {stage} {value} {r} h same =
     let p = err_from_is_err_and r h in
-    subst (Begins [] store after stage value) (sym p.1)
-    (stops_begins p.0 (λ next. subst (StopsSo store after (stage.job next)) (sym p.2) (stay_cut store after (stage.job next) (files_stay store after same))) same)
+    let stops : (next : _) → StopsSo store after (stage.job next) p.0 = λ next. subst (StopsSo store after (stage.job next)) (sym p.2) (stay_cut store after (stage.job next) (none_stays same)) in
+    subst (Begins [] store after stage value) (sym p.1) (record { goes = tt; gives = tt; stops = stops; files = same })
 
 -- a text that is read by its grammar
 pub read_begins : {V A : Type 0} {store mid : StoreView} {name : List ℕ} {grammar : List ℕ → Result A Refusal} {value : V → A} (v : V)
@@ -208,14 +203,6 @@ lines_begins {store = store} {mid} {name} {value} v h same faults =
     goes_begins v (λ next. on_image store mid name next (value v) h same faults) (λ before files. image_before files h) same
 
 -- ---- writing a file
-same_others : {store after : StoreView} {name : List ℕ} → SameOthers name store after → SameBut (name ∷ []) store after
-same_others same = record { tells = same.tells; file = λ other differs. same.file other differs.0 }
-
-pub write_begins : {V : Type 0} {store after : StoreView} {name bytes : List ℕ} (v : V) → HasWritten store after name bytes → SameOthers name store after
-    → Begins (name ∷ []) store after (file_stage name bytes) (λ (v : V). tt) (Ok v)
-write_begins {store = store} {after} {name} {bytes} v written others =
-    record { goes = λ next. on_write store after name bytes (next tt) written; gives = λ before same. tt; stops = tt; files = same_others others }
-
 unwritten_end : (store after : StoreView) (name : List ℕ) (ending : Ending) (text : List ℕ) → CannotWrite store after name ending text → ending ≡ Done → ⊥
 unwritten_end store after name Done text h e = h
 unwritten_end store after name Usage text h e = h
@@ -228,9 +215,30 @@ unwritten_stops : (store after : StoreView) (name bytes : List ℕ) (next : Job)
 unwritten_stops store after name bytes next (Says answer) stop cut = (unwritten_end store after name answer.ending answer.text.items stop, inl stop)
 unwritten_stops store after name bytes next NoMemory stop cut = inl cut
 
-pub unwritten_begins : {V : Type 0} {store after : StoreView} (name bytes : List ℕ) (s : Stop) → StopSays s (CannotWrite store after name) → WriteStops store after name → SameOthers name store after
-    → Begins (name ∷ []) store after (file_stage name bytes) (λ (v : V). tt) (Err s)
-unwritten_begins {store = store} {after} name bytes s stop cut others = record { goes = tt; gives = tt; stops = λ next. unwritten_stops store after name bytes (next tt) s stop cut; files = same_others others }
+-- all images were written
+pub wrote_begins : {V : Type 0} (v : V) (store new : StoreView) (logs : List ℕ) (images : List (Vec Line Global)) (i : ℕ) → length images ≤ i → WroteSo store new logs images i
+    → Begins (image_names logs 0 (length images)) store new (writing_stage logs (images_in images)) (λ (v : V). tt) (Ok v)
+wrote_begins v store new logs images i most so = record {
+  goes = λ next. subst (λ (l : List (Vec Line Global)). GoesOn store new (writing_images logs 0 (images_in images) (next tt)) (writing_images logs i (images_in l) (next tt))) (drop_all i images most) (so.on (next tt));
+  gives = λ before same. tt;
+  stops = tt;
+  files = so.others;
+}
+
+-- the next image is not written
+pub unwritten_begins : {V : Type 0} (store mid new : StoreView) (logs : List ℕ) (images : List (Vec Line Global)) (image : Vec Line Global) (i : ℕ) (s : Stop) → i < length images → image ≡ get_or images i image
+    → WroteSo store mid logs images i → StopSays s (CannotWrite mid new (image_name logs i)) → WriteStops mid new (image_name logs i) → SameOthers (image_name logs i) mid new
+    → Begins (image_names logs 0 (length images)) store new (writing_stage logs (images_in images)) (λ (v : V). tt) (Err s)
+unwritten_begins store mid new logs images image i s less same so stop cut others = record {
+  goes = tt;
+  gives = tt;
+  stops = λ next.
+      let last = next tt in
+      StopsSo-on store mid new (writing_images logs 0 (images_in images) last) (writing_images logs i (images_in (drop i images)) last) s (so.on last)
+      (subst (λ (l : List (Vec Line Global)). StopsSo mid new (writing_images logs i (images_in l) last) s) (sym (drop_more images i image less))
+      (unwritten_stops mid new (image_name logs i) (image_bytes (words_of (get_or images i image).items)) (writing_images logs (suc i) (images_in (drop (i + 1) images)) last) s stop cut));
+  files = others_on store mid new logs (length images) i less so.others others;
+}
 
 -- ---- one stage after the other
 -- Stages were done and gave these values: what does all of them goes on to those that are left, and has the values before theirs.

@@ -13,7 +13,7 @@ use Rattle.onll_jobs.specs.declared.answer.Stop.{Stop}
 use Rattle.onll_jobs.specs.declared.answer.Stop.TheVariants.{Says, NoMemory}
 use Rattle.onll_jobs.specs.Reading.{Reads, ReadsWhole, HoldsImage}
 use Rattle.onll_jobs.specs.Writing.{FilesStay, SameBut}
-use Rattle.onll_jobs.specs.Job.{Job, Say, Read, Write, JobEnds, JobCut, GoesOn, reading, reading_whole}
+use Rattle.onll_jobs.specs.Job.{Job, Say, Read, JobEnds, JobCut, GoesOn, reading, reading_whole}
 
 -- ---- what is to be done
 -- A task: a job with all its endings, and what its report says of the files, where it is done.
@@ -67,11 +67,6 @@ lines_stage name = record {
   job = λ (next : List (List ℕ) → Job). Read name (λ bytes. next (image_lines bytes));
   known = λ store lines. HoldsImage store name lines;
 }
-
--- ---- the stage that writes one file
--- these bytes are made the file
-abbrev pub file_stage : (name bytes : List ℕ) → Stage (Unit {0})
-file_stage name bytes = record { job = λ (next : Unit {0} → Job). Write name bytes (next tt); known = λ _ _. Unit {0} }
 
 -- ---- one stage after the other
 abbrev pub each_job : {A X : Type 0} → (A → Stage X) → List A → (List X → Job) → Job

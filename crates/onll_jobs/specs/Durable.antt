@@ -28,6 +28,7 @@ use Rattle.onll_jobs.specs.Command.{Recover, Replay, form_of}
 use Rattle.onll_jobs.specs.Reading.{IsTold, Reads, ReadsWhole}
 use Rattle.onll_jobs.specs.Writing.{FilesStay, written}
 use Rattle.onll_jobs.specs.Images.{image_name, image_bytes}
+use Rattle.onll_merge.specs.Recovered.{recovered_with}
 use Rattle.onll_jobs.specs.RecoverJob.{recover_report}
 use Rattle.onll_jobs.specs.ReplayJob.{played, ReadScripts, replay_report}
 use Rattle.onll_jobs.specs.Says.{NoneRose, SaysThis}
@@ -54,7 +55,7 @@ pub record HasReplayed {State Op Query Reply : Type 0} (b : Behaviour State Op Q
   pub core : CoreState State Op Query Reply
   pub run : core ≡ played b code init s scripts plan.turns
   pub crash : RecoversAll b (created_heads code init scripts) core (images_of plan.keep core.threads)
-  pub printed : text ≡ replay_report b w core plan.keep (record { logs = crash.recovers.logs; nodes = crash.recovers.nodes })
+  pub printed : text ≡ replay_report b w core plan.keep (recovered_with crash.recovers.logs crash.recovers.nodes)
   pub files : FilesStay (with_images store logs 0 (images_of plan.keep core.threads)) after
 
 -- the same for an object of any kind
@@ -114,7 +115,7 @@ pub record RecoversLeft {State Op Query Reply : Type 0} (b : Behaviour State Op 
     (seen : Seen) (status : ℕ) (logs : List ℕ) (threads : ℕ) (left : IsLeft b code init s seen.store logs threads) : Type 0 where
   pub crash : RecoversAll b (created_heads code init left.scripts)
       (steps_of b (created_core s code init left.scripts) left.steps) left.images
-  pub says : SaysThis seen status Done (recover_report b w s (record { logs = crash.recovers.logs; nodes = crash.recovers.nodes }))
+  pub says : SaysThis seen status Done (recover_report b w s (recovered_with crash.recovers.logs crash.recovers.nodes))
 
 -- the same for an object of any kind
 abbrev pub RecoversLeftAny : (init : List ℕ) → Seen → (status : ℕ) → (logs : List ℕ) → (threads : ℕ) → AnyObject → Type 0

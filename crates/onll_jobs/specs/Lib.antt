@@ -2,7 +2,6 @@ pub mod Command
 pub mod Exits
 pub mod Fold
 pub mod FoldJob
-pub mod Found
 pub mod Images
 pub mod Job
 pub mod Printed
@@ -15,6 +14,4 @@ pub mod ShowJob
 pub mod Stop
 pub mod Writing
 pub mod Durable
-pub mod Reports
-pub mod Determined
 pub mod Doing

@@ -1,21 +1,19 @@
-use Rattle.std.specs.Prelude.{ℕ, ◌+◌, ◌==◌, if◌then◌else◌, List, [], ◌∷◌, ◌++◌, Option, Some, None, Result, Ok, Err, codes, decimal, length}
-use Rattle.std.specs.List.{flat_map}
+-- What `recover INIT LOGS T` does: it says the trace and the state that the logs of one run give.
+
+use Rattle.std.specs.Prelude.{ℕ, ◌+◌, ◌<◌, ◌^◌, Bool, true, false, List, [], ◌∷◌, ◌++◌, Option, Some, None, Result, Ok, Err, codes, decimal, length, map}
+use Rattle.std.specs.List.{All, flat_map}
 use Rattle.onll_words.specs.Texts.{line_text}
 use Rattle.onll_model.specs.declared.node.Node.{Node}
 use Rattle.onll_model.specs.Object.{Behaviour}
 use Rattle.onll_model.specs.Trace.{state_after}
-use Rattle.onll_model.specs.Recovered.{operations_front}
 use Rattle.onll_bank.specs.Object.{bank}
 use Rattle.onll_map.specs.Object.{map_object}
 use Rattle.onll_queue.specs.Object.{queue}
 use Rattle.onll_lease.specs.Object.{lease}
-use Rattle.onll_log.specs.declared.head.LogHead.{LogHead}
-use Rattle.onll_log.specs.Head.{head_for}
-use Rattle.onll_log.specs.Grammar.{Content, content_of, format_in, used_with}
-use Rattle.onll_model.specs.Segment.{Segment}
 use Rattle.onll_merge.specs.declared.fault.RecoverFault.{RecoverFault}
 use Rattle.onll_merge.specs.declared.fault.RecoverFault.TheVariants as merging
-use Rattle.onll_merge.specs.Merge.{merge}
+use Rattle.onll_merge.specs.declared.counts.LogCounts.{LogCounts}
+use Rattle.onll_merge.specs.Recovered.{Recovered, state_recovered}
 use Rattle.onll_text.specs.declared.any_object.AnyObject.{AnyObject}
 use Rattle.onll_text.specs.declared.any_object.AnyObject.TheVariants as objects
 use Rattle.onll_text.specs.Wording.{Wording}
@@ -25,13 +23,12 @@ use Rattle.onll_text.specs.QueueWording.{queue_wording}
 use Rattle.onll_text.specs.LeaseWording.{lease_wording}
 use Rattle.onll_text.specs.Lines.{log_line, node_lines, state_lines}
 use Rattle.onll_text.specs.Init.{init_of}
-use Rattle.onll_jobs.specs.declared.ending.Ending.TheVariants.{Done, BadLog}
-use Rattle.onll_jobs.specs.declared.bad_logs.LogsFault.{LogsFault}
-use Rattle.onll_jobs.specs.declared.bad_logs.LogsFault.TheVariants.{NotLog, NotMerged, NotOperation, NoMemory}
-use Rattle.onll_jobs.specs.Job.{Job, Say, reading_whole}
-use Rattle.onll_jobs.specs.Images.{reading_images}
-
--- What `recover INIT LOGS T` does: it says the trace and the state that the logs of one run give.
+use Rattle.onll_jobs.specs.declared.ending.Ending.TheVariants.{BadLog}
+use Rattle.onll_merge.specs.declared.fault.StateFault.{StateFault}
+use Rattle.onll_merge.specs.declared.fault.StateFault.TheVariants.{NotLog, NotMerged, NotOperation, NoMemory}
+use Rattle.onll_text.specs.Reports.{NodeReads, StateReads, SaysOnly}
+use Rattle.onll_jobs.specs.Doing.{Task, Work, after_stage, report_task, say_task, whole_stage}
+use Rattle.onll_jobs.specs.Images.{images_stage}
 
 -- ---- the refusals
 -- the line that says why logs do not merge; want of memory, which no merge gives, has none
@@ -46,70 +43,22 @@ merging_line (merging.Stray place thread number wanted) =
 merging_line merging.NoMemory = []
 
 -- the line that says why logs give no state; want of memory, which no images give, has none
-abbrev pub fault_line : LogsFault → List ℕ
+abbrev pub fault_line : StateFault → List ℕ
 fault_line (NotLog log) = line_text (codes "log" ∷ decimal log ∷ codes "not" ∷ codes "a" ∷ codes "log" ∷ [])
 fault_line (NotMerged fault) = merging_line fault
 fault_line (NotOperation place) = line_text (codes "place" ∷ decimal place ∷ codes "not" ∷ codes "an" ∷ codes "operation" ∷ [])
 fault_line NoMemory = []
 
--- ---- what the images hold
--- a log before those that follow; the first that is no log is the fault
-abbrev pub content_before : ℕ → Option Content → Result (List Content) LogsFault → Result (List Content) LogsFault
-content_before i None rest = Err (NotLog i)
-content_before i (Some content) (Ok contents) = Ok (content ∷ contents)
-content_before i (Some content) (Err fault) = Err fault
-
--- what the images of the threads from i on hold, or the first that is no log
-abbrev pub contents_from : ℕ → List (List (List ℕ)) → Result (List Content) LogsFault
-contents_from i [] = Ok []
-contents_from i (image ∷ images) = content_before i (content_of image) (contents_from (i + 1) images)
-
--- the heads of the logs of this many threads, from thread i on, each in the format of its image
-abbrev pub expected_heads : ℕ → List ℕ → ℕ → ℕ → List (List (List ℕ)) → List LogHead
-expected_heads code init threads i [] = []
-expected_heads code init threads i (image ∷ images) =
-    head_for (format_in image) i threads code init ∷ expected_heads code init threads (i + 1) images
-
--- ---- the trace
--- nodes whose rows are all operations, or the first that is none
-abbrev pub operations : {State Op Query Reply : Type 0} → Behaviour State Op Query Reply → List Node → Result (List Node) LogsFault
-operations b nodes =
-    if length (operations_front b nodes) == length nodes then Ok nodes else Err (NotOperation (length (operations_front b nodes) + 1))
-
--- what logs give: what each holds, and the nodes of their trace
-pub record Recovered : Type 0 where
-  pub logs : List Content
-  pub nodes : List Node
-
-abbrev pub with_logs : List Content → Result (List Node) LogsFault → Result Recovered LogsFault
-with_logs logs (Ok nodes) = Ok (record { logs = logs; nodes = nodes })
-with_logs logs (Err fault) = Err fault
-
-abbrev pub operations_of : {State Op Query Reply : Type 0} → Behaviour State Op Query Reply
-    → Result (List Node) RecoverFault → Result (List Node) LogsFault
-operations_of b (Ok nodes) = operations b nodes
-operations_of b (Err fault) = Err (NotMerged fault)
-
-abbrev pub merged : {State Op Query Reply : Type 0} → Behaviour State Op Query Reply → List LogHead
-    → Result (List Content) LogsFault → Result Recovered LogsFault
-merged b heads (Ok logs) = with_logs logs (operations_of b (merge heads logs))
-merged b heads (Err fault) = Err fault
-
--- the images are decoded in order, then the logs are merged, then the rows are read as operations
-abbrev pub recovered : {State Op Query Reply : Type 0} → Behaviour State Op Query Reply → ℕ → List ℕ
-    → List (List (List ℕ)) → Result Recovered LogsFault
-recovered b code init images = merged b (expected_heads code init (length images) 0 images) (contents_from 0 images)
-
 -- ---- the report
--- the line of a thread's log, by its head: `log T empty` where it has none
-abbrev pub content_line : ℕ → Option LogHead → List Segment → List (List ℕ)
-content_line thread None entries = codes "log" ∷ decimal thread ∷ codes "empty" ∷ []
-content_line thread (Some head) entries = log_line thread (length entries) (used_with (Some head) entries) None
+-- the line of a thread's log, by whether it has a head: `log T empty` where it has none
+abbrev pub content_line : ℕ → Bool → (entries lines : ℕ) → List (List ℕ)
+content_line thread false entries lines = codes "log" ∷ decimal thread ∷ codes "empty" ∷ []
+content_line thread true entries lines = log_line thread entries lines None
 
 -- the line of each log, from thread i on
-abbrev pub log_lines : ℕ → List Content → List (List (List ℕ))
+abbrev pub log_lines : ℕ → List LogCounts → List (List (List ℕ))
 log_lines i [] = []
-log_lines i (content ∷ contents) = content_line i content.head content.entries ∷ log_lines (i + 1) contents
+log_lines i (log ∷ logs) = content_line i log.head log.entries log.lines ∷ log_lines (i + 1) logs
 
 abbrev pub recovered_line : ℕ → List (List ℕ)
 recovered_line nodes = codes "recovered" ∷ decimal nodes ∷ []
@@ -124,24 +73,84 @@ abbrev pub recover_report : {State Op Query Reply : Type 0} → Behaviour State 
     → Wording State Op Query Reply → State → Recovered → List ℕ
 recover_report b w s r = flat_map line_text (lines_with b w r (state_after b s r.nodes))
 
--- ---- the job
-abbrev pub found_says : {State Op Query Reply : Type 0} → Behaviour State Op Query Reply → Wording State Op Query Reply
-    → State → Result Recovered LogsFault → Job
-found_says b w s (Ok r) = Say Done (recover_report b w s r)
-found_says b w s (Err fault) = Say BadLog (fault_line fault)
+-- ---- what the report says
+-- what is said of a log with a head: its entries and its lines
+pub record HeldData : Type 0 where
+  pub entries : ℕ
+  pub lines : ℕ
 
--- what is said of these images, over an object of this code whose initial state these bytes say
-abbrev pub recover_on : {State Op Query Reply : Type 0} → Behaviour State Op Query Reply → Wording State Op Query Reply
-    → ℕ → List ℕ → State → List (List (List ℕ)) → Job
-recover_on b w code init s images = found_says b w s (recovered b code init images)
+-- what a report of logs says: of each log, nothing where it has no head; the trace, and the state after it
+pub record RecoverData (State : Type 0) : Type 0 where
+  pub logs : List (Option HeldData)
+  pub nodes : List Node
+  pub state : State
+
+abbrev pub held_line : ℕ → Option HeldData → List (List ℕ)
+held_line t None = codes "log" ∷ decimal t ∷ codes "empty" ∷ []
+held_line t (Some held) = log_line t held.entries held.lines None
+
+-- the line of each log, from thread t on
+abbrev pub held_lines : ℕ → List (Option HeldData) → List (List (List ℕ))
+held_lines t [] = []
+held_lines t (log ∷ logs) = held_line t log ∷ held_lines (t + 1) logs
+
+abbrev pub recover_data_lines : {State Op Query Reply : Type 0} → Behaviour State Op Query Reply
+    → Wording State Op Query Reply → RecoverData State → List (List (List ℕ))
+recover_data_lines b w said = held_lines 0 said.logs
+    ++ (recovered_line (length said.nodes) ∷ (node_lines b w 0 said.nodes ++ state_lines w said.state))
+
+-- the numbers of a log are of 64 bits
+abbrev pub HeldReads : Option HeldData → Type 0
+HeldReads None = Unit {0}
+HeldReads (Some held) = (held.entries < 2 ^ 64) × (held.lines < 2 ^ 64)
+
+-- all that is said reads back
+pub record RecoverReads {State Op Query Reply : Type 0} (b : Behaviour State Op Query Reply)
+    (w : Wording State Op Query Reply) (said : RecoverData State) : Type 0 where
+  pub logs : All HeldReads said.logs
+  pub nodes : All (NodeReads b w) said.nodes
+  pub state : StateReads w said.state
+
+abbrev pub held_with : Bool → (entries lines : ℕ) → Option HeldData
+held_with false entries lines = None
+held_with true entries lines = Some (record { entries = entries; lines = lines })
+
+abbrev pub held_of : LogCounts → Option HeldData
+held_of log = held_with log.head log.entries log.lines
+
+-- what the report of a recovery says, with this state
+abbrev pub found_data : {State : Type 0} → Recovered → State → RecoverData State
+found_data r s = record { logs = map held_of r.logs; nodes = r.nodes; state = s }
+
+-- the same with the state after the trace
+abbrev pub recover_data : {State Op Query Reply : Type 0} → Behaviour State Op Query Reply → State → Recovered → RecoverData State
+recover_data b s r = found_data r (state_after b s r.nodes)
+
+-- ---- the work
+-- what was found is reported: the report says that, and nothing else
+abbrev pub found_task : {State Op Query Reply : Type 0} → Behaviour State Op Query Reply → Wording State Op Query Reply
+    → State → Result Recovered StateFault → Task
+found_task b w s (Ok r) =
+    report_task (recover_report b w s r) (λ text. SaysOnly (recover_data_lines b w) (RecoverReads b w) text (recover_data b s r))
+found_task b w s (Err fault) = say_task BadLog (fault_line fault)
+
+-- what these images give, over an object of this code whose initial state these bytes say
+abbrev pub images_task : {State Op Query Reply : Type 0} → Behaviour State Op Query Reply → Wording State Op Query Reply
+    → ℕ → List ℕ → State → List (List (List ℕ)) → Task
+images_task b w code init s images = found_task b w s (state_recovered b code init images)
 
 -- the same for an object of any kind
-abbrev pub recover_any : List ℕ → AnyObject → List (List (List ℕ)) → Job
-recover_any init (objects.Bank s) images = recover_on bank bank_wording 1 init s images
-recover_any init (objects.Map s) images = recover_on map_object map_wording 2 init s images
-recover_any init (objects.Queue s) images = recover_on queue queue_wording 3 init s images
-recover_any init (objects.Lease s) images = recover_on lease lease_wording 4 init s images
+abbrev pub images_task_on : List ℕ → AnyObject → List (List (List ℕ)) → Task
+images_task_on init (objects.Bank s) images = images_task bank bank_wording 1 init s images
+images_task_on init (objects.Map s) images = images_task map_object map_wording 2 init s images
+images_task_on init (objects.Queue s) images = images_task queue queue_wording 3 init s images
+images_task_on init (objects.Lease s) images = images_task lease lease_wording 4 init s images
 
--- the initial state is read first, then all images
-abbrev pub recover_job : (init logs : List ℕ) (threads : ℕ) → Job
-recover_job init logs threads = reading_whole init init_of (λ bytes object. reading_images logs 0 threads (recover_any bytes object))
+-- all images are read first
+abbrev pub logs_task : (init : List ℕ) → AnyObject → (logs : List ℕ) → (threads : ℕ) → Task
+logs_task init object logs threads = after_stage (images_stage logs threads) (images_task_on init object)
+
+-- and the initial state before them
+abbrev pub recover_work : (init logs : List ℕ) (threads : ℕ) → Work
+recover_work init logs threads =
+    record { task = after_stage (whole_stage init init_of) (λ read. logs_task read.0 read.1 logs threads); writes = [] }

@@ -13,7 +13,8 @@ use Rattle.onll_jobs.specs.Job.{Job, JobEnds, JobCut}
 use Rattle.onll_jobs.specs.Doing.{Work, say_task}
 use Rattle.onll_jobs.specs.FoldJob.{fold_work}
 use Rattle.onll_jobs.specs.ShowJob.{show_work}
-use Rattle.onll_jobs.specs.Determined.{recover_work, replay_work}
+use Rattle.onll_jobs.specs.RecoverJob.{recover_work}
+use Rattle.onll_jobs.specs.ReplayJob.{replay_work}
 
 -- what a call does by its words: those of no form get the usage text
 abbrev pub work_of : Option Form → Work

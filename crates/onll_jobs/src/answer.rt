@@ -1,6 +1,6 @@
 //! What is said in place of a report, and why.
 
-ghost use Rattle.std.specs.Prelude.{◌≡◌, IfOk, MatchResult};
+ghost use Rattle.std.specs.Prelude.{◌≡◌, IfOk};
 ghost use Rattle.onll_text.specs.Refusal.{refused};
 ghost use Rattle.onll_jobs.specs.Printed.{usage_text, refusal_text, read_fault_text, write_fault_text};
 ghost use Rattle.onll_jobs.specs.Stop.{StopSays};
@@ -16,14 +16,14 @@ use std::alloc::{AllocError, AllocFailed, Global};
 const USAGE: &[u8] =
     b"usage: onll fold INIT SCRIPT\n       onll show IMAGE\n       onll recover INIT LOGS T\n       onll replay INIT SCHEDULE LOGS SCRIPT..\n       onll run INIT LOGS SCRIPT..\n       onll make T N SEED\n";
 
-/// A text to be put, and how the call ends then.
+/// A text to be put in place of a report, and how the call ends then.
 #[derive(Drop)]
 pub(crate) struct Answer {
     pub(crate) ending: Ending,
     pub(crate) text: Vec<u8>,
 }
 
-/// Why a file gives no value.
+/// Why a command gives no report, or a file no value.
 #[derive(Drop)]
 pub(crate) enum Stop {
     /// This is to be said.
@@ -56,16 +56,6 @@ impl<T: Drop> From<AllocFailed<T>> for Stop {
 }
 
 impl Stop {
-    /// What is said, unless memory could not be had.
-    pub(crate) fn answer(self) -> Result<Answer, NoMemory>
-        ensures { MatchResult result (λ answer. self ≡ Stop.Says answer) (λ e. self ≡ Stop.NoMemory) }
-    {
-        match self {
-            Stop::Says(answer) => Ok(answer),
-            Stop::NoMemory => Err(NoMemory),
-        }
-    }
-
     /// A text that is no report, with its ending.
     pub(crate) fn says(alloc: Global, ending: Ending, text: &[u8]) -> Stop
         ensures { StopSays result (λ end said. (end ≡ ending) × (said ≡ text.now)) }

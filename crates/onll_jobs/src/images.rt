@@ -1,59 +1,19 @@
-ghost use Rattle.std.specs.Prelude.{◌≡◌, length, map, string_bytes, IfOk, IfErr, OnOk};
-ghost use Rattle.onll_outside.specs.Views.{SameFiles, SameOthers, SameFaults};
+//! The images of the logs of one run: a file for each thread.
+
+ghost use Rattle.std.specs.Prelude.{◌≡◌, [], length, string_bytes, IfOk, IfErr, OnOk};
+ghost use Rattle.onll_outside.specs.Views.{SameOthers};
 ghost use Rattle.onll_pmem.specs.Pmem.{words_of};
-ghost use Rattle.onll_jobs.specs.Reading.{HoldsImage, CannotRead};
-ghost use Rattle.onll_jobs.specs.Images.{image_name, images_in, ImagesRead, ImagesUnread, image_bytes, image_names, AreWritten, ImagesStop, ImagesCut};
-ghost use Rattle.onll_jobs.specs.Writing.{SameBut, HasWritten, CannotWrite, WriteStops};
+ghost use Rattle.onll_jobs.specs.Images.{image_name, image_names, images_in, image_bytes, images_stage, writing_stage};
+ghost use Rattle.onll_jobs.specs.Writing.{HasWritten, CannotWrite, WriteStops};
 ghost use Rattle.onll_jobs.specs.Stop.{StopSays};
-ghost use Rattle.onll_jobs.specs.Images.{HoldImages};
+ghost use Rattle.onll_jobs.specs.Doing.{Begins, lines_stage};
 
 use crate::answer::Stop;
 use crate::texts::{image_file, write_file};
 use itoa::Buffer;
 use onll_outside::Store;
-use onll_words::{Line, NoMemory, line_bytes};
+use onll_words::{Line, line_bytes};
 use std::alloc::{AllocError, Global};
-use std::marker::Model;
-
-/// The lines of an image, seen as their list.
-#[derive(Drop)]
-pub(crate) struct Image {
-    lines: Vec<Line>,
-}
-
-impl Model for Image {
-    ghost use Rattle.std.specs.Prelude.{List};
-    ghost use Rattle.onll_words.specs.declared.line.Line.{Line};
-
-    ghost Value = { List Line };
-
-    ghost view = { λ s. s.lines.items };
-}
-
-impl Image {
-    fn of_vec(lines: Vec<Line>) -> Image
-        ensures { result ≡ lines.items }
-    {
-        Image { lines }
-    }
-
-    pub(crate) fn as_slice(&self) -> &[Line]
-        ensures { result.now ≡ self.now }
-    {
-        &self.lines
-    }
-
-    /// The images of these lines, one for each thread.
-    pub(crate) fn of_all(alloc: Global, logs: Vec<Vec<Line>>) -> Result<Vec<Image>, NoMemory>
-        ensures { IfOk result (λ images. images.items ≡ map (λ lines. lines.items) logs.items) }
-    {
-        let mut images = Vec::new(alloc);
-        for lines in logs {
-            images.push(Image::of_vec(lines))?;
-        }
-        Ok(images)
-    }
-}
 
 /// The name of a thread's image.
 fn image_name(alloc: Global, logs: &str, thread: u64) -> Result<String, AllocError>
@@ -73,14 +33,12 @@ fn read_image<S: Store>(
     logs: &str,
     thread: u64,
     store: &mut S,
-) -> Result<Image, Stop>
-    ensures image { IfOk result (λ image. HoldsImage (S.seen store.old) (image_name logs.now thread) (words_of image)) }
-    ensures stop { IfErr result (λ stop. StopSays stop (CannotRead (S.seen store.old) (S.seen store.new) (image_name logs.now thread))) }
-    ensures same { SameFiles (S.seen store.old) (S.seen store.new) }
-    ensures faults { OnOk result (SameFaults (S.seen store.old) (S.seen store.new)) }
+) -> Result<Vec<Line>, Stop>
+    ensures { let stage = lines_stage (image_name logs.now thread) in
+        Begins [] (S.seen store.old) (S.seen store.new) stage (λ image. words_of image.items) result }
 {
     let name = image_name(alloc, logs, thread)?;
-    Ok(Image::of_vec(image_file(alloc, &name, store)?))
+    image_file(alloc, &name, store)
 }
 
 /// The images of the logs of so many threads, or what is said in their place.
@@ -89,13 +47,10 @@ pub(crate) fn read_images<S: Store>(
     logs: &str,
     threads: u64,
     store: &mut S,
-) -> Result<Vec<Image>, Stop>
-    ensures images { IfOk result (λ images. ImagesRead (S.seen store.old) (S.seen store.new) logs.now threads (images_in images.items)) }
-    ensures held { IfOk result (λ images. HoldImages (S.seen store.old) logs.now 0 (images_in images.items)) }
+) -> Result<Vec<Vec<Line>>, Stop>
+    ensures begins { let stage = images_stage logs.now threads in
+        Begins [] (S.seen store.old) (S.seen store.new) stage (λ images. images_in images.items) result }
     ensures count { IfOk result (λ images. length images.items ≡ threads) }
-    ensures stop { IfErr result (λ stop. StopSays stop (ImagesUnread (S.seen store.old) (S.seen store.new) logs.now threads)) }
-    ensures same { SameFiles (S.seen store.old) (S.seen store.new) }
-    ensures faults { OnOk result (SameFaults (S.seen store.old) (S.seen store.new)) }
 {
     let mut images = Vec::new(alloc);
     for thread in 0..threads {
@@ -123,7 +78,7 @@ fn write_image<S: Store>(
     alloc: Global,
     logs: &str,
     thread: u64,
-    image: &Image,
+    image: &[Line],
     store: &mut S,
 ) -> Result<(), Stop>
     ensures written { OnOk result (HasWritten (S.seen store.old) (S.seen store.new) (image_name logs.now thread)
@@ -133,7 +88,7 @@ fn write_image<S: Store>(
     ensures others { SameOthers (image_name logs.now thread) (S.seen store.old) (S.seen store.new) }
 {
     let name = image_name(alloc, logs, thread)?;
-    let bytes = image_bytes(alloc, image.as_slice())?;
+    let bytes = image_bytes(alloc, image)?;
     write_file(alloc, &name, &bytes, store)
 }
 
@@ -141,16 +96,17 @@ fn write_image<S: Store>(
 pub(crate) fn write_images<S: Store>(
     alloc: Global,
     logs: &str,
-    images: &[Image],
+    images: &[Vec<Line>],
     store: &mut S,
 ) -> Result<(), Stop>
-    ensures written { OnOk result (AreWritten (S.seen store.old) (S.seen store.new) logs.now (images_in images.now)) }
-    ensures stop { IfErr result (λ stop. StopSays stop (ImagesStop (S.seen store.old) (S.seen store.new) logs.now (images_in images.now))) }
-    ensures cut { IfErr result (λ stop. ImagesCut (S.seen store.old) (S.seen store.new) logs.now (images_in images.now)) }
-    ensures others { SameBut (image_names logs.now 0 (length images.now)) (S.seen store.old) (S.seen store.new) }
+    ensures { let names = image_names logs.now 0 (length images.now) in
+        Begins names (S.seen store.old) (S.seen store.new) (writing_stage logs.now (images_in images.now)) (λ _. tt) result }
 {
     for (thread, image) in images.iter().enumerate() {
-        write_image(alloc, logs, thread as u64, image, store)?;
+        match write_image(alloc, logs, thread as u64, image, store) {
+            Ok(()) => {}
+            Err(stop) => return Err(stop),
+        }
     }
     Ok(())
 }

@@ -13,23 +13,12 @@ ghost use Rattle.onll_jobs.specs.Durable.{ReplayIsDurable, RecoversCrashes};
 ghost use Rattle.onll_jobs.specs.Printed.{usage_text};
 ghost use Rattle.onll_jobs.specs.Doing.{Does};
 
-use crate::answer::{Answer, Stop};
+use crate::answer::Stop;
 use crate::command::Command;
 use crate::ending::{Ending, Exit};
 use crate::{fold, recover, replay, show};
 use onll_outside::{OutsideFault, Sink, Store};
-use onll_words::NoMemory;
 use std::alloc::Global;
-
-fn as_report(answer: Result<Answer, NoMemory>) -> Result<Vec<u8>, Stop> {
-    match answer {
-        Ok(answer) => match answer.ending {
-            Ending::Done => Ok(answer.text),
-            _ => Err(Stop::Says(answer)),
-        },
-        Err(NoMemory) => Err(Stop::NoMemory),
-    }
-}
 
 /// A command's report, or what is said in its place.
 fn command_answer<S: Store>(
@@ -48,13 +37,13 @@ fn command_answer<S: Store>(
             init,
             logs,
             threads,
-        } => as_report(recover::answer(alloc, init, logs, threads, store)),
+        } => recover::answer(alloc, init, logs, threads, store),
         Command::Replay {
             init,
             schedule,
             logs,
             scripts,
-        } => as_report(replay::answer(alloc, init, schedule, logs, scripts, store)),
+        } => replay::answer(alloc, init, schedule, logs, scripts, store),
     }
 }
 

@@ -5,16 +5,14 @@ ghost use Rattle.std.specs.List.{AllByRecursion};
 ghost use Rattle.onll_model.specs.Trace.{state_after};
 ghost use Rattle.onll_model.specs.Recovered.{operations_front};
 ghost use Rattle.onll_log.specs.Grammar.{used_by};
-ghost use Rattle.onll_log.specs.Decoded.{content_in};
-ghost use Rattle.onll_merge.specs.Merge.{contents_in};
+ghost use Rattle.onll_merge.specs.Recovered.{recovered_in};
 ghost use Rattle.onll_core.specs.Outcomes.{returned_end, current_ends, ends_of, script_of};
 ghost use Rattle.onll_text.specs.Reports.{EndReads, NodeReads};
-ghost use Rattle.onll_jobs.specs.Found.{found_in};
-ghost use Rattle.onll_jobs.specs.Reports.{EachReads, HeldReads, LogReads, RecoverReads, RunReads, held_of, found_data, counts_of, replay_data};
+ghost use Rattle.onll_jobs.specs.RecoverJob.{HeldReads, RecoverReads, held_of, found_data};
+ghost use Rattle.onll_jobs.specs.ReplayJob.{EachReads, LogReads, RunReads, counts_of, replay_data};
 
-use crate::recover::Found;
 use onll_core::{Core, Current, Returned, report_law};
-use onll_log::Decoded;
+use onll_merge::{LogCounts, Recovery};
 use onll_model::{CallEnd, Node};
 use onll_text::{Texted, end_reads_back, node_reads_back};
 
@@ -63,33 +61,39 @@ fn trace_reads<O: Texted>(trace: &[Node])
     }
 }
 
-/// What is said of the logs of a replay.
-fn logs_read<O: Texted + Drop>(core: &Core<O>, logs: &[Decoded])
-    requires threads { length logs.now ≡ length core.now.threads }
-    requires used { AllByRecursion (λ d. used_by (content_in d) < 2 ^ 64) logs.now }
-    ensures { All LogReads (counts_of (contents_in logs.now) core.now.threads) }
+/// How much a log holds.
+fn counts_read(log: LogCounts)
+    ensures entries { log.entries < 2 ^ 64 }
+    ensures lines { log.lines < 2 ^ 64 }
 {
-    for (index, decoded) in logs.iter().enumerate() {
-        let _ = decoded.entries.as_slice().len();
+    number_reads(log.entries);
+    number_reads(log.lines);
+}
+
+/// What is said of the logs of a replay.
+fn logs_read<O: Texted + Drop>(core: &Core<O>, logs: &[LogCounts])
+    requires { length logs.now ≡ length core.now.threads }
+    ensures { All LogReads (counts_of logs.now core.now.threads) }
+{
+    for (index, log) in logs.iter().enumerate() {
+        counts_read(*log);
         let _ = core.fences(index as u64);
     }
 }
 
 /// What is said of the logs of a recovery.
-fn helds_read(logs: &[Decoded])
-    requires { AllByRecursion (λ d. used_by (content_in d) < 2 ^ 64) logs.now }
-    ensures { All HeldReads (map held_of (contents_in logs.now)) }
+fn helds_read(logs: &[LogCounts])
+    ensures { All HeldReads (map held_of logs.now) }
 {
-    for decoded in logs {
-        let _ = decoded.entries.as_slice().len();
+    for log in logs {
+        counts_read(*log);
     }
 }
 
 /// All that is said of what was found, and of the object after the nodes that were found.
-pub(crate) fn recovery_reads<O: Texted>(object: &O, found: &Found)
-    requires used { AllByRecursion (λ d. used_by (content_in d) < 2 ^ 64) found.now.logs.items }
-    requires rows { operations_front O.means found.now.nodes.items ≡ found.now.nodes.items }
-    ensures { RecoverReads O.means O.wording (found_data (found_in found.now) object.now) }
+pub(crate) fn recovery_reads<O: Texted>(object: &O, found: &Recovery)
+    requires { operations_front O.means found.now.nodes.items ≡ found.now.nodes.items }
+    ensures { RecoverReads O.means O.wording (found_data (recovered_in found.now) object.now) }
 {
     helds_read(&found.logs);
     trace_reads::<O>(&found.nodes);
@@ -97,12 +101,11 @@ pub(crate) fn recovery_reads<O: Texted>(object: &O, found: &Found)
 }
 
 /// All that is said of a core that crashed, of what was found then, and of the object after the nodes that were found.
-pub(crate) fn run_reads<O: Texted + Drop>(core: &Core<O>, keep: u64, found: &Found, object: &O)
+pub(crate) fn run_reads<O: Texted + Drop>(core: &Core<O>, keep: u64, found: &Recovery, object: &O)
     requires operations { AllByRecursion (λ n. IsSome (O.means.op_at n.row)) core.now.trace }
     requires threads { length found.now.logs.items ≡ length core.now.threads }
-    requires used { AllByRecursion (λ d. used_by (content_in d) < 2 ^ 64) found.now.logs.items }
     requires state { object.now ≡ state_after O.means core.now.initial found.now.nodes.items }
-    ensures { RunReads O.means O.wording (map script_of core.now.threads) (replay_data O.means core.now keep (found_in found.now)) }
+    ensures { RunReads O.means O.wording (map script_of core.now.threads) (replay_data O.means core.now keep (recovered_in found.now)) }
 {
     core.consistent();
     calls_read(core);

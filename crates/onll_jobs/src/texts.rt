@@ -7,7 +7,7 @@ ghost use Rattle.onll_model.specs.Calls.{updates_in};
 ghost use Rattle.onll_pmem.specs.Pmem.{words_of};
 ghost use Rattle.onll_text.specs.Init.{init_of};
 ghost use Rattle.onll_text.specs.Script.{script_of};
-ghost use Rattle.onll_jobs.specs.Reading.{IsCut, Reads, ReadsWhole, HoldsImage, CannotRead, Stops};
+ghost use Rattle.onll_jobs.specs.Reading.{IsCut, CannotRead};
 ghost use Rattle.onll_jobs.specs.Stop.{StopSays};
 ghost use Rattle.onll_jobs.specs.Writing.{HasWritten, CannotWrite, WriteStops};
 ghost use Rattle.onll_text.specs.Schedule.{schedule_of, IsPlayable};
@@ -65,11 +65,7 @@ pub(crate) fn init_file<S: Store>(
     name: &str,
     store: &mut S,
 ) -> Result<InitText, Stop>
-    ensures begins { Begins [] (S.seen store.old) (S.seen store.new) (whole_stage name.now init_of) (λ read. (read.text.items, read.object)) result }
-    ensures object { IfOk result (λ read. ReadsWhole (S.seen store.old) init_of name.now read.text.items read.object) }
-    ensures stop { IfErr result (λ stop. StopSays stop (Stops (S.seen store.old) (S.seen store.new) init_of name.now)) }
-    ensures same { SameFiles (S.seen store.old) (S.seen store.new) }
-    ensures count { OnOk result (SameFaults (S.seen store.old) (S.seen store.new)) }
+    ensures { Begins [] (S.seen store.old) (S.seen store.new) (whole_stage name.now init_of) (λ read. (read.text.items, read.object)) result }
 {
     let text = match read_text(alloc, name, store) {
         Ok(text) => text,
@@ -89,11 +85,7 @@ pub(crate) fn script_file<O: Texted, S: Store>(
     store: &mut S,
 ) -> Result<Vec<Call<O>>, Stop>
     ensures begins { Begins [] (S.seen store.old) (S.seen store.new) (text_stage name.now (script_of O.wording)) (λ calls. calls.items) result }
-    ensures calls { IfOk result (λ calls. Reads (S.seen store.old) (script_of O.wording) name.now calls.items) }
     ensures updates { IfOk result (λ calls. updates_in calls.items ≤ most_updates) }
-    ensures stop { IfErr result (λ stop. StopSays stop (Stops (S.seen store.old) (S.seen store.new) (script_of O.wording) name.now)) }
-    ensures same { SameFiles (S.seen store.old) (S.seen store.new) }
-    ensures count { OnOk result (SameFaults (S.seen store.old) (S.seen store.new)) }
 {
     let text = match read_text(alloc, name, store) {
         Ok(text) => text,
@@ -112,11 +104,7 @@ pub(crate) fn image_file<S: Store>(
     name: &str,
     store: &mut S,
 ) -> Result<Vec<Line>, Stop>
-    ensures begins { Begins [] (S.seen store.old) (S.seen store.new) (lines_stage name.now) (λ lines. words_of lines.items) result }
-    ensures lines { IfOk result (λ lines. HoldsImage (S.seen store.old) name.now (words_of lines.items)) }
-    ensures stop { IfErr result (λ stop. StopSays stop (CannotRead (S.seen store.old) (S.seen store.new) name.now)) }
-    ensures same { SameFiles (S.seen store.old) (S.seen store.new) }
-    ensures count { OnOk result (SameFaults (S.seen store.old) (S.seen store.new)) }
+    ensures { Begins [] (S.seen store.old) (S.seen store.new) (lines_stage name.now) (λ lines. words_of lines.items) result }
 {
     let bytes = match read_bytes(alloc, name, LONGEST_IMAGE as u64, store) {
         Ok(bytes) => bytes,
@@ -133,11 +121,7 @@ pub(crate) fn schedule_file<S: Store>(
     store: &mut S,
 ) -> Result<Schedule, Stop>
     ensures begins { Begins [] (S.seen store.old) (S.seen store.new) (text_stage name.now (schedule_of threads)) (λ schedule. schedule) result }
-    ensures schedule { IfOk result (λ schedule. Reads (S.seen store.old) (schedule_of threads) name.now schedule) }
     ensures playable { IfOk result (λ schedule. IsPlayable threads schedule) }
-    ensures stop { IfErr result (λ stop. StopSays stop (Stops (S.seen store.old) (S.seen store.new) (schedule_of threads) name.now)) }
-    ensures same { SameFiles (S.seen store.old) (S.seen store.new) }
-    ensures count { OnOk result (SameFaults (S.seen store.old) (S.seen store.new)) }
 {
     let text = match read_text(alloc, name, store) {
         Ok(text) => text,

@@ -5,16 +5,20 @@ ghost use Rattle.onll_merge.specs.Laws.{FrontLaw, TopLaw, BackLaw, StandsLaw, No
 ghost use Rattle.onll_merge.specs.FrameLogs.{FrameLogsLaw};
 ghost use Rattle.onll_merge.specs.Resumed.{ResumableLaw};
 
+mod counts;
 mod entries;
 mod fault;
 mod logs;
 mod merge;
 mod numbers;
+mod recovery;
 #[cfg(test)]
 mod tests;
 
-pub use fault::{ImagesFault, RecoverFault};
+pub use counts::LogCounts;
+pub use fault::{ImagesFault, RecoverFault, StateFault};
 pub use merge::recover;
+pub use recovery::{Recovery, merge_images, recover_images, recover_state};
 
 /// Logs that hold one trace merge to a front of it that has each of their places, and logs that merge hold the trace
 /// that they merge to.

@@ -3,7 +3,7 @@ use Rattle.onll_jobs.proofs.Stages.{read_does, stop_does}
 use Rattle.onll_jobs.proofs.fold.answer.Goals as goal
 
 pub returns-in-Ok : goal.returns-in-Ok
-returns-in-Ok g c = read_does (λ read. script_task_on c.args.script.now read.1) c.in-Ok.ensures.begins c.fold_any.ensures
+returns-in-Ok g c = read_does (λ read. script_task_on c.args.script.now read.1) c.in-Ok.ensures c.fold_any.ensures
 
 pub returns-in-Err : goal.returns-in-Err
-returns-in-Err g c = stop_does (λ read. script_task_on c.args.script.now read.1) c.in-Err.ensures.begins
+returns-in-Err g c = stop_does (λ read. script_task_on c.args.script.now read.1) c.in-Err.ensures

@@ -1,3 +1,5 @@
+use Rattle.std.proofs.Common.{string_bytes}
+use Rattle.std.proofs.lemmas.List.{length-map}
 use Rattle.onll_jobs.proofs.program.command_answer.Goals as goal
 
 pub returns-in-Fold : goal.returns-in-Fold
@@ -7,7 +9,7 @@ pub returns-in-Show : goal.returns-in-Show
 returns-in-Show g c = rw c.in-Show.is c.answer-in-Show.ensures
 
 pub returns-in-Recover : goal.returns-in-Recover
-returns-in-Recover g c = ?
+returns-in-Recover g c = rw c.in-Recover.is c.answer-in-Recover.ensures
 
 pub returns-in-Replay : goal.returns-in-Replay
-returns-in-Replay g c = ?
+returns-in-Replay g c = rw c.in-Replay.is c.answer-in-Replay.ensures

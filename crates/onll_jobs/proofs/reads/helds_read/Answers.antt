@@ -1,18 +1,10 @@
-use Rattle.std.proofs.Common.{length, arith, sym, ap, ◌∙◌, subst}
-use Rattle.std.proofs.lemmas.List.{drop_more, length-map}
-use Rattle.std.specs.List.{AllByRecursion}
-use Rattle.onll_log.specs.Decoded.{segment_in}
-use Rattle.onll_jobs.proofs.RecoverSteps.{FewUsed}
+use Rattle.std.proofs.Common.{false, get_or, refl, arith}
+use Rattle.onll_merge.specs.declared.counts.LogCounts.{LogCounts}
 use Rattle.onll_jobs.proofs.PrintedReads.{helds_more}
 use Rattle.onll_jobs.proofs.reads.helds_read.Goals as goal
 
-pub loop-decoded-preserved : goal.loop-decoded-preserved
-loop-decoded-preserved c =
-    let i = c.loop-decoded.decoded-index in
-    let logs = c.args.logs.now in
-    let d = c.decoded-item.result in
-    let rest = subst (AllByRecursion FewUsed) (drop_more logs i d (omega arith)) c.loop-decoded.invariant.used in
-    record {
-      used = rest.1;
-      reads = λ h. c.loop-decoded.invariant.reads (helds_more i logs d (omega arith) c.decoded-item.is (omega (arith, ap length c.as_slice.ensures ∙ sym (length-map d.entries segment_in))) (subst FewUsed (sym c.decoded-item.is) rest.0) h);
-    }
+pub loop-log-preserved : goal.loop-log-preserved
+loop-log-preserved c =
+    let none : LogCounts = record { head = false; entries = 0; lines = 0 } in
+    λ h. c.loop-log.invariant
+    (helds_more c.loop-log.log-index c.args.logs.now none (get_or c.args.logs.now c.loop-log.log-index none) c.loop-log-test.true refl c.counts_read.ensures.entries c.counts_read.ensures.lines h)

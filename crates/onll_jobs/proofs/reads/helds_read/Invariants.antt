@@ -1,15 +1,8 @@
 use Rattle.std.proofs.Common.{drop, map}
-use Rattle.std.specs.List.{All, AllByRecursion}
-use Rattle.onll_merge.specs.Merge.{contents_in}
-use Rattle.onll_jobs.specs.Reports.{HeldReads, held_of}
-use Rattle.onll_jobs.proofs.RecoverSteps.{FewUsed}
+use Rattle.std.specs.List.{All}
+use Rattle.onll_jobs.specs.RecoverJob.{HeldReads, held_of}
 use Rattle.onll_jobs.proofs.reads.helds_read.Given as goal
 
 -- if the logs that are left read back, all do
-abbrev pub invariant-loop-decoded : goal.invariant-loop-decoded
-invariant-loop-decoded l =
-    let rest = drop l.decoded-index l.logs in
-    record {
-      used : AllByRecursion FewUsed rest;
-      reads : All HeldReads (map held_of (contents_in rest)) → All HeldReads (map held_of (contents_in l.logs));
-    }
+abbrev pub invariant-loop-log : goal.invariant-loop-log
+invariant-loop-log l = All HeldReads (map held_of (drop l.log-index l.logs)) → All HeldReads (map held_of l.logs)

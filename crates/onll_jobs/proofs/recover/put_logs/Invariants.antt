@@ -1,18 +1,12 @@
 use Rattle.std.proofs.Common.{◌≡◌, drop, true}
-use Rattle.std.specs.List.{AllByRecursion}
-use Rattle.onll_merge.specs.Merge.{contents_in}
 use Rattle.onll_text.specs.Bytes.{begins_line, with_lines}
 use Rattle.onll_jobs.specs.RecoverJob.{log_lines}
-use Rattle.onll_jobs.proofs.RecoverSteps.{FewUsed}
 use Rattle.onll_jobs.proofs.recover.put_logs.Given as goal
 
 -- the logs that are left make the lines that all make
-abbrev pub invariant-loop-decoded : goal.invariant-loop-decoded
-invariant-loop-decoded l =
-    let rest = drop l.decoded-index l.logs in
-    record {
-      lines : with_lines l.out (log_lines l.thread (contents_in rest)) ≡ with_lines l.fn.out (log_lines 0 (contents_in l.logs));
-      begins : begins_line l.out ≡ true;
-      used : AllByRecursion FewUsed rest;
-      thread : l.thread ≡ l.decoded-index;
-    }
+abbrev pub invariant-loop-log : goal.invariant-loop-log
+invariant-loop-log l = record {
+  lines : with_lines l.out (log_lines l.thread (drop l.log-index l.logs)) ≡ with_lines l.fn.out (log_lines 0 l.logs);
+  begins : begins_line l.out ≡ true;
+  thread : l.thread ≡ l.log-index;
+}

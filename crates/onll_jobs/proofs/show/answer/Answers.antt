@@ -6,7 +6,7 @@ use Rattle.onll_jobs.proofs.show.answer.Goals as goal
 
 pub returns-in-Ok : goal.returns-in-Ok
 returns-in-Ok g c =
-    read_does (λ lines. shown_task (content_of lines)) c.in-Ok.ensures.begins (rw (sym c.deref.ensures.value) (c.shown.ensures (g.S.Store.seen c.image_file.new.store)))
+    read_does (λ lines. shown_task (content_of lines)) c.in-Ok.ensures (rw (sym c.deref.ensures.value) (c.shown.ensures (g.S.Store.seen c.image_file.new.store)))
 
 pub returns-in-Err : goal.returns-in-Err
-returns-in-Err g c = stop_does (λ lines. shown_task (content_of lines)) c.in-Err.ensures.begins
+returns-in-Err g c = stop_does (λ lines. shown_task (content_of lines)) c.in-Err.ensures

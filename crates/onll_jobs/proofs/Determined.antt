@@ -9,9 +9,6 @@ use Rattle.onll_model.specs.declared.call.Call.{Call}
 use Rattle.onll_model.specs.declared.call.CallEnd.{CallEnd}
 use Rattle.onll_model.specs.Object.{Behaviour}
 use Rattle.onll_model.specs.Trace.{state_after}
-use Rattle.onll_model.specs.Segment.{Segment}
-use Rattle.onll_log.specs.declared.head.LogHead.{LogHead}
-use Rattle.onll_log.specs.Grammar.{Content, used_by}
 use Rattle.onll_core.specs.Core.{CoreThread, CoreState}
 use Rattle.onll_core.specs.Outcomes.{ends_of, script_of}
 use Rattle.onll_text.specs.Wording.{Wording}

@@ -1,18 +1,10 @@
-use Rattle.std.proofs.Common.{ℕ, false, ◌≡◌, ◌+◌, ◌<◌, ◌^◌, List, [], ◌∷◌, ◌++◌, Option, Some, None, IsSome, Result, Ok, Err, length, drop, get_or, refl, sym, ap, ◌∙◌, append_assoc}
-use Rattle.std.proofs.lemmas.List.{drop_more}
+use Rattle.std.proofs.Common.{ℕ, false, ◌≡◌, List, [], ◌∷◌, Option, Some, None, IsSome, refl}
 use Rattle.std.specs.List.{AllByRecursion}
-use Rattle.onll_words.specs.declared.line.Line.{Line}
 use Rattle.onll_words.specs.Texts.{AreWords}
 use Rattle.onll_words.proofs.Decimals.{IsWord-decimal}
 use Rattle.onll_model.specs.declared.node.Node.{Node}
 use Rattle.onll_model.specs.Object.{Behaviour}
 use Rattle.onll_model.specs.Recovered.{operations_front, where_some}
-use Rattle.onll_pmem.specs.Pmem.{words_of}
-use Rattle.onll_log.specs.declared.head.LogHead.{LogHead}
-use Rattle.onll_log.specs.declared.decoded.Decoded.{Decoded}
-use Rattle.onll_log.specs.Head.{head_for}
-use Rattle.onll_log.specs.Grammar.{Content, format_in, used_by}
-use Rattle.onll_log.specs.Decoded.{content_in}
 use Rattle.onll_jobs.specs.RecoverJob.{content_line, recovered_line}
 
 -- The parts of a recovery, as they are done one after the other.

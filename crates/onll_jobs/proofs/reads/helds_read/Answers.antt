@@ -1,4 +1,4 @@
-use Rattle.std.proofs.Common.{false, get_or, refl, arith}
+use Rattle.std.proofs.Common.{false, get_or, refl}
 use Rattle.onll_merge.specs.declared.counts.LogCounts.{LogCounts}
 use Rattle.onll_jobs.proofs.PrintedReads.{helds_more}
 use Rattle.onll_jobs.proofs.reads.helds_read.Goals as goal

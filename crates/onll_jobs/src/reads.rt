@@ -4,7 +4,6 @@ ghost use Rattle.std.specs.Prelude.{◌≡◌, ℕ, ◌++◌, ◌<◌, ◌^◌, 
 ghost use Rattle.std.specs.List.{AllByRecursion};
 ghost use Rattle.onll_model.specs.Trace.{state_after};
 ghost use Rattle.onll_model.specs.Recovered.{operations_front};
-ghost use Rattle.onll_log.specs.Grammar.{used_by};
 ghost use Rattle.onll_merge.specs.Recovered.{recovered_in};
 ghost use Rattle.onll_core.specs.Outcomes.{returned_end, current_ends, ends_of, script_of};
 ghost use Rattle.onll_text.specs.Reports.{EndReads, NodeReads};
@@ -15,6 +14,13 @@ use onll_core::{Core, Current, Returned, report_law};
 use onll_merge::{LogCounts, Recovery};
 use onll_model::{CallEnd, Node};
 use onll_text::{Texted, end_reads_back, node_reads_back};
+
+/// A number.
+fn number_reads(n: u64)
+    ensures { n < 2 ^ 64 }
+{
+    let _ = n;
+}
 
 /// The outcome of a call that has begun and not returned.
 fn current_reads<O: Texted>(current: Current)

@@ -6,7 +6,7 @@ use Rattle.onll_jobs.proofs.images.write_images.Goals as goal
 pub loop-thread-preserved : goal.loop-thread-preserved
 loop-thread-preserved g c =
     wrote_next (g.S.Store.seen c.args.store.now) (g.S.Store.seen c.loop-thread.store) (g.S.Store.seen c.write_image.new.store) c.args.logs.now c.args.images.now c.index-images-thread.result c.loop-thread.thread (omega arith)
-    c.index-images-thread.is c.loop-thread.invariant c.in-Ok.ensures.written c.in-Ok.ensures.others
+    c.index-images-thread.is c.loop-thread.invariant (rw c.deref.ensures.value at c.in-Ok.ensures.written) c.in-Ok.ensures.others
 
 pub returns-in-Err : goal.returns-in-Err
 returns-in-Err g c =

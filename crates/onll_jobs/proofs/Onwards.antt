@@ -1,6 +1,6 @@
 -- How jobs that read and write go on.
 
-use Rattle.std.proofs.Common.{Vec, Global, ℕ, zero, suc, true, false, List, [], ◌∷◌, ◌++◌, ◌≡◌, inl, inr, ⊎_elim, Option, Some, cond, ◌+◌, ◌<◌, length, drop, get_or, true≢false, Result, refl, sym, ap, ◌∙◌, subst, arith}
+use Rattle.std.proofs.Common.{Vec, Global, ℕ, zero, suc, true, false, List, ◌≡◌, inl, inr, ⊎_elim, Option, Some, cond, ◌+◌, ◌<◌, length, drop, get_or, true≢false, Result, refl, sym, ap, ◌∙◌, subst, arith}
 use Rattle.std.proofs.lemmas.List.{drop_more}
 use Rattle.std.proofs.lemmas.Bool.{cases_Bool}
 use Rattle.std.proofs.lemmas.Slice.Eq.{bytes_eq-Decides}
@@ -13,13 +13,11 @@ use Rattle.onll_outside.specs.Views.{StoreView, SameFiles, SameOthers, SameFault
 use Rattle.onll_text.specs.Refusal.{Refusal}
 use Rattle.onll_jobs.specs.declared.ending.Ending.{Ending}
 use Rattle.onll_jobs.specs.declared.ending.Ending.TheVariants.{Done, Usage, Refused, BadLog, ReadFault, WriteFault}
-use Rattle.onll_jobs.specs.declared.answer.Stop.TheVariants as stops
 use Rattle.onll_jobs.specs.Reading.{Reads, ReadsWhole, HoldsImage, Stops}
 use Rattle.onll_jobs.specs.Images.{image_name, images_in, image_bytes, image_names, writing_images}
 use Rattle.onll_jobs.specs.Writing.{FilesStay, OthersStay, SameBut, HasWritten, CannotWrite, WriteFailed, written}
 use Rattle.onll_jobs.specs.Job.{Job, Say, Read, Write, JobEnds, JobCut, GoesOn, on_value, reading, reading_whole}
 use Rattle.onll_jobs.proofs.Jobs.{files_stay, cannot_from}
-
 
 pub stay_more : (store mid after : StoreView) → FilesStay store mid → FilesStay mid after → FilesStay store after
 stay_more store mid after first then_ = record { tells = then_.tells ∙ first.tells; file = λ tells name. then_.file (first.tells ∙ tells) name ∙ first.file tells name }

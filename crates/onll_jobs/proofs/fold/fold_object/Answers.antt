@@ -14,7 +14,7 @@ returns-in_ok-fold_script-in-Ok g c =
     let text = c.in_ok-fold_script-in-Ok.field-0 in
     let ensures = c.in_ok-fold_script-in-Ok.ensures in
     read_does (calls_task b w s) c.in-Ok.ensures.begins (rw (sym c.deref.ensures.value) (report_does (g.S.Store.seen c.script_file.new.store) text ensures.report
-        (says_only (fold_data_lines b w calls) (FoldDataReads b w calls) (fold_determined b w calls) text.items (fold_data b s calls) ensures.report ensures.reads)))
+    (says_only (fold_data_lines b w calls) (FoldDataReads b w calls) (fold_determined b w calls) text.items (fold_data b s calls) ensures.report ensures.reads)))
 
 pub returns-in_err-fold_script-in-Ok : goal.returns-in_err-fold_script-in-Ok
 returns-in_err-fold_script-in-Ok g c =

@@ -1,3 +1,5 @@
+-- A bank is the list of its accounts' balances; its capacity is their number.
+
 use Rattle.std.specs.Prelude.{ℕ, Bool, List, [], ◌∷◌, ◌+◌, ◌-◌, ◌^◌, ◌≤◌, Option, Some, None, if◌then◌else◌, length, slice_index, slice_set, sum, nat_lt, ◌==◌, ◌&&◌}
 use Rattle.onll_model.specs.Limits.{most_elements}
 use Rattle.onll_words.specs.declared.line.OpRow.{OpRow}
@@ -7,8 +9,6 @@ use Rattle.onll_bank.specs.declared.operation.BankQuery.{BankQuery}
 use Rattle.onll_bank.specs.declared.operation.BankQuery.TheVariants.{Balance, Total}
 use Rattle.onll_bank.specs.declared.operation.BankReply.{BankReply}
 use Rattle.onll_bank.specs.declared.operation.BankReply.TheVariants.{Done, Over, TooLittle, NoAccount, Amount}
-
--- A bank is the list of its accounts' balances; its capacity is their number.
 
 -- the greatest sum of all balances
 abbrev pub greatest_total : ℕ

@@ -1,3 +1,5 @@
+-- The rows of a bank's operations stand for these alone.
+
 use Rattle.std.proofs.Common.{ℕ, Bool, true, false, List, [], ◌∷◌, ◌≡◌, ◌==◌, ◌&&◌, Some, None, cond, length, refl, ap, ◌∙◌, length-set}
 use Rattle.onll_words.specs.declared.line.OpRow.{OpRow}
 use Rattle.onll_words.proofs.RowWords.{two_arguments, three_arguments}

@@ -1,3 +1,5 @@
+-- A bank as an object.
+
 use Rattle.std.specs.Prelude.{ℕ, List, length}
 use Rattle.onll_model.specs.Object.{Behaviour}
 use Rattle.onll_bank.specs.declared.operation.BankOp.{BankOp}

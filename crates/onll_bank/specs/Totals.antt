@@ -1,11 +1,11 @@
+-- Operations done in order on a bank.
+
 use Rattle.std.specs.Prelude.{ℕ, List, [], ◌∷◌, ◌+◌, ◌≡◌, ◌≢◌, sum}
 use Rattle.onll_bank.specs.declared.operation.BankOp.{BankOp}
 use Rattle.onll_bank.specs.declared.operation.BankOp.TheVariants.{Deposit, Withdraw, Transfer}
 use Rattle.onll_bank.specs.declared.operation.BankReply.{BankReply}
 use Rattle.onll_bank.specs.declared.operation.BankReply.TheVariants.{Done}
 use Rattle.onll_bank.specs.Bank.{IsBank, bank_reply, bank_next}
-
--- Operations done in order on a bank.
 
 -- the balances that they leave
 abbrev pub bank_after : List ℕ → List BankOp → List ℕ

@@ -1,3 +1,5 @@
+//! The laws of a bank.
+
 ghost use Rattle.onll_bank.specs.Totals.{TotalLaw, TransferLaw, RefusedLaw, BoundLaw};
 
 /// Laws of any operations on any bank: no money is made or lost, a transfer keeps the total, what is refused changes

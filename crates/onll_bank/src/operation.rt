@@ -1,3 +1,5 @@
+//! What changes a bank, what it is asked, and what it replies.
+
 /// What changes a bank: `a` and `b` are accounts, numbered from 0, and `x` is an amount of the caller's unit,
 /// up to `2^64 - 1`.
 #[derive(Clone, Copy, Debug, PartialEq, Eq)]

@@ -1,3 +1,5 @@
+//! Tests of a bank.
+
 use crate::{Bank, BankOp, BankQuery, BankReply};
 use onll_model::{Object, capacity_kept, op_of_its_row, row_of_its_op, undone};
 use onll_words::OpRow;

@@ -1,20 +1,12 @@
 use Rattle.std.proofs.Common.{ℕ, zero, suc, List, ◌≡◌, ◌<◌, ◌⊎◌, inl, inr, Option, Some, None, Result, Ok, Err, refl, sym, ap, ◌∙◌, subst, arith}
 use Rattle.onll_outside.specs.Views.{Puts}
 use Rattle.onll_text.specs.declared.any_object.AnyObject.{AnyObject}
-use Rattle.onll_text.specs.declared.any_object.AnyObject.TheVariants as objects
-use Rattle.onll_bank.specs.Object.{bank}
-use Rattle.onll_map.specs.Object.{map_object}
-use Rattle.onll_queue.specs.Object.{queue}
-use Rattle.onll_lease.specs.Object.{lease}
 use Rattle.onll_model.specs.declared.call.Call.{Call}
 use Rattle.onll_model.specs.Object.{Behaviour}
 use Rattle.onll_text.specs.Wording.{Wording}
-use Rattle.onll_text.specs.BankWording.{bank_wording}
-use Rattle.onll_text.specs.MapWording.{map_wording}
-use Rattle.onll_text.specs.QueueWording.{queue_wording}
-use Rattle.onll_text.specs.LeaseWording.{lease_wording}
 use Rattle.onll_text.specs.Script.{script_of}
 use Rattle.onll_text.specs.Init.{init_of}
+use Rattle.onll_text.proofs.EachKind.{each_object}
 use Rattle.onll_jobs.specs.Fold.{fold_report}
 use Rattle.onll_jobs.specs.declared.ending.Ending.{Ending}
 use Rattle.onll_jobs.specs.declared.ending.Ending.TheVariants.{Done, Usage, Refused, BadLog, ReadFault, WriteFault}
@@ -23,13 +15,13 @@ use Rattle.onll_jobs.specs.declared.ending.Exit.TheVariants.{Said, SinkFault, No
 use Rattle.onll_jobs.specs.Seen.{Seen}
 use Rattle.onll_jobs.specs.Command.{Form, Fold, Show, Recover, Replay, form_of}
 use Rattle.onll_jobs.specs.Printed.{usage_text, status_of, exit_status}
-use Rattle.onll_jobs.specs.Job.{Say, JobEnds, Never, Decides}
+use Rattle.onll_jobs.specs.Job.{Job, Say, JobEnds, Never, Decides}
 use Rattle.onll_log.specs.Grammar.{Content, content_of}
 use Rattle.onll_log.specs.ImageFile.{image_lines}
 use Rattle.onll_jobs.specs.ShowJob.{shown_task}
 use Rattle.onll_merge.specs.declared.fault.StateFault.{StateFault}
 use Rattle.onll_merge.specs.Recovered.{Recovered, state_recovered}
-use Rattle.onll_jobs.specs.RecoverJob.{found_task, images_task_on, logs_task}
+use Rattle.onll_jobs.specs.RecoverJob.{found_task, images_task, images_task_on, logs_task}
 use Rattle.onll_jobs.specs.FoldJob.{script_task, script_task_on}
 use Rattle.onll_jobs.specs.Exits.{PutExits}
 use Rattle.onll_jobs.specs.Says.{job_of, Allows, PutWhole, OutOfMemory, SinkFailed, ExitSays, NothingFailed, NoneRose, SaysThis}
@@ -100,10 +92,8 @@ report_never {State} {Op} {Query} {Reply} b w s script =
     reading_never script (script_of w) (λ calls. Say Done (fold_report b w s calls)) never
 
 script_never : (script : List ℕ) (object : AnyObject) → Never Usage (script_task_on script object).job
-script_never script (objects.Bank s) = report_never bank bank_wording s script
-script_never script (objects.Map s) = report_never map_object map_wording s script
-script_never script (objects.Queue s) = report_never queue queue_wording s script
-script_never script (objects.Lease s) = report_never lease lease_wording s script
+script_never script object =
+    each_object (λ k s. script_task k.means k.wording s script) (λ task. Never Usage task.job) (λ k s known. report_never k.means k.wording s script) object
 
 content_never : (content : Option Content) → Never Usage (shown_task content).job
 content_never None = λ e. cc
@@ -114,10 +104,9 @@ found_never b w s (Ok r) = λ e. cc
 found_never b w s (Err fault) = λ e. cc
 
 recover_never : (init : List ℕ) (object : AnyObject) (images : List (List (List ℕ))) → Never Usage (images_task_on init object images).job
-recover_never init (objects.Bank s) images = found_never bank bank_wording s (state_recovered bank 1 init images)
-recover_never init (objects.Map s) images = found_never map_object map_wording s (state_recovered map_object 2 init images)
-recover_never init (objects.Queue s) images = found_never queue queue_wording s (state_recovered queue 3 init images)
-recover_never init (objects.Lease s) images = found_never lease lease_wording s (state_recovered lease 4 init images)
+recover_never init object images =
+    each_object (λ k s. images_task k.means k.wording k.code init s) (λ next. (images : List (List (List ℕ))) → Never Usage (next images).job)
+    (λ k s known images. found_never k.means k.wording s (state_recovered k.means k.code init images)) object images
 
 -- words of a form never get the usage text
 not_usage : (w : Seen) (form : Form) → form_of w.words ≡ Some form → Never Usage (job_of (Some form)) → PutWhole w Usage → ⊥

@@ -7,19 +7,11 @@ use Rattle.onll_core.proofs.Created.{created_threads}
 use Rattle.onll_core.proofs.Crashed.{images_many}
 use Rattle.onll_core.proofs.Durable.{always_durable}
 use Rattle.onll_core.proofs.Stays.{steps_stay}
-use Rattle.onll_bank.specs.Object.{bank}
-use Rattle.onll_map.specs.Object.{map_object}
-use Rattle.onll_queue.specs.Object.{queue}
-use Rattle.onll_lease.specs.Object.{lease}
 use Rattle.onll_text.specs.declared.any_object.AnyObject.{AnyObject}
-use Rattle.onll_text.specs.declared.any_object.AnyObject.TheVariants as objects
 use Rattle.onll_text.specs.Refusal.{Refusal}
 use Rattle.onll_text.specs.Wording.{Wording}
-use Rattle.onll_text.specs.BankWording.{bank_wording}
-use Rattle.onll_text.specs.MapWording.{map_wording}
-use Rattle.onll_text.specs.QueueWording.{queue_wording}
-use Rattle.onll_text.specs.LeaseWording.{lease_wording}
 use Rattle.onll_text.specs.Init.{init_of}
+use Rattle.onll_text.proofs.EachKind.{each_goes}
 use Rattle.onll_outside.specs.Views.{StoreView}
 use Rattle.onll_jobs.specs.declared.ending.Ending.{Ending}
 use Rattle.onll_jobs.specs.declared.ending.Ending.TheVariants.{Done}
@@ -84,15 +76,11 @@ module _ (seen : Seen) (x : Exit) (says : ExitSays seen x) (init logs bytes : Li
       }
 
 pub recovers_crashes : (seen : Seen) (x : Exit) → ExitSays seen x → RecoversCrashes seen (exit_status x)
-recovers_crashes seen x says init logs bytes threads (objects.Bank s) form told accepted none =
-    let object = objects.Bank s in
-    λ left. left_recovers seen x says init logs bytes threads object form told accepted none bank bank_wording 1 s (object_says seen x says init logs bytes threads object form told accepted none) left
-recovers_crashes seen x says init logs bytes threads (objects.Map s) form told accepted none =
-    let object = objects.Map s in
-    λ left. left_recovers seen x says init logs bytes threads object form told accepted none map_object map_wording 2 s (object_says seen x says init logs bytes threads object form told accepted none) left
-recovers_crashes seen x says init logs bytes threads (objects.Queue s) form told accepted none =
-    let object = objects.Queue s in
-    λ left. left_recovers seen x says init logs bytes threads object form told accepted none queue queue_wording 3 s (object_says seen x says init logs bytes threads object form told accepted none) left
-recovers_crashes seen x says init logs bytes threads (objects.Lease s) form told accepted none =
-    let object = objects.Lease s in
-    λ left. left_recovers seen x says init logs bytes threads object form told accepted none lease lease_wording 4 s (object_says seen x says init logs bytes threads object form told accepted none) left
+recovers_crashes seen x says init logs bytes threads object form told accepted none =
+    each_goes (λ k s. images_task k.means k.wording k.code bytes s)
+    (λ next. (text : List ℕ) → Decides seen.store (each_job lines_stage (image_names logs 0 threads) (λ images. (next images).job)) Done text → SaysThis seen (exit_status x) Done text)
+    (λ k s. (left : IsLeft k.means k.code bytes s seen.store logs threads)
+    → RecoversLeft k.means k.wording k.code bytes s seen (exit_status x) logs threads left)
+    (λ says. says)
+    (λ k s known say left. left_recovers seen x says init logs bytes threads object form told accepted none k.means k.wording k.code s say left)
+    object (object_says seen x says init logs bytes threads object form told accepted none)

@@ -11,23 +11,15 @@ use Rattle.onll_core.proofs.Created.{created_consistent}
 use Rattle.onll_core.proofs.Kept.{steps_consistent}
 use Rattle.onll_core.proofs.Crashed.{picked_images}
 use Rattle.onll_core.proofs.Durable.{always_durable}
-use Rattle.onll_bank.specs.Object.{bank}
-use Rattle.onll_map.specs.Object.{map_object}
-use Rattle.onll_queue.specs.Object.{queue}
-use Rattle.onll_lease.specs.Object.{lease}
 use Rattle.onll_text.specs.declared.any_object.AnyObject.{AnyObject}
-use Rattle.onll_text.specs.declared.any_object.AnyObject.TheVariants as objects
 use Rattle.onll_text.specs.declared.schedule.Schedule.{Schedule}
 use Rattle.onll_text.specs.Refusal.{Refusal}
 use Rattle.onll_text.specs.Wording.{Wording}
-use Rattle.onll_text.specs.BankWording.{bank_wording}
-use Rattle.onll_text.specs.MapWording.{map_wording}
-use Rattle.onll_text.specs.QueueWording.{queue_wording}
-use Rattle.onll_text.specs.LeaseWording.{lease_wording}
 use Rattle.onll_text.specs.Init.{init_of}
 use Rattle.onll_text.specs.Script.{script_of}
 use Rattle.onll_text.specs.Schedule.{schedule_of}
 use Rattle.onll_text.proofs.FewCalls.{few_calls}
+use Rattle.onll_text.proofs.EachKind.{each_goes}
 use Rattle.onll_outside.specs.Views.{StoreView, SameFaults}
 use Rattle.onll_jobs.specs.declared.ending.Ending.{Ending}
 use Rattle.onll_jobs.specs.declared.ending.Ending.TheVariants.{Done, Usage, Refused, BadLog, ReadFault, WriteFault}
@@ -171,10 +163,10 @@ module _ (after : StoreView) (ending : Ending) (text : List ℕ) (said : IsSaid 
 
   any_ends : (store : StoreView) (init schedule logs : List ℕ) (names : List (List ℕ)) (object : AnyObject) → length names ≤ 16 → JobEnds store after (scripts_task_on init schedule logs names object).job ending text
       → (ending ≡ Done) × HasReplayedAny init store after schedule logs names text object
-  any_ends store init schedule logs names (objects.Bank s) few h = on_ends bank bank_wording store 1 (omega arith, omega arith) init s schedule logs names few h
-  any_ends store init schedule logs names (objects.Map s) few h = on_ends map_object map_wording store 2 (omega arith, omega arith) init s schedule logs names few h
-  any_ends store init schedule logs names (objects.Queue s) few h = on_ends queue queue_wording store 3 (omega arith, omega arith) init s schedule logs names few h
-  any_ends store init schedule logs names (objects.Lease s) few h = on_ends lease lease_wording store 4 (omega arith, omega arith) init s schedule logs names few h
+  any_ends store init schedule logs names object few h =
+      each_goes (λ k s. scripts_task k.means k.wording k.code init schedule logs names s) (λ task. JobEnds store after task.job ending text)
+      (λ k s. HasReplayed k.means k.wording k.code init s store after schedule logs names text) (λ says. (ending ≡ Done) × says)
+      (λ k s known h. on_ends k.means k.wording store k.code known init s schedule logs names few h) object h
 
   job_ends : (store : StoreView) (init schedule logs : List ℕ) (names : List (List ℕ)) → length names ≤ 16 → JobEnds store after (replay_work init schedule logs names).task.job ending text → ReplayEnds store after init schedule logs names ending text
   job_ends store init schedule logs names few h =

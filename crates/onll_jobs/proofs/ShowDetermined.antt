@@ -9,8 +9,10 @@ use Rattle.onll_model.specs.Segment.{Segment}
 use Rattle.onll_log.specs.declared.head.LogHead.{LogHead}
 use Rattle.onll_log.specs.Grammar.{Content, used_by}
 use Rattle.onll_text.specs.Reports.{SaysOnly}
+use Rattle.onll_text.specs.Kinds.{object_name}
+use Rattle.onll_text.proofs.EachKind.{object_name_determined}
 use Rattle.onll_text.proofs.Determined.{text_determined, AreMeaningful-append, line_same, line_none, says_only}
-use Rattle.onll_jobs.specs.ShowJob.{object_name, head_line, row_line, row_lines, entry_words, entry_lines, entries_lines, count_words, content_lines, show_report}
+use Rattle.onll_jobs.specs.ShowJob.{head_line, row_line, row_lines, entry_words, entry_lines, entries_lines, count_words, content_lines, show_report}
 use Rattle.onll_jobs.specs.ShowJob.{ShownLog, shown_lines, RowReads, EntryReads, LogShownReads, ShowReads, shown_with, show_data}
 use Rattle.onll_jobs.proofs.ShowWords.{head_line_in_words, row_in_words, entry_in_words, count_in_words}
 
@@ -18,37 +20,6 @@ use Rattle.onll_jobs.proofs.ShowWords.{head_line_in_words, row_in_words, entry_i
 
 number_first : (m n : ℕ) (ws vs : List (List ℕ)) → m < 2 ^ 64 → n < 2 ^ 64 → decimal m ∷ ws ≡ decimal n ∷ vs → m ≡ n
 number_first m n ws vs g h e = decimal_injective m n g h (line_same (decimal m) (decimal n) ws vs e).0
-
--- ---- objects
-abbrev first_byte : List ℕ → ℕ
-first_byte [] = 0
-first_byte (b ∷ bytes) = b
-
--- the four names differ
-names_same : (m n : ℕ) (b c d x y z : Bool) → (m == 1) ≡ b → (m == 2) ≡ c → (m == 3) ≡ d → (n == 1) ≡ x → (n == 2) ≡ y → (n == 3) ≡ z → (1 ≤ m) × (m ≤ 4) → (1 ≤ n) × (n ≤ 4)
-    → cond b (codes "bank") (cond c (codes "map") (cond d (codes "queue") (codes "lease"))) ≡ cond x (codes "bank") (cond y (codes "map") (cond z (codes "queue") (codes "lease"))) → m ≡ n
-names_same m n true c d true y z e₁ e₂ e₃ f₁ f₂ f₃ g h e = grind (arith, nat_tests)
-names_same m n true c d false true z e₁ e₂ e₃ f₁ f₂ f₃ g h e = let d : 98 ≡ 109 = ap first_byte e in absurd (omega (arith, d))
-names_same m n true c d false false true e₁ e₂ e₃ f₁ f₂ f₃ g h e = let d : 98 ≡ 113 = ap first_byte e in absurd (omega (arith, d))
-names_same m n true c d false false false e₁ e₂ e₃ f₁ f₂ f₃ g h e = let d : 98 ≡ 108 = ap first_byte e in absurd (omega (arith, d))
-names_same m n false true d true y z e₁ e₂ e₃ f₁ f₂ f₃ g h e = let d : 109 ≡ 98 = ap first_byte e in absurd (omega (arith, d))
-names_same m n false true d false true z e₁ e₂ e₃ f₁ f₂ f₃ g h e = grind (arith, nat_tests)
-names_same m n false true d false false true e₁ e₂ e₃ f₁ f₂ f₃ g h e = let d : 109 ≡ 113 = ap first_byte e in absurd (omega (arith, d))
-names_same m n false true d false false false e₁ e₂ e₃ f₁ f₂ f₃ g h e = let d : 109 ≡ 108 = ap first_byte e in absurd (omega (arith, d))
-names_same m n false false true true y z e₁ e₂ e₃ f₁ f₂ f₃ g h e = let d : 113 ≡ 98 = ap first_byte e in absurd (omega (arith, d))
-names_same m n false false true false true z e₁ e₂ e₃ f₁ f₂ f₃ g h e = let d : 113 ≡ 109 = ap first_byte e in absurd (omega (arith, d))
-names_same m n false false true false false true e₁ e₂ e₃ f₁ f₂ f₃ g h e = grind (arith, nat_tests)
-names_same m n false false true false false false e₁ e₂ e₃ f₁ f₂ f₃ g h e = let d : 113 ≡ 108 = ap first_byte e in absurd (omega (arith, d))
-names_same m n false false false true y z e₁ e₂ e₃ f₁ f₂ f₃ g h e = let d : 108 ≡ 98 = ap first_byte e in absurd (omega (arith, d))
-names_same m n false false false false true z e₁ e₂ e₃ f₁ f₂ f₃ g h e = let d : 108 ≡ 109 = ap first_byte e in absurd (omega (arith, d))
-names_same m n false false false false false true e₁ e₂ e₃ f₁ f₂ f₃ g h e = let d : 108 ≡ 113 = ap first_byte e in absurd (omega (arith, d))
-names_same m n false false false false false false e₁ e₂ e₃ f₁ f₂ f₃ g h e =
-    let a : m ≡ 4 = grind (arith, nat_tests) in
-    let b : n ≡ 4 = grind (arith, nat_tests) in
-    a ∙ sym b
-
-object_determined : (m n : ℕ) → (1 ≤ m) × (m ≤ 4) → (1 ≤ n) × (n ≤ 4) → object_name m ≡ object_name n → m ≡ n
-object_determined m n g h e = names_same m n (m == 1) (m == 2) (m == 3) (n == 1) (n == 2) (n == 3) refl refl refl refl refl refl g h e
 
 -- ---- rows
 numbers_determined : (xs ys : List ℕ) → All (λ n. n < 2 ^ 64) xs → All (λ n. n < 2 ^ 64) ys → map decimal xs ≡ map decimal ys → xs ≡ ys
@@ -169,7 +140,7 @@ log_determined a b g h e =
     log_same a b
     (number_first a.thread b.thread (codes "threads" ∷ decimal a.threads ∷ codes "object" ∷ object_name a.object ∷ []) (codes "threads" ∷ decimal b.threads ∷ codes "object" ∷ object_name b.object ∷ []) g.thread h.thread (ap (drop 2) parts.0))
     (number_first a.threads b.threads (codes "object" ∷ object_name a.object ∷ []) (codes "object" ∷ object_name b.object ∷ []) g.threads h.threads (ap (drop 4) parts.0))
-    (object_determined a.object b.object g.object h.object (line_same (object_name a.object) (object_name b.object) [] [] (ap (drop 6) parts.0)).0)
+    (object_name_determined a.object b.object g.object h.object (line_same (object_name a.object) (object_name b.object) [] [] (ap (drop 6) parts.0)).0)
     entries.0 (number_first a.lines b.lines [] [] g.lines h.lines (ap (drop 3) counts))
 
 lines_determined : (said other : Option ShownLog) → ShowReads said → ShowReads other → shown_lines said ≡ shown_lines other → said ≡ other

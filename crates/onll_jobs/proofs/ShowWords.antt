@@ -1,4 +1,4 @@
-use Rattle.std.proofs.Common.{ℕ, List, [], ◌∷◌, ◌++◌, ◌≡◌, ◌==◌, ◌+◌, ◌<◌, Bool, true, false, cond, Option, Some, length, drop, get_or, map, refl, sym, ap, ◌∙◌, codes, decimal}
+use Rattle.std.proofs.Common.{ℕ, List, [], ◌∷◌, ◌++◌, ◌≡◌, ◌+◌, ◌<◌, true, Option, Some, length, drop, get_or, map, refl, sym, ap, ◌∙◌, codes, decimal}
 use Rattle.std.proofs.lemmas.List.{drop_more, length-map, append-nil}
 use Rattle.onll_words.specs.Texts.{IsWord, AreWords, line_text}
 use Rattle.onll_words.proofs.Decimals.{IsWord-decimal}
@@ -8,19 +8,11 @@ use Rattle.onll_log.specs.declared.head.LogHead.{LogHead}
 use Rattle.onll_log.specs.declared.decoded.Entry.{Entry}
 use Rattle.onll_log.specs.Decoded.{segment_in, segments_in}
 use Rattle.onll_text.specs.Bytes.{begins_line, with_word, with_words, with_lines}
+use Rattle.onll_text.proofs.EachKind.{IsWord-object_name}
 use Rattle.onll_text.proofs.Appending.{with_words-line, with_lines-one, with_lines-append}
-use Rattle.onll_jobs.specs.ShowJob.{object_name, head_line, head_words, row_line, row_lines, entry_words, entry_lines, entries_lines, count_words, content_lines}
+use Rattle.onll_jobs.specs.ShowJob.{head_line, head_words, row_line, row_lines, entry_words, entry_lines, entries_lines, count_words, content_lines}
 
 -- The lines that `show` prints, as their words are put.
-
-name_is_word : (b c d : Bool) → IsWord (cond b (codes "bank") (cond c (codes "map") (cond d (codes "queue") (codes "lease"))))
-name_is_word true c d = record { some = refl; bytes = refl }
-name_is_word false true d = record { some = refl; bytes = refl }
-name_is_word false false true = record { some = refl; bytes = refl }
-name_is_word false false false = record { some = refl; bytes = refl }
-
-pub IsWord-object_name : (code : ℕ) → IsWord (object_name code)
-IsWord-object_name code = name_is_word (code == 1) (code == 2) (code == 3)
 
 pub head_line_in_words : (thread threads object : ℕ) → AreWords (head_line thread threads object)
 head_line_in_words thread threads object = (

@@ -7,20 +7,12 @@ use Rattle.onll_core.specs.Step.{steps_of}
 use Rattle.onll_core.specs.Created.{created_heads, created_core, IsWithinLimits}
 use Rattle.onll_core.specs.Crash.{AreImages, images_of, RecoversAll}
 use Rattle.onll_core.specs.Durable.{AlwaysDurable}
-use Rattle.onll_bank.specs.Object.{bank}
-use Rattle.onll_map.specs.Object.{map_object}
-use Rattle.onll_queue.specs.Object.{queue}
-use Rattle.onll_lease.specs.Object.{lease}
 use Rattle.onll_text.specs.declared.any_object.AnyObject.{AnyObject}
-use Rattle.onll_text.specs.declared.any_object.AnyObject.TheVariants as objects
 use Rattle.onll_text.specs.declared.schedule.Schedule.{Schedule}
 use Rattle.onll_text.specs.Wording.{Wording}
-use Rattle.onll_text.specs.BankWording.{bank_wording}
-use Rattle.onll_text.specs.MapWording.{map_wording}
-use Rattle.onll_text.specs.QueueWording.{queue_wording}
-use Rattle.onll_text.specs.LeaseWording.{lease_wording}
 use Rattle.onll_text.specs.Init.{init_of}
 use Rattle.onll_text.specs.Schedule.{schedule_of}
+use Rattle.onll_text.specs.Kinds.{on_object}
 use Rattle.onll_outside.specs.Views.{StoreView, Puts}
 use Rattle.onll_jobs.specs.declared.ending.Ending.TheVariants.{Done}
 use Rattle.onll_jobs.specs.Seen.{Seen}
@@ -59,16 +51,9 @@ pub record HasReplayed {State Op Query Reply : Type 0} (b : Behaviour State Op Q
   pub files : FilesStay (with_images store logs 0 (images_of plan.keep core.threads)) after
 
 -- the same for an object of any kind
-abbrev pub HasReplayedAny : (init : List ℕ) → (store after : StoreView) → (schedule logs : List ℕ) → List (List ℕ)
-    → List ℕ → AnyObject → Type 0
-HasReplayedAny init store after schedule logs names text (objects.Bank s) =
-    HasReplayed bank bank_wording 1 init s store after schedule logs names text
-HasReplayedAny init store after schedule logs names text (objects.Map s) =
-    HasReplayed map_object map_wording 2 init s store after schedule logs names text
-HasReplayedAny init store after schedule logs names text (objects.Queue s) =
-    HasReplayed queue queue_wording 3 init s store after schedule logs names text
-HasReplayedAny init store after schedule logs names text (objects.Lease s) =
-    HasReplayed lease lease_wording 4 init s store after schedule logs names text
+abbrev pub HasReplayedAny : (init : List ℕ) → (store after : StoreView) → (schedule logs : List ℕ) → List (List ℕ) → List ℕ → AnyObject → Type 0
+HasReplayedAny init store after schedule logs names text object =
+    on_object (λ k s. HasReplayed k.means k.wording k.code init s store after schedule logs names text) object
 
 -- a replay over the initial state that a file holds, whose report was put
 pub record ReplayPut (seen : Seen) (init schedule logs : List ℕ) (names : List (List ℕ)) : Type 0 where
@@ -119,18 +104,11 @@ pub record RecoversLeft {State Op Query Reply : Type 0} (b : Behaviour State Op 
 
 -- the same for an object of any kind
 abbrev pub RecoversLeftAny : (init : List ℕ) → Seen → (status : ℕ) → (logs : List ℕ) → (threads : ℕ) → AnyObject → Type 0
-RecoversLeftAny init seen status logs threads (objects.Bank s) =
-    (left : IsLeft bank 1 init s seen.store logs threads)
-    → RecoversLeft bank bank_wording 1 init s seen status logs threads left
-RecoversLeftAny init seen status logs threads (objects.Map s) =
-    (left : IsLeft map_object 2 init s seen.store logs threads)
-    → RecoversLeft map_object map_wording 2 init s seen status logs threads left
-RecoversLeftAny init seen status logs threads (objects.Queue s) =
-    (left : IsLeft queue 3 init s seen.store logs threads)
-    → RecoversLeft queue queue_wording 3 init s seen status logs threads left
-RecoversLeftAny init seen status logs threads (objects.Lease s) =
-    (left : IsLeft lease 4 init s seen.store logs threads)
-    → RecoversLeft lease lease_wording 4 init s seen status logs threads left
+RecoversLeftAny init seen status logs threads object =
+    on_object
+    (λ k s. (left : IsLeft k.means k.code init s seen.store logs threads)
+    → RecoversLeft k.means k.wording k.code init s seen status logs threads left)
+    object
 
 -- a recovery over the initial state that a file tells, where no call of the store or of the sink failed
 abbrev pub RecoversCrashes : Seen → ℕ → Type 0

@@ -4,19 +4,11 @@ use Rattle.std.specs.Prelude.{ℕ, List, []}
 use Rattle.onll_model.specs.declared.call.Call.{Call}
 use Rattle.onll_model.specs.Object.{Behaviour}
 use Rattle.onll_model.specs.Fold.{fold_trace, fold_ends, fold_state}
-use Rattle.onll_bank.specs.Object.{bank}
-use Rattle.onll_map.specs.Object.{map_object}
-use Rattle.onll_queue.specs.Object.{queue}
-use Rattle.onll_lease.specs.Object.{lease}
 use Rattle.onll_text.specs.declared.any_object.AnyObject.{AnyObject}
-use Rattle.onll_text.specs.declared.any_object.AnyObject.TheVariants as objects
 use Rattle.onll_text.specs.Wording.{Wording}
-use Rattle.onll_text.specs.BankWording.{bank_wording}
-use Rattle.onll_text.specs.MapWording.{map_wording}
-use Rattle.onll_text.specs.QueueWording.{queue_wording}
-use Rattle.onll_text.specs.LeaseWording.{lease_wording}
 use Rattle.onll_text.specs.Script.{script_of}
 use Rattle.onll_text.specs.Init.{init_of}
+use Rattle.onll_text.specs.Kinds.{on_object}
 use Rattle.onll_text.specs.Reports.{FoldData, fold_data_lines, FoldDataReads, SaysOnly}
 use Rattle.onll_jobs.specs.Fold.{fold_report}
 use Rattle.onll_jobs.specs.Doing.{Task, Work, after_stage, report_task, text_stage, whole_stage}
@@ -37,10 +29,7 @@ script_task b w s script = after_stage (text_stage script (script_of w)) (calls_
 
 -- the same on an object of any kind
 abbrev pub script_task_on : List ℕ → AnyObject → Task
-script_task_on script (objects.Bank s) = script_task bank bank_wording s script
-script_task_on script (objects.Map s) = script_task map_object map_wording s script
-script_task_on script (objects.Queue s) = script_task queue queue_wording s script
-script_task_on script (objects.Lease s) = script_task lease lease_wording s script
+script_task_on script object = on_object (λ k s. script_task k.means k.wording s script) object
 
 -- the initial state is read first
 abbrev pub fold_work : (init script : List ℕ) → Work

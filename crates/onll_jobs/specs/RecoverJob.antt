@@ -6,26 +6,18 @@ use Rattle.onll_words.specs.Texts.{line_text}
 use Rattle.onll_model.specs.declared.node.Node.{Node}
 use Rattle.onll_model.specs.Object.{Behaviour}
 use Rattle.onll_model.specs.Trace.{state_after}
-use Rattle.onll_bank.specs.Object.{bank}
-use Rattle.onll_map.specs.Object.{map_object}
-use Rattle.onll_queue.specs.Object.{queue}
-use Rattle.onll_lease.specs.Object.{lease}
 use Rattle.onll_merge.specs.declared.fault.RecoverFault.{RecoverFault}
 use Rattle.onll_merge.specs.declared.fault.RecoverFault.TheVariants as merging
 use Rattle.onll_merge.specs.declared.counts.LogCounts.{LogCounts}
 use Rattle.onll_merge.specs.Recovered.{Recovered, state_recovered}
 use Rattle.onll_text.specs.declared.any_object.AnyObject.{AnyObject}
-use Rattle.onll_text.specs.declared.any_object.AnyObject.TheVariants as objects
 use Rattle.onll_text.specs.Wording.{Wording}
-use Rattle.onll_text.specs.BankWording.{bank_wording}
-use Rattle.onll_text.specs.MapWording.{map_wording}
-use Rattle.onll_text.specs.QueueWording.{queue_wording}
-use Rattle.onll_text.specs.LeaseWording.{lease_wording}
 use Rattle.onll_text.specs.Lines.{log_line, node_lines, state_lines}
 use Rattle.onll_text.specs.Init.{init_of}
 use Rattle.onll_jobs.specs.declared.ending.Ending.TheVariants.{BadLog}
 use Rattle.onll_merge.specs.declared.fault.StateFault.{StateFault}
 use Rattle.onll_merge.specs.declared.fault.StateFault.TheVariants.{NotLog, NotMerged, NotOperation, NoMemory}
+use Rattle.onll_text.specs.Kinds.{on_object}
 use Rattle.onll_text.specs.Reports.{NodeReads, StateReads, SaysOnly}
 use Rattle.onll_jobs.specs.Doing.{Task, Work, after_stage, report_task, say_task, whole_stage}
 use Rattle.onll_jobs.specs.Images.{images_stage}
@@ -141,10 +133,7 @@ images_task b w code init s images = found_task b w s (state_recovered b code in
 
 -- the same for an object of any kind
 abbrev pub images_task_on : List ℕ → AnyObject → List (List (List ℕ)) → Task
-images_task_on init (objects.Bank s) images = images_task bank bank_wording 1 init s images
-images_task_on init (objects.Map s) images = images_task map_object map_wording 2 init s images
-images_task_on init (objects.Queue s) images = images_task queue queue_wording 3 init s images
-images_task_on init (objects.Lease s) images = images_task lease lease_wording 4 init s images
+images_task_on init object = on_object (λ k s. images_task k.means k.wording k.code init s) object
 
 -- all images are read first
 abbrev pub logs_task : (init : List ℕ) → AnyObject → (logs : List ℕ) → (threads : ℕ) → Task

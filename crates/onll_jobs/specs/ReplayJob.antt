@@ -16,22 +16,14 @@ use Rattle.onll_core.specs.Turns.{turns_of}
 use Rattle.onll_core.specs.Created.{created_core}
 use Rattle.onll_core.specs.Outcomes.{ends_of}
 use Rattle.onll_core.specs.Crash.{images_of}
-use Rattle.onll_bank.specs.Object.{bank}
-use Rattle.onll_map.specs.Object.{map_object}
-use Rattle.onll_queue.specs.Object.{queue}
-use Rattle.onll_lease.specs.Object.{lease}
 use Rattle.onll_text.specs.declared.any_object.AnyObject.{AnyObject}
-use Rattle.onll_text.specs.declared.any_object.AnyObject.TheVariants as objects
 use Rattle.onll_text.specs.declared.schedule.Schedule.{Schedule}
 use Rattle.onll_text.specs.Wording.{Wording}
-use Rattle.onll_text.specs.BankWording.{bank_wording}
-use Rattle.onll_text.specs.MapWording.{map_wording}
-use Rattle.onll_text.specs.QueueWording.{queue_wording}
-use Rattle.onll_text.specs.LeaseWording.{lease_wording}
 use Rattle.onll_text.specs.Lines.{call_lines, trace_line, node_line, log_line, state_lines}
 use Rattle.onll_text.specs.Init.{init_of}
 use Rattle.onll_text.specs.Script.{script_of}
 use Rattle.onll_text.specs.Schedule.{schedule_of}
+use Rattle.onll_text.specs.Kinds.{on_object}
 use Rattle.onll_text.specs.Reports.{EndsRead, NodeReads, StateReads, SaysOnly}
 use Rattle.onll_outside.specs.Views.{StoreView}
 use Rattle.onll_jobs.specs.declared.ending.Ending.TheVariants.{BadLog}
@@ -203,10 +195,8 @@ scripts_task b w code init schedule logs names s = after_stage (scripts_stage w 
 
 -- the same for an object of any kind
 abbrev pub scripts_task_on : List ℕ → (schedule logs : List ℕ) → List (List ℕ) → AnyObject → Task
-scripts_task_on init schedule logs names (objects.Bank s) = scripts_task bank bank_wording 1 init schedule logs names s
-scripts_task_on init schedule logs names (objects.Map s) = scripts_task map_object map_wording 2 init schedule logs names s
-scripts_task_on init schedule logs names (objects.Queue s) = scripts_task queue queue_wording 3 init schedule logs names s
-scripts_task_on init schedule logs names (objects.Lease s) = scripts_task lease lease_wording 4 init schedule logs names s
+scripts_task_on init schedule logs names object =
+    on_object (λ k s. scripts_task k.means k.wording k.code init schedule logs names s) object
 
 -- the initial state is read first, then each script, then the schedule
 abbrev pub replay_work : (init schedule logs : List ℕ) → List (List ℕ) → Work

@@ -7,13 +7,10 @@ use Rattle.onll_model.specs.declared.node.Node.{Node}
 use Rattle.onll_model.specs.Segment.{Segment}
 use Rattle.onll_log.specs.declared.head.LogHead.{LogHead}
 use Rattle.onll_log.specs.Grammar.{Content, content_of, used_by}
+use Rattle.onll_text.specs.Kinds.{object_name}
 use Rattle.onll_text.specs.Reports.{SaysOnly}
 use Rattle.onll_jobs.specs.declared.ending.Ending.TheVariants.{BadLog}
 use Rattle.onll_jobs.specs.Doing.{Task, Work, after_stage, report_task, say_task, lines_stage}
-
--- the name of the object of this code
-abbrev pub object_name : ℕ → List ℕ
-object_name code = if code == 1 then codes "bank" else (if code == 2 then codes "map" else (if code == 3 then codes "queue" else codes "lease"))
 
 -- `log thread T threads N object NAME`
 abbrev pub head_line : (thread threads object : ℕ) → List (List ℕ)

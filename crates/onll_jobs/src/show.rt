@@ -8,7 +8,7 @@ ghost use Rattle.onll_log.specs.Grammar.{content_of, used_by};
 ghost use Rattle.onll_log.specs.Decoded.{segment_in, segments_in, content_in};
 ghost use Rattle.onll_text.specs.Bytes.{begins_line, with_words, with_lines};
 ghost use Rattle.onll_outside.specs.Views.{StoreView};
-ghost use Rattle.onll_jobs.specs.ShowJob.{object_name, head_line, row_line, row_lines, entry_words, entry_lines, entries_lines, count_words, content_lines, show_report, RowReads, EntryReads, ShowReads, show_data, shown_task, show_work, IsPlaced};
+ghost use Rattle.onll_jobs.specs.ShowJob.{head_line, row_line, row_lines, entry_words, entry_lines, entries_lines, count_words, content_lines, show_report, RowReads, EntryReads, ShowReads, show_data, shown_task, show_work, IsPlaced};
 ghost use Rattle.onll_jobs.specs.Doing.{Does};
 
 use crate::answer::Stop;
@@ -17,24 +17,12 @@ use crate::texts::image_file;
 use onll_log::{DecodeFault, Decoded, Entry, LogHead, decode};
 use onll_model::Node;
 use onll_outside::Store;
-use onll_text::{Piece, Report};
+use onll_text::{Piece, Report, object_name};
 use onll_words::{Line, NoMemory};
 use std::alloc::Global;
 
 /// What is said of an image that is no log.
 const NOT_A_LOG: &[u8] = b"not a log\n";
-
-/// The name of the object of a code.
-fn object_name(code: u64) -> &'static [u8]
-    ensures { result.now ≡ object_name code }
-{
-    match code {
-        1 => b"bank",
-        2 => b"map",
-        3 => b"queue",
-        _ => b"lease",
-    }
-}
 
 /// The line of a log's head.
 fn put_head(thread: u64, threads: u64, object: u64, out: &mut Report) -> Result<(), NoMemory>

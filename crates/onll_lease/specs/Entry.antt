@@ -1,9 +1,9 @@
+-- What the calls say of one resource's entry, and what they leave of it.
+
 use Rattle.std.specs.Prelude.{ℕ, Bool, ◌≡◌, ◌+◌, ◌-◌, ◌^◌, ◌<◌, if◌then◌else◌, nat_lt, ◌==◌, ◌&&◌}
 use Rattle.onll_lease.specs.declared.entry.LeaseEntry.{LeaseEntry}
 use Rattle.onll_lease.specs.declared.operation.LeaseReply.{LeaseReply}
 use Rattle.onll_lease.specs.declared.operation.LeaseReply.TheVariants.{HeldUntil, Late, Spent, Granted, Renewed, Stale, Released, HeldBy, Free}
-
--- What the calls say of one resource's entry, and what they leave of it.
 
 -- the greatest token, and the last moment
 abbrev pub greatest : ℕ

@@ -1,3 +1,5 @@
+-- What the users of a lock service rely on, whatever operations anybody does on whatever table.
+
 use Rattle.std.specs.Prelude.{ℕ, Bool, true, false, List, [], ◌∷◌, ◌++◌, ◌≡◌, ◌≢◌, ◌==◌, ◌+◌, ◌<◌, if◌then◌else◌, length, All, AllPairs}
 use Rattle.std.specs.List.{AllByRecursion}
 use Rattle.onll_lease.specs.declared.entry.LeaseEntry.{LeaseEntry}
@@ -7,8 +9,6 @@ use Rattle.onll_lease.specs.declared.operation.LeaseReply.{LeaseReply}
 use Rattle.onll_lease.specs.declared.operation.LeaseReply.TheVariants.{HeldUntil, Granted, Renewed, Stale, Released}
 use Rattle.onll_lease.specs.Entry.{IsEntry}
 use Rattle.onll_lease.specs.Lease.{entry_at, resource_of, lease_reply, lease_next}
-
--- What the users of a lock service rely on, whatever operations anybody does on whatever table.
 
 -- the table after operations, in order
 abbrev pub leases_after : List LeaseEntry → List LeaseOp → List LeaseEntry

@@ -1,3 +1,5 @@
+-- A table of leases is the list of its resources' entries; its capacity is their number.
+
 use Rattle.std.specs.Prelude.{ℕ, List, ◌+◌, ◌≤◌, All, if◌then◌else◌, length, nat_lt, slice_index_or, slice_set}
 use Rattle.onll_model.specs.Limits.{most_elements}
 use Rattle.onll_lease.specs.declared.entry.LeaseEntry.{LeaseEntry}
@@ -8,8 +10,6 @@ use Rattle.onll_lease.specs.declared.operation.LeaseQuery.TheVariants.{Holder}
 use Rattle.onll_lease.specs.declared.operation.LeaseReply.{LeaseReply}
 use Rattle.onll_lease.specs.declared.operation.LeaseReply.TheVariants.{NoResource}
 use Rattle.onll_lease.specs.Entry.{IsEntry, OfNumbers, no_lease, grant_reply, renew_reply, release_reply, holder_answer, left_by_grant, left_by_renew, left_by_release}
-
--- A table of leases is the list of its resources' entries; its capacity is their number.
 
 -- there are 1 to 4,096 resources, and each has an entry of 64-bit numbers
 pub record IsLease (s : List LeaseEntry) : Type 0 where

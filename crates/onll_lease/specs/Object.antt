@@ -1,3 +1,5 @@
+-- A lease table as an object.
+
 use Rattle.std.proofs.Common.{◌≡◌, List, length, length-set}
 use Rattle.onll_model.specs.Object.{Behaviour}
 use Rattle.onll_lease.specs.declared.entry.LeaseEntry.{LeaseEntry}

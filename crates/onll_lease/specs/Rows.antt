@@ -1,3 +1,5 @@
+-- The rows of a lease table's operations.
+
 use Rattle.std.proofs.Common.{ℕ, Bool, true, false, List, [], ◌∷◌, ◌≡◌, ◌==◌, ◌&&◌, if◌then◌else◌, Option, Some, None, cond, length, refl, ap}
 use Rattle.onll_words.specs.declared.line.OpRow.{OpRow}
 use Rattle.onll_words.proofs.RowWords.{two_arguments, four_arguments}

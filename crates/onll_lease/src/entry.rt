@@ -1,3 +1,5 @@
+//! The lease of one resource, and what each call makes of it.
+
 ghost use Rattle.std.specs.Prelude.{◌≡◌, ◌+◌};
 ghost use Rattle.onll_lease.specs.Entry.{OfNumbers, is_held, grant_reply, renew_reply, release_reply, holder_answer, left_by_grant, left_by_renew, left_by_release};
 ghost use Rattle.onll_lease.specs.Lease.{entry_reply, entry_next};

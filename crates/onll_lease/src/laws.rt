@@ -1,3 +1,5 @@
+//! The laws of a lease table.
+
 ghost use Rattle.onll_lease.specs.Laws.{RisingLaw, CountLaw, HeldLaw, KeptLaw, StaleLaw, RefusedLaw, EntryLaw, ZeroLaw};
 
 /// A law: the tokens that are granted for a resource only rise, one by one. It does nothing when called.

@@ -1,3 +1,5 @@
+//! The lease table.
+
 ghost use Rattle.std.specs.Prelude.{◌≡◌, ◌<◌, ◌≤◌, length, replicate, slice_set, IfOk};
 ghost use Rattle.onll_model.specs.Limits.{most_elements};
 ghost use Rattle.std.proofs.Common.{rules};

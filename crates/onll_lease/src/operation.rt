@@ -1,3 +1,5 @@
+//! What changes a lease table, what it is asked, and what it replies.
+
 /// What changes a table of leases: `r` is a resource, numbered from 0, `h` a holder, `now` a moment and `ttl` how long
 /// from then on. Holders, moments and tokens are numbers up to `2^64 - 1`; a moment's unit is the caller's.
 #[derive(Clone, Copy, Debug, PartialEq, Eq)]

@@ -1,3 +1,5 @@
+-- The row of an operation is of that operation alone.
+
 use Rattle.std.proofs.Common.{ℕ, Bool, true, false, List, [], ◌∷◌, ◌++◌, ◌≡◌, ◌==◌, ◌&&◌, Option, Some, None, cond, length, length-append, refl, ap, ◌∙◌, arith}
 use Rattle.std.proofs.lemmas.Bool.Decides.{nat_tests}
 use Rattle.onll_words.specs.declared.line.OpRow.{OpRow}
@@ -6,8 +8,6 @@ use Rattle.onll_words.proofs.Packing.{unpacked-packed, packed-unpacked, length-p
 use Rattle.onll_map.specs.declared.operation.MapOp.{MapOp}
 use Rattle.onll_map.specs.declared.operation.MapOp.TheVariants.{Put, Del}
 use Rattle.onll_map.specs.Rows.{map_row, put_of, del_of, op_of_words, map_op_at}
-
--- The row of an operation is of that operation alone.
 
 put_row : (ks vs : List ℕ) → length ks ≡ 3 → length vs ≡ 3 → op_of_words (1 ∷ ks ++ vs) ≡ put_of (unpacked ks) (unpacked vs)
 put_row (a ∷ b ∷ c ∷ []) (d ∷ e ∷ f ∷ []) h g = refl

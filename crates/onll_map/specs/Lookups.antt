@@ -1,3 +1,5 @@
+-- What look-ups answer after an operation, on every map.
+
 use Rattle.std.specs.Prelude.{◌≡◌, ◌≢◌, ◌↔◌}
 use Rattle.onll_words.specs.Short.{ShortText}
 use Rattle.onll_map.specs.declared.operation.MapOp.{MapOp}
@@ -6,8 +8,6 @@ use Rattle.onll_map.specs.declared.operation.MapQuery.TheVariants.{Get, Next}
 use Rattle.onll_map.specs.declared.operation.MapReply.{MapReply}
 use Rattle.onll_map.specs.declared.operation.MapReply.TheVariants.{Full, Absent, Value, Key}
 use Rattle.onll_map.specs.Map.{Entries, IsMap, IsLeastFrom, NoneFrom, map_next, map_reply, map_answer}
-
--- What look-ups answer after an operation, on every map.
 
 -- the answer for the value at a key
 abbrev pub get : Entries → ShortText → MapReply

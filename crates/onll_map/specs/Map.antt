@@ -1,3 +1,5 @@
+-- A map is the list of its pairs, a key and its value, in the order of the keys, and the greatest number of pairs.
+
 use Rattle.std.specs.Prelude.{ℕ, Bool, true, false, ◌||◌, List, [], ◌∷◌, Option, Some, None, if◌then◌else◌, length, nat_lt, is_some, IsSome, ◌≡◌, ◌≤◌}
 use Rattle.onll_model.specs.Limits.{most_elements}
 use Rattle.std.specs.declared.cmp.Ordering.{Ordering}
@@ -14,8 +16,6 @@ use Rattle.onll_map.specs.declared.operation.MapQuery.{MapQuery}
 use Rattle.onll_map.specs.declared.operation.MapQuery.TheVariants.{Get, Next, Count}
 use Rattle.onll_map.specs.declared.operation.MapReply.{MapReply}
 use Rattle.onll_map.specs.declared.operation.MapReply.TheVariants.{New, Old, Full, Absent, Value, Key, Count as Counted}
-
--- A map is the list of its pairs, a key and its value, in the order of the keys, and the greatest number of pairs.
 
 abbrev pub Pairs : Type 0
 Pairs = List (ShortText × ShortText)

@@ -1,3 +1,5 @@
+-- A map as an object.
+
 use Rattle.std.specs.Prelude.{refl}
 use Rattle.onll_model.specs.Object.{Behaviour}
 use Rattle.onll_map.specs.declared.operation.MapOp.{MapOp}

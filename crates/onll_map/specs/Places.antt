@@ -1,3 +1,5 @@
+-- Where a key stands in the pairs of a map, or would go to.
+
 use Rattle.std.specs.Prelude.{ℕ, ◌≡◌, ◌<◌, ◌≤◌, length, slice_index_or}
 use Rattle.std.specs.declared.cmp.Ordering.TheVariants.{Less, Equal, Greater}
 use Rattle.onll_words.specs.Short.{ShortText}

@@ -1,3 +1,5 @@
+-- The rows of a map's operations.
+
 use Rattle.std.specs.Prelude.{ℕ, List, [], ◌∷◌, ◌++◌, Option, Some, None, if◌then◌else◌, ◌==◌, ◌&&◌}
 use Rattle.onll_words.specs.declared.line.OpRow.{OpRow}
 use Rattle.onll_words.specs.Short.{ShortText, packed, unpacked}

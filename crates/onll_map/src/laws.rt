@@ -1,3 +1,5 @@
+//! The laws of a map.
+
 ghost use Rattle.onll_map.specs.Lookups.{PutLaw, DelLaw, OthersLaw, FullLaw, NextLaw, NoNextLaw, KeptLaw};
 
 /// Laws of any map: after a put that is not refused its key has its value, after a delete its key has none, and other keys

@@ -1,3 +1,5 @@
+//! The map.
+
 ghost use Rattle.std.specs.Prelude.{◌≡◌, ◌≢◌, ◌<◌, ◌≤◌, [], length, IfOk, IfErr, MatchOption, Some, slice_get};
 ghost use Rattle.onll_model.specs.Limits.{most_elements};
 ghost use Rattle.std.proofs.Common.{rules};

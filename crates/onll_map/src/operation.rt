@@ -1,3 +1,5 @@
+//! What changes a map, what it is asked, and what it replies.
+
 use onll_words::Short;
 
 /// What changes a map: `k` is a key, `v` is a value, each a text of 1 to 23 bytes.

@@ -1,3 +1,5 @@
+-- The state of a queue.
+
 use Rattle.std.specs.Prelude.{ℕ, List, ◌<◌, ◌≤◌, ◌^◌, length, All}
 use Rattle.onll_model.specs.Limits.{most_elements}
 

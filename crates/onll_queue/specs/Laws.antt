@@ -1,3 +1,5 @@
+-- The rows of a queue's operations stand for these alone.
+
 use Rattle.std.proofs.Common.{ℕ, Bool, true, false, List, [], ◌∷◌, ◌≡◌, ◌==◌, ◌&&◌, Some, None, cond, length, refl, ap, arith}
 use Rattle.std.proofs.lemmas.Bool.Decides.{nat_tests}
 use Rattle.onll_words.specs.declared.line.OpRow.{OpRow}

@@ -1,3 +1,5 @@
+-- A queue as an object.
+
 use Rattle.onll_model.specs.Object.{Behaviour}
 use Rattle.onll_queue.specs.Items.{Items}
 use Rattle.onll_queue.specs.declared.operation.QueueOp.{QueueOp}

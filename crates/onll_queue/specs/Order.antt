@@ -1,3 +1,5 @@
+-- Operations done in order on a queue.
+
 use Rattle.std.specs.Prelude.{ℕ, List, [], ◌∷◌, ◌++◌, ◌≡◌, ◌≤◌, length}
 use Rattle.onll_queue.specs.Items.{Items}
 use Rattle.onll_queue.specs.declared.operation.QueueOp.{QueueOp}
@@ -5,8 +7,6 @@ use Rattle.onll_queue.specs.declared.operation.QueueOp.TheVariants.{Push}
 use Rattle.onll_queue.specs.declared.operation.QueueReply.{QueueReply}
 use Rattle.onll_queue.specs.declared.operation.QueueReply.TheVariants.{Done, Item}
 use Rattle.onll_queue.specs.Queue.{queue_reply, queue_next}
-
--- Operations done in order on a queue.
 
 -- the queue that they leave
 abbrev pub queue_after : Items → List QueueOp → Items

@@ -1,3 +1,5 @@
+-- What a queue replies and becomes, and the rows of its operations.
+
 use Rattle.std.specs.Prelude.{ℕ, Bool, List, [], ◌∷◌, ◌++◌, Option, Some, None, if◌then◌else◌, length, drop, ◌==◌, ◌&&◌}
 use Rattle.onll_words.specs.declared.line.OpRow.{OpRow}
 use Rattle.onll_queue.specs.Items.{Items}

@@ -1,3 +1,5 @@
+//! The laws of a queue.
+
 ghost use Rattle.onll_queue.specs.Order.{OrderLaw, BoundLaw};
 
 /// Laws of any operations on any queue: items leave in the order in which they came, each once, and there are never

@@ -1,3 +1,5 @@
+//! What changes a queue, what it is asked, and what it replies.
+
 /// What changes a queue.
 #[derive(Clone, Copy, Debug, PartialEq, Eq)]
 pub enum QueueOp {

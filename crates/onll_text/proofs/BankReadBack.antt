@@ -1,10 +1,10 @@
-use Rattle.std.proofs.Common.{ℕ, suc, Bool, true, false, List, [], ◌∷◌, ◌++◌, ◌≡◌, ◌+◌, ◌*◌, ◌^◌, ◌<◌, ◌≤◌, nat_lt, not, length, map, sum, decimal, codes, replicate, refl, sym, ap, ◌∙◌, arith, Ok, Some, Result, append_assoc, length-append, slice_get, slice_set, zero-add}
+use Rattle.std.proofs.Common.{ℕ, suc, Bool, true, false, List, [], ◌∷◌, ◌++◌, ◌≡◌, ◌+◌, ◌*◌, ◌^◌, ◌<◌, ◌≤◌, nat_lt, not, length, map, sum, decimal, codes, replicate, refl, sym, ap, ◌∙◌, arith, Ok, Some, Result, append_assoc, length-append, slice_get, slice_set, zero-add, drop, slice_index_or}
 use Rattle.std.specs.List.{flat_map}
 use Rattle.std.proofs.Math.Seq.{get_or-append_seam, set-append_seam}
 use Rattle.std.proofs.lemmas.List.Sums.{sum_by-cons, sum_by-append}
 use Rattle.std.proofs.lemmas.List.Folds.{sum_by-replicate}
 use Rattle.std.proofs.lemmas.Bool.Decides.{nat_tests}
-use Rattle.onll_words.specs.Texts.{Numbered, numbered, joined, line_text}
+use Rattle.onll_words.specs.Texts.{Numbered, numbered, joined, line_text, AreWords}
 use Rattle.onll_bank.specs.Bank.{IsBank, greatest_total, is_account, raised}
 use Rattle.onll_text.specs.declared.reason.Reason.{Reason}
 use Rattle.onll_text.specs.declared.reason.Reason.TheVariants.{OutOfRange, Repeated, TooLarge}
@@ -13,10 +13,24 @@ use Rattle.onll_text.specs.declared.any_object.Kind.TheVariants as kinds
 use Rattle.onll_text.specs.Refusal.{Refusal, ◌>>=◌, only_if, at_line}
 use Rattle.onll_text.specs.BankText.{Accounts, is_marked, is_named, account_line, account_lines, bank_state_lines, with_account, with_account_line}
 use Rattle.onll_text.specs.BankWording.{bank_wording, state_in_lines}
-use Rattle.onll_text.specs.Init.{head_of, after_lines}
+use Rattle.onll_text.specs.Init.{head_of}
+use Rattle.onll_text.specs.Making.{after_lines}
 use Rattle.onll_text.specs.ReadBack.{ReadsBack}
-use Rattle.onll_text.proofs.LineWords.{account_line_in_words}
 use Rattle.onll_text.proofs.ReadBack.{capacity_of-decimal, two_numbers-decimal, length-decimal, after_lines-joined, init_of-flat_map}
+use Rattle.std.proofs.lemmas.List.{drop_more}
+use Rattle.onll_words.proofs.Decimals.{IsWord-decimal}
+use Rattle.onll_text.specs.Bytes.{with_lines}
+
+-- ---- the lines as they are put
+pub account_line_in_words : (a balance : ℕ) → AreWords (account_line a balance)
+account_line_in_words a balance = (record { some = refl; bytes = refl }, (IsWord-decimal a, (IsWord-decimal balance, tt)))
+
+-- one account's line before those of the rest
+pub account_lines_more : (bytes balances : List ℕ) (a : ℕ) → a < length balances
+    → with_lines (bytes ++ line_text (account_line a (slice_index_or balances a 0))) (account_lines (a + 1) (drop (a + 1) balances)) ≡ with_lines bytes (account_lines a (drop a balances))
+account_lines_more bytes balances a h =
+    append_assoc bytes (line_text (account_line a (slice_index_or balances a 0))) (flat_map line_text (account_lines (a + 1) (drop (a + 1) balances)))
+    ∙ sym (ap (λ t. with_lines bytes (account_lines a t)) (drop_more balances a 0 h))
 
 -- the lines of a bank are short
 

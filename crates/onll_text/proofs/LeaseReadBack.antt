@@ -1,10 +1,10 @@
-use Rattle.std.proofs.Common.{ℕ, suc, Bool, true, false, List, [], ◌∷◌, ◌++◌, ◌≡◌, ◌+◌, ◌*◌, ◌^◌, ◌<◌, ◌≤◌, ◌==◌, ◌&&◌, nat_lt, cond, length, map, decimal, codes, replicate, slice_set, All, refl, sym, ap, ◌∙◌, arith, inl, inr, Ok, Result, append_assoc, length-append}
+use Rattle.std.proofs.Common.{ℕ, suc, Bool, true, false, List, [], ◌∷◌, ◌++◌, ◌≡◌, ◌+◌, ◌*◌, ◌^◌, ◌<◌, ◌≤◌, ◌==◌, ◌&&◌, nat_lt, cond, length, map, decimal, codes, replicate, slice_set, All, refl, sym, ap, ◌∙◌, arith, inl, inr, Ok, Result, append_assoc, length-append, drop}
 use Rattle.std.specs.List.{flat_map}
 use Rattle.std.proofs.Math.Seq.{get_or-append_seam, set-append_seam}
 use Rattle.std.proofs.lemmas.List.Elements.{All-head, All-tail}
 use Rattle.std.proofs.lemmas.Bool.{cases_lt}
 use Rattle.std.proofs.lemmas.Bool.Decides.{nat_tests}
-use Rattle.onll_words.specs.Texts.{Numbered, numbered, joined, line_text}
+use Rattle.onll_words.specs.Texts.{Numbered, numbered, joined, line_text, AreWords}
 use Rattle.onll_lease.specs.declared.entry.LeaseEntry.{LeaseEntry}
 use Rattle.onll_lease.specs.Entry.{IsEntry, OfNumbers, no_lease}
 use Rattle.onll_lease.specs.Lease.{IsLease, entry_at}
@@ -15,10 +15,26 @@ use Rattle.onll_text.specs.declared.any_object.Kind.TheVariants as kinds
 use Rattle.onll_text.specs.Refusal.{Refusal, ◌>>=◌, only_if, at_line}
 use Rattle.onll_text.specs.LeaseText.{held_line, entry_lines, held_lines, lease_state_lines, entry_of, with_held, with_held_line}
 use Rattle.onll_text.specs.LeaseWording.{lease_wording, state_in_lines}
-use Rattle.onll_text.specs.Init.{head_of, after_lines}
+use Rattle.onll_text.specs.Init.{head_of}
+use Rattle.onll_text.specs.Making.{after_lines}
 use Rattle.onll_text.specs.ReadBack.{ReadsBack}
-use Rattle.onll_text.proofs.LineWords.{held_line_in_words}
 use Rattle.onll_text.proofs.ReadBack.{capacity_of-decimal, four_numbers-decimal, length-decimal, after_lines-joined, init_of-flat_map}
+use Rattle.std.proofs.lemmas.List.{drop_more}
+use Rattle.onll_words.proofs.Decimals.{IsWord-decimal}
+use Rattle.onll_text.specs.Bytes.{with_lines}
+use Rattle.onll_text.proofs.Appending.{with_lines-append}
+
+-- ---- the lines as they are put
+pub held_line_in_words : (r : ℕ) (e : LeaseEntry) → AreWords (held_line r e)
+held_line_in_words r e =
+    (record { some = refl; bytes = refl }, (IsWord-decimal r, (IsWord-decimal e.token, (IsWord-decimal e.holder, (IsWord-decimal e.until, tt)))))
+
+-- the lines of one resource before those of the rest
+pub held_lines_more : (bytes : List ℕ) (entries : List LeaseEntry) (r : ℕ) → r < length entries
+    → with_lines (with_lines bytes (entry_lines r (entry_at entries r))) (held_lines (r + 1) (drop (r + 1) entries)) ≡ with_lines bytes (held_lines r (drop r entries))
+held_lines_more bytes entries r h =
+    sym (with_lines-append bytes (entry_lines r (entry_at entries r)) (held_lines (r + 1) (drop (r + 1) entries)))
+    ∙ sym (ap (λ t. with_lines bytes (held_lines r t)) (drop_more entries r no_lease h))
 
 -- the lines of a table are short
 

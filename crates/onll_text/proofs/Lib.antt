@@ -9,6 +9,8 @@ pub mod BankReadBack
 pub mod MapReadBack
 pub mod QueueReadBack
 pub mod LeaseReadBack
+pub mod EachKind
+mod KindList
 pub mod Keeping
 mod LineFronts
 pub mod Determined

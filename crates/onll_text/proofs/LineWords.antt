@@ -1,7 +1,5 @@
-use Rattle.std.proofs.Common.{ℕ, Bool, true, false, List, [], ◌∷◌, ◌++◌, ◌≡◌, Option, Some, None, codes, decimal, refl, sym, ap, ◌∙◌, ◌+◌, ◌<◌, ◌≤◌, length, map, drop, slice_get, slice_index_or, append_assoc}
-use Rattle.std.specs.List.{flat_map}
-use Rattle.std.proofs.lemmas.List.{append-nil, drop_more}
-use Rattle.std.proofs.lemmas.Option.{slice_get_within, get_or_from_slice_get}
+use Rattle.std.proofs.Common.{ℕ, Bool, true, false, List, [], ◌∷◌, ◌++◌, ◌≡◌, Option, Some, None, codes, decimal, refl, sym, ap, ◌∙◌, ◌≤◌, length, map}
+use Rattle.std.proofs.lemmas.List.{append-nil}
 use Rattle.onll_words.specs.Texts.{line_text, AreWords}
 use Rattle.onll_words.proofs.Decimals.{IsWord-decimal}
 use Rattle.onll_model.specs.declared.node.Node.{Node}
@@ -15,16 +13,6 @@ use Rattle.onll_text.specs.Pieces.{piece_word}
 use Rattle.onll_text.specs.Wording.{Wording}
 use Rattle.onll_text.specs.declared.report.Piece.{Piece}
 use Rattle.onll_text.specs.Lines.{at_words, call_words, end_words, call_line, flag_words, row_words, node_line, fence_words, log_line}
-use Rattle.onll_words.specs.Short.{ShortText}
-use Rattle.onll_words.proofs.ShortWord.{IsWord-short}
-use Rattle.onll_map.specs.Map.{Pairs}
-use Rattle.onll_text.specs.BankText.{account_line, account_lines}
-use Rattle.onll_lease.specs.declared.entry.LeaseEntry.{LeaseEntry}
-use Rattle.onll_lease.specs.Lease.{entry_at}
-use Rattle.onll_lease.specs.Entry.{no_lease}
-use Rattle.onll_text.specs.MapText.{pair_line, pair_lines}
-use Rattle.onll_text.specs.QueueText.{item_line, item_lines}
-use Rattle.onll_text.specs.LeaseText.{held_line, entry_lines, held_lines}
 use Rattle.onll_text.proofs.Appending.{with_words-append, with_words-line, with_lines-append, begins_line-line}
 
 pub AreWords-append : (vs ws : List (List ℕ)) → AreWords vs → AreWords ws → AreWords (vs ++ ws)
@@ -131,54 +119,11 @@ pub line_of_pieces : (old began new : List ℕ) (pieces : List Piece) → began 
 line_of_pieces old began new [] e₁ e₂ h n k = cc
 line_of_pieces old began new (p ∷ ps) e₁ e₂ h n k = (whole_line old began new (piece_word p) (map piece_word ps) e₁ e₂ h k).0
 
-pub account_line_in_words : (a balance : ℕ) → AreWords (account_line a balance)
-account_line_in_words a balance = (record { some = refl; bytes = refl }, (IsWord-decimal a, (IsWord-decimal balance, tt)))
-
--- one account's line before those of the rest
-pub account_lines_more : (bytes balances : List ℕ) (a : ℕ) → a < length balances
-    → with_lines (bytes ++ line_text (account_line a (slice_index_or balances a 0))) (account_lines (a + 1) (drop (a + 1) balances)) ≡ with_lines bytes (account_lines a (drop a balances))
-account_lines_more bytes balances a h =
-    append_assoc bytes (line_text (account_line a (slice_index_or balances a 0))) (flat_map line_text (account_lines (a + 1) (drop (a + 1) balances)))
-    ∙ sym (ap (λ t. with_lines bytes (account_lines a t)) (drop_more balances a 0 h))
-
-pub pair_line_in_words : (pair : ShortText × ShortText) → AreWords (pair_line pair)
-pair_line_in_words pair = (record { some = refl; bytes = refl }, (IsWord-short pair.0, (IsWord-short pair.1, tt)))
-
--- one pair's line before those of the rest
-pub pair_lines_more : (bytes : List ℕ) (pairs : Pairs) (i : ℕ) (pair : ShortText × ShortText) → slice_get pairs i ≡ Some pair
-    → with_lines (bytes ++ line_text (pair_line pair)) (pair_lines (drop (i + 1) pairs)) ≡ with_lines bytes (pair_lines (drop i pairs))
-pair_lines_more bytes pairs i pair h =
-    let left : drop i pairs ≡ pair ∷ drop (i + 1) pairs =
-    drop_more pairs i pair (slice_get_within pairs i pair h) ∙ ap (λ p. p ∷ drop (i + 1) pairs) (get_or_from_slice_get pairs i pair pair h) in
-    append_assoc bytes (line_text (pair_line pair)) (flat_map line_text (pair_lines (drop (i + 1) pairs)))
-    ∙ sym (ap (λ t. with_lines bytes (pair_lines t)) left)
-
-pub item_line_in_words : (x : ℕ) → AreWords (item_line x)
-item_line_in_words x = (record { some = refl; bytes = refl }, (IsWord-decimal x, tt))
-
--- one item's line before those of the rest
-pub item_lines_more : (bytes items : List ℕ) (i d : ℕ) → i < length items
-    → with_lines (bytes ++ line_text (item_line (slice_index_or items i d))) (item_lines (drop (i + 1) items)) ≡ with_lines bytes (item_lines (drop i items))
-item_lines_more bytes items i d h =
-    append_assoc bytes (line_text (item_line (slice_index_or items i d))) (flat_map line_text (item_lines (drop (i + 1) items)))
-    ∙ sym (ap (λ t. with_lines bytes (item_lines t)) (drop_more items i d h))
-
-pub held_line_in_words : (r : ℕ) (e : LeaseEntry) → AreWords (held_line r e)
-held_line_in_words r e =
-    (record { some = refl; bytes = refl }, (IsWord-decimal r, (IsWord-decimal e.token, (IsWord-decimal e.holder, (IsWord-decimal e.until, tt)))))
-
 -- no line, and one line
 pub no_lines : (bytes : List ℕ) → bytes ≡ with_lines bytes []
 no_lines bytes = sym (append-nil bytes)
 
 pub one_line : (bytes : List ℕ) (ws : List (List ℕ)) → bytes ++ line_text ws ≡ with_lines bytes (ws ∷ [])
 one_line bytes ws = ap (λ t. bytes ++ t) (sym (append-nil (line_text ws)))
-
--- the lines of one resource before those of the rest
-pub held_lines_more : (bytes : List ℕ) (entries : List LeaseEntry) (r : ℕ) → r < length entries
-    → with_lines (with_lines bytes (entry_lines r (entry_at entries r))) (held_lines (r + 1) (drop (r + 1) entries)) ≡ with_lines bytes (held_lines r (drop r entries))
-held_lines_more bytes entries r h =
-    sym (with_lines-append bytes (entry_lines r (entry_at entries r)) (held_lines (r + 1) (drop (r + 1) entries)))
-    ∙ sym (ap (λ t. with_lines bytes (held_lines r t)) (drop_more entries r no_lease h))
 
 pub ruleset appending = with_words-append

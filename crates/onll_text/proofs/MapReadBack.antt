@@ -1,16 +1,16 @@
-use Rattle.std.proofs.Common.{ℕ, true, List, [], ◌∷◌, ◌++◌, ◌≡◌, ◌+◌, ◌*◌, ◌^◌, ◌<◌, ◌≤◌, not, length, map, decimal, codes, get_or, sym, ap, subst, ◌∙◌, arith, Option, None, Ok, Result, append_assoc, length-append}
+use Rattle.std.proofs.Common.{ℕ, true, List, [], ◌∷◌, ◌++◌, ◌≡◌, ◌+◌, ◌*◌, ◌^◌, ◌<◌, ◌≤◌, not, length, map, decimal, codes, get_or, sym, ap, subst, ◌∙◌, arith, Option, None, Ok, Result, append_assoc, length-append, drop, slice_get, Some, refl}
 use Rattle.std.specs.List.{flat_map}
 use Rattle.std.specs.List.Sorted.{IsStrictlySortedBy}
 use Rattle.std.specs.Map.{keys_of}
 use Rattle.std.specs.Option.{is_some}
 use Rattle.std.proofs.Math.ListN.{get_or-map}
 use Rattle.std.proofs.Math.Seq.{get_or-append_seam}
-use Rattle.std.proofs.lemmas.List.{append-nil, get_or_append_left}
+use Rattle.std.proofs.lemmas.List.{append-nil, get_or_append_left, drop_more}
 use Rattle.std.proofs.lemmas.List.Edits.{insert_end}
 use Rattle.std.proofs.lemmas.Map.Keys.{Less-from_sorted}
 use Rattle.std.proofs.lemmas.Map.Entries.{length-keys_of}
 use Rattle.onll_words.specs.Short.{ShortText, short_of-bytes}
-use Rattle.onll_words.specs.Texts.{Numbered, numbered, joined, line_text}
+use Rattle.onll_words.specs.Texts.{Numbered, numbered, joined, line_text, AreWords}
 use Rattle.onll_words.proofs.Packing.{fits-of}
 use Rattle.onll_map.specs.Map.{Pairs, Entries, IsMap, key_cmp, value_at, has_room, pairs_put}
 use Rattle.onll_map.specs.Places.{IsGap}
@@ -25,10 +25,26 @@ use Rattle.onll_text.specs.Refusal.{Refusal, ◌>>=◌, only_if, or_reason, at_l
 use Rattle.onll_text.specs.Words.{word_as_short, two_shorts}
 use Rattle.onll_text.specs.MapText.{pair_line, pair_lines, map_state_lines, with_pair, with_pair_line}
 use Rattle.onll_text.specs.MapWording.{map_wording, state_in_lines}
-use Rattle.onll_text.specs.Init.{head_of, after_lines}
+use Rattle.onll_text.specs.Init.{head_of}
+use Rattle.onll_text.specs.Making.{after_lines}
 use Rattle.onll_text.specs.ReadBack.{ReadsBack}
-use Rattle.onll_text.proofs.LineWords.{pair_line_in_words}
 use Rattle.onll_text.proofs.ReadBack.{capacity_of-decimal, length-decimal, after_lines-joined, init_of-flat_map}
+use Rattle.std.proofs.lemmas.Option.{slice_get_within, get_or_from_slice_get}
+use Rattle.onll_words.proofs.ShortWord.{IsWord-short}
+use Rattle.onll_text.specs.Bytes.{with_lines}
+
+-- ---- the lines as they are put
+pub pair_line_in_words : (pair : ShortText × ShortText) → AreWords (pair_line pair)
+pair_line_in_words pair = (record { some = refl; bytes = refl }, (IsWord-short pair.0, (IsWord-short pair.1, tt)))
+
+-- one pair's line before those of the rest
+pub pair_lines_more : (bytes : List ℕ) (pairs : Pairs) (i : ℕ) (pair : ShortText × ShortText) → slice_get pairs i ≡ Some pair
+    → with_lines (bytes ++ line_text (pair_line pair)) (pair_lines (drop (i + 1) pairs)) ≡ with_lines bytes (pair_lines (drop i pairs))
+pair_lines_more bytes pairs i pair h =
+    let left : drop i pairs ≡ pair ∷ drop (i + 1) pairs =
+    drop_more pairs i pair (slice_get_within pairs i pair h) ∙ ap (λ p. p ∷ drop (i + 1) pairs) (get_or_from_slice_get pairs i pair pair h) in
+    append_assoc bytes (line_text (pair_line pair)) (flat_map line_text (pair_lines (drop (i + 1) pairs)))
+    ∙ sym (ap (λ t. with_lines bytes (pair_lines t)) left)
 
 -- the lines of a map are short
 

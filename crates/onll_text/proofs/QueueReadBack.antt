@@ -1,9 +1,9 @@
-use Rattle.std.proofs.Common.{ℕ, false, List, [], ◌∷◌, ◌++◌, ◌≡◌, ◌+◌, ◌*◌, ◌^◌, ◌<◌, ◌≤◌, ◌==◌, not, length, map, decimal, codes, All, sym, ap, ◌∙◌, arith, Ok, Result, append_assoc, length-append}
+use Rattle.std.proofs.Common.{ℕ, false, List, [], ◌∷◌, ◌++◌, ◌≡◌, ◌+◌, ◌*◌, ◌^◌, ◌<◌, ◌≤◌, ◌==◌, not, length, map, decimal, codes, All, sym, ap, ◌∙◌, arith, Ok, Result, append_assoc, length-append, drop, slice_index_or, refl}
 use Rattle.std.specs.List.{flat_map}
-use Rattle.std.proofs.lemmas.List.{append-nil}
+use Rattle.std.proofs.lemmas.List.{append-nil, drop_more}
 use Rattle.std.proofs.lemmas.List.Elements.{All-head, All-tail}
 use Rattle.std.proofs.lemmas.Bool.Decides.{nat_tests}
-use Rattle.onll_words.specs.Texts.{Numbered, numbered, joined, line_text}
+use Rattle.onll_words.specs.Texts.{Numbered, numbered, joined, line_text, AreWords}
 use Rattle.onll_queue.specs.Items.{Items, IsQueue}
 use Rattle.onll_queue.specs.Queue.{items_in}
 use Rattle.onll_text.specs.declared.reason.Reason.{Reason}
@@ -13,10 +13,23 @@ use Rattle.onll_text.specs.declared.any_object.Kind.TheVariants as kinds
 use Rattle.onll_text.specs.Refusal.{Refusal, ◌>>=◌, only_if, at_line}
 use Rattle.onll_text.specs.QueueText.{item_line, item_lines, queue_state_lines, with_item, with_item_line}
 use Rattle.onll_text.specs.QueueWording.{queue_wording, state_in_lines}
-use Rattle.onll_text.specs.Init.{head_of, after_lines}
+use Rattle.onll_text.specs.Init.{head_of}
+use Rattle.onll_text.specs.Making.{after_lines}
 use Rattle.onll_text.specs.ReadBack.{ReadsBack}
-use Rattle.onll_text.proofs.LineWords.{item_line_in_words}
 use Rattle.onll_text.proofs.ReadBack.{capacity_of-decimal, one_number-decimal, length-decimal, after_lines-joined, init_of-flat_map}
+use Rattle.onll_words.proofs.Decimals.{IsWord-decimal}
+use Rattle.onll_text.specs.Bytes.{with_lines}
+
+-- ---- the lines as they are put
+pub item_line_in_words : (x : ℕ) → AreWords (item_line x)
+item_line_in_words x = (record { some = refl; bytes = refl }, (IsWord-decimal x, tt))
+
+-- one item's line before those of the rest
+pub item_lines_more : (bytes items : List ℕ) (i d : ℕ) → i < length items
+    → with_lines (bytes ++ line_text (item_line (slice_index_or items i d))) (item_lines (drop (i + 1) items)) ≡ with_lines bytes (item_lines (drop i items))
+item_lines_more bytes items i d h =
+    append_assoc bytes (line_text (item_line (slice_index_or items i d))) (flat_map line_text (item_lines (drop (i + 1) items)))
+    ∙ sym (ap (λ t. with_lines bytes (item_lines t)) (drop_more items i d h))
 
 -- the lines of a queue are short
 

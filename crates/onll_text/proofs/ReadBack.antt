@@ -12,7 +12,8 @@ use Rattle.onll_text.specs.declared.init.Head.{Head}
 use Rattle.onll_text.specs.Refusal.{refused, ◌>>=◌, only_if, or_reason, at_line}
 use Rattle.onll_text.specs.Words.{word_as_number, word_as_short, one_number, two_numbers, four_numbers}
 use Rattle.onll_text.specs.Script.{longest_text, is_too_long}
-use Rattle.onll_text.specs.Init.{capacity_of, head_of, after_lines, object_of, init_of_lines, init_of}
+use Rattle.onll_text.specs.Making.{after_lines}
+use Rattle.onll_text.specs.Init.{capacity_of, head_of, object_of, init_of_lines, init_of}
 
 -- numbers that are written in decimal are read back
 

@@ -1,4 +1,6 @@
-use Rattle.std.specs.Prelude.{ℕ, List, [], ◌∷◌, ◌+◌, refl}
+-- How a bank is written, as one record.
+
+use Rattle.std.specs.Prelude.{ℕ, List, [], ◌∷◌, ◌+◌, refl, Option, Some, None, Result, Ok}
 use Rattle.onll_words.specs.Texts.{AreWords, AreMeaningful}
 use Rattle.onll_words.proofs.Decimals.{IsWord-decimal}
 use Rattle.onll_bank.specs.declared.operation.BankOp.{BankOp}
@@ -9,7 +11,10 @@ use Rattle.onll_bank.specs.declared.operation.BankReply.{BankReply}
 use Rattle.onll_bank.specs.declared.operation.BankReply.TheVariants.{Done, Over, TooLittle, NoAccount, Amount}
 use Rattle.onll_text.specs.Wording.{Wording}
 use Rattle.onll_text.specs.BankText.{bank_call_of, bank_reply_of, bank_op_words, bank_query_words, bank_reply_words, account_lines, bank_state_lines}
-use Rattle.onll_text.specs.Init.{bank_read, init_of}
+use Rattle.onll_text.specs.declared.any_object.AnyObject.{AnyObject}
+use Rattle.onll_text.specs.declared.any_object.AnyObject.TheVariants as objects
+use Rattle.onll_text.specs.Refusal.{Refusal}
+use Rattle.onll_text.specs.Init.{init_of}
 
 pub op_in_words : (op : BankOp) → AreWords (bank_op_words op)
 op_in_words (Deposit a x) = (record { some = refl; bytes = refl }, (IsWord-decimal a, (IsWord-decimal x, tt)))
@@ -34,6 +39,11 @@ accounts_in_lines a (x ∷ balances) =
 
 pub state_in_lines : (balances : List ℕ) → AreMeaningful (bank_state_lines balances)
 state_in_lines balances = ((record { some = refl; bytes = refl }, (IsWord-decimal _, tt)), refl, accounts_in_lines 0 balances)
+
+-- the state that was read, where it is one of this kind of object
+abbrev pub bank_read : Result AnyObject Refusal → Option (List ℕ)
+bank_read (Ok (objects.Bank s)) = Some s
+bank_read _ = None
 
 -- how a bank is written
 abbrev pub bank_wording : Wording (List ℕ) BankOp BankQuery BankReply

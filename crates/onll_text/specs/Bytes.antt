@@ -1,3 +1,5 @@
+-- What words and lines make of the bytes before them.
+
 use Rattle.std.specs.Prelude.{ℕ, Bool, List, [], ◌∷◌, ◌++◌, ◌-◌, ◌||◌, ◌==◌, if◌then◌else◌, length, slice_index}
 use Rattle.std.specs.List.{flat_map}
 use Rattle.std.specs.Io.{StartsWith}

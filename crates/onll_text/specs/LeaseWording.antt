@@ -1,4 +1,6 @@
-use Rattle.std.specs.Prelude.{ℕ, Bool, true, false, List, [], ◌∷◌, ◌++◌, ◌+◌, ◌==◌, if◌then◌else◌, refl}
+-- How a lease table is written, as one record.
+
+use Rattle.std.specs.Prelude.{ℕ, Bool, true, false, List, [], ◌∷◌, ◌++◌, ◌+◌, ◌==◌, if◌then◌else◌, refl, Option, Some, None, Result, Ok}
 use Rattle.onll_words.specs.Texts.{AreWords, AreMeaningful}
 use Rattle.onll_words.proofs.Decimals.{IsWord-decimal}
 use Rattle.onll_lease.specs.declared.entry.LeaseEntry.{LeaseEntry}
@@ -10,7 +12,10 @@ use Rattle.onll_lease.specs.declared.operation.LeaseReply.{LeaseReply}
 use Rattle.onll_lease.specs.declared.operation.LeaseReply.TheVariants.{NoResource, HeldUntil, Late, Spent, Granted, Renewed, Stale, Released, HeldBy, Free}
 use Rattle.onll_text.specs.Wording.{Wording}
 use Rattle.onll_text.specs.LeaseText.{lease_call_of, lease_reply_of, lease_op_words, lease_query_words, lease_reply_words, held_line, held_lines, lease_state_lines}
-use Rattle.onll_text.specs.Init.{lease_read, init_of}
+use Rattle.onll_text.specs.declared.any_object.AnyObject.{AnyObject}
+use Rattle.onll_text.specs.declared.any_object.AnyObject.TheVariants as objects
+use Rattle.onll_text.specs.Refusal.{Refusal}
+use Rattle.onll_text.specs.Init.{init_of}
 
 pub op_in_words : (op : LeaseOp) → AreWords (lease_op_words op)
 op_in_words (Grant r h now ttl) = (
@@ -66,6 +71,11 @@ held_in_lines r (e ∷ entries) = one_in_lines (e.token == 0) r e (held_lines (r
 
 pub state_in_lines : (s : List LeaseEntry) → AreMeaningful (lease_state_lines s)
 state_in_lines s = ((record { some = refl; bytes = refl }, (IsWord-decimal _, tt)), refl, held_in_lines 0 s)
+
+-- the state that was read, where it is one of this kind of object
+abbrev pub lease_read : Result AnyObject Refusal → Option (List LeaseEntry)
+lease_read (Ok (objects.Lease s)) = Some s
+lease_read _ = None
 
 -- how a table of leases is written
 abbrev pub lease_wording : Wording (List LeaseEntry) LeaseOp LeaseQuery LeaseReply

@@ -6,6 +6,7 @@ pub mod Wording
 pub mod Lines
 pub mod Script
 pub mod Schedule
+pub mod Making
 pub mod BankText
 pub mod BankWording
 pub mod MapText
@@ -15,5 +16,6 @@ pub mod QueueWording
 pub mod LeaseText
 pub mod LeaseWording
 pub mod Init
+pub mod Kinds
 pub mod ReadBack
 pub mod Reports

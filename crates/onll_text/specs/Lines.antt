@@ -1,3 +1,5 @@
+-- The lines of a report, each as its words.
+
 use Rattle.std.specs.Prelude.{ℕ, Bool, true, false, List, [], ◌∷◌, ◌++◌, ◌+◌, Option, Some, None, codes, decimal}
 use Rattle.onll_model.specs.declared.node.Node.{Node}
 use Rattle.onll_model.specs.declared.call.Call.{Call}
@@ -6,8 +8,6 @@ use Rattle.onll_model.specs.declared.call.CallEnd.{CallEnd}
 use Rattle.onll_model.specs.declared.call.CallEnd.TheVariants.{Answered, Running, Ordered, FenceFailed, Broken}
 use Rattle.onll_model.specs.Object.{Behaviour}
 use Rattle.onll_text.specs.Wording.{Wording}
-
--- The lines of a report, each as its words.
 
 abbrev pub at_words : ℕ → List (List ℕ)
 at_words place = codes "at" ∷ decimal place ∷ []

@@ -1,4 +1,6 @@
-use Rattle.std.specs.Prelude.{[], ◌∷◌, refl}
+-- How a map is written, as one record.
+
+use Rattle.std.specs.Prelude.{[], ◌∷◌, refl, Option, Some, None, Result, Ok}
 use Rattle.onll_words.specs.Texts.{AreWords, AreMeaningful}
 use Rattle.onll_words.proofs.Decimals.{IsWord-decimal}
 use Rattle.onll_words.proofs.ShortWord.{IsWord-short}
@@ -11,7 +13,10 @@ use Rattle.onll_map.specs.declared.operation.MapReply.TheVariants.{New, Old, Ful
 use Rattle.onll_map.specs.Map.{Pairs, Entries}
 use Rattle.onll_text.specs.Wording.{Wording}
 use Rattle.onll_text.specs.MapText.{map_call_of, map_reply_of, map_op_words, map_query_words, map_reply_words, pair_lines, map_state_lines}
-use Rattle.onll_text.specs.Init.{map_read, init_of}
+use Rattle.onll_text.specs.declared.any_object.AnyObject.{AnyObject}
+use Rattle.onll_text.specs.declared.any_object.AnyObject.TheVariants as objects
+use Rattle.onll_text.specs.Refusal.{Refusal}
+use Rattle.onll_text.specs.Init.{init_of}
 
 pub op_in_words : (op : MapOp) → AreWords (map_op_words op)
 op_in_words (Put k v) = (record { some = refl; bytes = refl }, (IsWord-short k, (IsWord-short v, tt)))
@@ -38,6 +43,11 @@ pairs_in_lines (pair ∷ pairs) =
 
 pub state_in_lines : (s : Entries) → AreMeaningful (map_state_lines s)
 state_in_lines s = ((record { some = refl; bytes = refl }, (IsWord-decimal s.room, tt)), refl, pairs_in_lines s.pairs)
+
+-- the state that was read, where it is one of this kind of object
+abbrev pub map_read : Result AnyObject Refusal → Option Entries
+map_read (Ok (objects.Map s)) = Some s
+map_read _ = None
 
 -- how a map is written
 abbrev pub map_wording : Wording Entries MapOp MapQuery MapReply

@@ -1,3 +1,5 @@
+-- The words that pieces of a line stand for.
+
 use Rattle.std.specs.Prelude.{ℕ, List, decimal}
 use Rattle.onll_text.specs.declared.report.Piece.{Piece}
 use Rattle.onll_text.specs.declared.report.Piece.TheVariants.{Text, Short, Number}

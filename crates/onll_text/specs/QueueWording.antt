@@ -1,4 +1,6 @@
-use Rattle.std.specs.Prelude.{ℕ, List, [], ◌∷◌, refl}
+-- How a queue is written, as one record.
+
+use Rattle.std.specs.Prelude.{ℕ, List, [], ◌∷◌, refl, Option, Some, None, Result, Ok}
 use Rattle.onll_words.specs.Texts.{AreWords, AreMeaningful}
 use Rattle.onll_words.proofs.Decimals.{IsWord-decimal}
 use Rattle.onll_queue.specs.Items.{Items}
@@ -10,7 +12,10 @@ use Rattle.onll_queue.specs.declared.operation.QueueReply.{QueueReply}
 use Rattle.onll_queue.specs.declared.operation.QueueReply.TheVariants.{Done, Full, Empty, Item, Length}
 use Rattle.onll_text.specs.Wording.{Wording}
 use Rattle.onll_text.specs.QueueText.{queue_call_of, queue_reply_of, queue_op_words, queue_query_words, queue_reply_words, item_lines, queue_state_lines}
-use Rattle.onll_text.specs.Init.{queue_read, init_of}
+use Rattle.onll_text.specs.declared.any_object.AnyObject.{AnyObject}
+use Rattle.onll_text.specs.declared.any_object.AnyObject.TheVariants as objects
+use Rattle.onll_text.specs.Refusal.{Refusal}
+use Rattle.onll_text.specs.Init.{init_of}
 
 pub op_in_words : (op : QueueOp) → AreWords (queue_op_words op)
 op_in_words (Push x) = (record { some = refl; bytes = refl }, (IsWord-decimal x, tt))
@@ -33,6 +38,11 @@ items_in_lines (x ∷ items) = ((record { some = refl; bytes = refl }, (IsWord-d
 
 pub state_in_lines : (s : Items) → AreMeaningful (queue_state_lines s)
 state_in_lines s = ((record { some = refl; bytes = refl }, (IsWord-decimal s.room, tt)), refl, items_in_lines s.items)
+
+-- the state that was read, where it is one of this kind of object
+abbrev pub queue_read : Result AnyObject Refusal → Option Items
+queue_read (Ok (objects.Queue s)) = Some s
+queue_read _ = None
 
 -- how a queue is written
 abbrev pub queue_wording : Wording Items QueueOp QueueQuery QueueReply

@@ -1,3 +1,5 @@
+-- What it is that a printed state reads back.
+
 use Rattle.std.specs.Prelude.{◌≡◌, Ok}
 use Rattle.std.specs.List.{flat_map}
 use Rattle.onll_words.specs.Texts.{line_text}

@@ -1,3 +1,5 @@
+-- The refusal of a text, and how readers are joined so that the first refusal stands.
+
 use Rattle.std.specs.Prelude.{ℕ, ◌≡◌, Bool, Option, Some, None, Result, Ok, Err, if◌then◌else◌, List, codes}
 use Rattle.onll_text.specs.declared.reason.Reason.{Reason}
 use Rattle.onll_text.specs.declared.reason.Reason.TheVariants.{TooLong, Missing, UnknownObject, UnknownWord, WrongCount, BadNumber, BadWord, OutOfRange, Repeated, TooMany, TooLarge, AfterCrash}

@@ -1,3 +1,6 @@
+-- The bytes of a report determine what it says: two lists of data that read back where they are printed, and are printed by
+-- the same bytes, are the same.
+
 use Rattle.std.specs.Prelude.{ℕ, ◌≡◌, ◌≢◌, ◌<◌, ◌≤◌, ◌^◌, List, [], ◌∷◌, ◌++◌, Some, Ok, codes, decimal, length}
 use Rattle.std.specs.List.{All, flat_map}
 use Rattle.onll_words.specs.Texts.{line_text, AreMeaningful}
@@ -9,9 +12,6 @@ use Rattle.onll_model.specs.declared.call.CallEnd.TheVariants.{Answered, Running
 use Rattle.onll_model.specs.Object.{Behaviour}
 use Rattle.onll_text.specs.Wording.{Wording}
 use Rattle.onll_text.specs.Lines.{call_lines, trace_line, node_lines, state_lines}
-
--- The bytes of a report determine what it says: two lists of data that read back where they are printed, and are printed by
--- the same bytes, are the same.
 
 -- ---- data that read back
 -- what became of a call: its reply reads back, and its place is a number of 64 bits

@@ -1,3 +1,5 @@
+-- The grammar of schedules.
+
 use Rattle.std.specs.Prelude.{ℕ, List, [], ◌∷◌, ◌++◌, ◌+◌, ◌≤◌, ◌<◌, Result, Ok, Err, if◌then◌else◌, codes, nat_lt, nat_le, ◌&&◌}
 use Rattle.std.specs.List.{All, sum_by}
 use Rattle.std.specs.Str.{bytes_eq}

@@ -1,3 +1,5 @@
+-- The grammar of scripts.
+
 use Rattle.std.specs.Prelude.{ℕ, Bool, List, [], ◌∷◌, ◌+◌, Result, Ok, Err, if◌then◌else◌, length, nat_lt}
 use Rattle.onll_model.specs.Limits.{most_updates}
 use Rattle.onll_words.specs.Texts.{Numbered, words_of, meaningful_lines}

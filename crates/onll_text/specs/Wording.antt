@@ -1,3 +1,5 @@
+-- How an object is written.
+
 use Rattle.std.specs.Prelude.{ℕ, false, ◌≡◌, List, [], ◌∷◌, Option, Result, codes, is_ok}
 use Rattle.onll_words.specs.Texts.{AreWords, AreMeaningful}
 use Rattle.onll_model.specs.declared.call.Call.{Call}

@@ -1,12 +1,12 @@
+-- The arguments of a line, as so many words of these kinds: the wrong count comes before any bad word, and of bad
+-- words the first from the left.
+
 use Rattle.std.specs.Prelude.{ℕ, List, [], ◌∷◌, Result, Ok, Err}
 use Rattle.onll_words.specs.Numbers.{number_of}
 use Rattle.onll_words.specs.Short.{ShortText, short_of}
 use Rattle.onll_text.specs.declared.reason.Reason.{Reason}
 use Rattle.onll_text.specs.declared.reason.Reason.TheVariants.{WrongCount, BadNumber, BadWord}
 use Rattle.onll_text.specs.Refusal.{◌>>=◌, or_reason}
-
--- The arguments of a line, as so many words of these kinds: the wrong count comes before any bad word, and of bad
--- words the first from the left.
 
 abbrev pub word_as_number : List ℕ → Result ℕ Reason
 word_as_number word = or_reason BadNumber (number_of word)

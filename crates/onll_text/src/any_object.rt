@@ -1,3 +1,11 @@
+//! The kinds of object with the one list of their names, and an object of any kind.
+
+ghost use Rattle.std.specs.Prelude.{◌≡◌};
+ghost use Rattle.onll_text.specs.Init.{kind_of};
+ghost use Rattle.onll_text.specs.Kinds.{object_name};
+
+use crate::reason::Reason;
+use crate::words::is_text;
 use onll_bank::Bank;
 use onll_lease::Lease;
 use onll_map::Map;
@@ -19,4 +27,38 @@ pub enum AnyObject {
     Map(Map),
     Queue(Queue),
     Lease(Lease),
+}
+
+/// The kinds in the order of their codes, the first of which is 1, each with the word that names it.
+const KINDS: &[(Kind, &[u8])] = &[
+    (Kind::Bank, b"bank"),
+    (Kind::Map, b"map"),
+    (Kind::Queue, b"queue"),
+    (Kind::Lease, b"lease"),
+];
+
+/// The kind of object that the first word of an initial state names.
+pub(crate) fn read_kind(word: &[u8]) -> Result<Kind, Reason>
+    ensures { result ≡ kind_of word.now }
+{
+    for (kind, name) in KINDS {
+        if is_text(word, name) {
+            return Ok(*kind);
+        }
+    }
+    Err(Reason::UnknownObject)
+}
+
+/// The name of the object of a code, which a log's head holds.
+pub fn object_name(code: u64) -> &'static [u8]
+    ensures { result.now ≡ object_name code }
+{
+    let mut next = 1;
+    for (_, name) in KINDS {
+        if code == next {
+            return name;
+        }
+        next += 1;
+    }
+    b"unknown"
 }

@@ -1,10 +1,13 @@
+//! The texts of a bank.
+
 ghost use Rattle.std.specs.Prelude.{◌≡◌, ◌++◌, true, OnOk};
 ghost use Rattle.onll_words.specs.Texts.{words_of, line_text};
 ghost use Rattle.onll_text.specs.Bytes.{begins_line, with_lines, IsFront};
 ghost use Rattle.onll_text.specs.BankText.{deposit_of, withdraw_of, transfer_of, balance_of, total_of, account_line, account_lines};
 ghost use Rattle.onll_text.specs.BankWording.{bank_wording};
+ghost use Rattle.onll_text.specs.ReadBack.{ReadsBack};
+ghost use Rattle.onll_text.specs.declared.any_object.AnyObject.TheVariants as objects;
 
-use crate::read_back::bank_reads_back;
 use crate::reason::Reason;
 use crate::report::{Piece, Report};
 use crate::texted::Texted;
@@ -65,7 +68,7 @@ fn put_account(a: u64, balance: u64, out: &mut Report) -> Result<(), NoMemory>
 }
 
 /// The line of each account.
-#[tactic(auto, using(crate::proofs::LineWords::account_lines_more))]
+#[tactic(auto, using(crate::proofs::BankReadBack::account_lines_more))]
 fn put_accounts(bank: &Bank, out: &mut Report) -> Result<(), NoMemory>
     requires { begins_line out.old ≡ true }
     ensures ok { OnOk result (out.new ≡ with_lines out.old (account_lines 0 bank.now)) }
@@ -76,6 +79,13 @@ fn put_accounts(bank: &Bank, out: &mut Report) -> Result<(), NoMemory>
         put_account(a, bank.balance_of(a), out)?;
     }
     Ok(())
+}
+
+/// A law: what is printed of a bank's state reads as that bank. It does nothing when called.
+pub fn bank_reads_back(bank: &Bank)
+    ensures { ReadsBack bank_wording objects.Bank bank.now }
+{
+    bank.consistent();
 }
 
 impl Texted for Bank {

@@ -1,14 +1,17 @@
+//! An initial bank in the making.
+
 ghost use Rattle.std.specs.Prelude.{◌≡◌, ◌≤◌, MatchResult, IfOk, OnErr, Ok, Err};
 ghost use Rattle.onll_model.specs.Limits.{most_elements};
+ghost use Rattle.onll_text.specs.Refusal.{Fails};
 ghost use Rattle.onll_words.specs.Texts.{words_of};
-ghost use Rattle.onll_text.specs.BankText.{no_accounts, with_account, with_account_line};
+ghost use Rattle.onll_text.specs.BankText.{no_accounts, with_account, with_account_line, bank_of_lines};
 
-use crate::init::Initial;
-use crate::reason::Reason;
+use crate::init::{Initial, add_lines};
+use crate::reason::{Reason, TextFault};
 use crate::words::{is_text, two_numbers};
 use onll_bank::{Bank, BankOp, BankReply};
 use onll_model::Object;
-use onll_words::{Cut, NoMemory, split_word};
+use onll_words::{Cut, Lines, NoMemory, split_word};
 use std::alloc::Global;
 use std::marker::Model;
 
@@ -82,4 +85,19 @@ impl Initial for BankInit {
         let (a, balance) = two_numbers(rest)?;
         self.add_account(a, balance)
     }
+}
+
+/// The bank of this many accounts, with the lines that are left.
+pub(crate) fn read_bank(
+    alloc: Global,
+    capacity: u64,
+    lines: &mut Lines<'_>,
+) -> Result<Bank, TextFault>
+    requires { (1 ≤ capacity) × (capacity ≤ most_elements) }
+    ensures { MatchResult result (λ bank. bank_of_lines capacity lines.old ≡ Ok bank)
+        (λ fault. Fails fault (bank_of_lines capacity lines.old)) }
+{
+    let mut made = BankInit::begin(alloc, capacity)?;
+    add_lines(&mut made, lines)?;
+    Ok(made.finish())
 }

@@ -1,20 +1,22 @@
+//! The reader of initial states.
+
 ghost use Rattle.std.specs.Prelude.{◌≡◌, ◌≤◌, ℕ, List, Result, MatchResult, IfOk, OnErr};
 ghost use Rattle.onll_model.specs.Limits.{most_elements};
 ghost use Rattle.onll_text.specs.declared.reason.Reason.{Reason};
 ghost use Rattle.onll_words.specs.Texts.{words_of};
 ghost use Rattle.onll_text.specs.Refusal.{Fails};
-ghost use Rattle.onll_text.specs.Init.{kind_of, capacity_of, head_of, after_lines, bank_of_lines, map_of_lines, queue_of_lines, lease_of_lines, object_of, init_of};
+ghost use Rattle.onll_text.specs.Init.{capacity_of, head_of, object_of, init_of};
+ghost use Rattle.onll_text.specs.Making.{after_lines};
 
-use crate::any_object::{AnyObject, Kind};
-use crate::bank_init::BankInit;
+use crate::any_object::{AnyObject, Kind, read_kind};
+use crate::bank_init::read_bank;
+use crate::lease::read_lease;
+use crate::map::read_map;
+use crate::queue::read_queue;
 use crate::reason::{Reason, TextFault};
 use crate::script::is_too_long;
-use crate::words::{is_text, one_number};
-use onll_bank::Bank;
-use onll_lease::Lease;
-use onll_map::Map;
+use crate::words::one_number;
 use onll_model::MOST_ELEMENTS;
-use onll_queue::Queue;
 use onll_words::{Cut, Lines, NumberedLine, split_word};
 use std::alloc::Global;
 
@@ -31,7 +33,7 @@ pub(crate) trait Initial: Sized {
 }
 
 /// Takes all lines that are left.
-fn add_lines<I: Initial>(made: &mut I, lines: &mut Lines<'_>) -> Result<(), TextFault>
+pub(crate) fn add_lines<I: Initial>(made: &mut I, lines: &mut Lines<'_>) -> Result<(), TextFault>
     ensures { MatchResult result (λ _. after_lines I.with_line made.old lines.old ≡ Ok made.new)
         (λ fault. Fails fault (after_lines I.with_line made.old lines.old)) }
 {
@@ -52,22 +54,6 @@ fn add_lines<I: Initial>(made: &mut I, lines: &mut Lines<'_>) -> Result<(), Text
 pub(crate) struct Head {
     kind: Kind,
     capacity: u64,
-}
-
-fn read_kind(word: &[u8]) -> Result<Kind, Reason>
-    ensures { result ≡ kind_of word.now }
-{
-    if is_text(word, b"bank") {
-        Ok(Kind::Bank)
-    } else if is_text(word, b"map") {
-        Ok(Kind::Map)
-    } else if is_text(word, b"queue") {
-        Ok(Kind::Queue)
-    } else if is_text(word, b"lease") {
-        Ok(Kind::Lease)
-    } else {
-        Err(Reason::UnknownObject)
-    }
 }
 
 fn read_capacity(args: &[u8]) -> Result<u64, Reason>
@@ -91,50 +77,6 @@ fn read_head(line: &[u8]) -> Result<Head, Reason>
     let kind = read_kind(word)?;
     let capacity = read_capacity(rest)?;
     Ok(Head { kind, capacity })
-}
-
-/// The bank of this many accounts, with the lines that are left.
-fn read_bank(alloc: Global, capacity: u64, lines: &mut Lines<'_>) -> Result<Bank, TextFault>
-    requires { (1 ≤ capacity) × (capacity ≤ most_elements) }
-    ensures { MatchResult result (λ bank. bank_of_lines capacity lines.old ≡ Ok bank)
-        (λ fault. Fails fault (bank_of_lines capacity lines.old)) }
-{
-    let mut made = BankInit::begin(alloc, capacity)?;
-    add_lines(&mut made, lines)?;
-    Ok(made.finish())
-}
-
-/// The map of at most so many pairs, with the lines that are left.
-fn read_map(alloc: Global, capacity: u64, lines: &mut Lines<'_>) -> Result<Map, TextFault>
-    requires { (1 ≤ capacity) × (capacity ≤ most_elements) }
-    ensures { MatchResult result (λ map. map_of_lines capacity lines.old ≡ Ok map)
-        (λ fault. Fails fault (map_of_lines capacity lines.old)) }
-{
-    let mut map = Map::make(alloc, capacity)?;
-    add_lines(&mut map, lines)?;
-    Ok(map)
-}
-
-/// The queue of at most so many items, with the lines that are left.
-fn read_queue(alloc: Global, capacity: u64, lines: &mut Lines<'_>) -> Result<Queue, TextFault>
-    requires { (1 ≤ capacity) × (capacity ≤ most_elements) }
-    ensures { MatchResult result (λ queue. queue_of_lines capacity lines.old ≡ Ok queue)
-        (λ fault. Fails fault (queue_of_lines capacity lines.old)) }
-{
-    let mut queue = Queue::make(alloc, capacity)?;
-    add_lines(&mut queue, lines)?;
-    Ok(queue)
-}
-
-/// The leases of this many resources, with the lines that are left.
-fn read_lease(alloc: Global, capacity: u64, lines: &mut Lines<'_>) -> Result<Lease, TextFault>
-    requires { (1 ≤ capacity) × (capacity ≤ most_elements) }
-    ensures { MatchResult result (λ lease. lease_of_lines capacity lines.old ≡ Ok lease)
-        (λ fault. Fails fault (lease_of_lines capacity lines.old)) }
-{
-    let mut lease = Lease::make(alloc, capacity)?;
-    add_lines(&mut lease, lines)?;
-    Ok(lease)
 }
 
 fn read_object(alloc: Global, head: Head, lines: &mut Lines<'_>) -> Result<AnyObject, TextFault>

@@ -1,18 +1,24 @@
-ghost use Rattle.std.specs.Prelude.{◌≡◌, ◌++◌, ◌<◌, length, true, OnOk, OnErr, MatchResult, Ok, Err};
+//! The texts of a lease table, which is its own initial state in the making.
+
+ghost use Rattle.std.specs.Prelude.{◌≡◌, ◌++◌, ◌<◌, length, true, OnOk, OnErr, MatchResult, Ok, Err, ◌≤◌};
+ghost use Rattle.onll_model.specs.Limits.{most_elements};
+ghost use Rattle.onll_text.specs.Refusal.{Fails};
 ghost use Rattle.onll_words.specs.Texts.{words_of, line_text};
 ghost use Rattle.onll_text.specs.Bytes.{begins_line, with_lines, IsFront};
-ghost use Rattle.onll_text.specs.LeaseText.{grant_of, renew_of, release_of, holder_of, held_line, entry_lines, held_lines, with_held, with_held_line};
+ghost use Rattle.onll_text.specs.LeaseText.{grant_of, renew_of, release_of, holder_of, held_line, entry_lines, held_lines, with_held, with_held_line, lease_of_lines};
 ghost use Rattle.onll_text.specs.LeaseWording.{lease_wording};
+ghost use Rattle.onll_text.specs.ReadBack.{ReadsBack};
+ghost use Rattle.onll_text.specs.declared.any_object.AnyObject.TheVariants as objects;
 
-use crate::init::Initial;
-use crate::read_back::lease_reads_back;
-use crate::reason::Reason;
+use crate::init::{Initial, add_lines};
+use crate::reason::{Reason, TextFault};
 use crate::report::{Piece, Report};
 use crate::texted::Texted;
 use crate::words::{four_numbers, is_text, number_reads_back, two_numbers};
 use onll_lease::{Lease, LeaseEntry, LeaseOp, LeaseQuery, LeaseReply};
 use onll_model::{Call, Object};
-use onll_words::{Cut, NoMemory, split_word};
+use onll_words::{Cut, Lines, NoMemory, split_word};
+use std::alloc::Global;
 
 fn read_grant(args: &[u8]) -> Result<Call<Lease>, Reason>
     ensures { result ≡ grant_of (words_of args.now) }
@@ -76,7 +82,7 @@ fn put_entry(r: u64, entry: LeaseEntry, out: &mut Report) -> Result<(), NoMemory
 }
 
 /// The line of each resource that was ever granted, in order.
-#[tactic(auto, using(crate::proofs::LineWords::held_lines_more))]
+#[tactic(auto, using(crate::proofs::LeaseReadBack::held_lines_more))]
 fn put_table(lease: &Lease, out: &mut Report) -> Result<(), NoMemory>
     requires { begins_line out.old ≡ true }
     ensures ok { OnOk result (out.new ≡ with_lines out.old (held_lines 0 lease.now)) }
@@ -87,6 +93,13 @@ fn put_table(lease: &Lease, out: &mut Report) -> Result<(), NoMemory>
         put_entry(r, lease.entry(r), out)?;
     }
     Ok(())
+}
+
+/// A law: what is printed of a lease table's state reads as that table. It does nothing when called.
+pub fn lease_reads_back(lease: &Lease)
+    ensures { ReadsBack lease_wording objects.Lease lease.now }
+{
+    lease.consistent();
 }
 
 impl Texted for Lease {
@@ -264,4 +277,19 @@ impl Initial for Lease {
         };
         add_held(self, r, entry)
     }
+}
+
+/// The leases of this many resources, with the lines that are left.
+pub(crate) fn read_lease(
+    alloc: Global,
+    capacity: u64,
+    lines: &mut Lines<'_>,
+) -> Result<Lease, TextFault>
+    requires { (1 ≤ capacity) × (capacity ≤ most_elements) }
+    ensures { MatchResult result (λ lease. lease_of_lines capacity lines.old ≡ Ok lease)
+        (λ fault. Fails fault (lease_of_lines capacity lines.old)) }
+{
+    let mut lease = Lease::make(alloc, capacity)?;
+    add_lines(&mut lease, lines)?;
+    Ok(lease)
 }

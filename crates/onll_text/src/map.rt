@@ -1,18 +1,24 @@
-ghost use Rattle.std.specs.Prelude.{◌≡◌, ◌++◌, true, OnOk, OnErr, MatchResult, Ok, Err};
+//! The texts of a map, which is its own initial state in the making.
+
+ghost use Rattle.std.specs.Prelude.{◌≡◌, ◌++◌, true, OnOk, OnErr, MatchResult, Ok, Err, ◌≤◌};
+ghost use Rattle.onll_model.specs.Limits.{most_elements};
+ghost use Rattle.onll_text.specs.Refusal.{Fails};
 ghost use Rattle.onll_words.specs.Texts.{words_of, line_text};
 ghost use Rattle.onll_text.specs.Bytes.{begins_line, with_lines, IsFront};
-ghost use Rattle.onll_text.specs.MapText.{put_of, del_of, get_of, next_of, count_of, pair_line, pair_lines, with_pair, with_pair_line};
+ghost use Rattle.onll_text.specs.MapText.{put_of, del_of, get_of, next_of, count_of, pair_line, pair_lines, with_pair, with_pair_line, map_of_lines};
 ghost use Rattle.onll_text.specs.MapWording.{map_wording};
+ghost use Rattle.onll_text.specs.ReadBack.{ReadsBack};
+ghost use Rattle.onll_text.specs.declared.any_object.AnyObject.TheVariants as objects;
 
-use crate::init::Initial;
-use crate::read_back::map_reads_back;
-use crate::reason::Reason;
+use crate::init::{Initial, add_lines};
+use crate::reason::{Reason, TextFault};
 use crate::report::{Piece, Report};
 use crate::texted::Texted;
 use crate::words::{is_text, no_word, number_reads_back, one_short, short_reads_back, two_shorts};
 use onll_map::{Map, MapOp, MapQuery, MapReply};
 use onll_model::{Call, Object};
-use onll_words::{Cut, NoMemory, Short, split_word};
+use onll_words::{Cut, Lines, NoMemory, Short, split_word};
+use std::alloc::Global;
 
 fn read_put(args: &[u8]) -> Result<Call<Map>, Reason>
     ensures { result ≡ put_of (words_of args.now) }
@@ -63,7 +69,7 @@ fn put_pair(pair: (Short, Short), out: &mut Report) -> Result<(), NoMemory>
 }
 
 /// The line of each pair.
-#[tactic(auto, using(crate::proofs::LineWords::pair_lines_more))]
+#[tactic(auto, using(crate::proofs::MapReadBack::pair_lines_more))]
 fn put_pairs(map: &Map, out: &mut Report) -> Result<(), NoMemory>
     requires { begins_line out.old ≡ true }
     ensures ok { OnOk result (out.new ≡ with_lines out.old (pair_lines map.now.pairs)) }
@@ -74,6 +80,13 @@ fn put_pairs(map: &Map, out: &mut Report) -> Result<(), NoMemory>
         put_pair(map.pair(i), out)?;
     }
     Ok(())
+}
+
+/// A law: what is printed of a map's state reads as that map. It does nothing when called.
+pub fn map_reads_back(map: &Map)
+    ensures { ReadsBack map_wording objects.Map map.now }
+{
+    map.consistent();
 }
 
 impl Texted for Map {
@@ -198,4 +211,19 @@ impl Initial for Map {
         let (k, v) = two_shorts(rest)?;
         add_pair(self, k, v)
     }
+}
+
+/// The map of at most so many pairs, with the lines that are left.
+pub(crate) fn read_map(
+    alloc: Global,
+    capacity: u64,
+    lines: &mut Lines<'_>,
+) -> Result<Map, TextFault>
+    requires { (1 ≤ capacity) × (capacity ≤ most_elements) }
+    ensures { MatchResult result (λ map. map_of_lines capacity lines.old ≡ Ok map)
+        (λ fault. Fails fault (map_of_lines capacity lines.old)) }
+{
+    let mut map = Map::make(alloc, capacity)?;
+    add_lines(&mut map, lines)?;
+    Ok(map)
 }

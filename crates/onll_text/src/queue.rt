@@ -1,18 +1,24 @@
-ghost use Rattle.std.specs.Prelude.{◌≡◌, ◌++◌, true, OnOk, OnErr, MatchResult, Ok, Err};
+//! The texts of a queue, which is its own initial state in the making.
+
+ghost use Rattle.std.specs.Prelude.{◌≡◌, ◌++◌, true, OnOk, OnErr, MatchResult, Ok, Err, ◌≤◌};
+ghost use Rattle.onll_model.specs.Limits.{most_elements};
+ghost use Rattle.onll_text.specs.Refusal.{Fails};
 ghost use Rattle.onll_words.specs.Texts.{words_of, line_text};
 ghost use Rattle.onll_text.specs.Bytes.{begins_line, with_lines, IsFront};
-ghost use Rattle.onll_text.specs.QueueText.{push_of, pop_of, front_of, length_of, item_line, item_lines, with_item, with_item_line};
+ghost use Rattle.onll_text.specs.QueueText.{push_of, pop_of, front_of, length_of, item_line, item_lines, with_item, with_item_line, queue_of_lines};
 ghost use Rattle.onll_text.specs.QueueWording.{queue_wording};
+ghost use Rattle.onll_text.specs.ReadBack.{ReadsBack};
+ghost use Rattle.onll_text.specs.declared.any_object.AnyObject.TheVariants as objects;
 
-use crate::init::Initial;
-use crate::read_back::queue_reads_back;
-use crate::reason::Reason;
+use crate::init::{Initial, add_lines};
+use crate::reason::{Reason, TextFault};
 use crate::report::{Piece, Report};
 use crate::texted::Texted;
 use crate::words::{is_text, no_word, number_reads_back, one_number};
 use onll_model::{Call, Object};
 use onll_queue::{Queue, QueueOp, QueueQuery, QueueReply};
-use onll_words::{Cut, NoMemory, split_word};
+use onll_words::{Cut, Lines, NoMemory, split_word};
+use std::alloc::Global;
 
 fn read_push(args: &[u8]) -> Result<Call<Queue>, Reason>
     ensures { result ≡ push_of (words_of args.now) }
@@ -55,7 +61,7 @@ fn put_item(x: u64, out: &mut Report) -> Result<(), NoMemory>
 }
 
 /// The line of each item, from the front.
-#[tactic(auto, using(crate::proofs::LineWords::item_lines_more))]
+#[tactic(auto, using(crate::proofs::QueueReadBack::item_lines_more))]
 fn put_items(queue: &Queue, out: &mut Report) -> Result<(), NoMemory>
     requires { begins_line out.old ≡ true }
     ensures ok { OnOk result (out.new ≡ with_lines out.old (item_lines queue.now.items)) }
@@ -66,6 +72,13 @@ fn put_items(queue: &Queue, out: &mut Report) -> Result<(), NoMemory>
         put_item(queue.item(i), out)?;
     }
     Ok(())
+}
+
+/// A law: what is printed of a queue's state reads as that queue. It does nothing when called.
+pub fn queue_reads_back(queue: &Queue)
+    ensures { ReadsBack queue_wording objects.Queue queue.now }
+{
+    queue.consistent();
 }
 
 impl Texted for Queue {
@@ -171,4 +184,19 @@ impl Initial for Queue {
         let x = one_number(rest)?;
         add_item(self, x)
     }
+}
+
+/// The queue of at most so many items, with the lines that are left.
+pub(crate) fn read_queue(
+    alloc: Global,
+    capacity: u64,
+    lines: &mut Lines<'_>,
+) -> Result<Queue, TextFault>
+    requires { (1 ≤ capacity) × (capacity ≤ most_elements) }
+    ensures { MatchResult result (λ queue. queue_of_lines capacity lines.old ≡ Ok queue)
+        (λ fault. Fails fault (queue_of_lines capacity lines.old)) }
+{
+    let mut queue = Queue::make(alloc, capacity)?;
+    add_lines(&mut queue, lines)?;
+    Ok(queue)
 }

@@ -1,3 +1,5 @@
+//! Why a text is refused, and why it was not read.
+
 ghost use Rattle.std.specs.Prelude.{◌≡◌};
 ghost use Rattle.onll_text.specs.Refusal.{reason_text};
 ghost use Rattle.onll_text.specs.declared.reason.TextFault.TheVariants.{NoMemory};

@@ -1,3 +1,5 @@
+//! The bytes of a report, which are appended word by word.
+
 ghost use Rattle.std.specs.Prelude.{◌≡◌, ◌≤◌, ℕ, ◌++◌, ◌∷◌, [], true, decimal, length, map, OnOk, OnErr};
 ghost use Rattle.onll_words.specs.Texts.{AreWords, line_text};
 ghost use Rattle.onll_text.specs.Bytes.{begins_line, with_word, with_words, IsFront};

@@ -1,3 +1,5 @@
+//! The reader of schedules.
+
 ghost use Rattle.std.specs.Prelude.{◌≡◌, ◌≢◌, ◌≤◌, ◌+◌, ◌∷◌, MatchResult, IfOk, IfErr, Ok};
 ghost use Rattle.onll_words.specs.Texts.{words_of};
 ghost use Rattle.onll_text.specs.declared.reason.TextFault.{TextFault};

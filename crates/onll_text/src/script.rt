@@ -1,3 +1,5 @@
+//! The reader of scripts.
+
 ghost use Rattle.std.specs.Prelude.{◌≡◌, ◌≤◌, MatchResult, IfOk, Ok};
 ghost use Rattle.onll_words.specs.Texts.{words_of};
 ghost use Rattle.onll_model.specs.Calls.{updates_in, reads_in};

@@ -1,3 +1,5 @@
+//! The trait of an object whose calls, replies and states have texts.
+
 ghost use Rattle.std.specs.Prelude.{◌≡◌, true, Ok, OnOk, Some};
 ghost use Rattle.std.specs.List.{flat_map};
 ghost use Rattle.onll_model.specs.declared.call.Call.TheVariants.{Update, Ask};

@@ -1,3 +1,5 @@
+//! The arguments of a line, read one word after the other.
+
 ghost use Rattle.std.specs.Prelude.{◌≡◌, ◌∷◌, [], MatchResult, Ok, Err, decimal};
 ghost use Rattle.std.specs.Str.{bytes_eq};
 ghost use Rattle.onll_words.specs.Texts.{words_of};

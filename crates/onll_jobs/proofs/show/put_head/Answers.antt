@@ -1,6 +1,7 @@
 use Rattle.std.proofs.Common.{subst, sym}
 use Rattle.onll_words.specs.Texts.{IsWord}
-use Rattle.onll_jobs.proofs.ShowWords.{head_line_in_words, IsWord-object_name}
+use Rattle.onll_text.proofs.EachKind.{IsWord-object_name}
+use Rattle.onll_jobs.proofs.ShowWords.{head_line_in_words}
 use Rattle.onll_jobs.proofs.show.put_head.Goals as goal
 
 pub line-requires-clause-words : goal.line-requires-clause-words

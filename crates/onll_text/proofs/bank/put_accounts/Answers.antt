@@ -3,7 +3,7 @@ use Rattle.std.specs.List.{flat_map}
 use Rattle.onll_words.specs.Texts.{line_text}
 use Rattle.onll_text.specs.Bytes.{with_lines}
 use Rattle.onll_text.specs.BankText.{account_line, account_lines}
-use Rattle.onll_text.proofs.LineWords.{account_lines_more}
+use Rattle.onll_text.proofs.BankReadBack.{account_lines_more}
 use Rattle.onll_text.proofs.Keeping.{part_front}
 use Rattle.onll_text.proofs.bank.put_accounts.Goals as goal
 

@@ -1,5 +1,5 @@
 use Rattle.std.proofs.Common.{◌≡◌, length}
-use Rattle.onll_text.specs.Init.{after_lines}
+use Rattle.onll_text.specs.Making.{after_lines}
 use Rattle.onll_text.proofs.init.add_lines.Given as goal
 
 -- the lines that are left make what all make

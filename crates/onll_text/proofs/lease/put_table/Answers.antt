@@ -3,7 +3,7 @@ use Rattle.std.specs.List.{flat_map}
 use Rattle.onll_words.specs.Texts.{line_text}
 use Rattle.onll_text.specs.Bytes.{with_lines}
 use Rattle.onll_text.specs.LeaseText.{entry_lines, held_lines}
-use Rattle.onll_text.proofs.LineWords.{held_lines_more}
+use Rattle.onll_text.proofs.LeaseReadBack.{held_lines_more}
 use Rattle.onll_text.proofs.Keeping.{part_front}
 use Rattle.onll_text.proofs.lease.put_table.Goals as goal
 

@@ -1,6 +1,7 @@
 use Rattle.std.proofs.Common.{◌∷◌, [], codes}
 use Rattle.std.proofs.lemmas.Result.{on_ok_weaker}
-use Rattle.onll_text.proofs.LineWords.{whole_line, pair_line_in_words}
+use Rattle.onll_text.proofs.LineWords.{whole_line}
+use Rattle.onll_text.proofs.MapReadBack.{pair_line_in_words}
 use Rattle.onll_text.proofs.Keeping.{line_front, line_end_front}
 use Rattle.onll_text.proofs.map.put_pair.Goals as goal
 

@@ -2,7 +2,7 @@ use Rattle.std.proofs.Common.{◌+◌, ◌++◌, drop, ◌∙◌}
 use Rattle.std.specs.List.{flat_map}
 use Rattle.onll_words.specs.Texts.{line_text}
 use Rattle.onll_text.specs.MapText.{pair_line, pair_lines}
-use Rattle.onll_text.proofs.LineWords.{pair_lines_more}
+use Rattle.onll_text.proofs.MapReadBack.{pair_lines_more}
 use Rattle.onll_text.proofs.Keeping.{part_front}
 use Rattle.onll_text.proofs.map.put_pairs.Goals as goal
 

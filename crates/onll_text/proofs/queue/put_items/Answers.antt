@@ -3,7 +3,7 @@ use Rattle.std.specs.List.{flat_map}
 use Rattle.onll_words.specs.Texts.{line_text}
 use Rattle.onll_text.specs.Bytes.{with_lines}
 use Rattle.onll_text.specs.QueueText.{item_line, item_lines}
-use Rattle.onll_text.proofs.LineWords.{item_lines_more}
+use Rattle.onll_text.proofs.QueueReadBack.{item_lines_more}
 use Rattle.onll_text.proofs.Keeping.{part_front}
 use Rattle.onll_text.proofs.queue.put_items.Goals as goal
 

@@ -14,5 +14,4 @@ pub mod ShowJob
 pub mod Stop
 pub mod Writing
 pub mod Durable
-pub mod Reports
-pub mod Determined
+pub mod Doing

@@ -1,4 +1,6 @@
-ghost use Rattle.std.specs.Prelude.{◌≡◌, ◌≤◌, ◌++◌, length, true, IfOk, IfErr, OnOk};
+//! The command `recover`: the trace and the state that the logs of one run give.
+
+ghost use Rattle.std.specs.Prelude.{[], ◌≡◌, ◌≤◌, ◌++◌, length, true, IfOk, OnOk};
 ghost use Rattle.onll_model.specs.Limits.{most_threads};
 ghost use Rattle.std.specs.List.{flat_map};
 ghost use Rattle.onll_words.specs.Texts.{line_text};
@@ -6,16 +8,13 @@ ghost use Rattle.onll_model.specs.Recovered.{operations_front};
 ghost use Rattle.onll_merge.specs.Recovered.{recovered_in};
 ghost use Rattle.onll_text.specs.Bytes.{begins_line, with_lines};
 ghost use Rattle.onll_text.specs.Lines.{node_lines, state_lines};
-ghost use Rattle.onll_outside.specs.Views.{SameFiles};
-ghost use Rattle.onll_jobs.specs.Job.{JobEnds, JobCut, SaysNow};
-ghost use Rattle.onll_jobs.specs.Images.{images_in, reading_images};
-ghost use Rattle.onll_jobs.specs.RecoverJob.{content_line, log_lines, recovered_line, lines_with, recover_on, recover_any, recover_job};
-ghost use Rattle.onll_jobs.specs.declared.ending.Ending.TheVariants.{Done};
-ghost use Rattle.onll_jobs.specs.Determined.{RecoversTo, RecoversToAny, RecoversLogs, RecoversFiles};
+ghost use Rattle.onll_jobs.specs.Images.{images_in};
+ghost use Rattle.onll_jobs.specs.Doing.{Does};
+ghost use Rattle.onll_outside.specs.Views.{StoreView};
+ghost use Rattle.onll_jobs.specs.RecoverJob.{content_line, log_lines, recovered_line, lines_with, images_task, images_task_on, logs_task, recover_work};
 
-use crate::answer::Answer;
+use crate::answer::Stop;
 use crate::bad_logs::bad_logs;
-use crate::ending::Ending;
 use crate::fold::put_nodes;
 use crate::images::read_images;
 use crate::reads::recovery_reads;
@@ -95,24 +94,19 @@ fn recover_on<O: Texted>(
     object: &mut O,
     init: &[u8],
     images: &[Vec<Line>],
-) -> Result<Answer, NoMemory>
+) -> Result<Vec<u8>, Stop>
     requires { (1 ≤ length images.now) × (length images.now ≤ most_threads) }
-    ensures says { let job = recover_on O.means O.wording O.CODE init.now object.old (images_in images.now) in
-        IfOk result (λ answer. SaysNow job answer.ending answer.text.items) }
-    ensures determined { IfOk result (λ answer. answer.ending ≡ Done
-        → RecoversTo O.means O.wording O.CODE init.now object.old (images_in images.now) answer.text.items) }
+    ensures { let task = images_task O.means O.wording O.CODE init.now object.old (images_in images.now) in
+        (store : StoreView) → Does [] store store task result }
 {
     match recover_state(alloc, object, init, images) {
         Ok(found) => {
             let text = report(alloc, object, &found)?;
             recovery_reads(object, &found);
-            Ok(Answer {
-                ending: Ending::Done,
-                text,
-            })
+            Ok(text)
         }
-        Err(StateFault::NoMemory) => Err(NoMemory),
-        Err(fault) => bad_logs(alloc, fault),
+        Err(StateFault::NoMemory) => Err(Stop::NoMemory),
+        Err(fault) => Err(bad_logs(alloc, fault)),
     }
 }
 
@@ -122,11 +116,9 @@ fn recover_any(
     object: AnyObject,
     init: &[u8],
     images: &[Vec<Line>],
-) -> Result<Answer, NoMemory>
+) -> Result<Vec<u8>, Stop>
     requires { (1 ≤ length images.now) × (length images.now ≤ most_threads) }
-    ensures says { IfOk result (λ answer. SaysNow (recover_any init.now object (images_in images.now)) answer.ending answer.text.items) }
-    ensures determined { IfOk result (λ answer. answer.ending ≡ Done
-        → RecoversToAny init.now (images_in images.now) answer.text.items object) }
+    ensures { (store : StoreView) → Does [] store store (images_task_on init.now object (images_in images.now)) result }
 {
     match object {
         AnyObject::Bank(mut bank) => recover_on(alloc, &mut bank, init, images),
@@ -143,19 +135,13 @@ fn recover_logs<S: Store>(
     logs: &str,
     threads: u64,
     store: &mut S,
-) -> Result<Answer, NoMemory>
+) -> Result<Vec<u8>, Stop>
     requires { (1 ≤ threads) × (threads ≤ most_threads) }
-    ensures says { let job = reading_images logs.now 0 threads (recover_any init.text.items init.object) in
-        IfOk result (λ answer. JobEnds (S.seen store.old) (S.seen store.new) job answer.ending answer.text.items) }
-    ensures cut { let job = reading_images logs.now 0 threads (recover_any init.text.items init.object) in
-        IfErr result (λ e. JobCut (S.seen store.old) (S.seen store.new) job) }
-    ensures determined { IfOk result (λ answer. answer.ending ≡ Done
-        → RecoversLogs (S.seen store.old) init.text.items logs.now threads answer.text.items init.object) }
-    ensures same { SameFiles (S.seen store.old) (S.seen store.new) }
+    ensures { Does [] (S.seen store.old) (S.seen store.new) (logs_task init.text.items init.object logs.now threads) result }
 {
     match read_images(alloc, logs, threads, store) {
         Ok(images) => recover_any(alloc, init.object, &init.text, &images),
-        Err(stop) => stop.answer(),
+        Err(stop) => Err(stop),
     }
 }
 
@@ -166,17 +152,12 @@ pub(crate) fn answer<S: Store>(
     logs: &str,
     threads: u64,
     store: &mut S,
-) -> Result<Answer, NoMemory>
+) -> Result<Vec<u8>, Stop>
     requires { (1 ≤ threads) × (threads ≤ most_threads) }
-    ensures says { IfOk result (λ answer. JobEnds (S.seen store.old) (S.seen store.new)
-        (recover_job init.now logs.now threads) answer.ending answer.text.items) }
-    ensures cut { IfErr result (λ e. JobCut (S.seen store.old) (S.seen store.new) (recover_job init.now logs.now threads)) }
-    ensures determined { IfOk result (λ answer. answer.ending ≡ Done
-        → RecoversFiles (S.seen store.old) init.now logs.now threads answer.text.items) }
-    ensures same { SameFiles (S.seen store.old) (S.seen store.new) }
+    ensures { Does [] (S.seen store.old) (S.seen store.new) (recover_work init.now logs.now threads).task result }
 {
     match init_file(alloc, init, store) {
         Ok(read) => recover_logs(alloc, read, logs, threads, store),
-        Err(stop) => stop.answer(),
+        Err(stop) => Err(stop),
     }
 }

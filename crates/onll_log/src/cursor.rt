@@ -37,7 +37,11 @@ impl<'a> Model for LogCursor<'a> {
 
     ghost Value = { CursorState };
 
-    ghost view = { λ s. record { content = record { head = s.head; entries = entries_under s.head (words_of s.lines.now) }; passed = s.passed } };
+    ghost view = { λ s. record {
+      content = record
+          { head = s.head; entries = entries_under s.head (words_of s.lines.now) };
+      passed = s.passed;
+    } };
 
     ghost invariant = { λ s. StandsAt s.head (words_of s.lines.now) s.passed s.at s.next };
 }

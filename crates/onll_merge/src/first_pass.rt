@@ -66,7 +66,8 @@ fn check_heads(cursors: &[LogCursor<'_>], heads: &[LogHead]) -> Result<(), Recov
 /// What a log holds whose entries rise. It refuses the first entry that does not begin above the one before it.
 fn measure(log: u64, mut cursor: LogCursor<'_>) -> Result<Measured, RecoverFault>
     requires { cursor.passed ≡ 0 }
-    ensures order { let found = disorder_in log 0 0 cursor.entry.content.entries in MatchResult result (λ _. found ≡ None) (λ e. found ≡ Some e) }
+    ensures order { let found = disorder_in log 0 0 cursor.entry.content.entries in
+        MatchResult result (λ _. found ≡ None) (λ e. found ≡ Some e) }
     ensures rises { OnOk result (Rises 0 cursor.entry.content.entries) }
     ensures counts { IfOk result (λ m. m.counts ≡ log_counts cursor.entry.content) }
     ensures top { IfOk result (λ m. m.top ≡ top_in_log cursor.entry.content.entries) }

@@ -39,7 +39,8 @@ fn merge_places(
 ) -> Result<Vec<Node>, RecoverFault>
     requires rise { AllRise (contents_under cursors.items) }
     requires first { AllByRecursion (λ c. c.passed ≡ 0) cursors.items }
-    ensures refused { let logs = contents_under cursors.entry.items in let found = option_or (unlike logs top) (stray_above [] (nodes_to logs top)) in
+    ensures refused { let logs = contents_under cursors.entry.items in
+        let found = option_or (unlike logs top) (stray_above [] (nodes_to logs top)) in
         MatchResult result (λ _. found ≡ None) (λ e. (e ≡ OutOfMemory) ⊎ (found ≡ Some e)) }
     ensures nodes { IfOk result (λ nodes. nodes.items ≡ nodes_to (contents_under cursors.entry.items) top) }
 {
@@ -94,7 +95,9 @@ fn heads_for(
 ) -> Result<Vec<LogHead>, ImagesFault>
     requires object { (1 ≤ object) × (object ≤ 4) }
     requires images { length images.now ≤ most_threads }
-    ensures heads { MatchResult result (λ heads. heads.items ≡ expected_heads object init.now (length images.now) 0 (map (λ image. words_of image.items) images.now)) (λ fault. fault ≡ Recover OutOfMemory) }
+    ensures heads { MatchResult result (λ heads. heads.items
+        ≡ expected_heads object init.now (length images.now) 0 (map (λ image. words_of image.items) images.now))
+        (λ fault. fault ≡ Recover OutOfMemory) }
     ensures count { IfOk result (λ heads. length heads.items ≡ length images.now) }
 {
     let mut heads = Vec::new(alloc);

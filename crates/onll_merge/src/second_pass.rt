@@ -66,7 +66,8 @@ fn join(
     place: u64,
 ) -> Result<Option<Holder>, RecoverFault>
     ensures clash { (c : Content) (cs : List Content) → node_in_log c.entries place ≡ node →
-        MatchResult result (λ next. clash_with found log (c ∷ cs) place ≡ clash_with next (suc log) cs place) (λ e. clash_with found log (c ∷ cs) place ≡ Some e) }
+        MatchResult result (λ next. clash_with found log (c ∷ cs) place ≡ clash_with next (suc log) cs place)
+        (λ e. clash_with found log (c ∷ cs) place ≡ Some e) }
     ensures node { IfOk result (λ next. held_node next ≡ option_or (held_node found) node) }
 {
     match (found, node) {

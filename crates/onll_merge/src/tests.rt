@@ -1,3 +1,5 @@
+//! Tests of the merge.
+
 use super::*;
 use onll_log::{Decoded, Entries, Entry, LogHead, Nodes, entry_head};
 use onll_model::{Node, node_line};

@@ -20,7 +20,8 @@ use Rattle.onll_merge.specs.declared.counts.LogCounts.{LogCounts}
 use Rattle.onll_merge.specs.Recovered.{Recovered}
 use Rattle.onll_jobs.specs.RecoverJob.{content_line, log_lines, recovered_line, lines_with}
 use Rattle.onll_jobs.specs.ReplayJob.{begun_lines, flagged_lines, crash_line, fenced_lines, replay_report}
-use Rattle.onll_jobs.specs.Reports.{HeldData, RecoverData, held_line, held_lines, recover_data_lines, HeldReads, RecoverReads, held_with, held_of, found_data, recover_data, LogData, RunData, thread_lines, counted_lines, run_data_lines, EachReads, LogReads, RunReads, counts_of, replay_data}
+use Rattle.onll_jobs.specs.RecoverJob.{HeldData, RecoverData, held_line, held_lines, recover_data_lines, HeldReads, RecoverReads, held_with, held_of, found_data, recover_data}
+use Rattle.onll_jobs.specs.ReplayJob.{LogData, RunData, thread_lines, counted_lines, run_data_lines, EachReads, LogReads, RunReads, counts_of, replay_data}
 use Rattle.onll_jobs.proofs.ReplaySteps.{crash_in_words}
 use Rattle.onll_jobs.proofs.RecoverSteps.{recovered_in_words}
 

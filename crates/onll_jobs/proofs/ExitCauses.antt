@@ -6,6 +6,7 @@ use Rattle.onll_model.specs.Object.{Behaviour}
 use Rattle.onll_text.specs.Wording.{Wording}
 use Rattle.onll_text.specs.Script.{script_of}
 use Rattle.onll_text.specs.Init.{init_of}
+use Rattle.onll_text.specs.Kinds.{ObjectKind, on_object}
 use Rattle.onll_text.proofs.EachKind.{each_object}
 use Rattle.onll_jobs.specs.Fold.{fold_report}
 use Rattle.onll_jobs.specs.declared.ending.Ending.{Ending}
@@ -18,14 +19,15 @@ use Rattle.onll_jobs.specs.Printed.{usage_text, status_of, exit_status}
 use Rattle.onll_jobs.specs.Job.{Job, Say, JobEnds, Never, Decides}
 use Rattle.onll_log.specs.Grammar.{Content, content_of}
 use Rattle.onll_log.specs.ImageFile.{image_lines}
-use Rattle.onll_jobs.specs.ShowJob.{shown}
+use Rattle.onll_jobs.specs.ShowJob.{shown_task}
 use Rattle.onll_merge.specs.declared.fault.StateFault.{StateFault}
-use Rattle.onll_jobs.specs.Images.{reading_images}
-use Rattle.onll_jobs.specs.RecoverJob.{found_says, recover_on, recover_any}
 use Rattle.onll_merge.specs.Recovered.{Recovered, state_recovered}
-use Rattle.onll_jobs.specs.FoldJob.{script_job, script_job_on}
+use Rattle.onll_jobs.specs.RecoverJob.{found_task, images_task}
+use Rattle.onll_jobs.specs.FoldJob.{script_task}
 use Rattle.onll_jobs.specs.Exits.{PutExits}
 use Rattle.onll_jobs.specs.Says.{job_of, Allows, PutWhole, OutOfMemory, SinkFailed, ExitSays, NothingFailed, NoneRose, SaysThis}
+use Rattle.onll_jobs.specs.Doing.{Task}
+use Rattle.onll_jobs.specs.Over.{OverForm, FoldOver, RecoverOver, over_task, over_work}
 use Rattle.onll_jobs.proofs.Onwards.{ends_cut}
 use Rattle.onll_jobs.proofs.Jobs.{TellsFault, nothing_failed, decided, never_says, reading_never, reading_whole_never}
 use Rattle.onll_jobs.proofs.ImageFiles.{reading_images_never}
@@ -87,39 +89,39 @@ no_memory_of w (Said e) h s = absurd (not_nine e h)
 no_memory_of w SinkFault h s = absurd (omega arith)
 no_memory_of w NoMemory h s = s
 
-report_never : {State Op Query Reply : Type 0} (b : Behaviour State Op Query Reply) (w : Wording State Op Query Reply) (s : State) (script : List ℕ) → Never Usage (script_job b w s script)
+report_never : {State Op Query Reply : Type 0} (b : Behaviour State Op Query Reply) (w : Wording State Op Query Reply) (s : State) (script : List ℕ) → Never Usage (script_task b w s script).job
 report_never {State} {Op} {Query} {Reply} b w s script =
     let never : (calls : List (Call State Op Query Reply)) → Done ≡ Usage → ⊥ = (λ calls e. cc) in
     reading_never script (script_of w) (λ calls. Say Done (fold_report b w s calls)) never
 
-script_never : (script : List ℕ) (object : AnyObject) → Never Usage (script_job_on script object)
-script_never script object =
-    each_object (λ k s. script_job k.means k.wording s script) (Never Usage) (λ k s known. report_never k.means k.wording s script) object
-
-content_never : (content : Option Content) → Never Usage (shown content)
+content_never : (content : Option Content) → Never Usage (shown_task content).job
 content_never None = λ e. cc
 content_never (Some content) = λ e. cc
 
-found_never : {State Op Query Reply : Type 0} (b : Behaviour State Op Query Reply) (w : Wording State Op Query Reply) (s : State) (r : Result Recovered StateFault) → Never Usage (found_says b w s r)
+found_never : {State Op Query Reply : Type 0} (b : Behaviour State Op Query Reply) (w : Wording State Op Query Reply) (s : State) (r : Result Recovered StateFault) → Never Usage (found_task b w s r).job
 found_never b w s (Ok r) = λ e. cc
 found_never b w s (Err fault) = λ e. cc
 
-recover_never : (init : List ℕ) (object : AnyObject) (images : List (List (List ℕ))) → Never Usage (recover_any init object images)
-recover_never init object images =
-    each_object {A = List (List (List ℕ)) → Job} (λ k s images. recover_on k.means k.wording k.code init s images) (λ next. (images : List (List (List ℕ))) → Never Usage (next images))
-    (λ k s known images. found_never k.means k.wording s (state_recovered k.means k.code init images)) object images
+-- what never says the usage over any object never says it
+over_never : (init : List ℕ) (over : OverForm) → ((k : ObjectKind) (bytes : List ℕ) (s : k.State) → Never Usage (over_task over k bytes s).job)
+    → Never Usage (over_work init over).task.job
+over_never init over never =
+    reading_whole_never init init_of (λ bytes object. (on_object (λ k s. over_task over k bytes s) object).job)
+    (λ bytes object. each_object {A = Task} (λ k s. over_task over k bytes s) (λ task. Never Usage task.job) (λ k s known. never k bytes s) object)
 
 -- words of a form never get the usage text
 not_usage : (w : Seen) (form : Form) → form_of w.words ≡ Some form → Never Usage (job_of (Some form)) → PutWhole w Usage → ⊥
 not_usage w form e never h = never_says w.store w.store_after (job_of (Some form)) h.text never (subst (λ f. JobEnds w.store w.store_after (job_of f) Usage h.text) e h.allowed)
 
 form_not_usage : (w : Seen) (form : Form) → form_of w.words ≡ Some form → PutWhole w Usage → ⊥
-form_not_usage w (Fold init script) e h = not_usage w (Fold init script) e (reading_never init init_of (script_job_on script) (script_never script)) h
+form_not_usage w (Fold init script) e h =
+    not_usage w (Fold init script) e (over_never init (FoldOver script) (λ k bytes s. report_never k.means k.wording s script)) h
 form_not_usage w (Show image) e h = not_usage w (Show image) e (λ bytes. content_never (content_of (image_lines bytes))) h
 form_not_usage w (Recover init logs threads) e h =
     not_usage w (Recover init logs threads) e
-    (reading_whole_never init init_of (λ bytes object. reading_images logs 0 threads (recover_any bytes object))
-    (λ bytes object. reading_images_never logs threads 0 (recover_any bytes object) (recover_never bytes object))) h
+    (over_never init (RecoverOver logs threads)
+    (λ k bytes s. reading_images_never logs threads 0 (λ images. (images_task k.means k.wording k.code bytes s images).job)
+    (λ images. found_never k.means k.wording s (state_recovered k.means k.code bytes images)))) h
 form_not_usage w (Replay init schedule logs scripts) e h = replay_not_usage w init schedule logs scripts e h
 
 usage_put : (w : Seen) (form : Option Form) → form_of w.words ≡ form → PutWhole w Usage → (form ≡ None) × Puts w.sink w.sink_after usage_text

@@ -6,6 +6,7 @@ mod ImageFiles
 mod Onwards
 mod RecoverSteps
 mod ReplaySteps
+mod Stages
 mod Stops
 pub mod Jobs
 pub mod ShowWords

@@ -1,11 +1,11 @@
-use Rattle.std.proofs.Common.{Vec, Global, ℕ, zero, suc, true, false, List, [], ◌∷◌, ◌++◌, ◌≡◌, inl, inr, ⊎_elim, Option, Some, cond, ◌+◌, ◌<◌, length, drop, get_or, true≢false, Result, Ok, Err, refl, sym, ap, ◌∙◌, subst, arith, append_assoc, append-nil}
+-- How jobs that read and write go on.
+
+use Rattle.std.proofs.Common.{Vec, Global, ℕ, zero, suc, true, false, List, [], ◌∷◌, ◌++◌, ◌≡◌, inl, inr, ⊎_elim, Option, Some, cond, ◌+◌, ◌<◌, length, drop, get_or, true≢false, Result, refl, sym, ap, ◌∙◌, subst, arith}
 use Rattle.std.proofs.lemmas.List.{drop_more}
 use Rattle.std.proofs.lemmas.Bool.{cases_Bool}
 use Rattle.std.proofs.lemmas.Slice.Eq.{bytes_eq-Decides}
 use Rattle.std.specs.List.{AllByRecursion}
-use Rattle.std.specs.Result.{IfOk, IfErr, MatchResult}
 use Rattle.std.specs.Str.{bytes_eq}
-use Rattle.onll_words.specs.declared.NoMemory.{NoMemory}
 use Rattle.onll_words.specs.declared.line.Line.{Line}
 use Rattle.onll_pmem.specs.Pmem.{words_of}
 use Rattle.onll_log.specs.ImageFile.{image_lines}
@@ -13,20 +13,14 @@ use Rattle.onll_outside.specs.Views.{StoreView, SameFiles, SameOthers, SameFault
 use Rattle.onll_text.specs.Refusal.{Refusal}
 use Rattle.onll_jobs.specs.declared.ending.Ending.{Ending}
 use Rattle.onll_jobs.specs.declared.ending.Ending.TheVariants.{Done, Usage, Refused, BadLog, ReadFault, WriteFault}
-use Rattle.onll_jobs.specs.declared.answer.Answer.{Answer}
-use Rattle.onll_jobs.specs.declared.answer.Stop.{Stop}
 use Rattle.onll_jobs.specs.declared.answer.Stop.TheVariants as stops
-use Rattle.onll_jobs.specs.Stop.{StopSays}
 use Rattle.onll_jobs.specs.Reading.{Reads, ReadsWhole, HoldsImage, Stops}
-use Rattle.onll_jobs.specs.Images.{image_name, images_in, image_bytes, image_names, writing_images, ImagesStop, ImagesCut}
-use Rattle.onll_jobs.specs.Writing.{FilesStay, OthersStay, SameBut, HasWritten, CannotWrite, WriteFailed, WriteStops, written}
-use Rattle.onll_jobs.specs.Job.{Job, Say, Read, Write, JobEnds, JobCut, GoesOn, SaysNow, on_value, reading, reading_whole}
-use Rattle.onll_jobs.proofs.Jobs.{files_stay, cannot_from, stopped_says}
-use Rattle.onll_jobs.proofs.Stops.{StopSays-weaker}
+use Rattle.onll_jobs.specs.Images.{image_name, images_in, image_bytes, image_names, writing_images}
+use Rattle.onll_jobs.specs.Writing.{FilesStay, OthersStay, SameBut, HasWritten, CannotWrite, WriteFailed, written}
+use Rattle.onll_jobs.specs.Job.{Job, Say, Read, Write, JobEnds, JobCut, GoesOn, on_value, reading, reading_whole}
+use Rattle.onll_jobs.proofs.Jobs.{files_stay, cannot_from}
 
--- How jobs that read and write go on.
-
-stay_more : (store mid after : StoreView) → FilesStay store mid → FilesStay mid after → FilesStay store after
+pub stay_more : (store mid after : StoreView) → FilesStay store mid → FilesStay mid after → FilesStay store after
 stay_more store mid after first then_ = record { tells = then_.tells ∙ first.tells; file = λ tells name. then_.file (first.tells ∙ tells) name ∙ first.file tells name }
 
 faults_more : (store mid after : StoreView) → SameFaults store mid → SameFaults mid after → SameFaults store after
@@ -92,21 +86,6 @@ ends_cut store after (Read name next) ending text (inr h) = inr (h.0, (h.1.0, en
 ends_cut store after (Write name bytes next) ending text (inl h) = inl (inr (cannot_write_failed store after name ending text h))
 ends_cut store after (Write name bytes next) ending text (inr h) = inr (ends_cut (written store name bytes) after next ending text h)
 
--- whatever the error
-pub on_any_error : {A E P : Type 0} (r : Result A E) → P → IfErr r (λ e. P)
-on_any_error (Ok x) h = tt
-on_any_error (Err e) h = h
-
--- no file changed, and memory could not be had
-pub stayed : {A E : Type 0} (store after : StoreView) (job : Job) (r : Result A E) → SameFiles store after → IfErr r (λ e. JobCut store after job)
-stayed store after job r same = on_any_error r (stay_cut store after job (files_stay store after same))
-
--- what is said at once
-pub now_ends : (store : StoreView) (job : Job) (ending : Ending) (text : List ℕ) → SaysNow job ending text → JobEnds store store job ending text
-now_ends store (Say e t) ending text h = (h.0, h.1, record { tells = refl; file = λ tells name. refl }, (refl, refl))
-now_ends store (Read name next) ending text h = absurd h
-now_ends store (Write name bytes next) ending text h = absurd h
-
 -- ---- jobs one after the other
 pub goes_same : (store : StoreView) (job : Job) → GoesOn store store job job
 goes_same store job = record { ends = λ after ending text h. h; cut = λ after h. h }
@@ -116,21 +95,6 @@ goes_after store mid new job next last first then_ = record {
   ends = λ after ending text h. first.ends after ending text (then_.ends after ending text h);
   cut = λ after h. first.cut after (then_.cut after h);
 }
-
--- what the rest answers is the answer of the whole
-pub says_on : (store mid after : StoreView) (job next : Job) (r : Result Answer NoMemory) → GoesOn store mid job next
-    → IfOk r (λ answer. JobEnds mid after next answer.ending answer.text.items) → IfOk r (λ answer. JobEnds store after job answer.ending answer.text.items)
-says_on store mid after job next (Ok answer) on h = on.ends after answer.ending answer.text.items h
-says_on store mid after job next (Err e) on h = tt
-
-pub cut_on : (store mid after : StoreView) (job next : Job) (r : Result Answer NoMemory) → GoesOn store mid job next → IfErr r (λ e. JobCut mid after next) → IfErr r (λ e. JobCut store after job)
-cut_on store mid after job next (Ok answer) on h = tt
-cut_on store mid after job next (Err e) on h = on.cut after h
-
--- and so is what the rest says at once
-pub now_on : (store mid : StoreView) (job next : Job) (r : Result Answer NoMemory) → GoesOn store mid job next → IfOk r (λ answer. SaysNow next answer.ending answer.text.items) → IfOk r (λ answer. JobEnds store mid job answer.ending answer.text.items)
-now_on store mid job next (Ok answer) on h = on.ends mid answer.ending answer.text.items (now_ends mid next answer.ending answer.text.items h)
-now_on store mid job next (Err e) on h = tt
 
 -- ---- reading
 on_read : (store mid : StoreView) (name : List ℕ) (next : List ℕ → Job) (bytes : List ℕ) → Holds store name bytes → SameFiles store mid → SameFaults store mid → GoesOn store mid (Read name next) (next bytes)
@@ -165,51 +129,6 @@ stopped_ends store after name grammar next Refused text same h =
 stopped_ends store after name grammar next BadLog text same h = absurd h
 stopped_ends store after name grammar next ReadFault text same h = inl (h, files_stay store after same)
 stopped_ends store after name grammar next WriteFault text same h = absurd h
-
--- and the answer says so
-pub stopped : {A : Type 0} (store after : StoreView) (name : List ℕ) (grammar : List ℕ → Result A Refusal) (next : List ℕ → A → Job) (s : Stop) (r : Result Answer NoMemory)
-    → SameFiles store after → MatchResult r (λ answer. s ≡ stops.Says answer) (λ e. s ≡ stops.NoMemory) → StopSays s (Stops store after grammar name)
-    → IfOk r (λ answer. JobEnds store after (reading_whole name grammar next) answer.ending answer.text.items)
-stopped store after name grammar next s r same m h =
-    stopped_says s r (Stops store after grammar name) (JobEnds store after (reading_whole name grammar next)) (λ e t. stopped_ends store after name grammar next e t same) m h
-
--- ---- reading one value after the other
--- Some values were read, and neither files nor faults changed: a job that reads all goes on to those that are left, and has the
--- others before them.
-pub record ReadSo {X : Type 0} (store mid : StoreView) (whole left : (List X → Job) → Job) (values : List X) : Type 0 where
-  pub on : (next : List X → Job) → (rest_next : List X → Job) × ((rest : List X) → rest_next rest ≡ next (values ++ rest)) × GoesOn store mid (whole next) (left rest_next)
-  pub same : SameFiles store mid
-  pub faults : SameFaults store mid
-
-pub none_read : {X : Type 0} (store : StoreView) (whole : (List X → Job) → Job) (values : List X) → values ≡ [] → ReadSo store store whole whole values
-none_read store whole values e = subst (ReadSo store store whole whole) (sym e) (record {
-  on = λ next. (next, (λ rest. refl), goes_same store (whole next));
-  same = record { tells = refl; file = λ name. refl };
-  faults = (refl, refl);
-})
-
--- one value more
-pub value_next : {X : Type 0} (store mid new : StoreView) (whole before left : (List X → Job) → Job) (values more : List X) (x : X) → ReadSo store mid whole before values → SameFiles mid new → SameFaults mid new
-    → ((next : List X → Job) → GoesOn mid new (before next) (left (λ rest. next (x ∷ rest)))) → more ≡ values ++ x ∷ [] → ReadSo store new whole left more
-value_next store mid new whole before left values more x so files faults step e = record {
-  on = λ next. let o = so.on next in (
-    λ rest. o.0 (x ∷ rest),
-    (λ rest. o.1 (x ∷ rest) ∙ ap next (sym (append_assoc values (x ∷ []) rest)) ∙ ap (λ l. next (l ++ rest)) (sym e)),
-    goes_after store mid new (whole next) (before o.0) (left (λ rest. o.0 (x ∷ rest))) o.2 (step o.0),
-  );
-  same = record { tells = files.tells ∙ so.same.tells; file = λ name. files.file name ∙ so.same.file name };
-  faults = (faults.0 ∙ so.faults.0, faults.1 ∙ so.faults.1);
-}
-
--- the next value can't be read
-pub value_stopped : {X : Type 0} (store mid after : StoreView) (whole before : (List X → Job) → Job) (values : List X) (ending : Ending) (text : List ℕ) → ReadSo store mid whole before values
-    → ((next : List X → Job) → JobEnds mid after (before next) ending text) → (next : List X → Job) → JobEnds store after (whole next) ending text
-value_stopped store mid after whole before values ending text so stop next = let o = so.on next in o.2.ends after ending text (stop o.0)
-
--- all were read
-pub values_read : {X : Type 0} (store new : StoreView) (whole left : (List X → Job) → Job) (values : List X) → ((next : List X → Job) → left next ≡ next []) → ReadSo store new whole left values
-    → (next : List X → Job) → GoesOn store new (whole next) (next values)
-values_read store new whole left values e so next = let o = so.on next in subst (GoesOn store new (whole next)) (e o.0 ∙ o.1 [] ∙ ap next (append-nil values)) o.2
 
 -- ---- writing
 -- what a store's write leaves
@@ -260,17 +179,3 @@ wrote_next store mid new logs images image i h same so w others = record {
       (on_write mid new (image_name logs i) (image_bytes (words_of image.items)) rest w))));
   others = others_on store mid new logs (length images) i h so.others others;
 }
-
--- the next image can't be written
-pub wrote_stopped : (store mid after : StoreView) (logs : List ℕ) (images : List (Vec Line Global)) (image : Vec Line Global) (i : ℕ) (s : Stop) → i < length images → image ≡ get_or images i image
-    → WroteSo store mid logs images i → StopSays s (CannotWrite mid after (image_name logs i)) → StopSays s (ImagesStop store after logs (images_in images))
-wrote_stopped store mid after logs images image i s h same so stop =
-    StopSays-weaker s (CannotWrite mid after (image_name logs i)) (ImagesStop store after logs (images_in images))
-    (λ ending text k next. (so.on next).ends after ending text
-    (subst (λ l. JobEnds mid after (writing_images logs i (images_in l) next) ending text) (sym (drop_more images i image h)) (inl k))) stop
-
--- the next image is not written
-pub wrote_cut : (store mid new : StoreView) (logs : List ℕ) (images : List (Vec Line Global)) (image : Vec Line Global) (i : ℕ) → i < length images → image ≡ get_or images i image
-    → WroteSo store mid logs images i → WriteStops mid new (image_name logs i) → ImagesCut store new logs (images_in images)
-wrote_cut store mid new logs images image i h same so stops next =
-    (so.on next).cut new (subst (λ l. JobCut mid new (writing_images logs i (images_in l) next)) (sym (drop_more images i image h)) (inl stops))

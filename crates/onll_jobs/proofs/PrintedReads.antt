@@ -1,4 +1,4 @@
-use Rattle.std.proofs.Common.{ℕ, zero, suc, ◌≡◌, ◌+◌, ◌-◌, ◌<◌, ◌≤◌, ◌^◌, Bool, true, false, List, [], ◌∷◌, ◌++◌, Option, Some, length, drop, get_or, map, sym, ap, ◌∙◌, subst, arith}
+use Rattle.std.proofs.Common.{ℕ, zero, suc, ◌≡◌, ◌+◌, ◌-◌, ◌<◌, ◌≤◌, ◌^◌, Bool, true, false, List, [], ◌∷◌, ◌++◌, Option, Some, None, length, drop, get_or, map, sym, ap, ◌∙◌, subst, arith}
 use Rattle.std.specs.List.{All, slice_get}
 use Rattle.std.specs.Option.{IfSome}
 use Rattle.std.proofs.lemmas.List.{drop_more}
@@ -18,7 +18,9 @@ use Rattle.onll_log.specs.declared.head.LogHead.{LogHead}
 use Rattle.onll_merge.specs.declared.counts.LogCounts.{LogCounts}
 use Rattle.onll_text.specs.Wording.{Wording}
 use Rattle.onll_text.specs.Reports.{EndReads}
-use Rattle.onll_jobs.specs.Reports.{EachReads, LogData, LogReads, counts_of, HeldReads, held_with, held_of, EntryReads, ShowReads, shown_with}
+use Rattle.onll_jobs.specs.RecoverJob.{HeldReads, held_with, held_of}
+use Rattle.onll_jobs.specs.ReplayJob.{EachReads, LogData, LogReads, counts_of}
+use Rattle.onll_jobs.specs.ShowJob.{EntryReads, ShowReads, shown_with}
 use Rattle.onll_jobs.proofs.ReplaySteps.{if_at, thread_at}
 
 -- What the commands print reads back, one part after the other.

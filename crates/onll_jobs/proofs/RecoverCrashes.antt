@@ -11,6 +11,7 @@ use Rattle.onll_text.specs.declared.any_object.AnyObject.{AnyObject}
 use Rattle.onll_text.specs.Refusal.{Refusal}
 use Rattle.onll_text.specs.Wording.{Wording}
 use Rattle.onll_text.specs.Init.{init_of}
+use Rattle.onll_text.specs.Kinds.{on_object}
 use Rattle.onll_text.proofs.EachKind.{each_goes}
 use Rattle.onll_outside.specs.Views.{StoreView}
 use Rattle.onll_jobs.specs.declared.ending.Ending.{Ending}
@@ -19,21 +20,24 @@ use Rattle.onll_jobs.specs.declared.ending.Exit.{Exit}
 use Rattle.onll_merge.specs.declared.fault.StateFault.{StateFault}
 use Rattle.onll_jobs.specs.Reading.{IsTold}
 use Rattle.onll_jobs.specs.Job.{Job, Decides, on_value}
-use Rattle.onll_jobs.specs.Images.{reading_images}
+use Rattle.onll_jobs.specs.Images.{image_names}
+use Rattle.onll_jobs.specs.Doing.{lines_stage, each_job}
 use Rattle.onll_jobs.specs.Seen.{Seen}
 use Rattle.onll_jobs.specs.Command.{form_of, Recover}
 use Rattle.onll_jobs.specs.Printed.{exit_status}
 use Rattle.onll_jobs.specs.Says.{job_of, ExitSays, NoneRose, SaysThis}
-use Rattle.onll_jobs.specs.RecoverJob.{recover_report, found_says, recover_on, recover_any, recover_job}
+use Rattle.onll_jobs.specs.RecoverJob.{recover_report, found_task, images_task}
 use Rattle.onll_merge.specs.Recovered.{Recovered, recovered_with, state_recovered}
 use Rattle.onll_jobs.specs.Durable.{TellImages, IsLeft, RecoversLeft, RecoversCrashes}
+use Rattle.onll_jobs.specs.Over.{RecoverOver, over_task, over_work}
+use Rattle.onll_jobs.specs.Doing.{Task}
 use Rattle.onll_jobs.proofs.Crashes.{crash_recovered}
 use Rattle.onll_jobs.proofs.ExitCauses.{decided_exactly}
 
 -- What a crash left in told files is recovered.
 
 decides_images : (store : StoreView) (logs : List ℕ) (i : ℕ) (images : List (List (List ℕ))) (next : List (List (List ℕ)) → Job) (ending : Ending) (text : List ℕ)
-    → TellImages store logs i images → Decides store (next images) ending text → Decides store (reading_images logs i (length images) next) ending text
+    → TellImages store logs i images → Decides store (next images) ending text → Decides store (each_job lines_stage (image_names logs i (length images)) next) ending text
 decides_images store logs i [] next ending text told d = d
 decides_images store logs i (image ∷ images) next ending text told d =
     let here = told.0 in (
@@ -46,20 +50,22 @@ decides_images store logs i (image ∷ images) next ending text told d =
     )
 
 found_decides : {State Op Query Reply : Type 0} (b : Behaviour State Op Query Reply) (w : Wording State Op Query Reply) (store : StoreView) (s : State) (found : Result Recovered StateFault) (r : Recovered) → found ≡ Ok r
-    → Decides store (found_says b w s found) Done (recover_report b w s r)
-found_decides b w store s found r e = subst (λ (x : Result Recovered StateFault). Decides store (found_says b w s x) Done (recover_report b w s r)) (sym e) (refl, refl)
+    → Decides store (found_task b w s found).job Done (recover_report b w s r)
+found_decides b w store s found r e = subst (λ (x : Result Recovered StateFault). Decides store (found_task b w s x).job Done (recover_report b w s r)) (sym e) (refl, refl)
 
 -- the call says what the told files decide
 module _ (seen : Seen) (x : Exit) (says : ExitSays seen x) (init logs bytes : List ℕ) (threads : ℕ) (object : AnyObject)
     (form : form_of seen.words ≡ Some (Recover init logs threads)) (told : IsTold seen.store init bytes) (accepted : init_of bytes ≡ Ok object) (none : NoneRose seen) where
-  object_says : (text : List ℕ) → Decides seen.store (reading_images logs 0 threads (recover_any bytes object)) Done text → SaysThis seen (exit_status x) Done text
+  object_says : (text : List ℕ) → Decides seen.store (on_object (λ k s. over_task (RecoverOver logs threads) k bytes s) object).job Done text
+      → SaysThis seen (exit_status x) Done text
   object_says text d =
-      let on : Result AnyObject Refusal → Job = λ r. on_value init (λ o. reading_images logs 0 threads (recover_any bytes o)) r in
-      let job : Decides seen.store (recover_job init logs threads) Done text = (bytes, (told, subst (λ (r : Result AnyObject Refusal). Decides seen.store (on r) Done text) (sym accepted) d)) in
+      let on : Result AnyObject Refusal → Job = λ r. on_value init (λ o. (on_object (λ k s. over_task (RecoverOver logs threads) k bytes s) o).job) r in
+      let job : Decides seen.store (over_work init (RecoverOver logs threads)).task.job Done text =
+      (bytes, (told, subst (λ (r : Result AnyObject Refusal). Decides seen.store (on r) Done text) (sym accepted) d)) in
       decided_exactly seen x Done text (subst (λ f. Decides seen.store (job_of f) Done text) (sym form) job) none says
 
   left_recovers : {State Op Query Reply : Type 0} (b : Behaviour State Op Query Reply) (w : Wording State Op Query Reply) (code : ℕ) (s : State)
-      → ((text : List ℕ) → Decides seen.store (reading_images logs 0 threads (recover_on b w code bytes s)) Done text → SaysThis seen (exit_status x) Done text)
+      → ((text : List ℕ) → Decides seen.store (each_job lines_stage (image_names logs 0 threads) (λ images. (images_task b w code bytes s images).job)) Done text → SaysThis seen (exit_status x) Done text)
       → (left : IsLeft b code bytes s seen.store logs threads) → RecoversLeft b w code bytes s seen (exit_status x) logs threads left
   left_recovers b w code s say left =
       let first = created_core s code bytes left.scripts in
@@ -70,14 +76,14 @@ module _ (seen : Seen) (x : Exit) (says : ExitSays seen x) (init logs bytes : Li
       let many : length left.images ≡ threads = images_many core.threads left.images left.left ∙ ((steps_stay b first left.steps).all_threads ∙ (created_threads s code bytes left.scripts ∙ left.many)) in
       record {
         crash = crash;
-        says = say (recover_report b w s r) (subst (λ (n : ℕ). Decides seen.store (reading_images logs 0 n (recover_on b w code bytes s)) Done (recover_report b w s r)) many
-            (decides_images seen.store logs 0 left.images (recover_on b w code bytes s) Done (recover_report b w s r) left.files found));
+        says = say (recover_report b w s r) (subst (λ (n : ℕ). Decides seen.store (each_job lines_stage (image_names logs 0 n) (λ images. (images_task b w code bytes s images).job)) Done (recover_report b w s r)) many
+            (decides_images seen.store logs 0 left.images (λ images. (images_task b w code bytes s images).job) Done (recover_report b w s r) left.files found));
       }
 
 pub recovers_crashes : (seen : Seen) (x : Exit) → ExitSays seen x → RecoversCrashes seen (exit_status x)
 recovers_crashes seen x says init logs bytes threads object form told accepted none =
-    each_goes {A = List (List (List ℕ)) → Job} (λ k s images. recover_on k.means k.wording k.code bytes s images)
-    (λ next. (text : List ℕ) → Decides seen.store (reading_images logs 0 threads next) Done text → SaysThis seen (exit_status x) Done text)
+    each_goes {A = Task} (λ k s. over_task (RecoverOver logs threads) k bytes s)
+    (λ task. (text : List ℕ) → Decides seen.store task.job Done text → SaysThis seen (exit_status x) Done text)
     (λ k s. (left : IsLeft k.means k.code bytes s seen.store logs threads)
     → RecoversLeft k.means k.wording k.code bytes s seen (exit_status x) logs threads left)
     (λ says. says)

@@ -16,6 +16,7 @@ use Rattle.onll_text.specs.declared.schedule.Schedule.{Schedule}
 use Rattle.onll_text.specs.Refusal.{Refusal}
 use Rattle.onll_text.specs.Wording.{Wording}
 use Rattle.onll_text.specs.Init.{init_of}
+use Rattle.onll_text.specs.Kinds.{on_object}
 use Rattle.onll_text.specs.Script.{script_of}
 use Rattle.onll_text.specs.Schedule.{schedule_of}
 use Rattle.onll_text.proofs.FewCalls.{few_calls}
@@ -32,8 +33,10 @@ use Rattle.onll_jobs.specs.Seen.{Seen}
 use Rattle.onll_jobs.specs.Command.{form_of, Replay}
 use Rattle.onll_jobs.specs.Says.{job_of, PutWhole}
 use Rattle.onll_merge.specs.Recovered.{Recovered, recovered_with, state_recovered}
-use Rattle.onll_jobs.specs.ReplayJob.{played, replay_report, crash_says, crash_job, reading_scripts, schedule_job, replay_on, replay_any, replay_job}
-use Rattle.onll_jobs.specs.Durable.{ReadScripts, with_images, HasReplayed, HasReplayedAny, ReplayPut}
+use Rattle.onll_jobs.specs.ReplayJob.{played, ReadScripts, replay_report, run_task, crash_task, schedule_task, scripts_stage, scripts_task}
+use Rattle.onll_jobs.specs.Durable.{with_images, HasReplayed, HasReplayedAny, ReplayPut}
+use Rattle.onll_jobs.specs.Over.{ReplayOver, over_task, over_work}
+use Rattle.onll_jobs.specs.Doing.{Task}
 use Rattle.onll_jobs.proofs.Crashes.{crash_recovered}
 use Rattle.onll_jobs.proofs.Forms.{few-scripts}
 
@@ -104,10 +107,10 @@ module _ (after : StoreView) (ending : Ending) (text : List ℕ) (said : IsSaid 
   images_end store logs i (image ∷ images) next (inr h) = images_end (written store (image_name logs i) (image_bytes image)) logs (suc i) images next h
 
   module _ {State Op Query Reply : Type 0} (b : Behaviour State Op Query Reply) (w : Wording State Op Query Reply) (store : StoreView) where
-    scripts_end : (names : List (List ℕ)) (next : List (List (Call State Op Query Reply)) → Job) → JobEnds store after (reading_scripts w names next) ending text → ScriptsEnd w store after names next ending text
+    scripts_end : (names : List (List ℕ)) (next : List (List (Call State Op Query Reply)) → Job) → JobEnds store after ((scripts_stage w names).job next) ending text → ScriptsEnd w store after names next ending text
     scripts_end [] next h = record { scripts = []; read = tt; ends = h }
     scripts_end (name ∷ names) next h =
-        let first = whole_ends store name (script_of w) (λ bytes calls. reading_scripts w names (λ scripts. next (calls ∷ scripts))) h in
+        let first = whole_ends store name (script_of w) (λ bytes calls. (scripts_stage w names).job (λ scripts. next (calls ∷ scripts))) h in
         let rest = scripts_end names (λ scripts. next (first.value ∷ scripts)) first.ends in
         record { scripts = first.value ∷ rest.scripts; read = (record { bytes = first.bytes; held = first.read.held; accepted = first.read.accepted }, rest.read); ends = rest.ends }
 
@@ -126,16 +129,16 @@ module _ (after : StoreView) (ending : Ending) (text : List ℕ) (said : IsSaid 
     -- ---- what was replayed
     module _ (code : ℕ) (is : (1 ≤ code) × (code ≤ 4)) (init : List ℕ) (s : State) (schedule logs : List ℕ) (names : List (List ℕ)) (few : length names ≤ 16) where
       -- what a crash says of a core that was played
-      crash_ends : (c : CoreState State Op Query Reply) (keep : ℕ) (store' : StoreView) (found : Result Recovered StateFault) (r : Recovered) → found ≡ Ok r → JobEnds store' after (crash_says b w c keep found) ending text
+      crash_ends : (scripts : List (List (Call State Op Query Reply))) (c : CoreState State Op Query Reply) (keep : ℕ) (store' : StoreView) (found : Result Recovered StateFault) (r : Recovered) → found ≡ Ok r → JobEnds store' after (run_task b w scripts c keep found).job ending text
           → (ending ≡ Done) × (text ≡ replay_report b w c keep r) × FilesStay store' after × SameFaults store' after
-      crash_ends c keep store' found r e h = subst (λ (x : Result Recovered StateFault). JobEnds store' after (crash_says b w c keep x) ending text) e h
+      crash_ends scripts c keep store' found r e h = subst (λ (x : Result Recovered StateFault). JobEnds store' after (run_task b w scripts c keep x).job ending text) e h
 
-      on_ends : JobEnds store after (replay_on b w code init schedule logs names s) ending text → (ending ≡ Done) × HasReplayed b w code init s store after schedule logs names text
+      on_ends : JobEnds store after (scripts_task b w code init schedule logs names s).job ending text → (ending ≡ Done) × HasReplayed b w code init s store after schedule logs names text
       on_ends h =
-          let read = scripts_end names (schedule_job b w code init s schedule logs) h in
+          let read = scripts_end names (λ scripts. (schedule_task b w code init s schedule logs scripts).job) h in
           let scripts = read.scripts in
           let count = length scripts in
-          let planned = whole_ends store schedule (schedule_of count) (λ bytes (plan : Schedule). crash_job b w code init logs (played b code init s scripts plan.turns) plan.keep) read.ends in
+          let planned = whole_ends store schedule (schedule_of count) (λ bytes (plan : Schedule). (crash_task b w code init logs scripts (played b code init s scripts plan.turns) plan.keep).job) read.ends in
           let plan = planned.value in
           let core = played b code init s scripts plan.turns in
           let images = images_of plan.keep core.threads in
@@ -145,7 +148,7 @@ module _ (after : StoreView) (ending : Ending) (text : List ℕ) (said : IsSaid 
           let left = picked_images count core plan.keep (steps_consistent b count (created_core s code init scripts) (turns_of plan.turns) (created_consistent s code init scripts within)) in
           let crash = (durable (turns_of plan.turns)).crash images left in
           let is_found = crash_recovered b code init s scripts (turns_of plan.turns) images within left crash.recovers in
-          let end = crash_ends core plan.keep (with_images store logs 0 images) found (recovered_with crash.recovers.logs crash.recovers.nodes) is_found (images_end store logs 0 images (crash_says b w core plan.keep found) planned.ends) in (
+          let end = crash_ends scripts core plan.keep (with_images store logs 0 images) found (recovered_with crash.recovers.logs crash.recovers.nodes) is_found (images_end store logs 0 images (run_task b w scripts core plan.keep found).job planned.ends) in (
             end.0,
             record {
               scripts = scripts;
@@ -161,16 +164,18 @@ module _ (after : StoreView) (ending : Ending) (text : List ℕ) (said : IsSaid 
             },
           )
 
-  any_ends : (store : StoreView) (init schedule logs : List ℕ) (names : List (List ℕ)) (object : AnyObject) → length names ≤ 16 → JobEnds store after (replay_any init schedule logs names object) ending text
+  any_ends : (store : StoreView) (init schedule logs : List ℕ) (names : List (List ℕ)) (object : AnyObject) → length names ≤ 16
+      → JobEnds store after (on_object (λ k s. over_task (ReplayOver schedule logs names) k init s) object).job ending text
       → (ending ≡ Done) × HasReplayedAny init store after schedule logs names text object
   any_ends store init schedule logs names object few h =
-      each_goes (λ k s. replay_on k.means k.wording k.code init schedule logs names s) (λ job. JobEnds store after job ending text)
+      each_goes {A = Task} (λ k s. over_task (ReplayOver schedule logs names) k init s) (λ task. JobEnds store after task.job ending text)
       (λ k s. HasReplayed k.means k.wording k.code init s store after schedule logs names text) (λ says. (ending ≡ Done) × says)
       (λ k s known h. on_ends k.means k.wording store k.code known init s schedule logs names few h) object h
 
-  job_ends : (store : StoreView) (init schedule logs : List ℕ) (names : List (List ℕ)) → length names ≤ 16 → JobEnds store after (replay_job init schedule logs names) ending text → ReplayEnds store after init schedule logs names ending text
+  job_ends : (store : StoreView) (init schedule logs : List ℕ) (names : List (List ℕ)) → length names ≤ 16
+      → JobEnds store after (over_work init (ReplayOver schedule logs names)).task.job ending text → ReplayEnds store after init schedule logs names ending text
   job_ends store init schedule logs names few h =
-      let read = whole_ends store init init_of (λ bytes object. replay_any bytes schedule logs names object) h in
+      let read = whole_ends store init init_of (λ bytes object. (on_object (λ k s. over_task (ReplayOver schedule logs names) k bytes s) object).job) h in
       let end = any_ends store read.bytes schedule logs names read.value few read.ends in
       record { done = end.0; bytes = read.bytes; object = read.value; read = read.read; replayed = end.1 }
 

@@ -1,6 +1,9 @@
-use Rattle.std.proofs.Common.{ℕ, ◌≡◌, ◌+◌, ◌<◌, List, [], ◌∷◌, ◌++◌, IsSome, length, drop, get_or, map, refl, sym, ap, ◌∙◌, subst}
+-- The parts of a replay, one after the other.
+
+use Rattle.std.proofs.Common.{Vec, Global, ℕ, suc, ◌≡◌, ◌+◌, ◌<◌, List, [], ◌∷◌, IsSome, length, drop, get_or, map, Result, Ok, Err, refl, sym, ap, ◌∙◌, subst}
 use Rattle.std.proofs.lemmas.List.{drop_more}
 use Rattle.std.specs.List.{AllByRecursion}
+use Rattle.onll_words.specs.declared.line.Line.{Line}
 use Rattle.onll_model.specs.declared.node.Node.{Node}
 use Rattle.onll_model.specs.declared.call.Call.{Call}
 use Rattle.onll_model.specs.declared.turn.Turn.{Turn}
@@ -8,96 +11,78 @@ use Rattle.onll_model.specs.Object.{Behaviour}
 use Rattle.onll_core.specs.Core.{CoreState}
 use Rattle.onll_core.specs.Step.{steps_of}
 use Rattle.onll_core.specs.Turns.{turns_of}
-use Rattle.onll_core.specs.Created.{created_core}
+use Rattle.onll_core.specs.First.{first_threads}
+use Rattle.onll_core.specs.Created.{heads_from, created_core}
 use Rattle.onll_core.specs.Crash.{images_of}
+use Rattle.onll_core.specs.Outcomes.{script_of}
+use Rattle.onll_core.proofs.Crashed.{steps_scripts}
 use Rattle.onll_core.proofs.Operations.{steps_operations}
-use Rattle.onll_outside.specs.Views.{StoreView, SameFiles, SameFaults}
-use Rattle.onll_text.specs.declared.schedule.Schedule.{Schedule}
-use Rattle.onll_text.specs.Wording.{Wording}
-use Rattle.onll_text.specs.Script.{script_of}
-use Rattle.onll_text.specs.Schedule.{schedule_of}
-use Rattle.onll_jobs.specs.declared.ending.Ending.{Ending}
-use Rattle.onll_jobs.specs.declared.answer.Stop.{Stop}
-use Rattle.onll_jobs.specs.Stop.{StopSays}
-use Rattle.onll_jobs.specs.Reading.{Reads, Stops}
-use Rattle.onll_jobs.specs.Writing.{SameBut}
-use Rattle.onll_jobs.specs.Images.{writing_images, AreWritten, ImagesStop, ImagesCut}
 use Rattle.onll_merge.specs.Recovered.{state_recovered}
-use Rattle.onll_jobs.specs.Job.{Job, JobEnds, JobCut, GoesOn, SaysNow}
-use Rattle.onll_jobs.specs.ReplayJob.{reading_scripts, ScriptsStop, played, crash_says, crash_job, schedule_job}
-use Rattle.onll_jobs.proofs.Onwards.{ReadSo, stay_cut, now_ends, on_text, value_next, value_stopped, stopped_ends}
-use Rattle.onll_jobs.proofs.Stops.{StopSays-weaker}
-
--- The parts of a replay, one after the other.
-
--- ---- where no file changes
-pub same_but : (names : List (List ℕ)) (store mid after : StoreView) → SameFiles store mid → SameBut names mid after → SameBut names store after
-same_but names store mid after first then_ = record { tells = then_.tells ∙ first.tells; file = λ other differs. then_.file other differs ∙ first.file other }
-
-pub same_all : (names : List (List ℕ)) (store after : StoreView) → SameFiles store after → SameBut names store after
-same_all names store after same = record { tells = same.tells; file = λ other differs. same.file other }
+use Rattle.onll_text.specs.Wording.{Wording}
+use Rattle.onll_text.specs.declared.schedule.Schedule.{Schedule}
+use Rattle.onll_text.specs.Schedule.{schedule_of}
+use Rattle.onll_outside.specs.Views.{StoreView}
+use Rattle.onll_jobs.specs.declared.answer.Stop.{Stop}
+use Rattle.onll_jobs.specs.Images.{image_names, images_in, writing_stage}
+use Rattle.onll_jobs.specs.Doing.{Task, after_stage, text_stage, Does, Begins}
+use Rattle.onll_jobs.specs.ReplayJob.{played, run_task, crash_task, schedule_task}
+use Rattle.onll_jobs.proofs.Stages.{wrote_does, stop_does, read_does}
 
 -- ---- scripts
 pub name_next : {X : Type 0} (f : X → List ℕ) (names : List X) (i : ℕ) (name : X) → i < length names → name ≡ get_or names i name → map f (drop i names) ≡ f name ∷ map f (drop (i + 1) names)
 name_next f names i name h same = ap (map f) (drop_more names i name h) ∙ ap (λ x. f x ∷ map f (drop (i + 1) names)) (sym same)
 
-module _ {State Op Query Reply : Type 0} (w : Wording State Op Query Reply) where
-  -- one script more
-  pub script_next : (store mid new : StoreView) (names left before : List (List ℕ)) (name : List ℕ) (scripts all : List (List (Call State Op Query Reply))) (calls : List (Call State Op Query Reply))
-      → before ≡ name ∷ left → ReadSo store mid (reading_scripts w names) (reading_scripts w before) scripts → SameFiles mid new → SameFaults mid new → Reads mid (script_of w) name calls → all ≡ scripts ++ calls ∷ []
-      → ReadSo store new (reading_scripts w names) (reading_scripts w left) all
-  script_next store mid new names left before name scripts all calls split so files faults r e =
-      value_next store mid new (reading_scripts w names) (reading_scripts w before) (reading_scripts w left) scripts all calls so files faults
-      (λ next. subst (λ l. GoesOn mid new (reading_scripts w l next) (reading_scripts w left (λ rest. next (calls ∷ rest)))) (sym split)
-      (on_text mid new name (script_of w) (λ c. reading_scripts w left (λ rest. next (c ∷ rest))) calls r files faults)) e
+-- ---- a core's scripts are those that it was made of
+made_scripts : {State Op Query Reply : Type 0} (count code : ℕ) (init : List ℕ) (t : ℕ) (scripts : List (List (Call State Op Query Reply)))
+    → map script_of (first_threads (heads_from count code init t (length scripts)) scripts) ≡ scripts
+made_scripts count code init t [] = refl
+made_scripts count code init t (script ∷ scripts) = ap (λ l. script ∷ l) (made_scripts count code init (suc t) scripts)
 
-  -- the next script gives no calls
-  pub script_stopped : (store mid after : StoreView) (names left before : List (List ℕ)) (name : List ℕ) (scripts : List (List (Call State Op Query Reply))) (s : Stop)
-      → before ≡ name ∷ left → ReadSo store mid (reading_scripts w names) (reading_scripts w before) scripts → SameFiles mid after → StopSays s (Stops mid after (script_of w) name) → StopSays s (ScriptsStop w store after names)
-  script_stopped store mid after names left before name scripts s split so files stop =
-      StopSays-weaker s (Stops mid after (script_of w) name) (ScriptsStop w store after names)
-      (λ ending text k. value_stopped store mid after (reading_scripts w names) (reading_scripts w before) scripts ending text so
-      (λ next. subst (λ l. JobEnds mid after (reading_scripts w l next) ending text) (sym split)
-      (stopped_ends mid after name (script_of w) (λ bytes c. reading_scripts w left (λ rest. next (c ∷ rest))) ending text files k))) stop
+pub played_scripts : {State Op Query Reply : Type 0} (b : Behaviour State Op Query Reply) (code : ℕ) (init : List ℕ) (s : State) (scripts : List (List (Call State Op Query Reply))) (turns : List Turn)
+    → map script_of (played b code init s scripts turns).threads ≡ scripts
+played_scripts b code init s scripts turns =
+    steps_scripts b (created_core s code init scripts) (turns_of turns) ∙ made_scripts (length scripts) code init 0 scripts
 
 -- ---- the crash
 module _ {State Op Query Reply : Type 0} (b : Behaviour State Op Query Reply) (w : Wording State Op Query Reply) (code : ℕ) (init logs : List ℕ) where
-  -- the images were written, and this is said of what they give
-  pub crash_ends : (c : CoreState State Op Query Reply) (keep : ℕ) (store mid : StoreView) (images : List (List (List ℕ))) (ending : Ending) (text : List ℕ) → images ≡ images_of keep c.threads
-      → AreWritten store mid logs images → SaysNow (crash_says b w c keep (state_recovered b code init images)) ending text → JobEnds store mid (crash_job b w code init logs c keep) ending text
-  crash_ends c keep store mid images ending text e written h =
-      subst (λ l. JobEnds store mid (writing_images logs 0 l (crash_says b w c keep (state_recovered b code init l))) ending text) e
-      ((written (crash_says b w c keep (state_recovered b code init images))).ends mid ending text (now_ends mid (crash_says b w c keep (state_recovered b code init images)) ending text h))
+  -- the same over any images
+  abbrev crash_over : List (List (Call State Op Query Reply)) → CoreState State Op Query Reply → ℕ → List (List (List ℕ)) → Task
+  crash_over scripts c keep images = after_stage (writing_stage logs images) (λ _. run_task b w scripts c keep (state_recovered b code init images))
 
-  -- they were written, and then memory could not be had
-  pub crash_cut : (c : CoreState State Op Query Reply) (keep : ℕ) (store mid : StoreView) (images : List (List (List ℕ))) → images ≡ images_of keep c.threads
-      → AreWritten store mid logs images → JobCut store mid (crash_job b w code init logs c keep)
-  crash_cut c keep store mid images e written =
-      let next = crash_says b w c keep (state_recovered b code init images) in
-      subst (λ l. JobCut store mid (writing_images logs 0 l (crash_says b w c keep (state_recovered b code init l)))) e
-      ((written next).cut mid (stay_cut mid mid next (record { tells = refl; file = λ tells name. refl })))
+  -- the images were written, and the rest is said
+  pub crash_does : {V A : Type 0} (scripts : List (List (Call State Op Query Reply))) (c : CoreState State Op Query Reply) (keep : ℕ) {store mid : StoreView} (images : List (Vec Line Global)) {value : V → Unit {0}} {v : V} (r : Result (Vec ℕ A) Stop)
+      → images_in images ≡ images_of keep c.threads → length images ≡ length c.threads
+      → Begins (image_names logs 0 (length images)) store mid (writing_stage logs (images_in images)) value (Ok v)
+      → ((any : StoreView) → Does [] any any (run_task b w scripts c keep (state_recovered b code init (images_in images))) r)
+      → Does (image_names logs 0 (length c.threads)) store mid (crash_task b w code init logs scripts c keep) r
+  crash_does scripts c keep {store} {mid} images r e n first says =
+      subst (λ images. Does (image_names logs 0 (length c.threads)) store mid (crash_over scripts c keep images) r) e
+      (subst (λ m. Does (image_names logs 0 m) store mid (crash_over scripts c keep (images_in images)) r) n
+      (wrote_does (λ _. run_task b w scripts c keep (state_recovered b code init (images_in images))) first says))
 
   -- one was not written
-  pub crash_cut_short : (c : CoreState State Op Query Reply) (keep : ℕ) (store after : StoreView) (images : List (List (List ℕ))) → images ≡ images_of keep c.threads
-      → ImagesCut store after logs images → JobCut store after (crash_job b w code init logs c keep)
-  crash_cut_short c keep store after images e h =
-      subst (λ l. JobCut store after (writing_images logs 0 l (crash_says b w c keep (state_recovered b code init l)))) e (h (crash_says b w c keep (state_recovered b code init images)))
-
-  -- one of the images could not be written
-  pub crash_stopped : (c : CoreState State Op Query Reply) (keep : ℕ) (store after : StoreView) (images : List (List (List ℕ))) (ending : Ending) (text : List ℕ) → images ≡ images_of keep c.threads
-      → ImagesStop store after logs images ending text → JobEnds store after (crash_job b w code init logs c keep) ending text
-  crash_stopped c keep store after images ending text e h =
-      subst (λ l. JobEnds store after (writing_images logs 0 l (crash_says b w c keep (state_recovered b code init l))) ending text) e (h (crash_says b w c keep (state_recovered b code init images)))
+  pub crash_stops : {V A : Type 0} (scripts : List (List (Call State Op Query Reply))) (c : CoreState State Op Query Reply) (keep : ℕ) {store after : StoreView} (images : List (Vec Line Global)) {value : V → Unit {0}} (s : Stop)
+      → images_in images ≡ images_of keep c.threads → length images ≡ length c.threads
+      → Begins (image_names logs 0 (length images)) store after (writing_stage logs (images_in images)) value (Err s)
+      → Does {A = A} (image_names logs 0 (length c.threads)) store after (crash_task b w code init logs scripts c keep) (Err s)
+  crash_stops {V} {A} scripts c keep {store} {after} images s e n first =
+      subst (λ images. Does {A = A} (image_names logs 0 (length c.threads)) store after (crash_over scripts c keep images) (Err s)) e
+      (subst (λ m. Does {A = A} (image_names logs 0 m) store after (crash_over scripts c keep (images_in images)) (Err s)) n
+      (stop_does (λ _. run_task b w scripts c keep (state_recovered b code init (images_in images))) first))
 
   -- the schedule was read, and its core crashes
-  pub schedule_on : (s : State) (schedule : List ℕ) (scripts : List (List (Call State Op Query Reply))) (threads : ℕ) (plan : Schedule) (c : CoreState State Op Query Reply) (store mid : StoreView)
-      → threads ≡ length scripts → Reads store (schedule_of threads) schedule plan → SameFiles store mid → SameFaults store mid → c ≡ played b code init s scripts plan.turns
-      → GoesOn store mid (schedule_job b w code init s schedule logs scripts) (crash_job b w code init logs c plan.keep)
-  schedule_on s schedule scripts threads plan c store mid n r files faults e =
-      let r' = subst (λ m. Reads store (schedule_of m) schedule plan) n r in
-      let job : Schedule → Job = λ p. crash_job b w code init logs (played b code init s scripts p.turns) p.keep in
-      subst (λ (k : CoreState State Op Query Reply). GoesOn store mid (schedule_job b w code init s schedule logs scripts) (crash_job b w code init logs k plan.keep)) (sym e)
-      (on_text store mid schedule (schedule_of (length scripts)) job plan r' files faults)
+  pub schedule_does : {A : Type 0} (s : State) (schedule : List ℕ) (scripts : List (List (Call State Op Query Reply))) (n : ℕ) (plan : Schedule) (c : CoreState State Op Query Reply) {store mid after : StoreView} (r : Result (Vec ℕ A) Stop)
+      → Begins [] store mid (text_stage schedule (schedule_of (length scripts))) (λ (p : Schedule). p) (Ok plan) → c ≡ played b code init s scripts plan.turns → length c.threads ≡ n
+      → Does (image_names logs 0 (length c.threads)) mid after (crash_task b w code init logs (map script_of c.threads) c plan.keep) r
+      → Does (image_names logs 0 n) store after (schedule_task b w code init s schedule logs scripts) r
+  schedule_does s schedule scripts n plan c {store} {mid} {after} r first e many says =
+      let run : CoreState State Op Query Reply = played b code init s scripts plan.turns in
+      let by : List (List (Call State Op Query Reply)) → CoreState State Op Query Reply → Type 0 =
+      λ scripts core. Does (image_names logs 0 n) mid after (crash_task b w code init logs scripts core plan.keep) r in
+      read_does (λ (plan : Schedule). crash_task b w code init logs scripts (played b code init s scripts plan.turns) plan.keep) first
+      (subst (λ scripts. by scripts run) (played_scripts b code init s scripts plan.turns)
+      (subst (λ (core : CoreState State Op Query Reply). by (map script_of core.threads) core) e
+      (subst (λ m. Does (image_names logs 0 m) mid after (crash_task b w code init logs (map script_of c.threads) c plan.keep) r) many says)))
 
 -- ---- the core
 -- each row of a core that was made and took steps is an operation's

@@ -13,7 +13,7 @@ use Rattle.onll_text.specs.Kinds.{object_name}
 use Rattle.onll_text.proofs.EachKind.{object_name_determined}
 use Rattle.onll_text.proofs.Determined.{text_determined, AreMeaningful-append, line_same, line_none, says_only}
 use Rattle.onll_jobs.specs.ShowJob.{head_line, row_line, row_lines, entry_words, entry_lines, entries_lines, count_words, content_lines, show_report}
-use Rattle.onll_jobs.specs.Reports.{ShownLog, shown_lines, RowReads, EntryReads, LogShownReads, ShowReads, shown_with, show_data}
+use Rattle.onll_jobs.specs.ShowJob.{ShownLog, shown_lines, RowReads, EntryReads, LogShownReads, ShowReads, shown_with, show_data}
 use Rattle.onll_jobs.proofs.ShowWords.{head_line_in_words, row_in_words, entry_in_words, count_in_words}
 
 -- The bytes of the report of an image determine what they say of it.

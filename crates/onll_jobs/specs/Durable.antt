@@ -11,7 +11,6 @@ use Rattle.onll_text.specs.declared.any_object.AnyObject.{AnyObject}
 use Rattle.onll_text.specs.declared.schedule.Schedule.{Schedule}
 use Rattle.onll_text.specs.Wording.{Wording}
 use Rattle.onll_text.specs.Init.{init_of}
-use Rattle.onll_text.specs.Script.{script_of}
 use Rattle.onll_text.specs.Schedule.{schedule_of}
 use Rattle.onll_text.specs.Kinds.{on_object}
 use Rattle.onll_outside.specs.Views.{StoreView, Puts}
@@ -23,19 +22,12 @@ use Rattle.onll_jobs.specs.Writing.{FilesStay, written}
 use Rattle.onll_jobs.specs.Images.{image_name, image_bytes}
 use Rattle.onll_merge.specs.Recovered.{recovered_with}
 use Rattle.onll_jobs.specs.RecoverJob.{recover_report}
-use Rattle.onll_jobs.specs.ReplayJob.{played, replay_report}
+use Rattle.onll_jobs.specs.ReplayJob.{played, ReadScripts, replay_report}
 use Rattle.onll_jobs.specs.Says.{NoneRose, SaysThis}
 
 -- What `replay` and `recover` say of crashes.
 
 -- ---- a replay
--- a script is read from each of these files
-abbrev pub ReadScripts : {State Op Query Reply : Type 0} → Wording State Op Query Reply → StoreView → List (List ℕ)
-    → List (List (Call State Op Query Reply)) → Type 0
-ReadScripts w store [] [] = Unit {0}
-ReadScripts w store (name ∷ names) (script ∷ scripts) = Reads store (script_of w) name script × ReadScripts w store names scripts
-ReadScripts w store names scripts = ⊥
-
 -- the store after the images of threads, from thread i on, were made files
 abbrev pub with_images : StoreView → List ℕ → ℕ → List (List (List ℕ)) → StoreView
 with_images store logs i [] = store

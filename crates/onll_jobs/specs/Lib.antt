@@ -4,6 +4,7 @@ pub mod Fold
 pub mod FoldJob
 pub mod Images
 pub mod Job
+pub mod Over
 pub mod Printed
 pub mod Reading
 pub mod RecoverJob
@@ -14,5 +15,4 @@ pub mod ShowJob
 pub mod Stop
 pub mod Writing
 pub mod Durable
-pub mod Reports
-pub mod Determined
+pub mod Doing

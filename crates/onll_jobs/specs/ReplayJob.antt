@@ -1,8 +1,12 @@
-use Rattle.std.specs.Prelude.{ℕ, ◌+◌, ◌-◌, Bool, List, [], ◌∷◌, ◌++◌, Some, Result, Ok, Err, codes, decimal, length}
-use Rattle.std.specs.List.{flat_map}
+-- What `replay INIT SCHEDULE LOGS SCRIPT..` does: it plays a schedule on the step core, crashes it, writes the images, and says
+-- the run and what recovery finds.
+
+use Rattle.std.specs.Prelude.{ℕ, ◌≡◌, ◌<◌, ◌≤◌, ◌^◌, ◌+◌, ◌-◌, Bool, List, [], ◌∷◌, ◌++◌, Some, Result, Ok, Err, codes, decimal, length, map}
+use Rattle.std.specs.List.{All, flat_map}
 use Rattle.onll_words.specs.Texts.{line_text}
 use Rattle.onll_model.specs.declared.node.Node.{Node}
 use Rattle.onll_model.specs.declared.call.Call.{Call}
+use Rattle.onll_model.specs.declared.call.CallEnd.{CallEnd}
 use Rattle.onll_model.specs.declared.turn.Turn.{Turn}
 use Rattle.onll_model.specs.Object.{Behaviour}
 use Rattle.onll_model.specs.Trace.{state_after}
@@ -19,19 +23,15 @@ use Rattle.onll_text.specs.Lines.{call_lines, trace_line, node_line, log_line, s
 use Rattle.onll_text.specs.Init.{init_of}
 use Rattle.onll_text.specs.Script.{script_of}
 use Rattle.onll_text.specs.Schedule.{schedule_of}
-use Rattle.onll_text.specs.Kinds.{on_object}
-use Rattle.onll_jobs.specs.declared.ending.Ending.TheVariants.{Done, BadLog}
-use Rattle.onll_merge.specs.declared.fault.StateFault.{StateFault}
+use Rattle.onll_text.specs.Reports.{EndsRead, NodeReads, StateReads, SaysOnly}
 use Rattle.onll_outside.specs.Views.{StoreView}
-use Rattle.onll_jobs.specs.declared.ending.Ending.{Ending}
-use Rattle.onll_jobs.specs.Job.{Job, Say, reading, reading_whole, JobEnds, GoesOn}
-use Rattle.onll_jobs.specs.Images.{writing_images}
+use Rattle.onll_jobs.specs.declared.ending.Ending.TheVariants.{BadLog}
+use Rattle.onll_merge.specs.declared.fault.StateFault.{StateFault}
+use Rattle.onll_jobs.specs.Doing.{Task, Work, Stage, after_stage, each_stage, report_task, say_task, text_stage, whole_stage}
+use Rattle.onll_jobs.specs.Images.{image_names, writing_stage}
 use Rattle.onll_jobs.specs.RecoverJob.{fault_line, recovered_line}
 use Rattle.onll_merge.specs.declared.counts.LogCounts.{LogCounts}
 use Rattle.onll_merge.specs.Recovered.{Recovered, state_recovered}
-
--- What `replay INIT SCHEDULE LOGS SCRIPT..` does: it plays a schedule on the step core, crashes it, writes the images, and says
--- the run and what recovery finds.
 
 -- the core that is made of scripts, after the steps of turns
 abbrev pub played : {State Op Query Reply : Type 0} → Behaviour State Op Query Reply → ℕ → List ℕ → State
@@ -75,55 +75,119 @@ abbrev pub replay_report : {State Op Query Reply : Type 0} → Behaviour State O
     → Wording State Op Query Reply → CoreState State Op Query Reply → ℕ → Recovered → List ℕ
 replay_report b w c keep r = flat_map line_text (run_lines b w c ++ crash_lines w c keep r (state_after b c.initial r.nodes))
 
--- ---- the job
-abbrev pub crash_says : {State Op Query Reply : Type 0} → Behaviour State Op Query Reply → Wording State Op Query Reply
-    → CoreState State Op Query Reply → ℕ → Result Recovered StateFault → Job
-crash_says b w c keep (Ok r) = Say Done (replay_report b w c keep r)
-crash_says b w c keep (Err fault) = Say BadLog (fault_line fault)
+-- ---- what the report says
+-- what is said of a log: its entries, its lines, and the fences after the header's
+pub record LogData : Type 0 where
+  pub entries : ℕ
+  pub lines : ℕ
+  pub fences : ℕ
+
+-- what a report of threads says: what became of the calls of each, the trace with its flags, the crash, the logs, how many nodes
+-- are recovered, and the state after them
+pub record RunData (State Op Query Reply : Type 0) : Type 0 where
+  pub ends : List (List (CallEnd State Op Query Reply))
+  pub nodes : List Node
+  pub flags : List Bool
+  pub keep : ℕ
+  pub logs : List LogData
+  pub recovered : ℕ
+  pub state : State
+
+-- the lines of the calls of each thread, from thread t on
+abbrev pub thread_lines : {State Op Query Reply : Type 0} → Wording State Op Query Reply → ℕ
+    → List (List (Call State Op Query Reply)) → List (List (CallEnd State Op Query Reply)) → List (List (List ℕ))
+thread_lines w t (script ∷ scripts) (ends ∷ more) = call_lines w t 0 script ends ++ thread_lines w (t + 1) scripts more
+thread_lines w t scripts ends = []
+
+-- the line of each log, from thread t on
+abbrev pub counted_lines : ℕ → List LogData → List (List (List ℕ))
+counted_lines t [] = []
+counted_lines t (log ∷ logs) = log_line t log.entries log.lines (Some log.fences) ∷ counted_lines (t + 1) logs
+
+-- the lines of all of it, for these scripts
+abbrev pub run_data_lines : {State Op Query Reply : Type 0} → Behaviour State Op Query Reply
+    → Wording State Op Query Reply → List (List (Call State Op Query Reply)) → RunData State Op Query Reply
+    → List (List (List ℕ))
+run_data_lines b w scripts said =
+    (thread_lines w 0 scripts said.ends ++ (trace_line (length said.nodes) ∷ flagged_lines b w 0 said.nodes said.flags))
+    ++ (crash_line said.keep ∷ (counted_lines 0 said.logs ++ (recovered_line said.recovered ∷ state_lines w said.state)))
+
+-- the outcomes of the first calls of each script read back
+abbrev pub EachReads : {State Op Query Reply : Type 0} → Wording State Op Query Reply
+    → List (List (Call State Op Query Reply)) → List (List (CallEnd State Op Query Reply)) → Type 0
+EachReads w [] [] = Unit {0}
+EachReads w (script ∷ scripts) (ends ∷ more) = EndsRead w script ends × EachReads w scripts more
+EachReads w scripts ends = ⊥
+
+-- the numbers of a log are of 64 bits
+pub record LogReads (log : LogData) : Type 0 where
+  pub entries : log.entries < 2 ^ 64
+  pub lines : log.lines < 2 ^ 64
+  pub fences : log.fences < 2 ^ 64
+
+-- all that is said of these scripts' run reads back
+pub record RunReads {State Op Query Reply : Type 0} (b : Behaviour State Op Query Reply)
+    (w : Wording State Op Query Reply) (scripts : List (List (Call State Op Query Reply)))
+    (said : RunData State Op Query Reply) : Type 0 where
+  pub threads : length scripts ≤ 2 ^ 64
+  pub ends : EachReads w scripts said.ends
+  pub nodes : All (NodeReads b w) said.nodes
+  pub flags : length said.flags ≡ length said.nodes
+  pub keep : said.keep < 2 ^ 64
+  pub logs : All LogReads said.logs
+  pub recovered : said.recovered < 2 ^ 64
+  pub state : StateReads w said.state
+
+-- the counts of logs and of their threads' devices
+abbrev pub counts_of : {State Op Query Reply : Type 0} → List LogCounts → List (CoreThread State Op Query Reply) → List LogData
+counts_of (log ∷ logs) (th ∷ ths) =
+    record { entries = log.entries; lines = log.lines; fences = th.device.fences - 1 } ∷ counts_of logs ths
+counts_of logs ths = []
+
+-- what the report of a replay says
+abbrev pub replay_data : {State Op Query Reply : Type 0} → Behaviour State Op Query Reply
+    → CoreState State Op Query Reply → ℕ → Recovered → RunData State Op Query Reply
+replay_data b c keep r = record {
+  ends = map ends_of c.threads;
+  nodes = c.trace;
+  flags = c.flags;
+  keep = keep;
+  logs = counts_of r.logs c.threads;
+  recovered = length r.nodes;
+  state = state_after b c.initial r.nodes;
+}
+
+-- ---- the work
+-- the run of these scripts, its crash, and what was found are reported: the report says that, and nothing else
+abbrev pub run_task : {State Op Query Reply : Type 0} → Behaviour State Op Query Reply → Wording State Op Query Reply
+    → List (List (Call State Op Query Reply)) → CoreState State Op Query Reply → ℕ → Result Recovered StateFault → Task
+run_task b w scripts c keep (Ok r) = report_task (replay_report b w c keep r)
+    (λ text. SaysOnly (run_data_lines b w scripts) (RunReads b w scripts) text (replay_data b c keep r))
+run_task b w scripts c keep (Err fault) = say_task BadLog (fault_line fault)
 
 -- a core of an object of this code, whose initial state these bytes say, crashes: its images are written, and then recovered
-abbrev pub crash_job : {State Op Query Reply : Type 0} → Behaviour State Op Query Reply → Wording State Op Query Reply
-    → ℕ → List ℕ → List ℕ → CoreState State Op Query Reply → ℕ → Job
-crash_job b w code init logs c keep =
-    writing_images logs 0 (images_of keep c.threads) (crash_says b w c keep (state_recovered b code init (images_of keep c.threads)))
-
--- reads scripts, one after the other, and goes on with the calls of each
-abbrev pub reading_scripts : {State Op Query Reply : Type 0} → Wording State Op Query Reply → List (List ℕ)
-    → (List (List (Call State Op Query Reply)) → Job) → Job
-reading_scripts w [] next = next []
-reading_scripts w (name ∷ names) next = reading name (script_of w) (λ calls. reading_scripts w names (λ scripts. next (calls ∷ scripts)))
-
--- these scripts were read, and a job that reads them goes on
-abbrev pub AreRead : {State Op Query Reply : Type 0} → Wording State Op Query Reply → StoreView → StoreView
-    → List (List ℕ) → List (List (Call State Op Query Reply)) → Type 0
-AreRead {State} {Op} {Query} {Reply} w store after names scripts =
-    (next : List (List (Call State Op Query Reply)) → Job)
-    → GoesOn store after (reading_scripts w names next) (next scripts)
-
--- one of these scripts gives no calls, and every job that reads them ends so
-abbrev pub ScriptsStop : {State Op Query Reply : Type 0} → Wording State Op Query Reply → StoreView → StoreView
-    → List (List ℕ) → Ending → List ℕ → Type 0
-ScriptsStop {State} {Op} {Query} {Reply} w store after names ending text =
-    (next : List (List (Call State Op Query Reply)) → Job)
-    → JobEnds store after (reading_scripts w names next) ending text
+abbrev pub crash_task : {State Op Query Reply : Type 0} → Behaviour State Op Query Reply → Wording State Op Query Reply
+    → ℕ → List ℕ → List ℕ → List (List (Call State Op Query Reply)) → CoreState State Op Query Reply → ℕ → Task
+crash_task b w code init logs scripts c keep = after_stage (writing_stage logs (images_of keep c.threads))
+    (λ _. run_task b w scripts c keep (state_recovered b code init (images_of keep c.threads)))
 
 -- the schedule of these scripts is read and played, and the core crashes
-abbrev pub schedule_job : {State Op Query Reply : Type 0} → Behaviour State Op Query Reply
+abbrev pub schedule_task : {State Op Query Reply : Type 0} → Behaviour State Op Query Reply
     → Wording State Op Query Reply → ℕ → List ℕ → State → (schedule logs : List ℕ)
-    → List (List (Call State Op Query Reply)) → Job
-schedule_job b w code init s schedule logs scripts =
-    reading schedule (schedule_of (length scripts))
-    (λ (plan : Schedule). crash_job b w code init logs (played b code init s scripts plan.turns) plan.keep)
+    → List (List (Call State Op Query Reply)) → Task
+schedule_task b w code init s schedule logs scripts = after_stage (text_stage schedule (schedule_of (length scripts)))
+    (λ (plan : Schedule). crash_task b w code init logs scripts (played b code init s scripts plan.turns) plan.keep)
 
-abbrev pub replay_on : {State Op Query Reply : Type 0} → Behaviour State Op Query Reply → Wording State Op Query Reply
-    → ℕ → List ℕ → (schedule logs : List ℕ) → List (List ℕ) → State → Job
-replay_on b w code init schedule logs scripts s = reading_scripts w scripts (schedule_job b w code init s schedule logs)
+-- scripts are read, one after the other
+abbrev pub scripts_stage : {State Op Query Reply : Type 0} → Wording State Op Query Reply → List (List ℕ)
+    → Stage (List (List (Call State Op Query Reply)))
+scripts_stage w names = each_stage (λ name. text_stage name (script_of w)) names
 
--- the same for an object of any kind
-abbrev pub replay_any : List ℕ → (schedule logs : List ℕ) → List (List ℕ) → AnyObject → Job
-replay_any init schedule logs scripts object =
-    on_object (λ k s. replay_on k.means k.wording k.code init schedule logs scripts s) object
+-- a script is read from each of these files
+abbrev pub ReadScripts : {State Op Query Reply : Type 0} → Wording State Op Query Reply → StoreView → List (List ℕ)
+    → List (List (Call State Op Query Reply)) → Type 0
+ReadScripts w store names scripts = (scripts_stage w names).known store scripts
 
--- the initial state is read first, then each script, then the schedule
-abbrev pub replay_job : (init schedule logs : List ℕ) → List (List ℕ) → Job
-replay_job init schedule logs scripts = reading_whole init init_of (λ bytes object. replay_any bytes schedule logs scripts object)
+abbrev pub scripts_task : {State Op Query Reply : Type 0} → Behaviour State Op Query Reply → Wording State Op Query Reply
+    → ℕ → List ℕ → (schedule logs : List ℕ) → List (List ℕ) → State → Task
+scripts_task b w code init schedule logs names s = after_stage (scripts_stage w names) (schedule_task b w code init s schedule logs)

@@ -1,39 +1,38 @@
-use Rattle.std.specs.Prelude.{ℕ, List, [], length, ◌≡◌, ◌⊎◌, Option, Some, None}
+-- What a call does by its words, and what it says of that by its exit.
+
+use Rattle.std.specs.Prelude.{ℕ, List, [], ◌≡◌, ◌⊎◌, Option, Some, None}
 use Rattle.onll_outside.specs.Views.{StoreView, SameFaults, Puts, PutsFront, Rose}
 use Rattle.onll_jobs.specs.declared.ending.Ending.{Ending}
-use Rattle.onll_jobs.specs.declared.ending.Ending.TheVariants.{Usage}
+use Rattle.onll_jobs.specs.declared.ending.Ending.TheVariants.{Done, Usage}
 use Rattle.onll_jobs.specs.declared.ending.Exit.{Exit}
 use Rattle.onll_jobs.specs.declared.ending.Exit.TheVariants.{Said, SinkFault, NoMemory}
 use Rattle.onll_jobs.specs.Seen.{Seen}
 use Rattle.onll_jobs.specs.Command.{Form, Fold, Show, Recover, Replay, form_of}
 use Rattle.onll_jobs.specs.Printed.{usage_text, status_of, exit_status}
-use Rattle.onll_jobs.specs.Job.{Job, Say, JobEnds, JobCut}
-use Rattle.onll_jobs.specs.FoldJob.{fold_job}
-use Rattle.onll_jobs.specs.ShowJob.{show_job}
-use Rattle.onll_jobs.specs.RecoverJob.{recover_job}
-use Rattle.onll_jobs.specs.ReplayJob.{replay_job}
-use Rattle.onll_jobs.specs.Images.{image_names}
+use Rattle.onll_jobs.specs.Job.{Job, JobEnds, JobCut}
+use Rattle.onll_jobs.specs.Doing.{Work, say_task}
+use Rattle.onll_jobs.specs.Over.{FoldOver, RecoverOver, ReplayOver, over_work}
+use Rattle.onll_jobs.specs.ShowJob.{show_work}
 
 -- what a call does by its words: those of no form get the usage text
+abbrev pub work_of : Option Form → Work
+work_of None = record { task = say_task Usage usage_text; writes = [] }
+work_of (Some (Fold init script)) = over_work init (FoldOver script)
+work_of (Some (Show image)) = show_work image
+work_of (Some (Recover init logs threads)) = over_work init (RecoverOver logs threads)
+work_of (Some (Replay init schedule logs scripts)) = over_work init (ReplayOver schedule logs scripts)
+
+-- its job, with all its endings
 abbrev pub job_of : Option Form → Job
-job_of None = Say Usage usage_text
-job_of (Some (Fold init script)) = fold_job init script
-job_of (Some (Show image)) = show_job image
-job_of (Some (Recover init logs threads)) = recover_job init logs threads
-job_of (Some (Replay init schedule logs scripts)) = replay_job init schedule logs scripts
+job_of form = (work_of form).task.job
 
--- how words may end the call, with which text, and what they leave in the files
-abbrev pub FormSays : Option Form → StoreView → StoreView → Ending → List ℕ → Type 0
-FormSays form store after ending text = JobEnds store after (job_of form) ending text
-
--- the files that a form writes
+-- the files that it may write
 abbrev pub writes_of : Option Form → List (List ℕ)
-writes_of (Some (Replay init schedule logs scripts)) = image_names logs 0 (length scripts)
-writes_of form = []
+writes_of form = (work_of form).writes
 
 -- the words and the files allow this ending with this text
 abbrev pub Allows : Seen → Ending → List ℕ → Type 0
-Allows seen ending text = FormSays (form_of seen.words) seen.store seen.store_after ending text
+Allows seen ending text = JobEnds seen.store seen.store_after (job_of (form_of seen.words)) ending text
 
 -- a text that is allowed was put whole
 pub record PutWhole (seen : Seen) (ending : Ending) : Type 0 where
@@ -90,3 +89,17 @@ pub record NoneRose (seen : Seen) : Type 0 where
 -- this ending's status, and its text whole; or memory could not be had
 abbrev pub SaysThis : Seen → ℕ → Ending → List ℕ → Type 0
 SaysThis seen status ending text = ((status ≡ status_of ending) × Puts seen.sink seen.sink_after text) ⊎ (status ≡ 9)
+
+-- ---- what the text of a command that is done says of the files
+-- a text that says so was put
+pub record DeterminedPut (seen : Seen) : Type 0 where
+  pub text : List ℕ
+  pub says : (work_of (form_of seen.words)).task.reports seen.store text
+  pub put : Puts seen.sink seen.sink_after text
+
+-- words that are done, by their exit and by their status
+abbrev pub ExitDetermined : Seen → Exit → Type 0
+ExitDetermined seen exit = exit ≡ Said Done → DeterminedPut seen
+
+abbrev pub IsDetermined : Seen → ℕ → Type 0
+IsDetermined seen status = status ≡ 0 → DeterminedPut seen

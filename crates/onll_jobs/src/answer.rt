@@ -1,4 +1,6 @@
-ghost use Rattle.std.specs.Prelude.{◌≡◌, IfOk, MatchResult};
+//! What is said in place of a report, and why.
+
+ghost use Rattle.std.specs.Prelude.{◌≡◌, IfOk};
 ghost use Rattle.onll_text.specs.Refusal.{refused};
 ghost use Rattle.onll_jobs.specs.Printed.{usage_text, refusal_text, read_fault_text, write_fault_text};
 ghost use Rattle.onll_jobs.specs.Stop.{StopSays};
@@ -14,14 +16,14 @@ use std::alloc::{AllocError, AllocFailed, Global};
 const USAGE: &[u8] =
     b"usage: onll fold INIT SCRIPT\n       onll show IMAGE\n       onll recover INIT LOGS T\n       onll replay INIT SCHEDULE LOGS SCRIPT..\n       onll run INIT LOGS SCRIPT..\n       onll make T N SEED\n";
 
-/// A text to be put, and how the call ends then.
+/// A text to be put in place of a report, and how the call ends then.
 #[derive(Drop)]
 pub(crate) struct Answer {
     pub(crate) ending: Ending,
     pub(crate) text: Vec<u8>,
 }
 
-/// Why a file gives no value.
+/// Why a command gives no report, or a file no value.
 #[derive(Drop)]
 pub(crate) enum Stop {
     /// This is to be said.
@@ -54,14 +56,21 @@ impl<T: Drop> From<AllocFailed<T>> for Stop {
 }
 
 impl Stop {
-    /// What is said, unless memory could not be had.
-    pub(crate) fn answer(self) -> Result<Answer, NoMemory>
-        ensures { MatchResult result (λ answer. self ≡ Stop.Says answer) (λ e. self ≡ Stop.NoMemory) }
+    /// A text that is no report, with its ending.
+    pub(crate) fn says(alloc: Global, ending: Ending, text: &[u8]) -> Stop
+        ensures { StopSays result (λ end said. (end ≡ ending) × (said ≡ text.now)) }
     {
-        match self {
-            Stop::Says(answer) => Ok(answer),
-            Stop::NoMemory => Err(NoMemory),
+        match Vec::from_slice(alloc, text) {
+            Ok(text) => Stop::Says(Answer { ending, text }),
+            Err(_) => Stop::NoMemory,
         }
+    }
+
+    /// The usage text.
+    pub(crate) fn usage(alloc: Global) -> Stop
+        ensures { StopSays result (λ end said. (end ≡ Ending.Usage) × (said ≡ usage_text)) }
+    {
+        Stop::says(alloc, Ending::Usage, USAGE)
     }
 
     /// The line of a refused text.
@@ -134,14 +143,4 @@ fn write_fault_text(alloc: Global, name: &str) -> Result<Vec<u8>, AllocError>
     text.extend_from_slice(name.as_bytes())?;
     text.extend_from_slice(b"\n")?;
     Ok(text)
-}
-
-/// The usage text.
-pub(crate) fn usage(alloc: Global) -> Result<Answer, NoMemory>
-    ensures { IfOk result (λ answer. (answer.ending ≡ Ending.Usage) × (answer.text.items ≡ usage_text)) }
-{
-    Ok(Answer {
-        ending: Ending::Usage,
-        text: Vec::from_slice(alloc, USAGE)?,
-    })
 }

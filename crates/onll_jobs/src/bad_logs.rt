@@ -1,8 +1,11 @@
-ghost use Rattle.std.specs.Prelude.{◌≡◌, ◌++◌, true, IfOk, OnOk};
+//! The lines of logs that give no state.
+
+ghost use Rattle.std.specs.Prelude.{◌≡◌, ◌++◌, true, OnOk};
 ghost use Rattle.onll_text.specs.Bytes.{begins_line};
 ghost use Rattle.onll_jobs.specs.RecoverJob.{merging_line, fault_line};
+ghost use Rattle.onll_jobs.specs.Stop.{StopSays};
 
-use crate::answer::Answer;
+use crate::answer::{Answer, Stop};
 use crate::ending::Ending;
 use onll_merge::{RecoverFault, StateFault};
 use onll_text::{Piece, Report};
@@ -89,14 +92,16 @@ fn put_fault(fault: StateFault, out: &mut Report) -> Result<(), NoMemory>
     }
 }
 
-/// The answer for logs that give no state.
-pub(crate) fn bad_logs(alloc: Global, fault: StateFault) -> Result<Answer, NoMemory>
-    ensures { IfOk result (λ answer. (answer.ending ≡ Ending.BadLog) × (answer.text.items ≡ fault_line fault)) }
+/// What is said of logs that give no state.
+pub(crate) fn bad_logs(alloc: Global, fault: StateFault) -> Stop
+    ensures { StopSays result (λ end said. (end ≡ Ending.BadLog) × (said ≡ fault_line fault)) }
 {
     let mut out = Report::new(alloc);
-    put_fault(fault, &mut out)?;
-    Ok(Answer {
-        ending: Ending::BadLog,
-        text: out.into_bytes(),
-    })
+    match put_fault(fault, &mut out) {
+        Ok(()) => Stop::Says(Answer {
+            ending: Ending::BadLog,
+            text: out.into_bytes(),
+        }),
+        Err(NoMemory) => Stop::NoMemory,
+    }
 }

@@ -1,23 +1,20 @@
-ghost use Rattle.std.specs.Prelude.{◌≡◌, ℕ, ◌+◌, ◌++◌, ◌∷◌, ◌<◌, ◌^◌, [], length, true, IsSome, IfOk, IfErr, OnOk, All};
+//! The command `fold`: a script done in order on an initial state.
+
+ghost use Rattle.std.specs.Prelude.{◌≡◌, ℕ, ◌+◌, ◌++◌, ◌∷◌, ◌<◌, ◌^◌, [], length, true, IsSome, IfOk, OnOk, All};
 ghost use Rattle.std.specs.List.{AllByRecursion};
 ghost use Rattle.onll_model.specs.Fold.{fold_trace, fold_ends, fold_state};
 ghost use Rattle.onll_text.specs.Bytes.{begins_line, with_lines};
 ghost use Rattle.onll_text.specs.Lines.{call_lines, node_lines};
 ghost use Rattle.onll_text.specs.Reports.{EndsRead, NodeReads, FoldDataReads};
-ghost use Rattle.onll_outside.specs.Views.{SameFiles};
 ghost use Rattle.onll_jobs.specs.Fold.{fold_report};
-ghost use Rattle.onll_jobs.specs.FoldJob.{script_job, script_job_on, fold_job};
-ghost use Rattle.onll_jobs.specs.Job.{JobEnds, JobCut};
-ghost use Rattle.onll_jobs.specs.declared.ending.Ending.TheVariants.{Done};
-ghost use Rattle.onll_jobs.specs.Reports.{fold_data};
-ghost use Rattle.onll_jobs.specs.Determined.{FoldsTo, FoldsToAny, FoldsFiles};
+ghost use Rattle.onll_jobs.specs.FoldJob.{fold_data, script_task};
+ghost use Rattle.onll_jobs.specs.Doing.{Does};
 
-use crate::answer::Answer;
-use crate::ending::Ending;
-use crate::texts::{init_file, script_file};
+use crate::answer::Stop;
+use crate::texts::script_file;
 use onll_model::{Call, CallEnd, Node};
 use onll_outside::Store;
-use onll_text::{AnyObject, Report, Texted, end_reads_back};
+use onll_text::{Report, Texted};
 use onll_words::NoMemory;
 use std::alloc::Global;
 
@@ -32,7 +29,6 @@ fn fold_call<O: Texted>(
     ensures state { OnOk result (object.new ≡ fold_state O.means object.old (call.now ∷ [])) }
     ensures trace { OnOk result (trace.new.items ≡ trace.old.items ++ fold_trace O.means updates (call.now ∷ [])) }
     ensures end { IfOk result (λ end. end ∷ [] ≡ fold_ends O.means object.old updates (call.now ∷ [])) }
-    ensures reads { OnOk result (All (NodeReads O.means O.wording) trace.old.items → All (NodeReads O.means O.wording) trace.new.items) }
 {
     match call {
         Call::Update(op) => {
@@ -43,7 +39,6 @@ fn fold_call<O: Texted>(
                 row: O::op_row(*op),
             };
             trace.push(node)?;
-            O::op_reads_back(*op);
             Ok(CallEnd::Answered {
                 reply: object.apply(*op),
                 place: number,
@@ -70,14 +65,12 @@ fn put_calls<O: Texted>(
     ensures lines { let ends = fold_ends O.means object.old 0 script.now in
         OnOk result (out.new ≡ with_lines out.old (call_lines O.wording 0 0 script.now ends)) }
     ensures ends { OnOk result (EndsRead O.wording script.now (fold_ends O.means object.old 0 script.now)) }
-    ensures nodes { OnOk result (All (NodeReads O.means O.wording) trace.new.items) }
 {
     let mut number = 0;
     for call in script {
         number += 1;
         let end = fold_call(object, call, trace.len() as u64, trace)?;
         out.call_line(0, number, call, &end)?;
-        end_reads_back(&end);
     }
     Ok(())
 }
@@ -86,7 +79,8 @@ fn put_calls<O: Texted>(
 pub(crate) fn put_nodes<O: Texted>(trace: &[Node], out: &mut Report) -> Result<(), NoMemory>
     requires operations { AllByRecursion (λ n. IsSome (O.means.op_at n.row)) trace.now }
     requires begins { begins_line out.old ≡ true }
-    ensures { OnOk result (out.new ≡ with_lines out.old (node_lines O.means O.wording 0 trace.now)) }
+    ensures lines { OnOk result (out.new ≡ with_lines out.old (node_lines O.means O.wording 0 trace.now)) }
+    ensures reads { OnOk result (All (NodeReads O.means O.wording) trace.now) }
 {
     let mut place = 0;
     for node in trace {
@@ -113,74 +107,20 @@ fn fold_script<O: Texted>(
     out.trace_line(trace.len() as u64)?;
     put_nodes::<O>(&trace, &mut out)?;
     out.state_lines(object)?;
-    object.state_reads_back();
     Ok(out.into_bytes())
 }
 
 /// Folds the script of a file on an object.
-fn fold_object<O: Texted, S: Store>(
+pub(crate) fn fold_object<O: Texted, S: Store>(
     alloc: Global,
     object: &mut O,
     script: &str,
     store: &mut S,
-) -> Result<Answer, NoMemory>
-    ensures says { let job = script_job O.means O.wording object.old script.now in
-        IfOk result (λ answer. JobEnds (S.seen store.old) (S.seen store.new) job answer.ending answer.text.items) }
-    ensures cut { let job = script_job O.means O.wording object.old script.now in
-        IfErr result (λ e. JobCut (S.seen store.old) (S.seen store.new) job) }
-    ensures determined { IfOk result (λ answer. answer.ending ≡ Done
-        → FoldsTo O.means O.wording object.old (S.seen store.old) script.now answer.text.items) }
-    ensures same { SameFiles (S.seen store.old) (S.seen store.new) }
+) -> Result<Vec<u8>, Stop>
+    ensures { Does [] (S.seen store.old) (S.seen store.new) (script_task O.means O.wording object.old script.now) result }
 {
     match script_file::<O, S>(alloc, script, store) {
-        Ok(calls) => {
-            let text = fold_script(alloc, object, &calls)?;
-            Ok(Answer {
-                ending: Ending::Done,
-                text,
-            })
-        }
-        Err(stop) => stop.answer(),
-    }
-}
-
-/// Folds the script of a file on an object of any kind.
-fn fold_any<S: Store>(
-    alloc: Global,
-    object: AnyObject,
-    script: &str,
-    store: &mut S,
-) -> Result<Answer, NoMemory>
-    ensures says { IfOk result (λ answer. JobEnds (S.seen store.old) (S.seen store.new)
-        (script_job_on script.now object) answer.ending answer.text.items) }
-    ensures cut { IfErr result (λ e. JobCut (S.seen store.old) (S.seen store.new) (script_job_on script.now object)) }
-    ensures determined { IfOk result (λ answer. answer.ending ≡ Done → FoldsToAny (S.seen store.old) script.now answer.text.items object) }
-    ensures same { SameFiles (S.seen store.old) (S.seen store.new) }
-{
-    match object {
-        AnyObject::Bank(mut bank) => fold_object(alloc, &mut bank, script, store),
-        AnyObject::Map(mut map) => fold_object(alloc, &mut map, script, store),
-        AnyObject::Queue(mut queue) => fold_object(alloc, &mut queue, script, store),
-        AnyObject::Lease(mut lease) => fold_object(alloc, &mut lease, script, store),
-    }
-}
-
-/// Folds the script of a file on the initial state of another.
-pub(crate) fn answer<S: Store>(
-    alloc: Global,
-    init: &str,
-    script: &str,
-    store: &mut S,
-) -> Result<Answer, NoMemory>
-    ensures says { IfOk result (λ answer. JobEnds (S.seen store.old) (S.seen store.new)
-        (fold_job init.now script.now) answer.ending answer.text.items) }
-    ensures cut { IfErr result (λ e. JobCut (S.seen store.old) (S.seen store.new) (fold_job init.now script.now)) }
-    ensures determined { IfOk result (λ answer. answer.ending ≡ Done
-        → FoldsFiles (S.seen store.old) init.now script.now answer.text.items) }
-    ensures same { SameFiles (S.seen store.old) (S.seen store.new) }
-{
-    match init_file(alloc, init, store) {
-        Ok(read) => fold_any(alloc, read.object, script, store),
-        Err(stop) => stop.answer(),
+        Ok(calls) => Ok(fold_script(alloc, object, &calls)?),
+        Err(stop) => Err(stop),
     }
 }

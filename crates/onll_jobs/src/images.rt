@@ -1,11 +1,12 @@
-ghost use Rattle.std.specs.Prelude.{◌≡◌, length, map, string_bytes, IfOk, IfErr, OnOk};
-ghost use Rattle.onll_outside.specs.Views.{SameFiles, SameOthers, SameFaults};
+//! The images of the logs of one run: a file for each thread.
+
+ghost use Rattle.std.specs.Prelude.{◌≡◌, [], length, string_bytes, IfOk, IfErr, OnOk};
+ghost use Rattle.onll_outside.specs.Views.{SameOthers};
 ghost use Rattle.onll_pmem.specs.Pmem.{words_of};
-ghost use Rattle.onll_jobs.specs.Reading.{HoldsImage, CannotRead};
-ghost use Rattle.onll_jobs.specs.Images.{image_name, images_in, ImagesRead, ImagesUnread, image_bytes, image_names, AreWritten, ImagesStop, ImagesCut};
-ghost use Rattle.onll_jobs.specs.Writing.{SameBut, HasWritten, CannotWrite, WriteStops};
+ghost use Rattle.onll_jobs.specs.Images.{image_name, image_names, images_in, image_bytes, images_stage, writing_stage};
+ghost use Rattle.onll_jobs.specs.Writing.{HasWritten, CannotWrite, WriteStops};
 ghost use Rattle.onll_jobs.specs.Stop.{StopSays};
-ghost use Rattle.onll_jobs.specs.Determined.{HoldImages};
+ghost use Rattle.onll_jobs.specs.Doing.{Begins, lines_stage};
 
 use crate::answer::Stop;
 use crate::texts::{image_file, write_file};
@@ -33,10 +34,8 @@ fn read_image<S: Store>(
     thread: u64,
     store: &mut S,
 ) -> Result<Vec<Line>, Stop>
-    ensures image { IfOk result (λ image. HoldsImage (S.seen store.old) (image_name logs.now thread) (words_of image.items)) }
-    ensures stop { IfErr result (λ stop. StopSays stop (CannotRead (S.seen store.old) (S.seen store.new) (image_name logs.now thread))) }
-    ensures same { SameFiles (S.seen store.old) (S.seen store.new) }
-    ensures faults { OnOk result (SameFaults (S.seen store.old) (S.seen store.new)) }
+    ensures { let stage = lines_stage (image_name logs.now thread) in
+        Begins [] (S.seen store.old) (S.seen store.new) stage (λ image. words_of image.items) result }
 {
     let name = image_name(alloc, logs, thread)?;
     image_file(alloc, &name, store)
@@ -49,12 +48,9 @@ pub(crate) fn read_images<S: Store>(
     threads: u64,
     store: &mut S,
 ) -> Result<Vec<Vec<Line>>, Stop>
-    ensures images { IfOk result (λ images. ImagesRead (S.seen store.old) (S.seen store.new) logs.now threads (images_in images.items)) }
-    ensures held { IfOk result (λ images. HoldImages (S.seen store.old) logs.now 0 (images_in images.items)) }
+    ensures begins { let stage = images_stage logs.now threads in
+        Begins [] (S.seen store.old) (S.seen store.new) stage (λ images. images_in images.items) result }
     ensures count { IfOk result (λ images. length images.items ≡ threads) }
-    ensures stop { IfErr result (λ stop. StopSays stop (ImagesUnread (S.seen store.old) (S.seen store.new) logs.now threads)) }
-    ensures same { SameFiles (S.seen store.old) (S.seen store.new) }
-    ensures faults { OnOk result (SameFaults (S.seen store.old) (S.seen store.new)) }
 {
     let mut images = Vec::new(alloc);
     for thread in 0..threads {
@@ -103,13 +99,14 @@ pub(crate) fn write_images<S: Store>(
     images: &[Vec<Line>],
     store: &mut S,
 ) -> Result<(), Stop>
-    ensures written { OnOk result (AreWritten (S.seen store.old) (S.seen store.new) logs.now (images_in images.now)) }
-    ensures stop { IfErr result (λ stop. StopSays stop (ImagesStop (S.seen store.old) (S.seen store.new) logs.now (images_in images.now))) }
-    ensures cut { IfErr result (λ stop. ImagesCut (S.seen store.old) (S.seen store.new) logs.now (images_in images.now)) }
-    ensures others { SameBut (image_names logs.now 0 (length images.now)) (S.seen store.old) (S.seen store.new) }
+    ensures { let names = image_names logs.now 0 (length images.now) in
+        Begins names (S.seen store.old) (S.seen store.new) (writing_stage logs.now (images_in images.now)) (λ _. tt) result }
 {
     for (thread, image) in images.iter().enumerate() {
-        write_image(alloc, logs, thread as u64, image, store)?;
+        match write_image(alloc, logs, thread as u64, image, store) {
+            Ok(()) => {}
+            Err(stop) => return Err(stop),
+        }
     }
     Ok(())
 }

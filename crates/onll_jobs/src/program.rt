@@ -1,76 +1,81 @@
-ghost use Rattle.std.specs.Prelude.{◌≡◌, ◌⊎◌, ℕ, List, map, string_bytes, Some, None, IfOk, IfErr};
+//! The call of the program: its words, the command that they say, and the text that is put.
+
+ghost use Rattle.std.specs.Prelude.{◌≡◌, ◌⊎◌, ℕ, List, map, string_bytes, Some, None};
 ghost use Rattle.onll_outside.specs.Views.{Puts};
 ghost use Rattle.onll_jobs.specs.declared.ending.Ending.{Ending};
 ghost use Rattle.onll_jobs.specs.Command.{form_of, form_in, Replay, IsCommand};
 ghost use Rattle.onll_jobs.specs.Exits.{PutExits};
 ghost use Rattle.onll_jobs.specs.Seen.{seen_by};
 ghost use Rattle.onll_jobs.specs.Writing.{SameBut};
-ghost use Rattle.onll_jobs.specs.Says.{job_of, writes_of, FormSays, ExitSays, Ended, PutWhole, OutOfMemory, SinkFailed, NothingFailed, NoneRose, SaysThis};
-ghost use Rattle.onll_jobs.specs.Job.{JobCut, Decides};
+ghost use Rattle.onll_jobs.specs.Says.{work_of, job_of, writes_of, ExitSays, ExitDetermined, IsDetermined, Ended, PutWhole, OutOfMemory, SinkFailed, NothingFailed, NoneRose, SaysThis};
+ghost use Rattle.onll_jobs.specs.Job.{Decides};
 ghost use Rattle.onll_jobs.specs.Durable.{ReplayIsDurable, RecoversCrashes};
 ghost use Rattle.onll_jobs.specs.Printed.{usage_text};
-ghost use Rattle.onll_jobs.specs.Determined.{FormDetermined, ExitDetermined, IsDetermined};
+ghost use Rattle.onll_jobs.specs.Doing.{Does};
 
-use crate::answer::{Answer, usage};
+use crate::answer::Stop;
 use crate::command::Command;
-use crate::ending::Exit;
-use crate::{fold, recover, replay, show};
+use crate::ending::{Ending, Exit};
+use crate::objects::Over;
+use crate::{objects, show};
 use onll_outside::{OutsideFault, Sink, Store};
-use onll_words::NoMemory;
 use std::alloc::Global;
 
-/// What a command makes the call say.
+/// A command's report, or what is said in its place.
 fn command_answer<S: Store>(
     alloc: Global,
     command: Command<'_>,
     store: &mut S,
-) -> Result<Answer, NoMemory>
+) -> Result<Vec<u8>, Stop>
     requires { IsCommand command }
-    ensures says { let form = form_in command.entry in
-        IfOk result (λ answer. FormSays (Some form) (S.seen store.old) (S.seen store.new) answer.ending answer.text.items) }
-    ensures determined { IfOk result (λ answer. answer.ending ≡ Ending.Done
-        → FormDetermined (S.seen store.old) (Some (form_in command.entry)) answer.text.items) }
-    ensures cut { IfErr result (λ e. JobCut (S.seen store.old) (S.seen store.new) (job_of (Some (form_in command.entry)))) }
-    ensures files { SameBut (writes_of (Some (form_in command.entry))) (S.seen store.old) (S.seen store.new) }
+    ensures { let work = work_of (Some (form_in command.entry)) in
+        Does work.writes (S.seen store.old) (S.seen store.new) work.task result }
 {
     match command {
-        Command::Fold { init, script } => fold::answer(alloc, init, script, store),
+        Command::Fold { init, script } => {
+            objects::answer(alloc, init, Over::Fold { script }, store)
+        }
         Command::Show { image } => show::answer(alloc, image, store),
         Command::Recover {
             init,
             logs,
             threads,
-        } => recover::answer(alloc, init, logs, threads, store),
+        } => objects::answer(alloc, init, Over::Recover { logs, threads }, store),
         Command::Replay {
             init,
             schedule,
             logs,
             scripts,
-        } => replay::answer(alloc, init, schedule, logs, scripts, store),
+        } => objects::answer(
+            alloc,
+            init,
+            Over::Replay {
+                schedule,
+                logs,
+                scripts,
+            },
+            store,
+        ),
     }
 }
 
-/// What the words make the call say.
-fn answer_to<S: Store>(alloc: Global, words: &[String], store: &mut S) -> Result<Answer, NoMemory>
-    ensures says { let form = form_of (map string_bytes words.now) in
-        IfOk result (λ answer. FormSays form (S.seen store.old) (S.seen store.new) answer.ending answer.text.items) }
-    ensures determined { let form = form_of (map string_bytes words.now) in
-        IfOk result (λ answer. answer.ending ≡ Ending.Done → FormDetermined (S.seen store.old) form answer.text.items) }
-    ensures cut { IfErr result (λ e. JobCut (S.seen store.old) (S.seen store.new) (job_of (form_of (map string_bytes words.now)))) }
-    ensures files { SameBut (writes_of (form_of (map string_bytes words.now))) (S.seen store.old) (S.seen store.new) }
+/// What the words ask for, or what is said in its place.
+fn answer_to<S: Store>(alloc: Global, words: &[String], store: &mut S) -> Result<Vec<u8>, Stop>
+    ensures { let work = work_of (form_of (map string_bytes words.now)) in
+        Does work.writes (S.seen store.old) (S.seen store.new) work.task result }
 {
     match Command::read(words) {
         Some(command) => command_answer(alloc, command, store),
-        None => usage(alloc),
+        None => Err(Stop::usage(alloc)),
     }
 }
 
 /// Puts a text, and ends as it says unless the sink or memory fails.
-fn put<K: Sink>(out: &mut K, answer: &Answer) -> Exit
-    ensures { PutExits (K.held out.old) (K.held out.new) answer.now.ending answer.now.text.items result }
+fn put<K: Sink>(out: &mut K, ending: Ending, text: &[u8]) -> Exit
+    ensures { PutExits (K.held out.old) (K.held out.new) ending text.now result }
 {
-    match out.put(&answer.text) {
-        Ok(()) => Exit::Said(answer.ending),
+    match out.put(text) {
+        Ok(()) => Exit::Said(ending),
         Err(OutsideFault::Failed) => Exit::SinkFault,
         Err(OutsideFault::NoMemory) => Exit::NoMemory,
     }
@@ -87,8 +92,9 @@ fn run<S: Store, K: Sink>(alloc: Global, words: &[String], store: &mut S, out: &
     ensures files { SameBut (writes_of (form_of (map string_bytes words.now))) (S.seen store.old) (S.seen store.new) }
 {
     match answer_to(alloc, words, store) {
-        Ok(answer) => put(out, &answer),
-        Err(NoMemory) => Exit::NoMemory,
+        Ok(report) => put(out, Ending::Done, &report),
+        Err(Stop::Says(answer)) => put(out, answer.ending, &answer.text),
+        Err(Stop::NoMemory) => Exit::NoMemory,
     }
 }
 

@@ -1,18 +1,16 @@
 //! That what the commands print reads back. These are laws of the values that a program has; calling them does nothing.
 
-ghost use Rattle.std.specs.Prelude.{◌≡◌, ◌≤◌, ℕ, ◌++◌, ◌<◌, ◌^◌, length, map, All, IsSome, IfSome};
+ghost use Rattle.std.specs.Prelude.{◌≡◌, ℕ, ◌++◌, ◌<◌, ◌^◌, length, map, All, IsSome};
 ghost use Rattle.std.specs.List.{AllByRecursion};
 ghost use Rattle.onll_model.specs.Trace.{state_after};
 ghost use Rattle.onll_model.specs.Recovered.{operations_front};
-ghost use Rattle.onll_log.specs.Grammar.{used_by};
-ghost use Rattle.onll_log.specs.Decoded.{segments_in, content_in};
 ghost use Rattle.onll_merge.specs.Recovered.{recovered_in};
 ghost use Rattle.onll_core.specs.Outcomes.{returned_end, current_ends, ends_of, script_of};
 ghost use Rattle.onll_text.specs.Reports.{EndReads, NodeReads};
-ghost use Rattle.onll_jobs.specs.Reports.{RowReads, EntryReads, ShowReads, EachReads, HeldReads, LogReads, RecoverReads, RunReads, show_data, held_of, found_data, counts_of, replay_data};
+ghost use Rattle.onll_jobs.specs.RecoverJob.{HeldReads, RecoverReads, held_of, found_data};
+ghost use Rattle.onll_jobs.specs.ReplayJob.{EachReads, LogReads, RunReads, counts_of, replay_data};
 
 use onll_core::{Core, Current, Returned, report_law};
-use onll_log::{Decoded, Entry};
 use onll_merge::{LogCounts, Recovery};
 use onll_model::{CallEnd, Node};
 use onll_text::{Texted, end_reads_back, node_reads_back};
@@ -22,54 +20,6 @@ fn number_reads(n: u64)
     ensures { n < 2 ^ 64 }
 {
     let _ = n;
-}
-
-/// Numbers.
-fn numbers_read(numbers: &[u64])
-    ensures { All (λ n. n < 2 ^ 64) numbers.now }
-{
-    for number in numbers {
-        let _ = *number;
-    }
-}
-
-/// The row of a node.
-fn row_reads(node: Node)
-    ensures { RowReads node }
-{
-    numbers_read(&node.row.w);
-}
-
-/// The rows of an entry.
-fn rows_read(nodes: &[Node])
-    ensures { All RowReads nodes.now }
-{
-    for node in nodes {
-        row_reads(*node);
-    }
-}
-
-/// The entries of a log.
-fn entries_read(entries: &[Entry])
-    ensures { All EntryReads (segments_in entries.now) }
-{
-    for entry in entries {
-        rows_read(entry.nodes.as_slice());
-        number_reads(entry.place);
-    }
-}
-
-/// All that is said of what an image holds.
-pub(crate) fn content_reads(decoded: &Decoded)
-    requires object { IfSome decoded.now.head (λ head. (1 ≤ head.object) × (head.object ≤ 4)) }
-    requires used { used_by (content_in decoded.now) < 2 ^ 64 }
-    ensures { ShowReads (show_data (content_in decoded.now)) }
-{
-    entries_read(decoded.entries.as_slice());
-    if let Some(head) = &decoded.head {
-        number_reads(head.thread);
-        number_reads(head.threads);
-    }
 }
 
 /// The outcome of a call that has begun and not returned.

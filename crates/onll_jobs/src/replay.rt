@@ -1,4 +1,6 @@
-ghost use Rattle.std.specs.Prelude.{IfOk, IfErr, ◌≡◌, ◌++◌, ◌≤◌, length, slice_get, true, IsSome, OnOk, All, map, string_bytes};
+//! The command `replay`: a schedule of scripts played on the step core, its crash, and what is recovered.
+
+ghost use Rattle.std.specs.Prelude.{[], IfOk, ◌≡◌, ◌++◌, ◌≤◌, length, slice_get, true, IsSome, OnOk, All, map, string_bytes};
 ghost use Rattle.onll_model.specs.Limits.{most_threads, most_updates};
 ghost use Rattle.std.specs.List.{AllByRecursion};
 ghost use Rattle.onll_words.specs.Texts.{line_text};
@@ -7,31 +9,24 @@ ghost use Rattle.onll_model.specs.Calls.{updates_in};
 ghost use Rattle.onll_text.specs.Bytes.{begins_line, with_lines};
 ghost use Rattle.onll_text.specs.Lines.{call_lines};
 ghost use Rattle.onll_core.specs.Outcomes.{returned_end, current_ends, script_of};
-ghost use Rattle.onll_core.specs.Crash.{images_of};
 ghost use Rattle.onll_text.specs.Schedule.{IsPlayable};
-ghost use Rattle.onll_outside.specs.Views.{SameFiles};
 ghost use Rattle.onll_merge.specs.Recovered.{recovered_in, state_recovered};
 ghost use Rattle.onll_jobs.specs.Images.{images_in, image_names};
-ghost use Rattle.onll_jobs.specs.Job.{JobCut, JobEnds, SaysNow};
-ghost use Rattle.onll_jobs.specs.Stop.{StopSays};
-ghost use Rattle.onll_jobs.specs.Writing.{SameBut};
-ghost use Rattle.onll_jobs.specs.ReplayJob.{begun_lines, flagged_lines, crash_line, fenced_lines, run_lines, crash_lines, replay_report, crash_says, crash_job, played, AreRead, ScriptsStop, schedule_job, replay_on, replay_any, replay_job};
-ghost use Rattle.onll_jobs.specs.declared.ending.Ending.TheVariants.{Done};
-ghost use Rattle.onll_jobs.specs.Durable.{ReadScripts};
-ghost use Rattle.onll_jobs.specs.Determined.{CrashesTo, PlaysTo, ReplaysTo, ReplaysToAny, ReplaysFiles};
+ghost use Rattle.onll_jobs.specs.ReplayJob.{begun_lines, flagged_lines, crash_line, fenced_lines, run_lines, crash_lines, replay_report, run_task, crash_task, played, schedule_task, scripts_stage, scripts_task};
+ghost use Rattle.onll_jobs.specs.Doing.{Does, Begins};
+ghost use Rattle.onll_outside.specs.Views.{StoreView};
 
-use crate::answer::{Answer, Stop};
+use crate::answer::Stop;
 use crate::bad_logs::bad_logs;
-use crate::ending::Ending;
 use crate::images::write_images;
 use crate::reads::run_reads;
 use crate::recover::put_count;
-use crate::texts::{init_file, schedule_file, script_file};
+use crate::texts::{schedule_file, script_file};
 use onll_core::{Core, Current, Returned};
 use onll_merge::{LogCounts, Recovery, StateFault, recover_state};
 use onll_model::{Call, CallEnd, Node};
 use onll_outside::Store;
-use onll_text::{AnyObject, Piece, Report, Schedule, Texted};
+use onll_text::{Piece, Report, Schedule, Texted};
 use onll_words::{Line, NoMemory};
 use std::alloc::Global;
 
@@ -194,29 +189,22 @@ fn crash_answer<O: Texted + Drop>(
     keep: u64,
     init: &[u8],
     images: &[Vec<Line>],
-) -> Result<Answer, NoMemory>
+) -> Result<Vec<u8>, Stop>
     requires operations { AllByRecursion (λ n. IsSome (O.means.op_at n.row)) core.now.trace }
     requires threads { (1 ≤ length images.now) × (length images.now ≤ most_threads) }
     requires images { length images.now ≡ length core.now.threads }
-    ensures says { let job = crash_says O.means O.wording core.now keep (state_recovered O.means O.CODE init.now (images_in images.now)) in
-        IfOk result (λ answer. SaysNow job answer.ending answer.text.items) }
-    ensures determined { let scripts = map script_of core.now.threads in
-        IfOk result (λ answer. answer.ending ≡ Done
-        → CrashesTo O.means O.wording O.CODE init.now core.now keep scripts
-        (images_in images.now) answer.text.items) }
+    ensures { let found = state_recovered O.means O.CODE init.now (images_in images.now) in
+        (store : StoreView) → Does [] store store (run_task O.means O.wording (map script_of core.now.threads) core.now keep found) result }
 {
     let mut object = core.initial().copy(alloc)?;
     match recover_state(alloc, &mut object, init, images) {
         Ok(found) => {
             let text = report(alloc, core, keep, &found, &object)?;
             run_reads(core, keep, &found, &object);
-            Ok(Answer {
-                ending: Ending::Done,
-                text,
-            })
+            Ok(text)
         }
-        Err(StateFault::NoMemory) => Err(NoMemory),
-        Err(fault) => bad_logs(alloc, fault),
+        Err(StateFault::NoMemory) => Err(Stop::NoMemory),
+        Err(fault) => Err(bad_logs(alloc, fault)),
     }
 }
 
@@ -228,23 +216,16 @@ fn crash<O: Texted + Drop, S: Store>(
     init: &[u8],
     logs: &str,
     store: &mut S,
-) -> Result<Answer, NoMemory>
+) -> Result<Vec<u8>, Stop>
     requires operations { AllByRecursion (λ n. IsSome (O.means.op_at n.row)) core.now.trace }
     requires threads { (1 ≤ length core.now.threads) × (length core.now.threads ≤ most_threads) }
-    ensures says { let job = crash_job O.means O.wording O.CODE init.now logs.now core.now keep in
-        IfOk result (λ answer. JobEnds (S.seen store.old) (S.seen store.new) job answer.ending answer.text.items) }
-    ensures cut { let job = crash_job O.means O.wording O.CODE init.now logs.now core.now keep in
-        IfErr result (λ e. JobCut (S.seen store.old) (S.seen store.new) job) }
-    ensures determined { let scripts = map script_of core.now.threads in
-        IfOk result (λ answer. answer.ending ≡ Done
-        → CrashesTo O.means O.wording O.CODE init.now core.now keep scripts
-        (images_of keep core.now.threads) answer.text.items) }
-    ensures others { SameBut (image_names logs.now 0 (length core.now.threads)) (S.seen store.old) (S.seen store.new) }
+    ensures { let task = crash_task O.means O.wording O.CODE init.now logs.now (map script_of core.now.threads) core.now keep in
+        Does (image_names logs.now 0 (length core.now.threads)) (S.seen store.old) (S.seen store.new) task result }
 {
     let images = core.crash(alloc, keep)?;
     match write_images(alloc, logs, &images, store) {
         Ok(()) => crash_answer(alloc, core, keep, init, &images),
-        Err(stop) => stop.answer(),
+        Err(stop) => Err(stop),
     }
 }
 
@@ -275,15 +256,10 @@ fn script_files<O: Texted, S: Store>(
     names: &[String],
     store: &mut S,
 ) -> Result<Vec<Vec<Call<O>>>, Stop>
-    ensures read { IfOk result (λ scripts. AreRead O.wording (S.seen store.old) (S.seen store.new)
-        (map string_bytes names.now) (map (λ script. script.items) scripts.items)) }
-    ensures held { IfOk result (λ scripts. ReadScripts O.wording (S.seen store.old) (map string_bytes names.now)
-        (map (λ script. script.items) scripts.items)) }
+    ensures begins { let stage = scripts_stage O.wording (map string_bytes names.now) in
+        Begins [] (S.seen store.old) (S.seen store.new) stage (λ scripts. map (λ script. script.items) scripts.items) result }
     ensures count { IfOk result (λ scripts. length scripts.items ≡ length names.now) }
     ensures updates { IfOk result (λ scripts. All (λ script. updates_in script.items ≤ most_updates) scripts.items) }
-    ensures stop { IfErr result (λ stop. StopSays stop
-        (ScriptsStop O.wording (S.seen store.old) (S.seen store.new) (map string_bytes names.now))) }
-    ensures same { SameFiles (S.seen store.old) (S.seen store.new) }
 {
     let mut scripts = Vec::new(alloc);
     for name in names {
@@ -304,32 +280,24 @@ fn replay_scripts<O: Texted + Drop, S: Store>(
     logs: &str,
     scripts: Vec<Vec<Call<O>>>,
     store: &mut S,
-) -> Result<Answer, NoMemory>
+) -> Result<Vec<u8>, Stop>
     requires few { (1 ≤ length scripts.items) × (length scripts.items ≤ most_threads) }
     requires updates { All (λ script. updates_in script.items ≤ most_updates) scripts.items }
-    ensures says { let job = schedule_job O.means O.wording O.CODE init.now object schedule.now logs.now
-        (map (λ script. script.items) scripts.items) in
-        IfOk result (λ answer. JobEnds (S.seen store.old) (S.seen store.new) job answer.ending answer.text.items) }
-    ensures cut { let job = schedule_job O.means O.wording O.CODE init.now object schedule.now logs.now
-        (map (λ script. script.items) scripts.items) in
-        IfErr result (λ e. JobCut (S.seen store.old) (S.seen store.new) job) }
-    ensures determined { let calls = map (λ script. script.items) scripts.items in
-        IfOk result (λ answer. answer.ending ≡ Done
-        → PlaysTo O.means O.wording O.CODE init.now object
-        (S.seen store.old) schedule.now calls answer.text.items) }
-    ensures others { SameBut (image_names logs.now 0 (length scripts.items)) (S.seen store.old) (S.seen store.new) }
+    ensures { let calls = map (λ script. script.items) scripts.items in
+        let task = schedule_task O.means O.wording O.CODE init.now object schedule.now logs.now calls in
+        Does (image_names logs.now 0 (length scripts.items)) (S.seen store.old) (S.seen store.new) task result }
 {
     match schedule_file(alloc, schedule, scripts.len() as u64, store) {
         Ok(plan) => {
             let core = played(alloc, object, init, scripts, &plan)?;
             crash(alloc, &core, plan.keep, init, logs, store)
         }
-        Err(stop) => stop.answer(),
+        Err(stop) => Err(stop),
     }
 }
 
 /// Replays the schedule of a file on an object, whose initial state these bytes say.
-fn replay_on<O: Texted + Drop, S: Store>(
+pub(crate) fn replay_on<O: Texted + Drop, S: Store>(
     alloc: Global,
     object: O,
     init: &[u8],
@@ -337,80 +305,13 @@ fn replay_on<O: Texted + Drop, S: Store>(
     logs: &str,
     scripts: &[String],
     store: &mut S,
-) -> Result<Answer, NoMemory>
+) -> Result<Vec<u8>, Stop>
     requires { (1 ≤ length scripts.now) × (length scripts.now ≤ most_threads) }
-    ensures says { let job = replay_on O.means O.wording O.CODE init.now schedule.now logs.now (map string_bytes scripts.now) object in
-        IfOk result (λ answer. JobEnds (S.seen store.old) (S.seen store.new) job answer.ending answer.text.items) }
-    ensures cut { let job = replay_on O.means O.wording O.CODE init.now schedule.now logs.now (map string_bytes scripts.now) object in
-        IfErr result (λ e. JobCut (S.seen store.old) (S.seen store.new) job) }
-    ensures determined { let names = map string_bytes scripts.now in
-        IfOk result (λ answer. answer.ending ≡ Done
-        → ReplaysTo O.means O.wording O.CODE init.now object
-        (S.seen store.old) schedule.now names answer.text.items) }
-    ensures others { SameBut (image_names logs.now 0 (length scripts.now)) (S.seen store.old) (S.seen store.new) }
+    ensures { let task = scripts_task O.means O.wording O.CODE init.now schedule.now logs.now (map string_bytes scripts.now) object in
+        Does (image_names logs.now 0 (length scripts.now)) (S.seen store.old) (S.seen store.new) task result }
 {
     match script_files::<O, S>(alloc, scripts, store) {
         Ok(calls) => replay_scripts(alloc, object, init, schedule, logs, calls, store),
-        Err(stop) => stop.answer(),
-    }
-}
-
-/// The same for an object of any kind.
-fn replay_any<S: Store>(
-    alloc: Global,
-    object: AnyObject,
-    init: &[u8],
-    schedule: &str,
-    logs: &str,
-    scripts: &[String],
-    store: &mut S,
-) -> Result<Answer, NoMemory>
-    requires { (1 ≤ length scripts.now) × (length scripts.now ≤ most_threads) }
-    ensures says { let job = replay_any init.now schedule.now logs.now (map string_bytes scripts.now) object in
-        IfOk result (λ answer. JobEnds (S.seen store.old) (S.seen store.new) job answer.ending answer.text.items) }
-    ensures cut { let job = replay_any init.now schedule.now logs.now (map string_bytes scripts.now) object in
-        IfErr result (λ e. JobCut (S.seen store.old) (S.seen store.new) job) }
-    ensures determined { let names = map string_bytes scripts.now in
-        IfOk result (λ answer. answer.ending ≡ Done
-        → ReplaysToAny init.now (S.seen store.old) schedule.now names answer.text.items object) }
-    ensures others { SameBut (image_names logs.now 0 (length scripts.now)) (S.seen store.old) (S.seen store.new) }
-{
-    match object {
-        AnyObject::Bank(bank) => replay_on(alloc, bank, init, schedule, logs, scripts, store),
-        AnyObject::Map(map) => replay_on(alloc, map, init, schedule, logs, scripts, store),
-        AnyObject::Queue(queue) => replay_on(alloc, queue, init, schedule, logs, scripts, store),
-        AnyObject::Lease(lease) => replay_on(alloc, lease, init, schedule, logs, scripts, store),
-    }
-}
-
-/// Plays a schedule of scripts on an initial state, crashes, writes the images of the logs, and recovers from them.
-pub(crate) fn answer<S: Store>(
-    alloc: Global,
-    init: &str,
-    schedule: &str,
-    logs: &str,
-    scripts: &[String],
-    store: &mut S,
-) -> Result<Answer, NoMemory>
-    requires { (1 ≤ length scripts.now) × (length scripts.now ≤ most_threads) }
-    ensures says { let job = replay_job init.now schedule.now logs.now (map string_bytes scripts.now) in
-        IfOk result (λ answer. JobEnds (S.seen store.old) (S.seen store.new) job answer.ending answer.text.items) }
-    ensures cut { let job = replay_job init.now schedule.now logs.now (map string_bytes scripts.now) in
-        IfErr result (λ e. JobCut (S.seen store.old) (S.seen store.new) job) }
-    ensures determined { let names = map string_bytes scripts.now in
-        IfOk result (λ answer. answer.ending ≡ Done → ReplaysFiles (S.seen store.old) init.now schedule.now names answer.text.items) }
-    ensures others { SameBut (image_names logs.now 0 (length scripts.now)) (S.seen store.old) (S.seen store.new) }
-{
-    match init_file(alloc, init, store) {
-        Ok(read) => replay_any(
-            alloc,
-            read.object,
-            &read.text,
-            schedule,
-            logs,
-            scripts,
-            store,
-        ),
-        Err(stop) => stop.answer(),
+        Err(stop) => Err(stop),
     }
 }

@@ -1,19 +1,18 @@
-ghost use Rattle.std.specs.Prelude.{◌≡◌, ◌∷◌, ◌++◌, ◌+◌, ◌-◌, ◌<◌, ◌≤◌, ◌^◌, [], length, true, IfOk, IfErr, OnOk, Some, map, decimal};
+//! The command `show`: what an image of a log holds.
+
+ghost use Rattle.std.specs.Prelude.{◌≡◌, ◌∷◌, ◌++◌, ◌+◌, ◌-◌, ◌<◌, ◌≤◌, ◌^◌, [], length, true, IfOk, OnOk, Some, IfSome, All, map, decimal};
 ghost use Rattle.std.specs.List.{AllByRecursion};
 ghost use Rattle.onll_words.specs.Texts.{line_text};
 ghost use Rattle.onll_pmem.specs.Pmem.{words_of};
 ghost use Rattle.onll_log.specs.Grammar.{content_of, used_by};
 ghost use Rattle.onll_log.specs.Decoded.{segment_in, segments_in, content_in};
 ghost use Rattle.onll_text.specs.Bytes.{begins_line, with_words, with_lines};
-ghost use Rattle.onll_outside.specs.Views.{SameFiles};
-ghost use Rattle.onll_jobs.specs.Job.{JobEnds, JobCut, SaysNow};
-ghost use Rattle.onll_jobs.specs.ShowJob.{head_words, row_line, row_lines, entry_words, entry_lines, entries_lines, count_words, content_lines, show_report, not_a_log, shown, show_job, IsPlaced};
-ghost use Rattle.onll_jobs.specs.declared.ending.Ending.TheVariants.{Done};
-ghost use Rattle.onll_jobs.specs.Determined.{ShowsImage, ShowsFile};
+ghost use Rattle.onll_outside.specs.Views.{StoreView};
+ghost use Rattle.onll_jobs.specs.ShowJob.{head_line, row_line, row_lines, entry_words, entry_lines, entries_lines, count_words, content_lines, show_report, RowReads, EntryReads, ShowReads, show_data, shown_task, show_work, IsPlaced};
+ghost use Rattle.onll_jobs.specs.Doing.{Does};
 
-use crate::answer::Answer;
+use crate::answer::Stop;
 use crate::ending::Ending;
-use crate::reads::content_reads;
 use crate::texts::image_file;
 use onll_log::{DecodeFault, Decoded, Entry, LogHead, decode};
 use onll_model::Node;
@@ -26,17 +25,18 @@ use std::alloc::Global;
 const NOT_A_LOG: &[u8] = b"not a log\n";
 
 /// The line of a log's head.
-fn put_head(head: &LogHead, out: &mut Report) -> Result<(), NoMemory>
+fn put_head(thread: u64, threads: u64, object: u64, out: &mut Report) -> Result<(), NoMemory>
     requires { begins_line out.old ≡ true }
-    ensures { OnOk result (out.new ≡ out.old ++ line_text (head_words head.now)) }
+    ensures line { OnOk result (out.new ≡ out.old ++ line_text (head_line thread threads object)) }
+    ensures reads { OnOk result ((thread < 2 ^ 64) × (threads < 2 ^ 64)) }
 {
-    let name = object_name(head.object);
+    let name = object_name(object);
     out.line(&[
         Piece::Text(b"log"),
         Piece::Text(b"thread"),
-        Piece::Number(head.thread),
+        Piece::Number(thread),
         Piece::Text(b"threads"),
-        Piece::Number(head.threads),
+        Piece::Number(threads),
         Piece::Text(b"object"),
         Piece::Text(name),
     ])
@@ -44,7 +44,8 @@ fn put_head(head: &LogHead, out: &mut Report) -> Result<(), NoMemory>
 
 /// Numbers, as words.
 fn put_numbers(numbers: &[u64], out: &mut Report) -> Result<(), NoMemory>
-    ensures { OnOk result (out.new ≡ with_words out.old (map decimal numbers.now)) }
+    ensures words { OnOk result (out.new ≡ with_words out.old (map decimal numbers.now)) }
+    ensures reads { OnOk result (All (λ n. n < 2 ^ 64) numbers.now) }
 {
     for number in numbers {
         out.number(*number)?;
@@ -53,9 +54,10 @@ fn put_numbers(numbers: &[u64], out: &mut Report) -> Result<(), NoMemory>
 }
 
 /// The line of the node at a place.
-fn put_row(place: u64, node: &Node, out: &mut Report) -> Result<(), NoMemory>
+fn put_row(place: u64, node: Node, out: &mut Report) -> Result<(), NoMemory>
     requires { begins_line out.old ≡ true }
-    ensures { OnOk result (out.new ≡ out.old ++ line_text (row_line place node.now)) }
+    ensures line { OnOk result (out.new ≡ out.old ++ line_text (row_line place node)) }
+    ensures reads { OnOk result (RowReads node) }
 {
     out.words(&[
         Piece::Text(b"row"),
@@ -73,11 +75,12 @@ fn put_rows(below: u64, nodes: &[Node], out: &mut Report) -> Result<(), NoMemory
     requires places { below + length nodes.now < 2 ^ 64 }
     ensures lines { OnOk result (out.new ≡ with_lines out.old (row_lines below nodes.now)) }
     ensures begins { OnOk result (begins_line out.new ≡ true) }
+    ensures reads { OnOk result (All RowReads nodes.now) }
 {
     let mut place = below;
     for node in nodes {
         place += 1;
-        put_row(place, node, out)?;
+        put_row(place, *node, out)?;
     }
     Ok(())
 }
@@ -88,6 +91,7 @@ fn put_entry(number: u64, entry: &Entry, out: &mut Report) -> Result<(), NoMemor
     requires placed { IsPlaced (segment_in entry.now) }
     ensures lines { OnOk result (out.new ≡ with_lines out.old (entry_lines number (segment_in entry.now))) }
     ensures begins { OnOk result (begins_line out.new ≡ true) }
+    ensures reads { OnOk result (EntryReads (segment_in entry.now)) }
 {
     let nodes = entry.nodes.as_slice();
     let count = nodes.len() as u64;
@@ -108,6 +112,7 @@ fn put_entries(entries: &[Entry], out: &mut Report) -> Result<(), NoMemory>
     requires placed { AllByRecursion IsPlaced (segments_in entries.now) }
     ensures lines { OnOk result (out.new ≡ with_lines out.old (entries_lines 0 (segments_in entries.now))) }
     ensures begins { OnOk result (begins_line out.new ≡ true) }
+    ensures reads { OnOk result (All EntryReads (segments_in entries.now)) }
 {
     let mut number = 0;
     for entry in entries {
@@ -134,13 +139,15 @@ fn put_counts(entries: u64, lines: u64, out: &mut Report) -> Result<(), NoMemory
 fn put_log(head: &LogHead, decoded: &Decoded, out: &mut Report) -> Result<(), NoMemory>
     requires begins { begins_line out.old ≡ true }
     requires head { decoded.now.head ≡ Some head.now }
+    requires object { IfSome decoded.now.head (λ head. (1 ≤ head.object) × (head.object ≤ 4)) }
     requires placed { AllByRecursion IsPlaced (segments_in decoded.now.entries) }
     requires used { used_by (content_in decoded.now) < 2 ^ 64 }
-    ensures { let content = content_in decoded.now in
+    ensures lines { let content = content_in decoded.now in
         OnOk result (out.new ≡ with_lines out.old (content_lines content.head content.entries (used_by content))) }
+    ensures reads { OnOk result (ShowReads (show_data (content_in decoded.now))) }
 {
     let entries = decoded.entries.as_slice();
-    put_head(head, out)?;
+    put_head(head.thread, head.threads, head.object, out)?;
     put_entries(entries, out)?;
     put_counts(entries.len() as u64, decoded.used(), out)
 }
@@ -148,10 +155,12 @@ fn put_log(head: &LogHead, decoded: &Decoded, out: &mut Report) -> Result<(), No
 /// The lines of what an image holds.
 fn put_content(decoded: &Decoded, out: &mut Report) -> Result<(), NoMemory>
     requires begins { begins_line out.old ≡ true }
+    requires object { IfSome decoded.now.head (λ head. (1 ≤ head.object) × (head.object ≤ 4)) }
     requires placed { AllByRecursion IsPlaced (segments_in decoded.now.entries) }
     requires used { used_by (content_in decoded.now) < 2 ^ 64 }
-    ensures { let content = content_in decoded.now in
+    ensures lines { let content = content_in decoded.now in
         OnOk result (out.new ≡ with_lines out.old (content_lines content.head content.entries (used_by content))) }
+    ensures reads { OnOk result (ShowReads (show_data (content_in decoded.now))) }
 {
     match &decoded.head {
         None => out.line(&[Piece::Text(b"empty")]),
@@ -159,60 +168,36 @@ fn put_content(decoded: &Decoded, out: &mut Report) -> Result<(), NoMemory>
     }
 }
 
-/// The report of what an image holds.
+/// The report of what an image holds. All that it says reads back.
 fn report(alloc: Global, decoded: &Decoded) -> Result<Vec<u8>, NoMemory>
+    requires object { IfSome decoded.now.head (λ head. (1 ≤ head.object) × (head.object ≤ 4)) }
     requires placed { AllByRecursion IsPlaced (segments_in decoded.now.entries) }
     requires used { used_by (content_in decoded.now) < 2 ^ 64 }
-    ensures { IfOk result (λ bytes. bytes.items ≡ show_report (content_in decoded.now)) }
+    ensures report { IfOk result (λ bytes. bytes.items ≡ show_report (content_in decoded.now)) }
+    ensures reads { OnOk result (ShowReads (show_data (content_in decoded.now))) }
 {
     let mut out = Report::new(alloc);
     put_content(decoded, &mut out)?;
     Ok(out.into_bytes())
 }
 
-/// The answer for an image that is no log.
-fn not_a_log(alloc: Global) -> Result<Answer, NoMemory>
-    ensures { IfOk result (λ answer. (answer.ending ≡ Ending.BadLog) × (answer.text.items ≡ not_a_log)) }
-{
-    Ok(Answer {
-        ending: Ending::BadLog,
-        text: Vec::from_slice(alloc, NOT_A_LOG)?,
-    })
-}
-
 /// What is said of an image's lines.
-fn shown(alloc: Global, lines: &[Line]) -> Result<Answer, NoMemory>
-    ensures says { IfOk result (λ answer. SaysNow (shown (content_of (words_of lines.now))) answer.ending answer.text.items) }
-    ensures determined { IfOk result (λ answer. answer.ending ≡ Done → ShowsImage (words_of lines.now) answer.text.items) }
+fn shown(alloc: Global, lines: &[Line]) -> Result<Vec<u8>, Stop>
+    ensures { (store : StoreView) → Does [] store store (shown_task (content_of (words_of lines.now))) result }
 {
     match decode(alloc, lines) {
-        Ok(decoded) => {
-            let text = report(alloc, &decoded)?;
-            content_reads(&decoded);
-            Ok(Answer {
-                ending: Ending::Done,
-                text,
-            })
-        }
-        Err(DecodeFault::NotLog) => not_a_log(alloc),
-        Err(DecodeFault::NoMemory) => Err(NoMemory),
+        Ok(decoded) => Ok(report(alloc, &decoded)?),
+        Err(DecodeFault::NotLog) => Err(Stop::says(alloc, Ending::BadLog, NOT_A_LOG)),
+        Err(DecodeFault::NoMemory) => Err(Stop::NoMemory),
     }
 }
 
-/// Shows the image of a file.
-pub(crate) fn answer<S: Store>(
-    alloc: Global,
-    image: &str,
-    store: &mut S,
-) -> Result<Answer, NoMemory>
-    ensures says { IfOk result (λ answer. JobEnds (S.seen store.old) (S.seen store.new)
-        (show_job image.now) answer.ending answer.text.items) }
-    ensures cut { IfErr result (λ e. JobCut (S.seen store.old) (S.seen store.new) (show_job image.now)) }
-    ensures determined { IfOk result (λ answer. answer.ending ≡ Done → ShowsFile (S.seen store.old) image.now answer.text.items) }
-    ensures same { SameFiles (S.seen store.old) (S.seen store.new) }
+/// Shows the image of a file: its report, or what is said in its place.
+pub(crate) fn answer<S: Store>(alloc: Global, image: &str, store: &mut S) -> Result<Vec<u8>, Stop>
+    ensures { Does [] (S.seen store.old) (S.seen store.new) (show_work image.now).task result }
 {
     match image_file(alloc, image, store) {
         Ok(lines) => shown(alloc, &lines),
-        Err(stop) => stop.answer(),
+        Err(stop) => Err(stop),
     }
 }

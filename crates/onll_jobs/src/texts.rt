@@ -1,15 +1,17 @@
-ghost use Rattle.std.specs.Prelude.{◌≡◌, ◌≤◌, IfOk, IfErr, OnOk};
+//! Files read as texts, each by its grammar, and images as lines; and bytes written as files.
+
+ghost use Rattle.std.specs.Prelude.{[], ◌≤◌, IfOk, IfErr, OnOk};
 ghost use Rattle.onll_model.specs.Limits.{most_updates};
-ghost use Rattle.onll_outside.specs.Views.{SameFiles, SameOthers, SameFaults, FaultsOf};
-ghost use Rattle.onll_outside.specs.declared.store.FaultKind.TheVariants.{Read};
+ghost use Rattle.onll_outside.specs.Views.{Gives, SameFiles, SameOthers, SameFaults};
 ghost use Rattle.onll_model.specs.Calls.{updates_in};
 ghost use Rattle.onll_pmem.specs.Pmem.{words_of};
 ghost use Rattle.onll_text.specs.Init.{init_of};
 ghost use Rattle.onll_text.specs.Script.{script_of};
-ghost use Rattle.onll_jobs.specs.Reading.{IsCut, Reads, ReadsWhole, HoldsImage, CannotRead, Stops};
-ghost use Rattle.onll_text.specs.Schedule.{schedule_of, IsPlayable};
-ghost use Rattle.onll_jobs.specs.Writing.{HasWritten, CannotWrite, WriteStops};
+ghost use Rattle.onll_jobs.specs.Reading.{IsCut, CannotRead};
 ghost use Rattle.onll_jobs.specs.Stop.{StopSays};
+ghost use Rattle.onll_jobs.specs.Writing.{HasWritten, CannotWrite, WriteStops};
+ghost use Rattle.onll_text.specs.Schedule.{schedule_of, IsPlayable};
+ghost use Rattle.onll_jobs.specs.Doing.{Begins, text_stage, whole_stage, lines_stage};
 
 use crate::answer::Stop;
 use onll_log::{LONGEST_IMAGE, image_lines};
@@ -21,13 +23,33 @@ use onll_text::{
 use onll_words::Line;
 use std::alloc::Global;
 
-/// The text of a file, with one byte at most that is too many.
-fn read_text<S: Store>(alloc: Global, name: &str, store: &mut S) -> Result<Vec<u8>, OutsideFault>
-    ensures text { IfOk result (λ text. IsCut (S.seen store.old) name.now text.items) }
+/// The first bytes of a file, or what is said in their place.
+fn read_bytes<S: Store>(
+    alloc: Global,
+    name: &str,
+    limit: u64,
+    store: &mut S,
+) -> Result<Vec<u8>, Stop>
+    ensures bytes { IfOk result (λ bytes. Gives (S.seen store.old) name.now limit bytes.items) }
+    ensures stop { IfErr result (λ stop. StopSays stop (CannotRead (S.seen store.old) (S.seen store.new) name.now)) }
     ensures same { SameFiles (S.seen store.old) (S.seen store.new) }
-    ensures faults { FaultsOf (record { kind = Read; name = name.now }) (S.seen store.old) (S.seen store.new) result }
+    ensures faults { OnOk result (SameFaults (S.seen store.old) (S.seen store.new)) }
 {
-    store.read(alloc, name, LONGEST_TEXT as u64 + 1)
+    match store.read(alloc, name, limit) {
+        Ok(bytes) => Ok(bytes),
+        Err(OutsideFault::Failed) => Err(Stop::unread(alloc, name)),
+        Err(OutsideFault::NoMemory) => Err(Stop::NoMemory),
+    }
+}
+
+/// The text of a file, with one byte at most that is too many; or what is said in its place.
+fn read_text<S: Store>(alloc: Global, name: &str, store: &mut S) -> Result<Vec<u8>, Stop>
+    ensures text { IfOk result (λ text. IsCut (S.seen store.old) name.now text.items) }
+    ensures stop { IfErr result (λ stop. StopSays stop (CannotRead (S.seen store.old) (S.seen store.new) name.now)) }
+    ensures same { SameFiles (S.seen store.old) (S.seen store.new) }
+    ensures faults { OnOk result (SameFaults (S.seen store.old) (S.seen store.new)) }
+{
+    read_bytes(alloc, name, LONGEST_TEXT as u64 + 1, store)
 }
 
 /// An initial state, with the text that says it.
@@ -43,15 +65,11 @@ pub(crate) fn init_file<S: Store>(
     name: &str,
     store: &mut S,
 ) -> Result<InitText, Stop>
-    ensures object { IfOk result (λ read. ReadsWhole (S.seen store.old) init_of name.now read.text.items read.object) }
-    ensures stop { IfErr result (λ stop. StopSays stop (Stops (S.seen store.old) (S.seen store.new) init_of name.now)) }
-    ensures same { SameFiles (S.seen store.old) (S.seen store.new) }
-    ensures count { OnOk result (SameFaults (S.seen store.old) (S.seen store.new)) }
+    ensures { Begins [] (S.seen store.old) (S.seen store.new) (whole_stage name.now init_of) (λ read. (read.text.items, read.object)) result }
 {
     let text = match read_text(alloc, name, store) {
         Ok(text) => text,
-        Err(OutsideFault::Failed) => return Err(Stop::unread(alloc, name)),
-        Err(OutsideFault::NoMemory) => return Err(Stop::NoMemory),
+        Err(stop) => return Err(stop),
     };
     match read_init(alloc, &text) {
         Ok(object) => Ok(InitText { text, object }),
@@ -66,16 +84,12 @@ pub(crate) fn script_file<O: Texted, S: Store>(
     name: &str,
     store: &mut S,
 ) -> Result<Vec<Call<O>>, Stop>
-    ensures calls { IfOk result (λ calls. Reads (S.seen store.old) (script_of O.wording) name.now calls.items) }
+    ensures begins { Begins [] (S.seen store.old) (S.seen store.new) (text_stage name.now (script_of O.wording)) (λ calls. calls.items) result }
     ensures updates { IfOk result (λ calls. updates_in calls.items ≤ most_updates) }
-    ensures stop { IfErr result (λ stop. StopSays stop (Stops (S.seen store.old) (S.seen store.new) (script_of O.wording) name.now)) }
-    ensures same { SameFiles (S.seen store.old) (S.seen store.new) }
-    ensures count { OnOk result (SameFaults (S.seen store.old) (S.seen store.new)) }
 {
     let text = match read_text(alloc, name, store) {
         Ok(text) => text,
-        Err(OutsideFault::Failed) => return Err(Stop::unread(alloc, name)),
-        Err(OutsideFault::NoMemory) => return Err(Stop::NoMemory),
+        Err(stop) => return Err(stop),
     };
     match read_script(alloc, &text) {
         Ok(calls) => Ok(calls),
@@ -90,15 +104,11 @@ pub(crate) fn image_file<S: Store>(
     name: &str,
     store: &mut S,
 ) -> Result<Vec<Line>, Stop>
-    ensures lines { IfOk result (λ lines. HoldsImage (S.seen store.old) name.now (words_of lines.items)) }
-    ensures stop { IfErr result (λ stop. StopSays stop (CannotRead (S.seen store.old) (S.seen store.new) name.now)) }
-    ensures same { SameFiles (S.seen store.old) (S.seen store.new) }
-    ensures count { OnOk result (SameFaults (S.seen store.old) (S.seen store.new)) }
+    ensures { Begins [] (S.seen store.old) (S.seen store.new) (lines_stage name.now) (λ lines. words_of lines.items) result }
 {
-    let bytes = match store.read(alloc, name, LONGEST_IMAGE as u64) {
+    let bytes = match read_bytes(alloc, name, LONGEST_IMAGE as u64, store) {
         Ok(bytes) => bytes,
-        Err(OutsideFault::Failed) => return Err(Stop::unread(alloc, name)),
-        Err(OutsideFault::NoMemory) => return Err(Stop::NoMemory),
+        Err(stop) => return Err(stop),
     };
     Ok(image_lines(alloc, &bytes)?)
 }
@@ -110,16 +120,12 @@ pub(crate) fn schedule_file<S: Store>(
     threads: u64,
     store: &mut S,
 ) -> Result<Schedule, Stop>
-    ensures schedule { IfOk result (λ schedule. Reads (S.seen store.old) (schedule_of threads) name.now schedule) }
+    ensures begins { Begins [] (S.seen store.old) (S.seen store.new) (text_stage name.now (schedule_of threads)) (λ schedule. schedule) result }
     ensures playable { IfOk result (λ schedule. IsPlayable threads schedule) }
-    ensures stop { IfErr result (λ stop. StopSays stop (Stops (S.seen store.old) (S.seen store.new) (schedule_of threads) name.now)) }
-    ensures same { SameFiles (S.seen store.old) (S.seen store.new) }
-    ensures count { OnOk result (SameFaults (S.seen store.old) (S.seen store.new)) }
 {
     let text = match read_text(alloc, name, store) {
         Ok(text) => text,
-        Err(OutsideFault::Failed) => return Err(Stop::unread(alloc, name)),
-        Err(OutsideFault::NoMemory) => return Err(Stop::NoMemory),
+        Err(stop) => return Err(stop),
     };
     match read_schedule(alloc, &text, threads) {
         Ok(schedule) => Ok(schedule),

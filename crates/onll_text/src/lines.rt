@@ -1,11 +1,13 @@
-//! The lines of a report: calls, nodes, logs and states.
+//! The lines of a report: calls, traces, nodes, logs and states. What they say of values that a program has reads back.
 
 ghost use Rattle.std.specs.Prelude.{◌≡◌, ℕ, ◌++◌, ◌∷◌, [], true, IsSome, OnOk};
 ghost use Rattle.onll_words.specs.Texts.{line_text};
 ghost use Rattle.onll_text.specs.Bytes.{begins_line, with_words, with_lines, IsFront};
 ghost use Rattle.onll_text.specs.Lines.{call_words, at_words, end_words, call_line, trace_line, node_line, flag_words, fence_words, log_line, state_lines};
+ghost use Rattle.onll_text.specs.Reports.{EndReads, NodeReads, StateReads};
 
 use crate::report::{Piece, Report};
+use crate::report_laws::{end_reads_back, node_reads_back};
 use crate::texted::Texted;
 use onll_model::{Call, CallEnd, Node};
 use onll_words::NoMemory;
@@ -92,7 +94,9 @@ impl Report {
         ensures ok { OnOk result (self.new ≡ self.old ++ line_text (call_line O.wording thread number call.now end.now)) }
         ensures keeps { IsFront self.old self.new }
         ensures within { IsFront self.new (self.old ++ line_text (call_line O.wording thread number call.now end.now)) }
+        ensures reads { OnOk result (EndReads O.wording end.now) }
     {
+        end_reads_back(end);
         self.words(&[
             Piece::Text(b"call"),
             Piece::Number(thread),
@@ -127,7 +131,9 @@ impl Report {
         ensures ok { OnOk result (self.new ≡ self.old ++ line_text (node_line O.means O.wording place node flag)) }
         ensures keeps { IsFront self.old self.new }
         ensures within { IsFront self.new (self.old ++ line_text (node_line O.means O.wording place node flag)) }
+        ensures reads { OnOk result (NodeReads O.means O.wording node) }
     {
+        node_reads_back::<O>(node);
         self.words(&[
             Piece::Text(b"node"),
             Piece::Number(place),
@@ -173,7 +179,9 @@ impl Report {
         ensures ok { OnOk result (self.new ≡ with_lines self.old (state_lines O.wording object.now)) }
         ensures keeps { IsFront self.old self.new }
         ensures within { IsFront self.new (with_lines self.old (state_lines O.wording object.now)) }
+        ensures reads { OnOk result (StateReads O.wording object.now) }
     {
+        object.state_reads_back();
         self.word(b"state")?;
         self.end_line()?;
         object.put_state(self)

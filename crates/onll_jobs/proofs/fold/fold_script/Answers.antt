@@ -20,13 +20,16 @@ put_nodes-requires-clause-begins g c κs within =
 
 pub state_lines-requires-after_bounds : goal.state_lines-requires-after_bounds
 state_lines-requires-after_bounds g c κs within =
-    ap begins_line c.in_ok-put_nodes.ensures
+    ap begins_line c.in_ok-put_nodes.ensures.lines
     ∙ begins_line-lines c.trace_line.new.self (node_lines g.O.Object.means g.O.Texted.wording 0 c.deref.result.now)
     (ap begins_line c.in_ok-trace_line.ensures.ok ∙ begins_line-line c.put_calls.new.out (trace_line c.len.result))
 
 pub returns-clause-reads : goal.returns-clause-reads
-returns-clause-reads g c = record {
-  ends = c.in_ok-put_calls.ensures.ends;
-  nodes = subst (All (NodeReads g.O.Object.means g.O.Texted.wording)) c.in_ok-put_calls.ensures.trace c.in_ok-put_calls.ensures.nodes;
-  state = subst (StateReads g.O.Texted.wording) c.in_ok-put_calls.ensures.state c.state_reads_back.ensures;
-}
+returns-clause-reads g c =
+    let b = g.O.Object.means in
+    let w = g.O.Texted.wording in
+    record {
+      ends = c.in_ok-put_calls.ensures.ends;
+      nodes = subst (All (NodeReads b w)) (c.deref.ensures.value ∙ c.in_ok-put_calls.ensures.trace) c.in_ok-put_nodes.ensures.reads;
+      state = subst (StateReads w) c.in_ok-put_calls.ensures.state c.in_ok-state_lines.ensures.reads;
+    }

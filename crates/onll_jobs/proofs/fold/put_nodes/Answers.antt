@@ -1,9 +1,11 @@
-use Rattle.std.proofs.Common.{◌+◌, [], None, get_or, arith, ◌∙◌, subst}
+use Rattle.std.proofs.Common.{◌+◌, [], None, drop, get_or, arith, sym, ◌∙◌, subst}
 use Rattle.std.proofs.lemmas.List.{drop_more}
-use Rattle.std.specs.List.{AllByRecursion}
+use Rattle.std.proofs.lemmas.List.Elements.{All-cons}
+use Rattle.std.specs.List.{All, AllByRecursion}
 use Rattle.std.specs.Option.{IsSome}
 use Rattle.onll_model.specs.declared.node.Node.{Node}
 use Rattle.onll_text.specs.Lines.{node_line}
+use Rattle.onll_text.specs.Reports.{NodeReads}
 use Rattle.onll_jobs.proofs.FoldSteps.{begins_after, node_lines_more}
 use Rattle.onll_jobs.proofs.fold.put_nodes.Goals as goal
 
@@ -19,6 +21,7 @@ loop-node-preserved g c =
     record {
       lines = node_lines_more b w c.loop-node.out c.node_line.new.self c.loop-node.place i nodes d (omega arith) line ∙ c.loop-node.invariant.lines;
       operations = rest.1;
+      reads = λ left. c.loop-node.invariant.reads (subst (All (NodeReads b w)) (sym (drop_more nodes i d (omega arith))) (All-cons (NodeReads b w) (get_or nodes i d) (drop (i + 1) nodes) c.in_ok-node_line.ensures.reads left));
       begins = begins_after c.loop-node.out c.node_line.new.self (node_line b w (c.loop-node.place + 1) (get_or nodes i d) None) line;
       place = omega arith;
     }

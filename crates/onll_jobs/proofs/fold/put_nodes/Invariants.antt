@@ -1,7 +1,8 @@
 use Rattle.std.proofs.Common.{◌≡◌, drop, true, IsSome}
-use Rattle.std.specs.List.{AllByRecursion}
+use Rattle.std.specs.List.{All, AllByRecursion}
 use Rattle.onll_text.specs.Bytes.{begins_line, with_lines}
 use Rattle.onll_text.specs.Lines.{node_lines}
+use Rattle.onll_text.specs.Reports.{NodeReads}
 use Rattle.onll_jobs.proofs.fold.put_nodes.Given as goal
 
 -- the nodes that are left make the lines that all make
@@ -13,6 +14,7 @@ invariant-loop-node g l =
     record {
       lines : with_lines l.out (node_lines b w l.place rest) ≡ with_lines l.fn.out (node_lines b w 0 l.trace);
       operations : AllByRecursion (λ n. IsSome (b.op_at n.row)) rest;
+      reads : All (NodeReads b w) rest → All (NodeReads b w) l.trace;
       begins : begins_line l.out ≡ true;
       place : l.place ≡ l.node-index;
     }

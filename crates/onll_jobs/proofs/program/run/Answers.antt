@@ -1,15 +1,17 @@
-use Rattle.std.proofs.Common.{map, string_bytes}
+use Rattle.std.proofs.Common.{map, string_bytes, sym}
+use Rattle.onll_jobs.specs.declared.ending.Ending.TheVariants.{Done}
 use Rattle.onll_jobs.specs.Seen.{seen_by}
 use Rattle.onll_jobs.proofs.ExitCauses.{put_says}
 use Rattle.onll_jobs.proofs.FormsDetermined.{put_determined}
+use Rattle.onll_jobs.proofs.Stages.{stay_same}
 use Rattle.onll_jobs.proofs.program.run.Goals as goal
 
 pub returns-in-Ok-clause-says : goal.returns-in-Ok-clause-says
 returns-in-Ok-clause-says g c =
     put_says (seen_by (map string_bytes c.args.words.now) (g.S.Store.seen c.args.store.now) (g.S.Store.seen c.answer_to.new.store) (g.K.Sink.held c.args.out.now) (g.K.Sink.held c.put.new.out))
-    c.in-Ok.answer.ending c.in-Ok.answer.text.items c.put.result c.in-Ok.ensures.says c.put.ensures
+    Done c.in-Ok.report.items c.put.result c.in-Ok.ensures.done (rw (sym c.deref.ensures.value) c.put.ensures)
 
 pub returns-in-Ok-clause-determined : goal.returns-in-Ok-clause-determined
 returns-in-Ok-clause-determined g c =
     put_determined (seen_by (map string_bytes c.args.words.now) (g.S.Store.seen c.args.store.now) (g.S.Store.seen c.answer_to.new.store) (g.K.Sink.held c.args.out.now) (g.K.Sink.held c.put.new.out))
-    c.in-Ok.answer.ending c.in-Ok.answer.text.items c.put.result c.in-Ok.ensures.determined c.put.ensures
+    Done c.in-Ok.report.items c.put.result (λ e. c.in-Ok.ensures.reports (g.S.Store.seen c.args.store.now) (stay_same (g.S.Store.seen c.args.store.now))) (rw (sym c.deref.ensures.value) c.put.ensures)

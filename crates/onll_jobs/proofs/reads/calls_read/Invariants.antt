@@ -1,6 +1,6 @@
 use Rattle.std.proofs.Common.{drop, map}
 use Rattle.onll_core.specs.Outcomes.{ends_of, script_of}
-use Rattle.onll_jobs.specs.Reports.{EachReads}
+use Rattle.onll_jobs.specs.ReplayJob.{EachReads}
 use Rattle.onll_jobs.proofs.reads.calls_read.Given as goal
 
 -- if the outcomes of the threads that are left read back, all do

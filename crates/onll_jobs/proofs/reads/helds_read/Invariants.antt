@@ -1,6 +1,6 @@
 use Rattle.std.proofs.Common.{drop, map}
 use Rattle.std.specs.List.{All}
-use Rattle.onll_jobs.specs.Reports.{HeldReads, held_of}
+use Rattle.onll_jobs.specs.RecoverJob.{HeldReads, held_of}
 use Rattle.onll_jobs.proofs.reads.helds_read.Given as goal
 
 -- if the logs that are left read back, all do

@@ -1,6 +1,6 @@
 use Rattle.std.proofs.Common.{drop}
 use Rattle.std.specs.List.{All}
-use Rattle.onll_jobs.specs.Reports.{LogReads, counts_of}
+use Rattle.onll_jobs.specs.ReplayJob.{LogReads, counts_of}
 use Rattle.onll_jobs.proofs.reads.logs_read.Given as goal
 
 -- if the logs that are left read back, all do

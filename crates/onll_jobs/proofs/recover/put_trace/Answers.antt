@@ -10,5 +10,5 @@ put_nodes-requires-clause-operations g c κs within = all_operations g.O.Object.
 
 pub state_lines-requires-after_bounds : goal.state_lines-requires-after_bounds
 state_lines-requires-after_bounds g c κs within =
-    ap begins_line c.in_ok-put_nodes.ensures
+    ap begins_line c.in_ok-put_nodes.ensures.lines
     ∙ begins_line-lines c.args.out.now (node_lines g.O.Object.means g.O.Texted.wording 0 c.args.nodes.now) c.requires.begins

@@ -1,12 +1,20 @@
+use Rattle.std.proofs.Common.{[], ap, ◌∙◌}
+use Rattle.std.specs.List.{flat_map}
+use Rattle.onll_words.specs.Texts.{line_text}
 use Rattle.onll_merge.specs.Recovered.{recovered_in}
+use Rattle.onll_jobs.specs.RecoverJob.{lines_with}
 use Rattle.onll_jobs.proofs.Determined.{recover_says}
+use Rattle.onll_jobs.proofs.Stages.{report_does, none_does}
 use Rattle.onll_jobs.proofs.recover.recover_on.Goals as goal
 
-pub returns-in_ok-text-in-Ok-clause-determined : goal.returns-in_ok-text-in-Ok-clause-determined
-returns-in_ok-text-in-Ok-clause-determined g c done =
+pub returns-in_ok-text-in-Ok : goal.returns-in_ok-text-in-Ok
+returns-in_ok-text-in-Ok g c store =
+    let b = g.O.Object.means in
+    let w = g.O.Texted.wording in
     let found = recovered_in c.in-Ok.found in
-    record {
-      found = found;
-      is = c.in-Ok.ensures.recovered;
-      says = recover_says g.O.Object.means g.O.Texted.wording c.args.object.now c.recover_state.new.object found c.in_ok-text-in-Ok.text.items c.in-Ok.ensures.state c.in_ok-text-in-Ok.ensures c.recovery_reads.ensures;
-    }
+    let text = c.in_ok-text-in-Ok.text in
+    rw c.in-Ok.ensures.recovered (report_does store text (c.in_ok-text-in-Ok.ensures ∙ ap (λ s. flat_map line_text (lines_with b w found s)) c.in-Ok.ensures.state)
+    (recover_says b w c.args.object.now c.recover_state.new.object found text.items c.in-Ok.ensures.state c.in_ok-text-in-Ok.ensures c.recovery_reads.ensures))
+
+pub returns-in_err-text-in-Ok : goal.returns-in_err-text-in-Ok
+returns-in_err-text-in-Ok g c store = none_does [] store _ c.from_residual.ensures.1

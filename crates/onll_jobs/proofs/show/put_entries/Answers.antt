@@ -4,7 +4,8 @@ use Rattle.std.specs.List.{AllByRecursion}
 use Rattle.onll_log.specs.declared.decoded.Entry.{Entry}
 use Rattle.onll_log.specs.Decoded.{segment_in, segments_in}
 use Rattle.onll_text.specs.Bytes.{with_lines}
-use Rattle.onll_jobs.specs.ShowJob.{entry_lines, IsPlaced}
+use Rattle.onll_jobs.specs.ShowJob.{entry_lines, EntryReads, IsPlaced}
+use Rattle.onll_jobs.proofs.PrintedReads.{made_one_more}
 use Rattle.onll_jobs.proofs.ShowWords.{entry_lines_more}
 use Rattle.onll_jobs.proofs.show.put_entries.Goals as goal
 
@@ -19,5 +20,6 @@ loop-entry-preserved c =
       lines = entry_lines_more c.loop-entry.out c.put_entry.new.out c.loop-entry.number i entries d (omega arith) line ∙ c.loop-entry.invariant.lines;
       begins = c.in_ok-put_entry.ensures.begins;
       placed = rest.1;
+      reads = λ left. c.loop-entry.invariant.reads (made_one_more segment_in EntryReads entries i d (omega arith) c.entry-item.is c.in_ok-put_entry.ensures.reads left);
       number = omega arith;
     }

@@ -8,10 +8,10 @@ use Rattle.onll_jobs.specs.ShowJob.{entries_lines, count_words}
 use Rattle.onll_jobs.proofs.ShowWords.{log_parts}
 use Rattle.onll_jobs.proofs.show.put_log.Goals as goal
 
-pub returns : goal.returns
-returns c =
+pub returns-clause-lines : goal.returns-clause-lines
+returns-clause-lines c =
     let entries = c.args.decoded.now.entries in
     on_ok_weaker c.put_counts.result
     (λ d. log_parts c.args.head.now c.args.decoded.now.head entries (used_by (content_in c.args.decoded.now)) (length c.as_slice-entries.result.now) c.args.out.now c.put_head.new.out c.put_entries.new.out c.put_counts.new.out
-    c.requires.head c.in_ok-put_head.ensures (c.in_ok-put_entries.ensures.lines ∙ ap (λ es. with_lines c.put_head.new.out (entries_lines 0 (segments_in es))) c.as_slice-entries.ensures) (ap length c.as_slice-entries.ensures) (d ∙ ap (λ u. c.put_entries.new.out ++ line_text (count_words (length c.as_slice-entries.result.now) u)) c.used.ensures))
+    c.requires.head c.in_ok-put_head.ensures.line (c.in_ok-put_entries.ensures.lines ∙ ap (λ es. with_lines c.put_head.new.out (entries_lines 0 (segments_in es))) c.as_slice-entries.ensures) (ap length c.as_slice-entries.ensures) (d ∙ ap (λ u. c.put_entries.new.out ++ line_text (count_words (length c.as_slice-entries.result.now) u)) c.used.ensures))
     c.put_counts.ensures

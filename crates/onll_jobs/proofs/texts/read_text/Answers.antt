@@ -9,5 +9,5 @@ use Rattle.onll_jobs.proofs.texts.read_text.Goals as goal
 pub returns-clause-text : goal.returns-clause-text
 returns-clause-text g c =
     let s = g.S.Store.seen c.args.store.now in
-    IfOk-weaker c.read.result (λ text. Gives s c.args.name.now (longest_text + 1) text.items) (λ text. IsCut s c.args.name.now text.items)
-    (λ text h. cut_of s c.args.name.now text.items h) c.read.ensures.bytes
+    IfOk-weaker c.read_bytes.result (λ text. Gives s c.args.name.now (longest_text + 1) text.items) (λ text. IsCut s c.args.name.now text.items)
+    (λ text h. cut_of s c.args.name.now text.items h) c.read_bytes.ensures.bytes

@@ -1,6 +1,6 @@
 -- How jobs that read and write go on.
 
-use Rattle.std.proofs.Common.{Vec, Global, ℕ, zero, suc, true, false, List, [], ◌∷◌, ◌++◌, ◌≡◌, inl, inr, ⊎_elim, Option, Some, cond, ◌+◌, ◌<◌, length, drop, get_or, true≢false, Result, refl, sym, ap, ◌∙◌, subst, arith}
+use Rattle.std.proofs.Common.{Vec, Global, ℕ, zero, suc, true, false, List, ◌≡◌, inl, inr, ⊎_elim, Option, Some, cond, ◌+◌, ◌<◌, length, drop, get_or, true≢false, Result, refl, sym, ap, ◌∙◌, subst, arith}
 use Rattle.std.proofs.lemmas.List.{drop_more}
 use Rattle.std.proofs.lemmas.Bool.{cases_Bool}
 use Rattle.std.proofs.lemmas.Slice.Eq.{bytes_eq-Decides}
@@ -13,7 +13,6 @@ use Rattle.onll_outside.specs.Views.{StoreView, SameFiles, SameOthers, SameFault
 use Rattle.onll_text.specs.Refusal.{Refusal}
 use Rattle.onll_jobs.specs.declared.ending.Ending.{Ending}
 use Rattle.onll_jobs.specs.declared.ending.Ending.TheVariants.{Done, Usage, Refused, BadLog, ReadFault, WriteFault}
-use Rattle.onll_jobs.specs.declared.answer.Stop.TheVariants as stops
 use Rattle.onll_jobs.specs.Reading.{Reads, ReadsWhole, HoldsImage, Stops}
 use Rattle.onll_jobs.specs.Images.{image_name, images_in, image_bytes, image_names, writing_images}
 use Rattle.onll_jobs.specs.Writing.{FilesStay, OthersStay, SameBut, HasWritten, CannotWrite, WriteFailed, written}

@@ -1,7 +1,7 @@
 -- How the functions of a command do a task, one stage after the other.
 
 use Rattle.std.proofs.Common.{Vec, Global, ℕ, suc, ◌+◌, ◌<◌, ◌≤◌, List, [], ◌∷◌, ◌++◌, ◌≡◌, length, drop, get_or, Result, Ok, Err, inl, refl, sym, ap, ◌∙◌, subst, append_assoc, append-nil}
-use Rattle.std.specs.Result.{IfOk, IsErrAnd}
+use Rattle.std.specs.Result.{IsErrAnd}
 use Rattle.std.proofs.lemmas.List.{drop_more, drop_all}
 use Rattle.onll_words.specs.declared.line.Line.{Line}
 use Rattle.onll_pmem.specs.Pmem.{words_of}
@@ -10,11 +10,10 @@ use Rattle.onll_outside.specs.Views.{StoreView, SameFiles, SameOthers, SameFault
 use Rattle.onll_text.specs.Refusal.{Refusal}
 use Rattle.onll_jobs.specs.declared.ending.Ending.{Ending}
 use Rattle.onll_jobs.specs.declared.ending.Ending.TheVariants.{Done, Usage, Refused, BadLog, ReadFault, WriteFault}
-use Rattle.onll_jobs.specs.declared.answer.Answer.{Answer}
 use Rattle.onll_jobs.specs.declared.answer.Stop.{Stop}
 use Rattle.onll_jobs.specs.declared.answer.Stop.TheVariants.{Says, NoMemory}
-use Rattle.onll_jobs.specs.Doing.{Task, Stage, Reached, after_stage, report_task, say_task, text_stage, whole_stage, lines_stage, each_job, AreKnown, each_stage, StopsSo, Does, Begins}
-use Rattle.onll_jobs.specs.Job.{Job, Say, Read, Write, JobEnds, JobCut, GoesOn, reading, reading_whole}
+use Rattle.onll_jobs.specs.Doing.{Task, Stage, after_stage, report_task, say_task, text_stage, whole_stage, lines_stage, each_job, AreKnown, each_stage, StopsSo, Does, Begins}
+use Rattle.onll_jobs.specs.Job.{Job, Say, Read, Write, JobEnds, GoesOn, reading, reading_whole}
 use Rattle.onll_jobs.specs.Reading.{Reads, ReadsWhole, HoldsImage, CannotRead, Stops}
 use Rattle.onll_jobs.specs.Images.{image_name, image_names, images_in, image_bytes, writing_images, writing_stage}
 use Rattle.onll_jobs.specs.Stop.{StopSays}

@@ -1,6 +1,6 @@
 -- What the functions of a command do, each in one relation of the store before, the store after and the result.
 
-use Rattle.std.specs.Prelude.{ℕ, List, [], ◌∷◌, ◌≡◌, Result, Ok, Err}
+use Rattle.std.specs.Prelude.{ℕ, List, [], ◌∷◌, ◌≡◌, Result}
 use Rattle.std.specs.Result.{IfOk, IfErr}
 use Rattle.std.specs.declared.vec.Vec.{Vec}
 use Rattle.onll_text.specs.Refusal.{Refusal}
@@ -8,7 +8,6 @@ use Rattle.onll_outside.specs.Views.{StoreView}
 use Rattle.onll_log.specs.ImageFile.{image_lines}
 use Rattle.onll_jobs.specs.declared.ending.Ending.{Ending}
 use Rattle.onll_jobs.specs.declared.ending.Ending.TheVariants.{Done}
-use Rattle.onll_jobs.specs.declared.answer.Answer.{Answer}
 use Rattle.onll_jobs.specs.declared.answer.Stop.{Stop}
 use Rattle.onll_jobs.specs.declared.answer.Stop.TheVariants.{Says, NoMemory}
 use Rattle.onll_jobs.specs.Reading.{Reads, ReadsWhole, HoldsImage}

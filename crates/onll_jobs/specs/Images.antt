@@ -8,7 +8,7 @@ use Rattle.onll_words.specs.declared.line.Line.{Line}
 use Rattle.onll_words.specs.Lines.{bytes_of_words}
 use Rattle.onll_pmem.specs.Pmem.{words_of}
 use Rattle.onll_jobs.specs.Job.{Job, Write}
-use Rattle.onll_jobs.specs.Doing.{Stage, lines_stage, each_job, each_stage}
+use Rattle.onll_jobs.specs.Doing.{Stage, lines_stage, each_stage}
 
 -- the name of a thread's image
 abbrev pub image_name : List ℕ → ℕ → List ℕ

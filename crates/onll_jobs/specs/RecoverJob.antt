@@ -17,6 +17,7 @@ use Rattle.onll_text.specs.Init.{init_of}
 use Rattle.onll_jobs.specs.declared.ending.Ending.TheVariants.{BadLog}
 use Rattle.onll_merge.specs.declared.fault.StateFault.{StateFault}
 use Rattle.onll_merge.specs.declared.fault.StateFault.TheVariants.{NotLog, NotMerged, NotOperation, NoMemory}
+use Rattle.onll_text.specs.Kinds.{on_object}
 use Rattle.onll_text.specs.Reports.{NodeReads, StateReads, SaysOnly}
 use Rattle.onll_jobs.specs.Doing.{Task, Work, after_stage, report_task, say_task, whole_stage}
 use Rattle.onll_jobs.specs.Images.{images_stage}

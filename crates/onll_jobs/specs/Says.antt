@@ -1,7 +1,7 @@
 -- What a call does by its words, and what it says of that by its exit.
 
 use Rattle.std.specs.Prelude.{ℕ, List, [], ◌≡◌, ◌⊎◌, Option, Some, None}
-use Rattle.onll_outside.specs.Views.{StoreView, SameFaults, Puts, PutsFront, Rose}
+use Rattle.onll_outside.specs.Views.{SameFaults, Puts, PutsFront, Rose}
 use Rattle.onll_jobs.specs.declared.ending.Ending.{Ending}
 use Rattle.onll_jobs.specs.declared.ending.Ending.TheVariants.{Done, Usage}
 use Rattle.onll_jobs.specs.declared.ending.Exit.{Exit}

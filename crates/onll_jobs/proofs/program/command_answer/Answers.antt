@@ -1,5 +1,3 @@
-use Rattle.std.proofs.Common.{string_bytes}
-use Rattle.std.proofs.lemmas.List.{length-map}
 use Rattle.onll_jobs.proofs.program.command_answer.Goals as goal
 
 pub returns-in-Fold : goal.returns-in-Fold

@@ -1,4 +1,4 @@
-use Rattle.std.proofs.Common.{Vec, Global, length, map, sym, ◌∙◌}
+use Rattle.std.proofs.Common.{Vec, Global, map, sym, ◌∙◌}
 use Rattle.std.proofs.lemmas.List.{length-map}
 use Rattle.onll_words.specs.declared.line.Line.{Line}
 use Rattle.onll_pmem.specs.Pmem.{words_of}

@@ -1,4 +1,4 @@
-use Rattle.std.proofs.Common.{◌≡◌, [], length, map, sym, ◌∙◌, rules}
+use Rattle.std.proofs.Common.{◌≡◌, length, map, sym, ◌∙◌, rules}
 use Rattle.std.proofs.lemmas.List.{length-map}
 use Rattle.onll_text.specs.declared.schedule.Schedule.{Schedule}
 use Rattle.onll_jobs.specs.ReplayJob.{played, crash_task}

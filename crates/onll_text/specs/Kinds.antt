@@ -51,6 +51,7 @@ kind_by {State} {Op} {Query} {Reply} means wording code = record {
   name = object_name code;
 }
 
+-- the kind of objects that is named so, with its code
 abbrev pub kind_at : Kind → ObjectKind
 kind_at kinds.Bank = kind_by bank bank_wording 1
 kind_at kinds.Map = kind_by map_object map_wording 2

@@ -57,7 +57,7 @@ pub(crate) fn read_kind(word: &[u8]) -> Result<Kind, Reason>
     Err(Reason::UnknownObject)
 }
 
-/// The name of the object of a code, which a log's head holds.
+/// The name of the object of a code, as a log's head holds it; `unknown` where no kind has the code.
 pub fn object_name(code: u64) -> &'static [u8]
     ensures { result.now ≡ object_name code }
 {

@@ -8,7 +8,6 @@ mod ending;
 mod fold;
 mod images;
 mod program;
-mod reads;
 mod recover;
 mod replay;
 mod show;

@@ -1,3 +1,5 @@
+-- The entry that an update writes into its log, line by line.
+
 use Rattle.std.specs.Prelude.{ℕ, ◌≤◌, length}
 use Rattle.std.specs.List.{AllByRecursion}
 use Rattle.onll_model.specs.Segment.{Segment}

@@ -1,3 +1,5 @@
+-- The steps that the turns of a schedule stand for.
+
 use Rattle.std.specs.Prelude.{ℕ, List, [], ◌∷◌, ◌++◌, replicate}
 use Rattle.onll_model.specs.declared.turn.Turn.{Turn}
 

@@ -1,3 +1,5 @@
+//! The crash of a core, and the recovery from its images.
+
 ghost use Rattle.std.specs.Prelude.{◌≡◌, ◌⊎◌, length, map, Ok, Err, IfOk, MatchResult};
 ghost use Rattle.onll_pmem.specs.Pmem.{words_of};
 ghost use Rattle.onll_merge.specs.Recovered.{merge_images};

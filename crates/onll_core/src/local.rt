@@ -1,3 +1,5 @@
+//! What a thread of the core does by itself: it applies operations, and answers.
+
 ghost use Rattle.std.specs.Prelude.{◌≡◌, ◌≤◌, ◌<◌, ◌+◌, ◌-◌, length};
 ghost use Rattle.onll_model.specs.Segment.{nodes_between};
 ghost use Rattle.onll_model.specs.Trace.{state_after, after_row};

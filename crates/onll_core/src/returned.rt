@@ -1,3 +1,5 @@
+//! What a report says of a thread's calls.
+
 use onll_model::Object;
 
 /// A call that has returned: its place, its reply, and the clock at its first and at its last step.

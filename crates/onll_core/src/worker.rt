@@ -1,3 +1,5 @@
+//! A thread of the core: its script, what has returned, its phase, its log and its device.
+
 ghost use Rattle.std.specs.Prelude.{◌≡◌, ◌+◌, ◌<◌, ◌≤◌, suc, [], length, IfOk};
 ghost use Rattle.onll_model.specs.Limits.{most_threads, most_updates};
 ghost use Rattle.onll_model.specs.Calls.{updates_in};

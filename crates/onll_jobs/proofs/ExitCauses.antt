@@ -6,6 +6,7 @@ use Rattle.onll_model.specs.Object.{Behaviour}
 use Rattle.onll_text.specs.Wording.{Wording}
 use Rattle.onll_text.specs.Script.{script_of}
 use Rattle.onll_text.specs.Init.{init_of}
+use Rattle.onll_text.specs.Kinds.{ObjectKind, on_object}
 use Rattle.onll_text.proofs.EachKind.{each_object}
 use Rattle.onll_jobs.specs.Fold.{fold_report}
 use Rattle.onll_jobs.specs.declared.ending.Ending.{Ending}
@@ -21,10 +22,12 @@ use Rattle.onll_log.specs.ImageFile.{image_lines}
 use Rattle.onll_jobs.specs.ShowJob.{shown_task}
 use Rattle.onll_merge.specs.declared.fault.StateFault.{StateFault}
 use Rattle.onll_merge.specs.Recovered.{Recovered, state_recovered}
-use Rattle.onll_jobs.specs.RecoverJob.{found_task, images_task, images_task_on, logs_task}
-use Rattle.onll_jobs.specs.FoldJob.{script_task, script_task_on}
+use Rattle.onll_jobs.specs.RecoverJob.{found_task, images_task}
+use Rattle.onll_jobs.specs.FoldJob.{script_task}
 use Rattle.onll_jobs.specs.Exits.{PutExits}
 use Rattle.onll_jobs.specs.Says.{job_of, Allows, PutWhole, OutOfMemory, SinkFailed, ExitSays, NothingFailed, NoneRose, SaysThis}
+use Rattle.onll_jobs.specs.Doing.{Task}
+use Rattle.onll_jobs.specs.Over.{OverForm, FoldOver, RecoverOver, over_task, over_work}
 use Rattle.onll_jobs.proofs.Onwards.{ends_cut}
 use Rattle.onll_jobs.proofs.Jobs.{TellsFault, nothing_failed, decided, never_says, reading_never, reading_whole_never}
 use Rattle.onll_jobs.proofs.ImageFiles.{reading_images_never}
@@ -91,10 +94,6 @@ report_never {State} {Op} {Query} {Reply} b w s script =
     let never : (calls : List (Call State Op Query Reply)) → Done ≡ Usage → ⊥ = (λ calls e. cc) in
     reading_never script (script_of w) (λ calls. Say Done (fold_report b w s calls)) never
 
-script_never : (script : List ℕ) (object : AnyObject) → Never Usage (script_task_on script object).job
-script_never script object =
-    each_object (λ k s. script_task k.means k.wording s script) (λ task. Never Usage task.job) (λ k s known. report_never k.means k.wording s script) object
-
 content_never : (content : Option Content) → Never Usage (shown_task content).job
 content_never None = λ e. cc
 content_never (Some content) = λ e. cc
@@ -103,22 +102,26 @@ found_never : {State Op Query Reply : Type 0} (b : Behaviour State Op Query Repl
 found_never b w s (Ok r) = λ e. cc
 found_never b w s (Err fault) = λ e. cc
 
-recover_never : (init : List ℕ) (object : AnyObject) (images : List (List (List ℕ))) → Never Usage (images_task_on init object images).job
-recover_never init object images =
-    each_object (λ k s. images_task k.means k.wording k.code init s) (λ next. (images : List (List (List ℕ))) → Never Usage (next images).job)
-    (λ k s known images. found_never k.means k.wording s (state_recovered k.means k.code init images)) object images
+-- what never says the usage over any object never says it
+over_never : (init : List ℕ) (over : OverForm) → ((k : ObjectKind) (bytes : List ℕ) (s : k.State) → Never Usage (over_task over k bytes s).job)
+    → Never Usage (over_work init over).task.job
+over_never init over never =
+    reading_whole_never init init_of (λ bytes object. (on_object (λ k s. over_task over k bytes s) object).job)
+    (λ bytes object. each_object {A = Task} (λ k s. over_task over k bytes s) (λ task. Never Usage task.job) (λ k s known. never k bytes s) object)
 
 -- words of a form never get the usage text
 not_usage : (w : Seen) (form : Form) → form_of w.words ≡ Some form → Never Usage (job_of (Some form)) → PutWhole w Usage → ⊥
 not_usage w form e never h = never_says w.store w.store_after (job_of (Some form)) h.text never (subst (λ f. JobEnds w.store w.store_after (job_of f) Usage h.text) e h.allowed)
 
 form_not_usage : (w : Seen) (form : Form) → form_of w.words ≡ Some form → PutWhole w Usage → ⊥
-form_not_usage w (Fold init script) e h = not_usage w (Fold init script) e (reading_never init init_of (λ object. (script_task_on script object).job) (script_never script)) h
+form_not_usage w (Fold init script) e h =
+    not_usage w (Fold init script) e (over_never init (FoldOver script) (λ k bytes s. report_never k.means k.wording s script)) h
 form_not_usage w (Show image) e h = not_usage w (Show image) e (λ bytes. content_never (content_of (image_lines bytes))) h
 form_not_usage w (Recover init logs threads) e h =
     not_usage w (Recover init logs threads) e
-    (reading_whole_never init init_of (λ bytes object. (logs_task bytes object logs threads).job)
-    (λ bytes object. reading_images_never logs threads 0 (λ images. (images_task_on bytes object images).job) (recover_never bytes object))) h
+    (over_never init (RecoverOver logs threads)
+    (λ k bytes s. reading_images_never logs threads 0 (λ images. (images_task k.means k.wording k.code bytes s images).job)
+    (λ images. found_never k.means k.wording s (state_recovered k.means k.code bytes images)))) h
 form_not_usage w (Replay init schedule logs scripts) e h = replay_not_usage w init schedule logs scripts e h
 
 usage_put : (w : Seen) (form : Option Form) → form_of w.words ≡ form → PutWhole w Usage → (form ≡ None) × Puts w.sink w.sink_after usage_text

@@ -11,6 +11,7 @@ use Rattle.onll_text.specs.declared.any_object.AnyObject.{AnyObject}
 use Rattle.onll_text.specs.Refusal.{Refusal}
 use Rattle.onll_text.specs.Wording.{Wording}
 use Rattle.onll_text.specs.Init.{init_of}
+use Rattle.onll_text.specs.Kinds.{on_object}
 use Rattle.onll_text.proofs.EachKind.{each_goes}
 use Rattle.onll_outside.specs.Views.{StoreView}
 use Rattle.onll_jobs.specs.declared.ending.Ending.{Ending}
@@ -25,9 +26,11 @@ use Rattle.onll_jobs.specs.Seen.{Seen}
 use Rattle.onll_jobs.specs.Command.{form_of, Recover}
 use Rattle.onll_jobs.specs.Printed.{exit_status}
 use Rattle.onll_jobs.specs.Says.{job_of, ExitSays, NoneRose, SaysThis}
-use Rattle.onll_jobs.specs.RecoverJob.{recover_report, found_task, images_task, images_task_on, logs_task, recover_work}
+use Rattle.onll_jobs.specs.RecoverJob.{recover_report, found_task, images_task}
 use Rattle.onll_merge.specs.Recovered.{Recovered, recovered_with, state_recovered}
 use Rattle.onll_jobs.specs.Durable.{TellImages, IsLeft, RecoversLeft, RecoversCrashes}
+use Rattle.onll_jobs.specs.Over.{RecoverOver, over_task, over_work}
+use Rattle.onll_jobs.specs.Doing.{Task}
 use Rattle.onll_jobs.proofs.Crashes.{crash_recovered}
 use Rattle.onll_jobs.proofs.ExitCauses.{decided_exactly}
 
@@ -53,10 +56,12 @@ found_decides b w store s found r e = subst (λ (x : Result Recovered StateFault
 -- the call says what the told files decide
 module _ (seen : Seen) (x : Exit) (says : ExitSays seen x) (init logs bytes : List ℕ) (threads : ℕ) (object : AnyObject)
     (form : form_of seen.words ≡ Some (Recover init logs threads)) (told : IsTold seen.store init bytes) (accepted : init_of bytes ≡ Ok object) (none : NoneRose seen) where
-  object_says : (text : List ℕ) → Decides seen.store (each_job lines_stage (image_names logs 0 threads) (λ images. (images_task_on bytes object images).job)) Done text → SaysThis seen (exit_status x) Done text
+  object_says : (text : List ℕ) → Decides seen.store (on_object (λ k s. over_task (RecoverOver logs threads) k bytes s) object).job Done text
+      → SaysThis seen (exit_status x) Done text
   object_says text d =
-      let on : Result AnyObject Refusal → Job = λ r. on_value init (λ o. (logs_task bytes o logs threads).job) r in
-      let job : Decides seen.store (recover_work init logs threads).task.job Done text = (bytes, (told, subst (λ (r : Result AnyObject Refusal). Decides seen.store (on r) Done text) (sym accepted) d)) in
+      let on : Result AnyObject Refusal → Job = λ r. on_value init (λ o. (on_object (λ k s. over_task (RecoverOver logs threads) k bytes s) o).job) r in
+      let job : Decides seen.store (over_work init (RecoverOver logs threads)).task.job Done text =
+      (bytes, (told, subst (λ (r : Result AnyObject Refusal). Decides seen.store (on r) Done text) (sym accepted) d)) in
       decided_exactly seen x Done text (subst (λ f. Decides seen.store (job_of f) Done text) (sym form) job) none says
 
   left_recovers : {State Op Query Reply : Type 0} (b : Behaviour State Op Query Reply) (w : Wording State Op Query Reply) (code : ℕ) (s : State)
@@ -77,8 +82,8 @@ module _ (seen : Seen) (x : Exit) (says : ExitSays seen x) (init logs bytes : Li
 
 pub recovers_crashes : (seen : Seen) (x : Exit) → ExitSays seen x → RecoversCrashes seen (exit_status x)
 recovers_crashes seen x says init logs bytes threads object form told accepted none =
-    each_goes (λ k s. images_task k.means k.wording k.code bytes s)
-    (λ next. (text : List ℕ) → Decides seen.store (each_job lines_stage (image_names logs 0 threads) (λ images. (next images).job)) Done text → SaysThis seen (exit_status x) Done text)
+    each_goes {A = Task} (λ k s. over_task (RecoverOver logs threads) k bytes s)
+    (λ task. (text : List ℕ) → Decides seen.store task.job Done text → SaysThis seen (exit_status x) Done text)
     (λ k s. (left : IsLeft k.means k.code bytes s seen.store logs threads)
     → RecoversLeft k.means k.wording k.code bytes s seen (exit_status x) logs threads left)
     (λ says. says)

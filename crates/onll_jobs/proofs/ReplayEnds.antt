@@ -16,6 +16,7 @@ use Rattle.onll_text.specs.declared.schedule.Schedule.{Schedule}
 use Rattle.onll_text.specs.Refusal.{Refusal}
 use Rattle.onll_text.specs.Wording.{Wording}
 use Rattle.onll_text.specs.Init.{init_of}
+use Rattle.onll_text.specs.Kinds.{on_object}
 use Rattle.onll_text.specs.Script.{script_of}
 use Rattle.onll_text.specs.Schedule.{schedule_of}
 use Rattle.onll_text.proofs.FewCalls.{few_calls}
@@ -32,8 +33,10 @@ use Rattle.onll_jobs.specs.Seen.{Seen}
 use Rattle.onll_jobs.specs.Command.{form_of, Replay}
 use Rattle.onll_jobs.specs.Says.{job_of, PutWhole}
 use Rattle.onll_merge.specs.Recovered.{Recovered, recovered_with, state_recovered}
-use Rattle.onll_jobs.specs.ReplayJob.{played, ReadScripts, replay_report, run_task, crash_task, schedule_task, scripts_stage, scripts_task, scripts_task_on, replay_work}
+use Rattle.onll_jobs.specs.ReplayJob.{played, ReadScripts, replay_report, run_task, crash_task, schedule_task, scripts_stage, scripts_task}
 use Rattle.onll_jobs.specs.Durable.{with_images, HasReplayed, HasReplayedAny, ReplayPut}
+use Rattle.onll_jobs.specs.Over.{ReplayOver, over_task, over_work}
+use Rattle.onll_jobs.specs.Doing.{Task}
 use Rattle.onll_jobs.proofs.Crashes.{crash_recovered}
 use Rattle.onll_jobs.proofs.Forms.{few-scripts}
 
@@ -161,16 +164,18 @@ module _ (after : StoreView) (ending : Ending) (text : List ℕ) (said : IsSaid 
             },
           )
 
-  any_ends : (store : StoreView) (init schedule logs : List ℕ) (names : List (List ℕ)) (object : AnyObject) → length names ≤ 16 → JobEnds store after (scripts_task_on init schedule logs names object).job ending text
+  any_ends : (store : StoreView) (init schedule logs : List ℕ) (names : List (List ℕ)) (object : AnyObject) → length names ≤ 16
+      → JobEnds store after (on_object (λ k s. over_task (ReplayOver schedule logs names) k init s) object).job ending text
       → (ending ≡ Done) × HasReplayedAny init store after schedule logs names text object
   any_ends store init schedule logs names object few h =
-      each_goes (λ k s. scripts_task k.means k.wording k.code init schedule logs names s) (λ task. JobEnds store after task.job ending text)
+      each_goes {A = Task} (λ k s. over_task (ReplayOver schedule logs names) k init s) (λ task. JobEnds store after task.job ending text)
       (λ k s. HasReplayed k.means k.wording k.code init s store after schedule logs names text) (λ says. (ending ≡ Done) × says)
       (λ k s known h. on_ends k.means k.wording store k.code known init s schedule logs names few h) object h
 
-  job_ends : (store : StoreView) (init schedule logs : List ℕ) (names : List (List ℕ)) → length names ≤ 16 → JobEnds store after (replay_work init schedule logs names).task.job ending text → ReplayEnds store after init schedule logs names ending text
+  job_ends : (store : StoreView) (init schedule logs : List ℕ) (names : List (List ℕ)) → length names ≤ 16
+      → JobEnds store after (over_work init (ReplayOver schedule logs names)).task.job ending text → ReplayEnds store after init schedule logs names ending text
   job_ends store init schedule logs names few h =
-      let read = whole_ends store init init_of (λ bytes object. (scripts_task_on bytes schedule logs names object).job) h in
+      let read = whole_ends store init init_of (λ bytes object. (on_object (λ k s. over_task (ReplayOver schedule logs names) k bytes s) object).job) h in
       let end = any_ends store read.bytes schedule logs names read.value few read.ends in
       record { done = end.0; bytes = read.bytes; object = read.value; read = read.read; replayed = end.1 }
 

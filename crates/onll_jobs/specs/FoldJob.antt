@@ -4,14 +4,11 @@ use Rattle.std.specs.Prelude.{ℕ, List, []}
 use Rattle.onll_model.specs.declared.call.Call.{Call}
 use Rattle.onll_model.specs.Object.{Behaviour}
 use Rattle.onll_model.specs.Fold.{fold_trace, fold_ends, fold_state}
-use Rattle.onll_text.specs.declared.any_object.AnyObject.{AnyObject}
 use Rattle.onll_text.specs.Wording.{Wording}
 use Rattle.onll_text.specs.Script.{script_of}
-use Rattle.onll_text.specs.Init.{init_of}
-use Rattle.onll_text.specs.Kinds.{on_object}
 use Rattle.onll_text.specs.Reports.{FoldData, fold_data_lines, FoldDataReads, SaysOnly}
 use Rattle.onll_jobs.specs.Fold.{fold_report}
-use Rattle.onll_jobs.specs.Doing.{Task, Work, after_stage, report_task, text_stage, whole_stage}
+use Rattle.onll_jobs.specs.Doing.{Task, after_stage, report_task, text_stage}
 
 -- what the report of a fold says
 abbrev pub fold_data : {State Op Query Reply : Type 0} → Behaviour State Op Query Reply → State
@@ -29,12 +26,3 @@ calls_task b w s calls =
 abbrev pub script_task : {State Op Query Reply : Type 0} → Behaviour State Op Query Reply → Wording State Op Query Reply
     → State → List ℕ → Task
 script_task b w s script = after_stage (text_stage script (script_of w)) (calls_task b w s)
-
--- the same on an object of any kind
-abbrev pub script_task_on : List ℕ → AnyObject → Task
-script_task_on script object = on_object (λ k s. script_task k.means k.wording s script) object
-
--- the initial state is read first
-abbrev pub fold_work : (init script : List ℕ) → Work
-fold_work init script =
-    record { task = after_stage (whole_stage init init_of) (λ read. script_task_on script read.1); writes = [] }

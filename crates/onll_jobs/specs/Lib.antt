@@ -4,6 +4,7 @@ pub mod Fold
 pub mod FoldJob
 pub mod Images
 pub mod Job
+pub mod Over
 pub mod Printed
 pub mod Reading
 pub mod RecoverJob

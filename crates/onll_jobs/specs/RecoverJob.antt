@@ -131,15 +131,7 @@ abbrev pub images_task : {State Op Query Reply : Type 0} → Behaviour State Op 
     → ℕ → List ℕ → State → List (List (List ℕ)) → Task
 images_task b w code init s images = found_task b w s (state_recovered b code init images)
 
--- the same for an object of any kind
-abbrev pub images_task_on : List ℕ → AnyObject → List (List (List ℕ)) → Task
-images_task_on init object = on_object (λ k s. images_task k.means k.wording k.code init s) object
-
 -- all images are read first
-abbrev pub logs_task : (init : List ℕ) → AnyObject → (logs : List ℕ) → (threads : ℕ) → Task
-logs_task init object logs threads = after_stage (images_stage logs threads) (images_task_on init object)
-
--- and the initial state before them
-abbrev pub recover_work : (init logs : List ℕ) (threads : ℕ) → Work
-recover_work init logs threads =
-    record { task = after_stage (whole_stage init init_of) (λ read. logs_task read.0 read.1 logs threads); writes = [] }
+abbrev pub logs_task : {State Op Query Reply : Type 0} → Behaviour State Op Query Reply → Wording State Op Query Reply
+    → ℕ → List ℕ → (logs : List ℕ) → (threads : ℕ) → State → Task
+logs_task b w code init logs threads s = after_stage (images_stage logs threads) (images_task b w code init s)

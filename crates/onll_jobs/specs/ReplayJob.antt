@@ -23,7 +23,6 @@ use Rattle.onll_text.specs.Lines.{call_lines, trace_line, node_line, log_line, s
 use Rattle.onll_text.specs.Init.{init_of}
 use Rattle.onll_text.specs.Script.{script_of}
 use Rattle.onll_text.specs.Schedule.{schedule_of}
-use Rattle.onll_text.specs.Kinds.{on_object}
 use Rattle.onll_text.specs.Reports.{EndsRead, NodeReads, StateReads, SaysOnly}
 use Rattle.onll_outside.specs.Views.{StoreView}
 use Rattle.onll_jobs.specs.declared.ending.Ending.TheVariants.{BadLog}
@@ -192,15 +191,3 @@ ReadScripts w store names scripts = (scripts_stage w names).known store scripts
 abbrev pub scripts_task : {State Op Query Reply : Type 0} → Behaviour State Op Query Reply → Wording State Op Query Reply
     → ℕ → List ℕ → (schedule logs : List ℕ) → List (List ℕ) → State → Task
 scripts_task b w code init schedule logs names s = after_stage (scripts_stage w names) (schedule_task b w code init s schedule logs)
-
--- the same for an object of any kind
-abbrev pub scripts_task_on : List ℕ → (schedule logs : List ℕ) → List (List ℕ) → AnyObject → Task
-scripts_task_on init schedule logs names object =
-    on_object (λ k s. scripts_task k.means k.wording k.code init schedule logs names s) object
-
--- the initial state is read first, then each script, then the schedule
-abbrev pub replay_work : (init schedule logs : List ℕ) → List (List ℕ) → Work
-replay_work init schedule logs names = record {
-  task = after_stage (whole_stage init init_of) (λ read. scripts_task_on read.0 schedule logs names read.1);
-  writes = image_names logs 0 (length names);
-}

@@ -11,18 +11,16 @@ use Rattle.onll_jobs.specs.Command.{Form, Fold, Show, Recover, Replay, form_of}
 use Rattle.onll_jobs.specs.Printed.{usage_text, status_of, exit_status}
 use Rattle.onll_jobs.specs.Job.{Job, JobEnds, JobCut}
 use Rattle.onll_jobs.specs.Doing.{Work, say_task}
-use Rattle.onll_jobs.specs.FoldJob.{fold_work}
+use Rattle.onll_jobs.specs.Over.{FoldOver, RecoverOver, ReplayOver, over_work}
 use Rattle.onll_jobs.specs.ShowJob.{show_work}
-use Rattle.onll_jobs.specs.RecoverJob.{recover_work}
-use Rattle.onll_jobs.specs.ReplayJob.{replay_work}
 
 -- what a call does by its words: those of no form get the usage text
 abbrev pub work_of : Option Form → Work
 work_of None = record { task = say_task Usage usage_text; writes = [] }
-work_of (Some (Fold init script)) = fold_work init script
+work_of (Some (Fold init script)) = over_work init (FoldOver script)
 work_of (Some (Show image)) = show_work image
-work_of (Some (Recover init logs threads)) = recover_work init logs threads
-work_of (Some (Replay init schedule logs scripts)) = replay_work init schedule logs scripts
+work_of (Some (Recover init logs threads)) = over_work init (RecoverOver logs threads)
+work_of (Some (Replay init schedule logs scripts)) = over_work init (ReplayOver schedule logs scripts)
 
 -- its job, with all its endings
 abbrev pub job_of : Option Form → Job

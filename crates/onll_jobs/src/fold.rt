@@ -7,14 +7,14 @@ ghost use Rattle.onll_text.specs.Bytes.{begins_line, with_lines};
 ghost use Rattle.onll_text.specs.Lines.{call_lines, node_lines};
 ghost use Rattle.onll_text.specs.Reports.{EndsRead, NodeReads, FoldDataReads};
 ghost use Rattle.onll_jobs.specs.Fold.{fold_report};
-ghost use Rattle.onll_jobs.specs.FoldJob.{fold_data, script_task, script_task_on, fold_work};
+ghost use Rattle.onll_jobs.specs.FoldJob.{fold_data, script_task};
 ghost use Rattle.onll_jobs.specs.Doing.{Does};
 
 use crate::answer::Stop;
-use crate::texts::{init_file, script_file};
+use crate::texts::script_file;
 use onll_model::{Call, CallEnd, Node};
 use onll_outside::Store;
-use onll_text::{AnyObject, Report, Texted};
+use onll_text::{Report, Texted};
 use onll_words::NoMemory;
 use std::alloc::Global;
 
@@ -111,7 +111,7 @@ fn fold_script<O: Texted>(
 }
 
 /// Folds the script of a file on an object.
-fn fold_object<O: Texted, S: Store>(
+pub(crate) fn fold_object<O: Texted, S: Store>(
     alloc: Global,
     object: &mut O,
     script: &str,
@@ -122,38 +122,6 @@ fn fold_object<O: Texted, S: Store>(
 {
     match script_file::<O, S>(alloc, script, store) {
         Ok(calls) => Ok(fold_script(alloc, object, &calls)?),
-        Err(stop) => Err(stop),
-    }
-}
-
-/// Folds the script of a file on an object of any kind.
-fn fold_any<S: Store>(
-    alloc: Global,
-    object: AnyObject,
-    script: &str,
-    store: &mut S,
-) -> Result<Vec<u8>, Stop>
-    ensures { Does [] (S.seen store.old) (S.seen store.new) (script_task_on script.now object) result }
-{
-    match object {
-        AnyObject::Bank(mut bank) => fold_object(alloc, &mut bank, script, store),
-        AnyObject::Map(mut map) => fold_object(alloc, &mut map, script, store),
-        AnyObject::Queue(mut queue) => fold_object(alloc, &mut queue, script, store),
-        AnyObject::Lease(mut lease) => fold_object(alloc, &mut lease, script, store),
-    }
-}
-
-/// Folds the script of a file on the initial state of another: its report, or what is said in its place.
-pub(crate) fn answer<S: Store>(
-    alloc: Global,
-    init: &str,
-    script: &str,
-    store: &mut S,
-) -> Result<Vec<u8>, Stop>
-    ensures { Does [] (S.seen store.old) (S.seen store.new) (fold_work init.now script.now).task result }
-{
-    match init_file(alloc, init, store) {
-        Ok(read) => fold_any(alloc, read.object, script, store),
         Err(stop) => Err(stop),
     }
 }

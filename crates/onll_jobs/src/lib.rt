@@ -7,6 +7,7 @@ mod command;
 mod ending;
 mod fold;
 mod images;
+mod objects;
 mod program;
 mod recover;
 mod replay;

@@ -16,7 +16,8 @@ ghost use Rattle.onll_jobs.specs.Doing.{Does};
 use crate::answer::Stop;
 use crate::command::Command;
 use crate::ending::{Ending, Exit};
-use crate::{fold, recover, replay, show};
+use crate::objects::Over;
+use crate::{objects, show};
 use onll_outside::{OutsideFault, Sink, Store};
 use std::alloc::Global;
 
@@ -31,19 +32,30 @@ fn command_answer<S: Store>(
         Does work.writes (S.seen store.old) (S.seen store.new) work.task result }
 {
     match command {
-        Command::Fold { init, script } => fold::answer(alloc, init, script, store),
+        Command::Fold { init, script } => {
+            objects::answer(alloc, init, Over::Fold { script }, store)
+        }
         Command::Show { image } => show::answer(alloc, image, store),
         Command::Recover {
             init,
             logs,
             threads,
-        } => recover::answer(alloc, init, logs, threads, store),
+        } => objects::answer(alloc, init, Over::Recover { logs, threads }, store),
         Command::Replay {
             init,
             schedule,
             logs,
             scripts,
-        } => replay::answer(alloc, init, schedule, logs, scripts, store),
+        } => objects::answer(
+            alloc,
+            init,
+            Over::Replay {
+                schedule,
+                logs,
+                scripts,
+            },
+            store,
+        ),
     }
 }
 

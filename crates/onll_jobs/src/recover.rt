@@ -12,17 +12,16 @@ ghost use Rattle.onll_text.specs.Reports.{NodeReads, StateReads};
 ghost use Rattle.onll_jobs.specs.Images.{images_in};
 ghost use Rattle.onll_jobs.specs.Doing.{Does};
 ghost use Rattle.onll_outside.specs.Views.{StoreView};
-ghost use Rattle.onll_jobs.specs.RecoverJob.{HeldReads, RecoverReads, held_of, found_data, content_line, log_lines, recovered_line, lines_with, images_task, images_task_on, logs_task, recover_work};
+ghost use Rattle.onll_jobs.specs.RecoverJob.{HeldReads, RecoverReads, held_of, found_data, content_line, log_lines, recovered_line, lines_with, images_task, logs_task};
 
 use crate::answer::Stop;
 use crate::bad_logs::bad_logs;
 use crate::fold::put_nodes;
 use crate::images::read_images;
-use crate::texts::{InitText, init_file};
 use onll_merge::{LogCounts, Recovery, StateFault, recover_state};
 use onll_model::Node;
 use onll_outside::Store;
-use onll_text::{AnyObject, Piece, Report, Texted};
+use onll_text::{Piece, Report, Texted};
 use onll_words::{Line, NoMemory};
 use std::alloc::Global;
 
@@ -112,56 +111,21 @@ fn recover_on<O: Texted>(
     }
 }
 
-/// The same for an object of any kind.
-fn recover_any(
+/// Recovers an object, whose initial state these bytes say, from the images of the logs of so many threads.
+pub(crate) fn recover_logs<O: Texted, S: Store>(
     alloc: Global,
-    object: AnyObject,
+    object: &mut O,
     init: &[u8],
-    images: &[Vec<Line>],
-) -> Result<Vec<u8>, Stop>
-    requires { (1 ≤ length images.now) × (length images.now ≤ most_threads) }
-    ensures { let task = images_task_on init.now object (images_in images.now) in
-        (store : StoreView) → Does [] store store task result }
-{
-    match object {
-        AnyObject::Bank(mut bank) => recover_on(alloc, &mut bank, init, images),
-        AnyObject::Map(mut map) => recover_on(alloc, &mut map, init, images),
-        AnyObject::Queue(mut queue) => recover_on(alloc, &mut queue, init, images),
-        AnyObject::Lease(mut lease) => recover_on(alloc, &mut lease, init, images),
-    }
-}
-
-/// Recovers an object of any kind from the images of the logs of so many threads.
-fn recover_logs<S: Store>(
-    alloc: Global,
-    init: InitText,
     logs: &str,
     threads: u64,
     store: &mut S,
 ) -> Result<Vec<u8>, Stop>
     requires { (1 ≤ threads) × (threads ≤ most_threads) }
-    ensures { let task = logs_task init.text.items init.object logs.now threads in
+    ensures { let task = logs_task O.means O.wording O.CODE init.now logs.now threads object.old in
         Does [] (S.seen store.old) (S.seen store.new) task result }
 {
     match read_images(alloc, logs, threads, store) {
-        Ok(images) => recover_any(alloc, init.object, &init.text, &images),
-        Err(stop) => Err(stop),
-    }
-}
-
-/// Recovers the trace and the state of a run from its initial state and the images of its threads' logs.
-pub(crate) fn answer<S: Store>(
-    alloc: Global,
-    init: &str,
-    logs: &str,
-    threads: u64,
-    store: &mut S,
-) -> Result<Vec<u8>, Stop>
-    requires { (1 ≤ threads) × (threads ≤ most_threads) }
-    ensures { Does [] (S.seen store.old) (S.seen store.new) (recover_work init.now logs.now threads).task result }
-{
-    match init_file(alloc, init, store) {
-        Ok(read) => recover_logs(alloc, read, logs, threads, store),
+        Ok(images) => recover_on(alloc, object, init, &images),
         Err(stop) => Err(stop),
     }
 }

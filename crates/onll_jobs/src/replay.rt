@@ -13,7 +13,7 @@ ghost use Rattle.onll_core.specs.Outcomes.{returned_end, current_ends, ends_of, 
 ghost use Rattle.onll_text.specs.Schedule.{IsPlayable};
 ghost use Rattle.onll_merge.specs.Recovered.{recovered_in, state_recovered};
 ghost use Rattle.onll_jobs.specs.Images.{images_in, image_names};
-ghost use Rattle.onll_jobs.specs.ReplayJob.{begun_lines, flagged_lines, crash_line, fenced_lines, run_lines, crash_lines, replay_report, EachReads, LogReads, RunReads, counts_of, replay_data, run_task, crash_task, played, schedule_task, scripts_stage, scripts_task, scripts_task_on, replay_work};
+ghost use Rattle.onll_jobs.specs.ReplayJob.{begun_lines, flagged_lines, crash_line, fenced_lines, run_lines, crash_lines, replay_report, EachReads, LogReads, RunReads, counts_of, replay_data, run_task, crash_task, played, schedule_task, scripts_stage, scripts_task};
 ghost use Rattle.onll_jobs.specs.Doing.{Does, Begins};
 ghost use Rattle.onll_outside.specs.Views.{StoreView};
 
@@ -21,12 +21,12 @@ use crate::answer::Stop;
 use crate::bad_logs::bad_logs;
 use crate::images::write_images;
 use crate::recover::put_count;
-use crate::texts::{init_file, schedule_file, script_file};
+use crate::texts::{schedule_file, script_file};
 use onll_core::{Core, Current, Returned, report_law};
 use onll_merge::{LogCounts, Recovery, StateFault, recover_state};
 use onll_model::{Call, CallEnd, Node};
 use onll_outside::Store;
-use onll_text::{AnyObject, Piece, Report, Schedule, Texted};
+use onll_text::{Piece, Report, Schedule, Texted};
 use onll_words::{Line, NoMemory};
 use std::alloc::Global;
 
@@ -312,7 +312,7 @@ fn replay_scripts<O: Texted + Drop, S: Store>(
 }
 
 /// Replays the schedule of a file on an object, whose initial state these bytes say.
-fn replay_on<O: Texted + Drop, S: Store>(
+pub(crate) fn replay_on<O: Texted + Drop, S: Store>(
     alloc: Global,
     object: O,
     init: &[u8],
@@ -328,55 +328,6 @@ fn replay_on<O: Texted + Drop, S: Store>(
 {
     match script_files::<O, S>(alloc, scripts, store) {
         Ok(calls) => replay_scripts(alloc, object, init, schedule, logs, calls, store),
-        Err(stop) => Err(stop),
-    }
-}
-
-/// The same for an object of any kind.
-fn replay_any<S: Store>(
-    alloc: Global,
-    object: AnyObject,
-    init: &[u8],
-    schedule: &str,
-    logs: &str,
-    scripts: &[String],
-    store: &mut S,
-) -> Result<Vec<u8>, Stop>
-    requires { (1 ≤ length scripts.now) × (length scripts.now ≤ most_threads) }
-    ensures { let task = scripts_task_on init.now schedule.now logs.now (map string_bytes scripts.now) object in
-        Does (image_names logs.now 0 (length scripts.now)) (S.seen store.old) (S.seen store.new) task result }
-{
-    match object {
-        AnyObject::Bank(bank) => replay_on(alloc, bank, init, schedule, logs, scripts, store),
-        AnyObject::Map(map) => replay_on(alloc, map, init, schedule, logs, scripts, store),
-        AnyObject::Queue(queue) => replay_on(alloc, queue, init, schedule, logs, scripts, store),
-        AnyObject::Lease(lease) => replay_on(alloc, lease, init, schedule, logs, scripts, store),
-    }
-}
-
-/// Plays a schedule of scripts on an initial state, crashes, writes the images of the logs, and recovers from them.
-pub(crate) fn answer<S: Store>(
-    alloc: Global,
-    init: &str,
-    schedule: &str,
-    logs: &str,
-    scripts: &[String],
-    store: &mut S,
-) -> Result<Vec<u8>, Stop>
-    requires { (1 ≤ length scripts.now) × (length scripts.now ≤ most_threads) }
-    ensures { let work = replay_work init.now schedule.now logs.now (map string_bytes scripts.now) in
-        Does work.writes (S.seen store.old) (S.seen store.new) work.task result }
-{
-    match init_file(alloc, init, store) {
-        Ok(read) => replay_any(
-            alloc,
-            read.object,
-            &read.text,
-            schedule,
-            logs,
-            scripts,
-            store,
-        ),
         Err(stop) => Err(stop),
     }
 }

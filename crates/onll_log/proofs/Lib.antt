@@ -2,6 +2,7 @@ pub mod Lines
 pub mod Accepted
 pub mod Bits
 pub mod Decoding
+pub mod Cursors
 pub mod Encoded
 pub mod Masks
 pub mod MaskBits

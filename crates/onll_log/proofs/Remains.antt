@@ -1,5 +1,5 @@
 -- Remains of an entry stay no entry, whatever words of them are wiped.
-use Rattle.std.proofs.Common.{ℕ, zero, suc, true, ◌≡◌, List, [], ◌∷◌, ◌++◌, length, take, drop, sym, refl, ap, ◌∙◌, subst, ⊎_elim, ◌⊎◌, inl, inr}
+use Rattle.std.proofs.Common.{ℕ, zero, suc, ◌+◌, true, ◌≡◌, arith, append-nil, List, [], ◌∷◌, ◌++◌, length, take, drop, sym, refl, ap, ◌∙◌, subst, ⊎_elim, ◌⊎◌, inl, inr}
 use Rattle.std.specs.Prelude.{Some}
 use Rattle.std.proofs.lemmas.List.{take-append-drop, drop_at}
 use Rattle.onll_pmem.specs.Device.{zero_lines, FillsWords, FillsLines, Mixed}
@@ -7,9 +7,9 @@ use Rattle.onll_pmem.proofs.Mixes.{FillsLines-then}
 use Rattle.onll_model.specs.Segment.{Segment}
 use Rattle.onll_log.specs.declared.head.LogHead.{LogHead}
 use Rattle.onll_log.specs.Encoding.{entry_lines, log_lines, FitsEntry}
-use Rattle.onll_log.specs.Grammar.{are_zero_lines, used_with}
+use Rattle.onll_log.specs.Grammar.{are_zero_lines, used_with, lines_in, format_in}
 use Rattle.onll_log.specs.Torn.{AreLines, log_image, Holds}
-use Rattle.onll_log.specs.Remains.{unused, HasRemains, IsWiped, IsCut}
+use Rattle.onll_log.specs.Remains.{unused, HasRemains, IsWiped, IsCut, HoldsAlone}
 use Rattle.onll_log.proofs.Encoded.{length-log_lines, content_of-log_lines}
 use Rattle.onll_log.proofs.Torn.{Holds-among, Mixed-front, Among-mixed, log_image-more}
 use Rattle.onll_log.proofs.Written.{IsWritten-Holds, take-used}
@@ -82,3 +82,14 @@ HasRemains-Mixed head ss s n k image masked f m torn = (
 
     after : unused head ss image ≡ front.0
     after = ap (drop (used_with (Some head) ss)) front.1 ∙ drop_at (log_lines head ss) front.0 (used_with (Some head) ss) (length-log_lines head ss)
+
+-- the used lines alone
+used_format : (image : List (List ℕ)) (n : ℕ) → format_in (take (1 + n) image) ≡ format_in image
+used_format [] n = let up : 1 + n ≡ suc n = omega arith in ap (λ (m : ℕ). format_in (take m (let none : List (List ℕ) = [] in none))) up
+used_format (l ∷ ls) n = let up : 1 + n ≡ suc n = omega arith in ap (λ (m : ℕ). format_in (take m (l ∷ ls))) up
+
+pub HoldsAlone-Holds : (head : LogHead) (ss : List Segment) (image : List (List ℕ)) → AreLines image → Holds image head ss → HoldsAlone head ss image (take (used_with (Some head) ss) image)
+HoldsAlone-Holds head ss image eights h = record {
+  holds = subst (λ (l : List (List ℕ)). Holds l head ss) (append-nil (take (used_with (Some head) ss) image)) (IsCut-Holds head ss image 0 eights h).holds;
+  format = used_format image (lines_in ss);
+}

@@ -1,3 +1,5 @@
+-- The digests of a log: what they are taken over.
+
 use Rattle.std.specs.Prelude.{ℕ, List}
 use Rattle.sha2.specs.Hashers.{Holds256}
 use Rattle.onll_log.specs.declared.digest.Message.{Message}

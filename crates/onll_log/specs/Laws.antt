@@ -6,11 +6,12 @@ use Rattle.onll_model.specs.Segment.{Segment}
 use Rattle.onll_log.specs.declared.head.LogHead.{LogHead}
 use Rattle.onll_log.specs.Head.{head_line, head_of, is_head, FitsHead}
 use Rattle.onll_log.specs.Encoding.{entry_lines, entries_lines, log_lines, FitsEntry, FitEntries}
-use Rattle.onll_log.specs.Grammar.{entries_from, content_of, lines_in, used_with}
+use Rattle.onll_log.specs.Grammar.{entries_from, content_of, lines_in, used_with, used_by}
 use Rattle.onll_log.specs.MaskBits.{AreMasks}
 use Rattle.onll_log.specs.Written.{IsWritten, IsEmptyLog}
 use Rattle.onll_log.specs.Append.{written_front}
-use Rattle.onll_log.specs.Remains.{HasRemains, IsWiped, IsCut}
+use Rattle.onll_log.specs.Remains.{HasRemains, IsWiped, IsCut, HoldsAlone}
+use Rattle.onll_log.specs.Cursor.{CursorState, entries_passed, entries_left, lines_passed, first_view}
 use Rattle.onll_log.specs.Torn.{AreLines, Among, log_image, Holds, TornOrWhole}
 
 -- ---- what is encoded is read back
@@ -103,6 +104,17 @@ WipedLaw = (head : LogHead) (ss : List Segment) (image wiped : List (List ℕ)) 
 abbrev pub CutLaw : Type 0
 CutLaw = (head : LogHead) (ss : List Segment) (image : List (List ℕ)) (zeros : ℕ) → AreLines image → Holds image head ss
     → IsCut head ss (take (used_with (Some head) ss) image ++ zero_lines zeros)
+
+-- the used lines of an image that has a head stand for all of its lines
+abbrev pub UsedLaw : Type 0
+UsedLaw = (head : LogHead) (ss : List Segment) (image : List (List ℕ)) → AreLines image → Holds image head ss
+    → HoldsAlone head ss image (take (used_with (Some head) ss) image)
+
+-- ---- cursors
+-- where a cursor shows no entry it went past all that the image holds, and over all used lines
+abbrev pub CursorEndLaw : Type 0
+CursorEndLaw = (c : CursorState) → first_view (lines_passed c) (entries_left c) ≡ None
+    → (entries_passed c ≡ c.content.entries) × (lines_passed c ≡ used_by c.content)
 
 -- ---- what is read was written
 -- an image holds a head and entries exactly where they are written in it, whatever stands after them

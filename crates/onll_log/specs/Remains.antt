@@ -3,7 +3,7 @@ use Rattle.onll_pmem.specs.Device.{zero_lines, FillsLines}
 use Rattle.onll_model.specs.Segment.{Segment}
 use Rattle.onll_log.specs.declared.head.LogHead.{LogHead}
 use Rattle.onll_log.specs.Encoding.{entry_lines, FitsEntry}
-use Rattle.onll_log.specs.Grammar.{used_with}
+use Rattle.onll_log.specs.Grammar.{used_with, format_in}
 use Rattle.onll_log.specs.Torn.{Among, Holds}
 use Rattle.onll_log.specs.Log.{EndsInZeros}
 
@@ -32,3 +32,9 @@ pub record IsWiped (head : LogHead) (ss : List Segment) (image wiped : List (Lis
 pub record IsCut (head : LogHead) (ss : List Segment) (lines : List (List ℕ)) : Type 0 where
   pub holds : Holds lines head ss
   pub rest : EndsInZeros lines (record { head = Some head; entries = ss })
+
+-- The used lines of an image with a head hold what the image holds, and are read by the same format: the lines after them decide
+-- nothing.
+pub record HoldsAlone (head : LogHead) (ss : List Segment) (image used : List (List ℕ)) : Type 0 where
+  pub holds : Holds used head ss
+  pub format : format_in used ≡ format_in image

@@ -1,3 +1,5 @@
+-- What a log writes, as lines.
+
 use Rattle.std.specs.Prelude.{ℕ, ◌≡◌, ◌≤◌, List, [], ◌++◌, length, drop, Some}
 use Rattle.onll_pmem.specs.Device.{zero_lines}
 use Rattle.onll_model.specs.Segment.{Segment}

@@ -1,3 +1,5 @@
+//! Why a log is not made on a device.
+
 use thiserror::Error;
 
 /// Why a log was not made on a device.

@@ -1,3 +1,5 @@
+//! What an image holds as a log, decoded: its head, its entries, and their nodes.
+
 ghost use Rattle.std.specs.Prelude.{◌≡◌, ◌<◌, ◌≤◌, ◌^◌, length, drop};
 ghost use Rattle.onll_pmem.specs.Pmem.{words_of};
 ghost use Rattle.onll_log.specs.Grammar.{lines_in, used_by, are_zero_lines};

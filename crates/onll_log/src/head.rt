@@ -1,3 +1,5 @@
+//! The head of a log, and its line.
+
 ghost use Rattle.std.specs.Prelude.{◌≡◌, ◌≤◌, ◌<◌, ◌==◌, ◌&&◌, ◌||◌, nat_lt, nat_le, if◌then◌else◌, Option, Some, None, IfSome};
 ghost use Rattle.onll_model.specs.Limits.{most_threads};
 ghost use Rattle.onll_pmem.specs.Pmem.{words_of};

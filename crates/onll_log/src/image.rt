@@ -1,3 +1,5 @@
+//! Decoding an image of a log.
+
 ghost use Rattle.std.specs.Prelude.{◌≡◌, ℕ, ◌+◌, ◌*◌, ◌<◌, ◌≤◌, ◌^◌, ◌==◌, length, map, take, drop, true, Some, None, IfOk, OnOk, IfErr, MatchResult};
 ghost use Rattle.onll_model.specs.Limits.{most_threads};
 ghost use Rattle.onll_pmem.specs.Pmem.{words_of};
@@ -52,7 +54,7 @@ pub fn are_zero(lines: &[Line]) -> bool
 }
 
 /// The node that a line holds.
-fn node_of(line: &Line) -> Node
+pub fn node_of(line: &Line) -> Node
     requires { (1 ≤ word line.now.w 0) × (word line.now.w 0 ≤ 65536) }
     ensures { result ≡ node_of_line line.now.w }
 {

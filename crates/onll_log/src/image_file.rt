@@ -1,3 +1,5 @@
+//! The lines of a log's image in the bytes of a file.
+
 ghost use Rattle.std.specs.Prelude.{◌≡◌, take, IfOk};
 ghost use Rattle.onll_pmem.specs.Pmem.{words_of};
 ghost use Rattle.onll_log.specs.ImageFile.{longest_image, whole_lines, image_lines};

@@ -1,6 +1,6 @@
 //! What the grammar of logs promises, whatever code reads and writes them.
 
-ghost use Rattle.onll_log.specs.Laws.{HeadLaw, EntriesLaw, ZerosLaw, ContentLaw, EmptyLaw, MoreLaw, EightLaw, LinesLaw, WrittenLaw, NoHeadLaw, MasksLaw, TornLaw, PartLaw, CrashLaw, FrontLaw, AppendLaw, LeavesLaw, WipedLaw, CutLaw};
+ghost use Rattle.onll_log.specs.Laws.{HeadLaw, EntriesLaw, ZerosLaw, ContentLaw, EmptyLaw, MoreLaw, EightLaw, LinesLaw, WrittenLaw, NoHeadLaw, MasksLaw, TornLaw, PartLaw, CrashLaw, FrontLaw, AppendLaw, LeavesLaw, WipedLaw, CutLaw, UsedLaw, CursorEndLaw};
 
 /// What is encoded is read back, in either format.
 pub fn encoded_laws()
@@ -39,4 +39,10 @@ pub fn remains_laws()
     ensures leaves { LeavesLaw }
     ensures wiped { WipedLaw }
     ensures cut { CutLaw }
+    ensures used { UsedLaw }
+{}
+
+/// A cursor that shows no entry went past everything that the image holds.
+pub fn cursor_law()
+    ensures end { CursorEndLaw }
 {}

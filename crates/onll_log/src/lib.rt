@@ -2,6 +2,7 @@
 #![tactic(auto)]
 
 mod cause;
+mod cursor;
 mod decoded;
 mod digest;
 mod entry;
@@ -15,10 +16,11 @@ mod mask;
 mod tests;
 
 pub use cause::MakeCause;
+pub use cursor::{EntryView, LogCursor};
 pub use decoded::{Decoded, Entries, Entry, Nodes};
 pub use entry::entry_head;
 pub use head::{LogHead, format_of};
 pub use image::{DecodeFault, decode};
 pub use image_file::{LONGEST_IMAGE, image_lines};
-pub use laws::{encoded_laws, masks_law, remains_laws, torn_laws, written_laws};
+pub use laws::{cursor_law, encoded_laws, masks_law, remains_laws, torn_laws, written_laws};
 pub use log::{MakeFault, ThreadLog};

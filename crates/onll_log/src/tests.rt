@@ -1,3 +1,5 @@
+//! Tests of digests, images, entries and logs.
+
 ghost use Rattle.std.specs.Prelude.{◌≡◌, ◌≤◌, ◌<◌, length};
 ghost use Rattle.onll_log.specs.Head.{FitsHead};
 

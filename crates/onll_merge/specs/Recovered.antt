@@ -73,10 +73,13 @@ expected_heads code init threads i (image ∷ images) =
     head_for (format_in image) i threads code init ∷ expected_heads code init threads (i + 1) images
 
 -- the rows are read as operations after all else; the first that is none is the fault
-abbrev pub with_operations : {State Op Query Reply : Type 0} → Behaviour State Op Query Reply → Result Recovered ImagesFault → Result Recovered StateFault
-with_operations b (Ok r) = if length (operations_front b r.nodes) == length r.nodes then Ok r else Err (NotOperation (length (operations_front b r.nodes) + 1))
+abbrev pub with_operations : {State Op Query Reply : Type 0} → Behaviour State Op Query Reply
+    → Result Recovered ImagesFault → Result Recovered StateFault
+with_operations b (Ok r) = if length (operations_front b r.nodes) == length r.nodes then Ok r else Err
+    (NotOperation (length (operations_front b r.nodes) + 1))
 with_operations b (Err fault) = Err (state_fault fault)
 
 -- what images give over an object of this code whose initial state these bytes say
-abbrev pub state_recovered : {State Op Query Reply : Type 0} → Behaviour State Op Query Reply → ℕ → List ℕ → List (List (List ℕ)) → Result Recovered StateFault
+abbrev pub state_recovered : {State Op Query Reply : Type 0} → Behaviour State Op Query Reply → ℕ → List ℕ
+    → List (List (List ℕ)) → Result Recovered StateFault
 state_recovered b code init images = with_operations b (recovered_from (expected_heads code init (length images) 0 images) images)

@@ -1,3 +1,5 @@
+//! The places of one log's entries.
+
 ghost use Rattle.std.specs.Prelude.{◌≡◌, ℕ, ◌+◌, ◌<◌, ◌≤◌, length, slice_index_or, Some, None, OnOk, MatchResult};
 ghost use Rattle.onll_model.specs.Segment.{Rises};
 ghost use Rattle.onll_log.specs.declared.decoded.Entry.{Entry};

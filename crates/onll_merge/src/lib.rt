@@ -8,10 +8,12 @@ ghost use Rattle.onll_merge.specs.Resumed.{ResumableLaw};
 mod counts;
 mod entries;
 mod fault;
+mod first_pass;
 mod logs;
 mod merge;
 mod numbers;
 mod recovery;
+mod second_pass;
 #[cfg(test)]
 mod tests;
 

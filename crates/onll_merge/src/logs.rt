@@ -1,3 +1,5 @@
+//! The heads of logs, and the nodes that logs hold at a place.
+
 ghost use Rattle.std.specs.Prelude.{◌≡◌, ℕ, ◌+◌, ◌<◌, ◌≤◌, ◌⊎◌, length, drop, Some, None, IfOk, OnOk, MatchResult};
 ghost use Rattle.onll_model.specs.Limits.{most_threads};
 ghost use Rattle.onll_merge.specs.Merge.{AllRise, contents_in, fits_run, foreign, unlike, disorder, top_of, node_in_logs, nodes_to, first_to, differs, clash_at, gap_at};
@@ -14,7 +16,7 @@ use std::alloc::Global;
 const LOGS: usize = MOST_THREADS as usize;
 
 /// Whether a log with this head can be of the run of the expected head: one without a head fits each run.
-fn fits(head: Option<LogHead>, expected: LogHead) -> bool
+pub fn fits(head: Option<LogHead>, expected: LogHead) -> bool
     ensures { result ≡ fits_run head expected }
 {
     match head {

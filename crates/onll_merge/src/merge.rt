@@ -1,3 +1,5 @@
+//! The merge of decoded logs.
+
 ghost use Rattle.std.specs.Prelude.{◌≡◌, ◌≤◌, ◌⊎◌, length, Ok, Err, MatchResult};
 ghost use Rattle.onll_model.specs.Limits.{most_threads};
 ghost use Rattle.onll_merge.specs.Merge.{contents_in, merge};

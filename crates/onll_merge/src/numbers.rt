@@ -1,3 +1,5 @@
+//! The numbers of each thread's nodes.
+
 ghost use Rattle.std.specs.Prelude.{◌≡◌, ◌⊎◌, [], Some, None, MatchResult};
 ghost use Rattle.onll_merge.specs.Merge.{stray_above};
 ghost use Rattle.onll_merge.specs.declared.fault.RecoverFault.TheVariants.{NoMemory};

@@ -1,13 +1,13 @@
 //! Recovery: what the images of one run give.
 
-ghost use Rattle.std.specs.Prelude.{◌≡◌, ◌≤◌, ◌<◌, ◌^◌, ◌⊎◌, length, map, Ok, Err, IfOk, MatchResult};
+ghost use Rattle.std.specs.Prelude.{◌≡◌, ◌≤◌, ◌⊎◌, [], length, map, Ok, Err, Some, None, IfOk, MatchResult};
+ghost use Rattle.std.specs.Option.{option_or};
 ghost use Rattle.std.specs.List.{AllByRecursion};
 ghost use Rattle.onll_model.specs.Limits.{most_threads};
 ghost use Rattle.onll_pmem.specs.Pmem.{words_of};
-ghost use Rattle.onll_log.specs.Grammar.{used_by};
-ghost use Rattle.onll_log.specs.Decoded.{content_in};
-ghost use Rattle.onll_merge.specs.Merge.{contents_in};
-ghost use Rattle.onll_merge.specs.Recovered.{contents_from, log_counts, recovered_from, recovered_in, merge_images, expected_heads, state_recovered};
+ghost use Rattle.onll_merge.specs.Merge.{AllRise, unlike, nodes_to, stray_above};
+ghost use Rattle.onll_merge.specs.Recovered.{recovered_from, recovered_in, merge_images, expected_heads, state_recovered};
+ghost use Rattle.onll_merge.specs.Standing.{contents_under};
 ghost use Rattle.onll_merge.specs.declared.fault.RecoverFault.TheVariants.{NoMemory as OutOfMemory};
 ghost use Rattle.onll_merge.specs.declared.fault.ImagesFault.TheVariants.{Recover};
 ghost use Rattle.onll_merge.specs.declared.fault.StateFault.TheVariants.{NoMemory};
@@ -16,8 +16,10 @@ ghost use Rattle.onll_model.specs.Recovered.{operations_front};
 
 use crate::counts::LogCounts;
 use crate::fault::{ImagesFault, RecoverFault, StateFault};
-use crate::merge::recover;
-use onll_log::{DecodeFault, Decoded, LogHead, decode, format_of};
+use crate::first_pass::{open_all, survey_logs};
+use crate::numbers::check_numbers;
+use crate::second_pass::gather;
+use onll_log::{LogCursor, LogHead, format_of};
 use onll_model::{Node, Object, fold_nodes};
 use onll_words::Line;
 use std::alloc::Global;
@@ -29,46 +31,22 @@ pub struct Recovery {
     pub nodes: Vec<Node>,
 }
 
-/// What all images hold, in order. It refuses the first that is no log.
-fn decode_all(alloc: Global, images: &[Vec<Line>]) -> Result<Vec<Decoded>, ImagesFault>
-    ensures logs { let held = contents_from 0 (map (λ image. words_of image.items) images.now) in
-        MatchResult result (λ logs. held ≡ Ok (contents_in logs.items)) (λ e. (e ≡ Recover OutOfMemory) ⊎ (held ≡ Err e)) }
-    ensures count { IfOk result (λ logs. length logs.items ≡ length images.now) }
-    ensures used { IfOk result (λ logs. AllByRecursion (λ d. used_by (content_in d) < 2 ^ 64) logs.items) }
+/// The nodes of the places up to `top`, which logs whose entries rise hold alike, each with the next number of its thread.
+fn merge_places(
+    alloc: Global,
+    mut cursors: Vec<LogCursor<'_>>,
+    top: u64,
+) -> Result<Vec<Node>, RecoverFault>
+    requires rise { AllRise (contents_under cursors.items) }
+    requires first { AllByRecursion (λ c. c.passed ≡ 0) cursors.items }
+    ensures refused { let logs = contents_under cursors.entry.items in
+        let found = option_or (unlike logs top) (stray_above [] (nodes_to logs top)) in
+        MatchResult result (λ _. found ≡ None) (λ e. (e ≡ OutOfMemory) ⊎ (found ≡ Some e)) }
+    ensures nodes { IfOk result (λ nodes. nodes.items ≡ nodes_to (contents_under cursors.entry.items) top) }
 {
-    let mut logs = Vec::new(alloc);
-    for (log, image) in images.iter().enumerate() {
-        match decode(alloc, image) {
-            Ok(decoded) => logs.push(decoded)?,
-            Err(DecodeFault::NotLog) => return Err(ImagesFault::NotLog { log: log as u64 }),
-            Err(DecodeFault::NoMemory) => return Err(ImagesFault::Recover(RecoverFault::NoMemory)),
-        }
-    }
-    Ok(logs)
-}
-
-/// How much a log holds.
-fn counts_of(log: &Decoded) -> LogCounts
-    requires { used_by (content_in log.now) < 2 ^ 64 }
-    ensures { result ≡ log_counts (content_in log.now) }
-{
-    LogCounts {
-        head: log.head.is_some(),
-        entries: log.entries.as_slice().len() as u64,
-        lines: log.used(),
-    }
-}
-
-/// How much each log holds.
-fn count_all(alloc: Global, logs: &[Decoded]) -> Result<Vec<LogCounts>, ImagesFault>
-    requires { AllByRecursion (λ d. used_by (content_in d) < 2 ^ 64) logs.now }
-    ensures { MatchResult result (λ counts. counts.items ≡ map log_counts (contents_in logs.now)) (λ e. e ≡ Recover OutOfMemory) }
-{
-    let mut counts = Vec::new(alloc);
-    for log in logs {
-        counts.push(counts_of(log))?;
-    }
-    Ok(counts)
+    let nodes = gather(alloc, &mut cursors, top)?;
+    check_numbers(alloc, &nodes)?;
+    Ok(nodes)
 }
 
 /// What images give as the logs of one run with these heads, or the first reason why they give nothing: an image that is no log
@@ -78,20 +56,17 @@ pub fn recover_images(
     images: &[Vec<Line>],
     heads: &[LogHead],
 ) -> Result<Recovery, ImagesFault>
-    requires images { length images.now ≤ most_threads }
-    requires heads { length heads.now ≡ length images.now }
+    requires { length heads.now ≡ length images.now }
     ensures recovered { let recovered = recovered_from heads.now (map (λ image. words_of image.items) images.now) in
         MatchResult result (λ r. recovered ≡ Ok (recovered_in r)) (λ e. (e ≡ Recover OutOfMemory) ⊎ (recovered ≡ Err e)) }
     ensures count { IfOk result (λ r. length r.logs.items ≡ length images.now) }
 {
-    let decoded = decode_all(alloc, images)?;
-    match recover(alloc, &decoded, heads) {
-        Ok(nodes) => Ok(Recovery {
-            logs: count_all(alloc, &decoded)?,
-            nodes,
-        }),
-        Err(fault) => Err(ImagesFault::Recover(fault)),
-    }
+    let found = survey_logs(alloc, open_all(alloc, images)?, heads)?;
+    let nodes = merge_places(alloc, open_all(alloc, images)?, found.top)?;
+    Ok(Recovery {
+        logs: found.logs,
+        nodes,
+    })
 }
 
 /// The nodes that images give as the logs of one run with these heads.
@@ -100,8 +75,7 @@ pub fn merge_images(
     images: &[Vec<Line>],
     heads: &[LogHead],
 ) -> Result<Vec<Node>, ImagesFault>
-    requires images { length images.now ≤ most_threads }
-    requires heads { length heads.now ≡ length images.now }
+    requires { length heads.now ≡ length images.now }
     ensures { let merged = merge_images heads.now (map (λ image. words_of image.items) images.now) in
         MatchResult result (λ nodes. merged ≡ Ok nodes.items) (λ e. (e ≡ Recover OutOfMemory) ⊎ (merged ≡ Err e)) }
 {
@@ -121,7 +95,9 @@ fn heads_for(
 ) -> Result<Vec<LogHead>, ImagesFault>
     requires object { (1 ≤ object) × (object ≤ 4) }
     requires images { length images.now ≤ most_threads }
-    ensures heads { MatchResult result (λ heads. heads.items ≡ expected_heads object init.now (length images.now) 0 (map (λ image. words_of image.items) images.now)) (λ fault. fault ≡ Recover OutOfMemory) }
+    ensures heads { MatchResult result (λ heads. heads.items
+        ≡ expected_heads object init.now (length images.now) 0 (map (λ image. words_of image.items) images.now))
+        (λ fault. fault ≡ Recover OutOfMemory) }
     ensures count { IfOk result (λ heads. length heads.items ≡ length images.now) }
 {
     let mut heads = Vec::new(alloc);

@@ -1,6 +1,8 @@
+//! Tests of the merge.
+
 use super::*;
-use onll_log::{Decoded, Entries, Entry, LogHead, Nodes};
-use onll_model::Node;
+use onll_log::{Decoded, Entries, Entry, LogHead, Nodes, entry_head};
+use onll_model::{Node, node_line};
 use onll_words::OpRow;
 use std::alloc::{AllocError, Global};
 use std::test::Fail;
@@ -345,5 +347,41 @@ fn logs_that_are_refused(rt: HostRuntime) -> Result<(), Fail> {
             case.name
         );
     }
+    Ok(())
+}
+
+#[test]
+fn a_clash_above_a_gap(rt: HostRuntime) -> Result<(), Fail> {
+    let alloc = rt.alloc();
+    let first = LogHead::new(0, 3, 1, b"bank 2\n");
+    let second = LogHead::new(1, 3, 1, b"bank 2\n");
+    let images = [
+        Vec::from_slice(
+            alloc,
+            &[
+                first.line(),
+                entry_head(first, 1, 2, &[A1]),
+                node_line(A1),
+                entry_head(first, 2, 3, &[A2]),
+                node_line(A2),
+            ],
+        )?,
+        Vec::from_slice(
+            alloc,
+            &[
+                second.line(),
+                entry_head(second, 1, 3, &[B1]),
+                node_line(B1),
+            ],
+        )?,
+    ];
+    assert_eq!(rt;
+        merge_images(alloc, &images, &[first, second]).err(),
+        Some(ImagesFault::Recover(RecoverFault::Clash {
+            place: 3,
+            log: 0,
+            other: 1
+        }))
+    );
     Ok(())
 }

@@ -1,15 +1,23 @@
 //! The kinds of object with the one list of their names, and an object of any kind.
 
-ghost use Rattle.std.specs.Prelude.{◌≡◌};
-ghost use Rattle.onll_text.specs.Init.{kind_of};
+ghost use Rattle.std.specs.Prelude.{◌≡◌, ◌≤◌, MatchResult, Ok};
+ghost use Rattle.onll_model.specs.Limits.{most_elements};
+ghost use Rattle.onll_text.specs.Refusal.{Fails};
+ghost use Rattle.onll_text.specs.Init.{kind_of, object_of};
 ghost use Rattle.onll_text.specs.Kinds.{object_name};
 
-use crate::reason::Reason;
+use crate::bank_init::read_bank;
+use crate::lease::read_lease;
+use crate::map::read_map;
+use crate::queue::read_queue;
+use crate::reason::{Reason, TextFault};
 use crate::words::is_text;
 use onll_bank::Bank;
 use onll_lease::Lease;
 use onll_map::Map;
 use onll_queue::Queue;
+use onll_words::Lines;
+use std::alloc::Global;
 
 /// A kind of object, as the first word of an initial state names it.
 #[derive(Clone, Copy, Debug, PartialEq, Eq)]
@@ -61,4 +69,23 @@ pub fn object_name(code: u64) -> &'static [u8]
         next += 1;
     }
     b"unknown"
+}
+
+/// The object of this kind and capacity, with the lines that are left.
+pub(crate) fn read_object(
+    alloc: Global,
+    kind: Kind,
+    capacity: u64,
+    lines: &mut Lines<'_>,
+) -> Result<AnyObject, TextFault>
+    requires { (1 ≤ capacity) × (capacity ≤ most_elements) }
+    ensures { MatchResult result (λ object. object_of kind capacity lines.old ≡ Ok object)
+        (λ fault. Fails fault (object_of kind capacity lines.old)) }
+{
+    match kind {
+        Kind::Bank => Ok(AnyObject::Bank(read_bank(alloc, capacity, lines)?)),
+        Kind::Map => Ok(AnyObject::Map(read_map(alloc, capacity, lines)?)),
+        Kind::Queue => Ok(AnyObject::Queue(read_queue(alloc, capacity, lines)?)),
+        Kind::Lease => Ok(AnyObject::Lease(read_lease(alloc, capacity, lines)?)),
+    }
 }

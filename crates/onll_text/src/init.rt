@@ -5,14 +5,10 @@ ghost use Rattle.onll_model.specs.Limits.{most_elements};
 ghost use Rattle.onll_text.specs.declared.reason.Reason.{Reason};
 ghost use Rattle.onll_words.specs.Texts.{words_of};
 ghost use Rattle.onll_text.specs.Refusal.{Fails};
-ghost use Rattle.onll_text.specs.Init.{capacity_of, head_of, object_of, init_of};
+ghost use Rattle.onll_text.specs.Init.{capacity_of, head_of, init_of};
 ghost use Rattle.onll_text.specs.Making.{after_lines};
 
-use crate::any_object::{AnyObject, Kind, read_kind};
-use crate::bank_init::read_bank;
-use crate::lease::read_lease;
-use crate::map::read_map;
-use crate::queue::read_queue;
+use crate::any_object::{AnyObject, Kind, read_kind, read_object};
 use crate::reason::{Reason, TextFault};
 use crate::script::is_too_long;
 use crate::words::one_number;
@@ -79,31 +75,6 @@ fn read_head(line: &[u8]) -> Result<Head, Reason>
     Ok(Head { kind, capacity })
 }
 
-fn read_object(alloc: Global, head: Head, lines: &mut Lines<'_>) -> Result<AnyObject, TextFault>
-    requires { (1 ≤ head.capacity) × (head.capacity ≤ most_elements) }
-    ensures { MatchResult result (λ object. object_of head.kind head.capacity lines.old ≡ Ok object)
-        (λ fault. Fails fault (object_of head.kind head.capacity lines.old)) }
-{
-    match head.kind {
-        Kind::Bank => {
-            let bank = read_bank(alloc, head.capacity, lines)?;
-            Ok(AnyObject::Bank(bank))
-        }
-        Kind::Map => {
-            let map = read_map(alloc, head.capacity, lines)?;
-            Ok(AnyObject::Map(map))
-        }
-        Kind::Queue => {
-            let queue = read_queue(alloc, head.capacity, lines)?;
-            Ok(AnyObject::Queue(queue))
-        }
-        Kind::Lease => {
-            let lease = read_lease(alloc, head.capacity, lines)?;
-            Ok(AnyObject::Lease(lease))
-        }
-    }
-}
-
 /// The initial state of a text, or the first line that is refused with the first reason.
 pub fn read_init(alloc: Global, text: &[u8]) -> Result<AnyObject, TextFault>
     ensures { MatchResult result (λ object. init_of text.now ≡ Ok object) (λ fault. Fails fault (init_of text.now)) }
@@ -122,7 +93,7 @@ pub fn read_init(alloc: Global, text: &[u8]) -> Result<AnyObject, TextFault>
         });
     };
     match read_head(line) {
-        Ok(head) => read_object(alloc, head, &mut lines),
+        Ok(head) => read_object(alloc, head.kind, head.capacity, &mut lines),
         Err(reason) => Err(TextFault::Refused {
             line: number,
             reason,

@@ -1,0 +1,91 @@
+//! The commands over an object: one dispatch over the kinds of object, for all of them.
+
+ghost use Rattle.onll_text.specs.Kinds.{kind_by, on_object};
+ghost use Rattle.onll_jobs.specs.Doing.{Does};
+ghost use Rattle.onll_jobs.specs.Over.{over_in, IsOver, over_task, over_writes, over_work};
+
+use crate::answer::Stop;
+use crate::texts::init_file;
+use crate::{fold, recover, replay};
+use onll_outside::Store;
+use onll_text::{AnyObject, Texted};
+use std::alloc::Global;
+
+/// What is done over an object, once its initial state is read.
+#[derive(Clone, Copy, Debug)]
+pub(crate) enum Over<'a> {
+    Fold {
+        script: &'a str,
+    },
+    Recover {
+        logs: &'a str,
+        threads: u64,
+    },
+    Replay {
+        schedule: &'a str,
+        logs: &'a str,
+        scripts: &'a [String],
+    },
+}
+
+/// Does it over an object, whose initial state these bytes say.
+fn over_one<O: Texted + Drop, S: Store>(
+    alloc: Global,
+    mut object: O,
+    init: &[u8],
+    over: Over<'_>,
+    store: &mut S,
+) -> Result<Vec<u8>, Stop>
+    requires { IsOver over }
+    ensures { let form = over_in over.entry in
+        Does (over_writes form) (S.seen store.old) (S.seen store.new) (over_task form (kind_by O.means O.wording O.CODE) init.now object) result }
+{
+    match over {
+        Over::Fold { script } => fold::fold_object(alloc, &mut object, script, store),
+        Over::Recover { logs, threads } => {
+            recover::recover_logs(alloc, &mut object, init, logs, threads, store)
+        }
+        Over::Replay {
+            schedule,
+            logs,
+            scripts,
+        } => replay::replay_on(alloc, object, init, schedule, logs, scripts, store),
+    }
+}
+
+/// Does it over an object of any kind.
+fn over_any<S: Store>(
+    alloc: Global,
+    object: AnyObject,
+    init: &[u8],
+    over: Over<'_>,
+    store: &mut S,
+) -> Result<Vec<u8>, Stop>
+    requires { IsOver over }
+    ensures { let form = over_in over.entry in
+        Does (over_writes form) (S.seen store.old) (S.seen store.new) (on_object (λ k s. over_task form k init.now s) object) result }
+{
+    match object {
+        AnyObject::Bank(bank) => over_one(alloc, bank, init, over, store),
+        AnyObject::Map(map) => over_one(alloc, map, init, over, store),
+        AnyObject::Queue(queue) => over_one(alloc, queue, init, over, store),
+        AnyObject::Lease(lease) => over_one(alloc, lease, init, over, store),
+    }
+}
+
+/// Does it over the object that a file holds as an initial state.
+pub(crate) fn answer<S: Store>(
+    alloc: Global,
+    init: &str,
+    over: Over<'_>,
+    store: &mut S,
+) -> Result<Vec<u8>, Stop>
+    requires { IsOver over }
+    ensures { let work = over_work init.now (over_in over.entry) in
+        Does work.writes (S.seen store.old) (S.seen store.new) work.task result }
+{
+    match init_file(alloc, init, store) {
+        Ok(read) => over_any(alloc, read.object, &read.text, over, store),
+        Err(stop) => Err(stop),
+    }
+}

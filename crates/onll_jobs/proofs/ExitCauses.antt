@@ -16,7 +16,7 @@ use Rattle.onll_jobs.specs.declared.ending.Exit.TheVariants.{Said, SinkFault, No
 use Rattle.onll_jobs.specs.Seen.{Seen}
 use Rattle.onll_jobs.specs.Command.{Form, Fold, Show, Recover, Replay, form_of}
 use Rattle.onll_jobs.specs.Printed.{usage_text, status_of, exit_status}
-use Rattle.onll_jobs.specs.Job.{Job, Say, JobEnds, Never, Decides}
+use Rattle.onll_jobs.specs.Job.{Say, JobEnds, Never, Decides}
 use Rattle.onll_log.specs.Grammar.{Content, content_of}
 use Rattle.onll_log.specs.ImageFile.{image_lines}
 use Rattle.onll_jobs.specs.ShowJob.{shown_task}

@@ -1,8 +1,8 @@
-use Rattle.std.proofs.Common.{ℕ, zero, suc, ◌≡◌, ◌+◌, ◌-◌, ◌<◌, ◌≤◌, ◌^◌, Bool, true, false, List, [], ◌∷◌, ◌++◌, Option, Some, length, drop, get_or, map, sym, ap, ◌∙◌, subst, arith}
+use Rattle.std.proofs.Common.{ℕ, zero, suc, ◌≡◌, ◌+◌, ◌-◌, ◌<◌, ◌≤◌, ◌^◌, Bool, true, false, List, [], ◌∷◌, ◌++◌, Option, Some, None, length, drop, get_or, map, sym, ap, ◌∙◌, subst, arith}
 use Rattle.std.specs.List.{All, slice_get}
 use Rattle.std.specs.Option.{IfSome}
-use Rattle.std.proofs.lemmas.List.{drop_more}
-use Rattle.std.proofs.lemmas.List.Elements.{All-cons}
+use Rattle.std.proofs.lemmas.List.{drop_more, drop_all}
+use Rattle.std.proofs.lemmas.List.Elements.{All-cons, All-nil}
 use Rattle.std.proofs.lemmas.Option.{same_Some}
 use Rattle.onll_model.specs.declared.node.Node.{Node}
 use Rattle.onll_model.specs.declared.call.Call.{Call}
@@ -17,7 +17,7 @@ use Rattle.onll_model.specs.Segment.{Segment}
 use Rattle.onll_log.specs.declared.head.LogHead.{LogHead}
 use Rattle.onll_merge.specs.declared.counts.LogCounts.{LogCounts}
 use Rattle.onll_text.specs.Wording.{Wording}
-use Rattle.onll_text.specs.Reports.{EndReads}
+use Rattle.onll_text.specs.Reports.{EndReads, EndsRead}
 use Rattle.onll_jobs.specs.RecoverJob.{HeldReads, held_with, held_of}
 use Rattle.onll_jobs.specs.ReplayJob.{EachReads, LogData, LogReads, counts_of}
 use Rattle.onll_jobs.specs.ShowJob.{EntryReads, ShowReads, shown_with}
@@ -39,30 +39,56 @@ module _ {State Op Query Reply : Type 0} where
       subst (λ (z : CoreThread State Op Query Reply). length (ends_of z) ≤ length z.script) (same_Some x th e) (few_ends _ x.script (ends_of x) h.0.replies)
   few_at b s base trace u (x ∷ ths) h (suc t) th e = few_at b s base trace (u + 1) ths h.1 t th e
 
-  -- one thread's outcomes before those of the rest
-  pub thread_reads : (w : Wording State Op Query Reply) (t : ℕ) (ths : List (CoreThread State Op Query Reply)) (rs : List (Returned State Op Query Reply)) (current : Current)
-      → t < length ths → IfSome (slice_get ths t) (λ th. rs ≡ th.returned) → IfSome (slice_get ths t) (λ th. current ≡ current_in th.phase)
+  -- a thread has no more outcomes than its script has calls
+  pub few_here : (t : ℕ) (ths : List (CoreThread State Op Query Reply)) (script : List (Call State Op Query Reply)) (rs : List (Returned State Op Query Reply)) (current : Current)
+      → t < length ths → IfSome (slice_get ths t) (λ th. script ≡ th.script) → IfSome (slice_get ths t) (λ th. rs ≡ th.returned) → IfSome (slice_get ths t) (λ th. current ≡ current_in th.phase)
       → ((u : ℕ) (th : CoreThread State Op Query Reply) → slice_get ths u ≡ Some th → length (ends_of th) ≤ length th.script)
-      → All (EndReads w) (map returned_end rs ++ current_ends current)
+      → length (map returned_end rs ++ current_ends current) ≤ length script
+  few_here t ths script rs current h hs hr hc few =
+      let x = thread_at ths t h in
+      let th = x.0 in
+      let es : script ≡ th.script = if_at (λ z. script ≡ z.script) ths t th x.1 hs in
+      let er : rs ≡ th.returned = if_at (λ z. rs ≡ z.returned) ths t th x.1 hr in
+      let ec : current ≡ current_in th.phase = if_at (λ z. current ≡ current_in z.phase) ths t th x.1 hc in
+      let own : length (map returned_end rs ++ current_ends current) ≡ length (ends_of th) = (λ j. length (map returned_end (er j) ++ current_ends (ec j))) in
+      omega (arith, few t th x.1, own, ap length es)
+
+  -- one thread's outcomes before those of the rest
+  pub thread_reads : (w : Wording State Op Query Reply) (t : ℕ) (ths : List (CoreThread State Op Query Reply)) (script : List (Call State Op Query Reply)) (rs : List (Returned State Op Query Reply)) (current : Current)
+      → t < length ths → IfSome (slice_get ths t) (λ th. script ≡ th.script) → IfSome (slice_get ths t) (λ th. rs ≡ th.returned) → IfSome (slice_get ths t) (λ th. current ≡ current_in th.phase)
+      → EndsRead w script (map returned_end rs ++ current_ends current)
       → EachReads w (map script_of (drop (t + 1) ths)) (map ends_of (drop (t + 1) ths)) → EachReads w (map script_of (drop t ths)) (map ends_of (drop t ths))
-  thread_reads w t ths rs current h hr hc few reads rest =
+  thread_reads w t ths script rs current h hs hr hc reads rest =
       let x = thread_at ths t h in
       let th = x.0 in
       let s : t + 1 ≡ suc t = omega arith in
+      let es : script ≡ th.script = if_at (λ z. script ≡ z.script) ths t th x.1 hs in
       let er : rs ≡ th.returned = if_at (λ z. rs ≡ z.returned) ths t th x.1 hr in
       let ec : current ≡ current_in th.phase = if_at (λ z. current ≡ current_in z.phase) ths t th x.1 hc in
-      let own : All (EndReads w) (ends_of th) =
-      subst (λ (k : Current). All (EndReads w) (map returned_end th.returned ++ current_ends k)) ec
-      (subst (λ (l : List (Returned State Op Query Reply)). All (EndReads w) (map returned_end l ++ current_ends current)) er reads) in
+      let own : EndsRead w th.script (ends_of th) =
+      subst (λ (l : List (Call State Op Query Reply)). EndsRead w l (ends_of th)) es
+      (subst (λ (k : Current). EndsRead w script (map returned_end th.returned ++ current_ends k)) ec
+      (subst (λ (l : List (Returned State Op Query Reply)). EndsRead w script (map returned_end l ++ current_ends current)) er reads)) in
       let more : EachReads w (map script_of (drop (suc t) ths)) (map ends_of (drop (suc t) ths)) = subst (λ j. EachReads w (map script_of (drop j ths)) (map ends_of (drop j ths))) s rest in
-      subst (λ (l : List (CoreThread State Op Query Reply)). EachReads w (map script_of l) (map ends_of l)) (sym x.2) (record { few = few t th x.1; reads = own }, more)
+      subst (λ (l : List (CoreThread State Op Query Reply)). EachReads w (map script_of l) (map ends_of l)) (sym x.2) (own, more)
 
-  -- one outcome before those of the rest
-  pub ends_more : (w : Wording State Op Query Reply) (i : ℕ) (rs : List (Returned State Op Query Reply)) (more : List (CallEnd State Op Query Reply)) (r : Returned State Op Query Reply)
-      → i < length rs → r ≡ get_or rs i r → EndReads w (returned_end r) → All (EndReads w) (map returned_end (drop (i + 1) rs) ++ more) → All (EndReads w) (map returned_end (drop i rs) ++ more)
-  ends_more w i rs more r h same reads rest =
-      let left : drop i rs ≡ r ∷ drop (i + 1) rs = drop_more rs i r h ∙ ap (λ (x : Returned State Op Query Reply). x ∷ drop (i + 1) rs) (sym same) in
-      subst (λ (l : List (Returned State Op Query Reply)). All (EndReads w) (map returned_end l ++ more)) (sym left) (All-cons (EndReads w) (returned_end r) (map returned_end (drop (i + 1) rs) ++ more) reads rest)
+  -- one outcome before those that are left, and none where none is left
+  pub end_reads : (w : Wording State Op Query Reply) (i : ℕ) (ends : List (CallEnd State Op Query Reply)) (end : CallEnd State Op Query Reply) → slice_get ends i ≡ Some end → EndReads w end
+      → All (EndReads w) (drop (i + 1) ends) → All (EndReads w) (drop i ends)
+  end_reads w i [] end e reads rest = cc e
+  end_reads w zero (x ∷ ends) end e reads rest = All-cons (EndReads w) x ends (subst (EndReads w) (sym (same_Some x end e)) reads) rest
+  end_reads w (suc i) (x ∷ ends) end e reads rest =
+      let up : suc i + 1 ≡ suc (i + 1) = omega arith in
+      end_reads w i ends end e reads (subst (λ j. All (EndReads w) (drop j (x ∷ ends))) up rest)
+
+  pub no_end : (w : Wording State Op Query Reply) (i : ℕ) (ends : List (CallEnd State Op Query Reply)) → slice_get ends i ≡ None → All (EndReads w) (drop i ends)
+  no_end w zero [] e = All-nil (EndReads w)
+  no_end w (suc i) [] e = All-nil (EndReads w)
+  no_end w zero (x ∷ ends) e = cc e
+  no_end w (suc i) (x ∷ ends) e = no_end w i ends e
+
+  pub ends_done : (w : Wording State Op Query Reply) (i : ℕ) (ends : List (CallEnd State Op Query Reply)) → length ends ≤ i → All (EndReads w) (drop i ends)
+  ends_done w i ends most = subst (All (EndReads w)) (sym (drop_all i ends most)) (All-nil (EndReads w))
 
   -- one log's numbers before those of the rest
   pub logs_more : (t : ℕ) (logs : List LogCounts) (ths : List (CoreThread State Op Query Reply)) (none d : LogCounts) (fences : ℕ) → t < length logs → t < length ths

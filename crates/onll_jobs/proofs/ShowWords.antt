@@ -1,6 +1,6 @@
 use Rattle.std.proofs.Common.{ℕ, List, [], ◌∷◌, ◌++◌, ◌≡◌, ◌+◌, ◌<◌, true, Option, Some, length, drop, get_or, map, refl, sym, ap, ◌∙◌, codes, decimal}
 use Rattle.std.proofs.lemmas.List.{drop_more, length-map, append-nil}
-use Rattle.onll_words.specs.Texts.{IsWord, AreWords, line_text}
+use Rattle.onll_words.specs.Texts.{AreWords, line_text}
 use Rattle.onll_words.proofs.Decimals.{IsWord-decimal}
 use Rattle.onll_model.specs.declared.node.Node.{Node}
 use Rattle.onll_model.specs.Segment.{Segment}

@@ -91,7 +91,8 @@ StopsSo store after job NoMemory = JobCut store after job
 
 -- A function did this task: what it gives is the report of the job that is done, which says so of the files, also as they were
 -- before calls that changed none; else the job stopped so. No files but these changed.
-pub record Does {A : Type 0} (names : List (List ℕ)) (store after : StoreView) (task : Task) (result : Result (Vec ℕ A) Stop) : Type 0 where
+pub record Does {A : Type 0} (names : List (List ℕ)) (store after : StoreView) (task : Task)
+    (result : Result (Vec ℕ A) Stop) : Type 0 where
   pub done : IfOk result (λ text. JobEnds store after task.job Done text.items)
   pub reports : IfOk result (λ text. (before : StoreView) → FilesStay before store → task.reports before text.items)
   pub stops : IfErr result (λ stop. StopsSo store after task.job stop)
@@ -99,7 +100,8 @@ pub record Does {A : Type 0} (names : List (List ℕ)) (store after : StoreView)
 
 -- A function did this stage: with the value that it gives each job goes on, and it is the value by the files, also as they were
 -- before calls that changed none; else each job stopped so. No files but these changed.
-pub record Begins {V X : Type 0} (names : List (List ℕ)) (store after : StoreView) (stage : Stage X) (value : V → X) (result : Result V Stop) : Type 0 where
+pub record Begins {V X : Type 0} (names : List (List ℕ)) (store after : StoreView) (stage : Stage X) (value : V → X)
+    (result : Result V Stop) : Type 0 where
   pub goes : IfOk result (λ v. (next : X → Job) → GoesOn store after (stage.job next) (next (value v)))
   pub gives : IfOk result (λ v. (before : StoreView) → FilesStay before store → stage.known before (value v))
   pub stops : IfErr result (λ stop. (next : X → Job) → StopsSo store after (stage.job next) stop)

@@ -1,6 +1,6 @@
 -- What `show IMAGE` does: it says what an image of a log holds.
 
-use Rattle.std.specs.Prelude.{ℕ, List, [], ◌∷◌, ◌++◌, ◌+◌, ◌-◌, ◌==◌, ◌<◌, ◌≤◌, ◌^◌, if◌then◌else◌, Option, Some, None, codes, decimal, length, map}
+use Rattle.std.specs.Prelude.{ℕ, List, [], ◌∷◌, ◌++◌, ◌+◌, ◌-◌, ◌<◌, ◌≤◌, ◌^◌, Option, Some, None, codes, decimal, length, map}
 use Rattle.std.specs.List.{All, flat_map}
 use Rattle.onll_words.specs.Texts.{line_text}
 use Rattle.onll_model.specs.declared.node.Node.{Node}

@@ -117,7 +117,8 @@ pub(crate) fn fold_object<O: Texted, S: Store>(
     script: &str,
     store: &mut S,
 ) -> Result<Vec<u8>, Stop>
-    ensures { Does [] (S.seen store.old) (S.seen store.new) (script_task O.means O.wording object.old script.now) result }
+    ensures { let task = script_task O.means O.wording object.old script.now in
+        Does [] (S.seen store.old) (S.seen store.new) task result }
 {
     match script_file::<O, S>(alloc, script, store) {
         Ok(calls) => Ok(fold_script(alloc, object, &calls)?),

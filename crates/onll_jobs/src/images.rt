@@ -83,7 +83,8 @@ fn write_image<S: Store>(
 ) -> Result<(), Stop>
     ensures written { OnOk result (HasWritten (S.seen store.old) (S.seen store.new) (image_name logs.now thread)
         (image_bytes (words_of image.now))) }
-    ensures stop { IfErr result (λ stop. StopSays stop (CannotWrite (S.seen store.old) (S.seen store.new) (image_name logs.now thread))) }
+    ensures stop { IfErr result (λ stop. StopSays stop
+        (CannotWrite (S.seen store.old) (S.seen store.new) (image_name logs.now thread))) }
     ensures cut { IfErr result (λ stop. WriteStops (S.seen store.old) (S.seen store.new) (image_name logs.now thread)) }
     ensures others { SameOthers (image_name logs.now thread) (S.seen store.old) (S.seen store.new) }
 {
@@ -100,7 +101,8 @@ pub(crate) fn write_images<S: Store>(
     store: &mut S,
 ) -> Result<(), Stop>
     ensures { let names = image_names logs.now 0 (length images.now) in
-        Begins names (S.seen store.old) (S.seen store.new) (writing_stage logs.now (images_in images.now)) (λ _. tt) result }
+        let stage = writing_stage logs.now (images_in images.now) in
+        Begins names (S.seen store.old) (S.seen store.new) stage (λ _. tt) result }
 {
     for (thread, image) in images.iter().enumerate() {
         match write_image(alloc, logs, thread as u64, image, store) {

@@ -9,7 +9,6 @@ mod fold;
 mod images;
 mod objects;
 mod program;
-mod reads;
 mod recover;
 mod replay;
 mod show;

@@ -1,6 +1,6 @@
 //! The command `recover`: the trace and the state that the logs of one run give.
 
-ghost use Rattle.std.specs.Prelude.{[], ◌≡◌, ◌≤◌, ◌++◌, length, true, IfOk, OnOk};
+ghost use Rattle.std.specs.Prelude.{[], ◌≡◌, ◌≤◌, ◌++◌, length, true, IfOk, OnOk, ◌<◌, ◌^◌, All, map};
 ghost use Rattle.onll_model.specs.Limits.{most_threads};
 ghost use Rattle.std.specs.List.{flat_map};
 ghost use Rattle.onll_words.specs.Texts.{line_text};
@@ -8,16 +8,16 @@ ghost use Rattle.onll_model.specs.Recovered.{operations_front};
 ghost use Rattle.onll_merge.specs.Recovered.{recovered_in};
 ghost use Rattle.onll_text.specs.Bytes.{begins_line, with_lines};
 ghost use Rattle.onll_text.specs.Lines.{node_lines, state_lines};
+ghost use Rattle.onll_text.specs.Reports.{NodeReads, StateReads};
 ghost use Rattle.onll_jobs.specs.Images.{images_in};
 ghost use Rattle.onll_jobs.specs.Doing.{Does};
 ghost use Rattle.onll_outside.specs.Views.{StoreView};
-ghost use Rattle.onll_jobs.specs.RecoverJob.{content_line, log_lines, recovered_line, lines_with, images_task, logs_task};
+ghost use Rattle.onll_jobs.specs.RecoverJob.{HeldReads, RecoverReads, held_of, found_data, content_line, log_lines, recovered_line, lines_with, images_task, logs_task};
 
 use crate::answer::Stop;
 use crate::bad_logs::bad_logs;
 use crate::fold::put_nodes;
 use crate::images::read_images;
-use crate::reads::recovery_reads;
 use onll_merge::{LogCounts, Recovery, StateFault, recover_state};
 use onll_model::Node;
 use onll_outside::Store;
@@ -28,7 +28,8 @@ use std::alloc::Global;
 /// The line of what a thread's log holds.
 fn put_log(thread: u64, log: LogCounts, out: &mut Report) -> Result<(), NoMemory>
     requires { begins_line out.old ≡ true }
-    ensures { OnOk result (out.new ≡ out.old ++ line_text (content_line thread log.head log.entries log.lines)) }
+    ensures line { OnOk result (out.new ≡ out.old ++ line_text (content_line thread log.head log.entries log.lines)) }
+    ensures reads { OnOk result ((log.entries < 2 ^ 64) × (log.lines < 2 ^ 64)) }
 {
     if log.head {
         out.log_line(thread, log.entries, log.lines, None)
@@ -46,6 +47,7 @@ fn put_logs(logs: &[LogCounts], out: &mut Report) -> Result<(), NoMemory>
     requires { begins_line out.old ≡ true }
     ensures lines { OnOk result (out.new ≡ with_lines out.old (log_lines 0 logs.now)) }
     ensures begins { OnOk result (begins_line out.new ≡ true) }
+    ensures reads { OnOk result (All HeldReads (map held_of logs.now)) }
 {
     let mut thread = 0;
     for log in logs {
@@ -68,17 +70,21 @@ pub(crate) fn put_count(nodes: u64, out: &mut Report) -> Result<(), NoMemory>
 fn put_trace<O: Texted>(object: &O, nodes: &[Node], out: &mut Report) -> Result<(), NoMemory>
     requires begins { begins_line out.old ≡ true }
     requires rows { operations_front O.means nodes.now ≡ nodes.now }
-    ensures { OnOk result (out.new ≡ with_lines (with_lines out.old (node_lines O.means O.wording 0 nodes.now))
+    ensures lines { OnOk result (out.new ≡ with_lines (with_lines out.old (node_lines O.means O.wording 0 nodes.now))
         (state_lines O.wording object.now)) }
+    ensures nodes { OnOk result (All (NodeReads O.means O.wording) nodes.now) }
+    ensures state { OnOk result (StateReads O.wording object.now) }
 {
     put_nodes::<O>(nodes, out)?;
     out.state_lines(object)
 }
 
-/// The report of what logs give, with the object after it.
+/// The report of what logs give, with the object after it. All that it says reads back.
 fn report<O: Texted>(alloc: Global, object: &O, found: &Recovery) -> Result<Vec<u8>, NoMemory>
     requires { operations_front O.means found.now.nodes.items ≡ found.now.nodes.items }
-    ensures { IfOk result (λ bytes. bytes.items ≡ flat_map line_text (lines_with O.means O.wording (recovered_in found.now) object.now)) }
+    ensures report { let lines = lines_with O.means O.wording (recovered_in found.now) object.now in
+        IfOk result (λ bytes. bytes.items ≡ flat_map line_text lines) }
+    ensures reads { OnOk result (RecoverReads O.means O.wording (found_data (recovered_in found.now) object.now)) }
 {
     let mut out = Report::new(alloc);
     put_logs(&found.logs, &mut out)?;
@@ -99,11 +105,7 @@ fn recover_on<O: Texted>(
         (store : StoreView) → Does [] store store task result }
 {
     match recover_state(alloc, object, init, images) {
-        Ok(found) => {
-            let text = report(alloc, object, &found)?;
-            recovery_reads(object, &found);
-            Ok(text)
-        }
+        Ok(found) => Ok(report(alloc, object, &found)?),
         Err(StateFault::NoMemory) => Err(Stop::NoMemory),
         Err(fault) => Err(bad_logs(alloc, fault)),
     }

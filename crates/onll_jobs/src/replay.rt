@@ -1,6 +1,6 @@
 //! The command `replay`: a schedule of scripts played on the step core, its crash, and what is recovered.
 
-ghost use Rattle.std.specs.Prelude.{[], IfOk, ◌≡◌, ◌++◌, ◌≤◌, length, slice_get, true, IsSome, OnOk, All, map, string_bytes};
+ghost use Rattle.std.specs.Prelude.{[], IfOk, ◌≡◌, ◌++◌, ◌<◌, ◌≤◌, ◌^◌, length, slice_get, true, IsSome, OnOk, All, map, string_bytes};
 ghost use Rattle.onll_model.specs.Limits.{most_threads, most_updates};
 ghost use Rattle.std.specs.List.{AllByRecursion};
 ghost use Rattle.onll_words.specs.Texts.{line_text};
@@ -8,21 +8,21 @@ ghost use Rattle.onll_model.specs.Trace.{state_after};
 ghost use Rattle.onll_model.specs.Calls.{updates_in};
 ghost use Rattle.onll_text.specs.Bytes.{begins_line, with_lines};
 ghost use Rattle.onll_text.specs.Lines.{call_lines};
-ghost use Rattle.onll_core.specs.Outcomes.{returned_end, current_ends, script_of};
+ghost use Rattle.onll_text.specs.Reports.{EndsRead, NodeReads, StateReads};
+ghost use Rattle.onll_core.specs.Outcomes.{returned_end, current_ends, ends_of, script_of};
 ghost use Rattle.onll_text.specs.Schedule.{IsPlayable};
 ghost use Rattle.onll_merge.specs.Recovered.{recovered_in, state_recovered};
 ghost use Rattle.onll_jobs.specs.Images.{images_in, image_names};
-ghost use Rattle.onll_jobs.specs.ReplayJob.{begun_lines, flagged_lines, crash_line, fenced_lines, run_lines, crash_lines, replay_report, run_task, crash_task, played, schedule_task, scripts_stage, scripts_task};
+ghost use Rattle.onll_jobs.specs.ReplayJob.{begun_lines, flagged_lines, crash_line, fenced_lines, run_lines, crash_lines, replay_report, EachReads, LogReads, RunReads, counts_of, replay_data, run_task, crash_task, played, schedule_task, scripts_stage, scripts_task};
 ghost use Rattle.onll_jobs.specs.Doing.{Does, Begins};
 ghost use Rattle.onll_outside.specs.Views.{StoreView};
 
 use crate::answer::Stop;
 use crate::bad_logs::bad_logs;
 use crate::images::write_images;
-use crate::reads::run_reads;
 use crate::recover::put_count;
 use crate::texts::{schedule_file, script_file};
-use onll_core::{Core, Current, Returned};
+use onll_core::{Core, Current, Returned, report_law};
 use onll_merge::{LogCounts, Recovery, StateFault, recover_state};
 use onll_model::{Call, CallEnd, Node};
 use onll_outside::Store;
@@ -56,10 +56,12 @@ fn put_thread<O: Texted>(
     current: Current,
     out: &mut Report,
 ) -> Result<(), NoMemory>
-    requires { begins_line out.old ≡ true }
+    requires begins { begins_line out.old ≡ true }
+    requires few { length (map returned_end returned.now ++ current_ends current) ≤ length script.now }
     ensures lines { OnOk result (out.new ≡ with_lines out.old
         (call_lines O.wording thread 0 script.now (map returned_end returned.now ++ current_ends current))) }
     ensures begins { OnOk result (begins_line out.new ≡ true) }
+    ensures reads { OnOk result (EndsRead O.wording script.now (map returned_end returned.now ++ current_ends current)) }
 {
     for (index, call) in script.iter().enumerate() {
         let Some(end) = end_at(returned, current, index) else {
@@ -75,7 +77,10 @@ fn put_calls<O: Texted + Drop>(core: &Core<O>, out: &mut Report) -> Result<(), N
     requires { begins_line out.old ≡ true }
     ensures lines { OnOk result (out.new ≡ with_lines out.old (begun_lines O.wording 0 core.now.threads)) }
     ensures begins { OnOk result (begins_line out.new ≡ true) }
+    ensures reads { OnOk result (EachReads O.wording (map script_of core.now.threads) (map ends_of core.now.threads)) }
 {
+    report_law::<O>();
+    core.reached();
     for thread in 0..core.threads() {
         put_thread(
             thread,
@@ -95,6 +100,7 @@ fn put_flagged<O: Texted>(trace: &[Node], flags: &[bool], out: &mut Report) -> R
     requires begins { begins_line out.old ≡ true }
     ensures lines { OnOk result (out.new ≡ with_lines out.old (flagged_lines O.means O.wording 0 trace.now flags.now)) }
     ensures begins { OnOk result (begins_line out.new ≡ true) }
+    ensures reads { OnOk result (All (NodeReads O.means O.wording) trace.now) }
 {
     for (index, node) in trace.iter().enumerate() {
         out.node_line::<O>(index as u64 + 1, *node, Some(flags[index]))?;
@@ -108,6 +114,8 @@ fn put_run<O: Texted + Drop>(core: &Core<O>, out: &mut Report) -> Result<(), NoM
     requires begins { begins_line out.old ≡ true }
     ensures lines { OnOk result (out.new ≡ with_lines out.old (run_lines O.means O.wording core.now)) }
     ensures begins { OnOk result (begins_line out.new ≡ true) }
+    ensures ends { OnOk result (EachReads O.wording (map script_of core.now.threads) (map ends_of core.now.threads)) }
+    ensures nodes { OnOk result (All (NodeReads O.means O.wording) core.now.trace) }
 {
     core.consistent();
     put_calls(core, out)?;
@@ -135,6 +143,7 @@ fn put_fenced<O: Texted + Drop>(
     requires begins { begins_line out.old ≡ true }
     ensures lines { OnOk result (out.new ≡ with_lines out.old (fenced_lines 0 logs.now core.now.threads)) }
     ensures begins { OnOk result (begins_line out.new ≡ true) }
+    ensures reads { OnOk result (All LogReads (counts_of logs.now core.now.threads)) }
 {
     let mut thread = 0;
     for log in logs {
@@ -154,7 +163,11 @@ fn put_crashed<O: Texted + Drop>(
 ) -> Result<(), NoMemory>
     requires threads { length found.now.logs.items ≡ length core.now.threads }
     requires begins { begins_line out.old ≡ true }
-    ensures { OnOk result (out.new ≡ with_lines out.old (crash_lines O.wording core.now keep (recovered_in found.now) object.now)) }
+    ensures lines { let lines = crash_lines O.wording core.now keep (recovered_in found.now) object.now in
+        OnOk result (out.new ≡ with_lines out.old lines) }
+    ensures logs { OnOk result (All LogReads (counts_of found.now.logs.items core.now.threads)) }
+    ensures recovered { OnOk result (length found.now.nodes.items < 2 ^ 64) }
+    ensures state { OnOk result (StateReads O.wording object.now) }
 {
     put_crash(keep, out)?;
     put_fenced(core, &found.logs, out)?;
@@ -162,7 +175,8 @@ fn put_crashed<O: Texted + Drop>(
     out.state_lines(object)
 }
 
-/// The report of a core that crashed, of what was found then, and of the object after the nodes that were found.
+/// The report of a core that crashed, of what was found then, and of the object after the nodes that were found. All that it
+/// says reads back.
 #[tactic(auto, using(onll_text::proofs::Appending::beginning))]
 fn report<O: Texted + Drop>(
     alloc: Global,
@@ -174,8 +188,11 @@ fn report<O: Texted + Drop>(
     requires operations { AllByRecursion (λ n. IsSome (O.means.op_at n.row)) core.now.trace }
     requires threads { length found.now.logs.items ≡ length core.now.threads }
     requires state { object.now ≡ state_after O.means core.now.initial found.now.nodes.items }
-    ensures { IfOk result (λ bytes. bytes.items ≡ replay_report O.means O.wording core.now keep (recovered_in found.now)) }
+    ensures report { IfOk result (λ bytes. bytes.items ≡ replay_report O.means O.wording core.now keep (recovered_in found.now)) }
+    ensures reads { let said = replay_data O.means core.now keep (recovered_in found.now) in
+        OnOk result (RunReads O.means O.wording (map script_of core.now.threads) said) }
 {
+    core.consistent();
     let mut out = Report::new(alloc);
     put_run(core, &mut out)?;
     put_crashed(core, keep, found, object, &mut out)?;
@@ -194,15 +211,12 @@ fn crash_answer<O: Texted + Drop>(
     requires threads { (1 ≤ length images.now) × (length images.now ≤ most_threads) }
     requires images { length images.now ≡ length core.now.threads }
     ensures { let found = state_recovered O.means O.CODE init.now (images_in images.now) in
-        (store : StoreView) → Does [] store store (run_task O.means O.wording (map script_of core.now.threads) core.now keep found) result }
+        let task = run_task O.means O.wording (map script_of core.now.threads) core.now keep found in
+        (store : StoreView) → Does [] store store task result }
 {
     let mut object = core.initial().copy(alloc)?;
     match recover_state(alloc, &mut object, init, images) {
-        Ok(found) => {
-            let text = report(alloc, core, keep, &found, &object)?;
-            run_reads(core, keep, &found, &object);
-            Ok(text)
-        }
+        Ok(found) => Ok(report(alloc, core, keep, &found, &object)?),
         Err(StateFault::NoMemory) => Err(Stop::NoMemory),
         Err(fault) => Err(bad_logs(alloc, fault)),
     }
@@ -219,7 +233,8 @@ fn crash<O: Texted + Drop, S: Store>(
 ) -> Result<Vec<u8>, Stop>
     requires operations { AllByRecursion (λ n. IsSome (O.means.op_at n.row)) core.now.trace }
     requires threads { (1 ≤ length core.now.threads) × (length core.now.threads ≤ most_threads) }
-    ensures { let task = crash_task O.means O.wording O.CODE init.now logs.now (map script_of core.now.threads) core.now keep in
+    ensures { let scripts = map script_of core.now.threads in
+        let task = crash_task O.means O.wording O.CODE init.now logs.now scripts core.now keep in
         Does (image_names logs.now 0 (length core.now.threads)) (S.seen store.old) (S.seen store.new) task result }
 {
     let images = core.crash(alloc, keep)?;
@@ -307,7 +322,8 @@ pub(crate) fn replay_on<O: Texted + Drop, S: Store>(
     store: &mut S,
 ) -> Result<Vec<u8>, Stop>
     requires { (1 ≤ length scripts.now) × (length scripts.now ≤ most_threads) }
-    ensures { let task = scripts_task O.means O.wording O.CODE init.now schedule.now logs.now (map string_bytes scripts.now) object in
+    ensures { let names = map string_bytes scripts.now in
+        let task = scripts_task O.means O.wording O.CODE init.now schedule.now logs.now names object in
         Does (image_names logs.now 0 (length scripts.now)) (S.seen store.old) (S.seen store.new) task result }
 {
     match script_files::<O, S>(alloc, scripts, store) {

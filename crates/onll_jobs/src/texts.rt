@@ -65,7 +65,8 @@ pub(crate) fn init_file<S: Store>(
     name: &str,
     store: &mut S,
 ) -> Result<InitText, Stop>
-    ensures { Begins [] (S.seen store.old) (S.seen store.new) (whole_stage name.now init_of) (λ read. (read.text.items, read.object)) result }
+    ensures { let stage = whole_stage name.now init_of in
+        Begins [] (S.seen store.old) (S.seen store.new) stage (λ read. (read.text.items, read.object)) result }
 {
     let text = match read_text(alloc, name, store) {
         Ok(text) => text,
@@ -84,7 +85,8 @@ pub(crate) fn script_file<O: Texted, S: Store>(
     name: &str,
     store: &mut S,
 ) -> Result<Vec<Call<O>>, Stop>
-    ensures begins { Begins [] (S.seen store.old) (S.seen store.new) (text_stage name.now (script_of O.wording)) (λ calls. calls.items) result }
+    ensures begins { let stage = text_stage name.now (script_of O.wording) in
+        Begins [] (S.seen store.old) (S.seen store.new) stage (λ calls. calls.items) result }
     ensures updates { IfOk result (λ calls. updates_in calls.items ≤ most_updates) }
 {
     let text = match read_text(alloc, name, store) {
@@ -104,7 +106,8 @@ pub(crate) fn image_file<S: Store>(
     name: &str,
     store: &mut S,
 ) -> Result<Vec<Line>, Stop>
-    ensures { Begins [] (S.seen store.old) (S.seen store.new) (lines_stage name.now) (λ lines. words_of lines.items) result }
+    ensures { let stage = lines_stage name.now in
+        Begins [] (S.seen store.old) (S.seen store.new) stage (λ lines. words_of lines.items) result }
 {
     let bytes = match read_bytes(alloc, name, LONGEST_IMAGE as u64, store) {
         Ok(bytes) => bytes,
@@ -120,7 +123,8 @@ pub(crate) fn schedule_file<S: Store>(
     threads: u64,
     store: &mut S,
 ) -> Result<Schedule, Stop>
-    ensures begins { Begins [] (S.seen store.old) (S.seen store.new) (text_stage name.now (schedule_of threads)) (λ schedule. schedule) result }
+    ensures begins { let stage = text_stage name.now (schedule_of threads) in
+        Begins [] (S.seen store.old) (S.seen store.new) stage (λ schedule. schedule) result }
     ensures playable { IfOk result (λ schedule. IsPlayable threads schedule) }
 {
     let text = match read_text(alloc, name, store) {

@@ -1,6 +1,6 @@
 //! The lines of a report: calls, traces, nodes, logs and states. What they say of values that a program has reads back.
 
-ghost use Rattle.std.specs.Prelude.{◌≡◌, ℕ, ◌++◌, ◌∷◌, [], true, IsSome, OnOk};
+ghost use Rattle.std.specs.Prelude.{◌≡◌, ◌<◌, ◌^◌, ℕ, ◌++◌, ◌∷◌, [], true, IsSome, OnOk};
 ghost use Rattle.onll_words.specs.Texts.{line_text};
 ghost use Rattle.onll_text.specs.Bytes.{begins_line, with_words, with_lines, IsFront};
 ghost use Rattle.onll_text.specs.Lines.{call_words, at_words, end_words, call_line, trace_line, node_line, flag_words, fence_words, log_line, state_lines};
@@ -160,6 +160,7 @@ impl Report {
         ensures ok { OnOk result (self.new ≡ self.old ++ line_text (log_line thread entries lines fences)) }
         ensures keeps { IsFront self.old self.new }
         ensures within { IsFront self.new (self.old ++ line_text (log_line thread entries lines fences)) }
+        ensures reads { OnOk result ((entries < 2 ^ 64) × (lines < 2 ^ 64)) }
     {
         self.words(&[
             Piece::Text(b"log"),

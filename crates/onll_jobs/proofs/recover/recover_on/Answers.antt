@@ -7,14 +7,14 @@ use Rattle.onll_jobs.proofs.Determined.{recover_says}
 use Rattle.onll_jobs.proofs.Stages.{report_does, none_does}
 use Rattle.onll_jobs.proofs.recover.recover_on.Goals as goal
 
-pub returns-in_ok-text-in-Ok : goal.returns-in_ok-text-in-Ok
-returns-in_ok-text-in-Ok g c store =
+pub returns-in_ok-report-in-Ok : goal.returns-in_ok-report-in-Ok
+returns-in_ok-report-in-Ok g c store =
     let b = g.O.Object.means in
     let w = g.O.Texted.wording in
     let found = recovered_in c.in-Ok.found in
-    let text = c.in_ok-text-in-Ok.text in
-    rw c.in-Ok.ensures.recovered (report_does store text (c.in_ok-text-in-Ok.ensures ∙ ap (λ s. flat_map line_text (lines_with b w found s)) c.in-Ok.ensures.state)
-    (recover_says b w c.args.object.now c.recover_state.new.object found text.items c.in-Ok.ensures.state c.in_ok-text-in-Ok.ensures c.recovery_reads.ensures))
+    let text = c.in_ok-report-in-Ok.field-0 in
+    rw c.in-Ok.ensures.recovered (report_does store text (c.in_ok-report-in-Ok.ensures.report ∙ ap (λ s. flat_map line_text (lines_with b w found s)) c.in-Ok.ensures.state)
+    (recover_says b w c.args.object.now c.recover_state.new.object found text.items c.in-Ok.ensures.state c.in_ok-report-in-Ok.ensures.report c.in_ok-report-in-Ok.ensures.reads))
 
-pub returns-in_err-text-in-Ok : goal.returns-in_err-text-in-Ok
-returns-in_err-text-in-Ok g c store = none_does [] store _ c.from_residual.ensures.1
+pub returns-in_err-report-in-Ok : goal.returns-in_err-report-in-Ok
+returns-in_err-report-in-Ok g c store = none_does [] store _ c.from_residual.ensures.1

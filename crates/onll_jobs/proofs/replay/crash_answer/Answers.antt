@@ -7,12 +7,12 @@ use Rattle.onll_jobs.proofs.replay.crash_answer.Goals as goal
 pub returns-in-Ok : goal.returns-in-Ok
 returns-in-Ok g c store =
     let found = recovered_in c.in-Ok.found in
-    let text = c.in_ok-text-in-Ok.text in
-    rw c.in-Ok.ensures.recovered (report_does store text c.in_ok-text-in-Ok.ensures
-    (replay_says g.O.Object.means g.O.Texted.wording c.args.core.now c.args.keep found text.items c.in_ok-text-in-Ok.ensures c.run_reads.ensures))
+    let text = c.in_ok-report-in-Ok.field-0 in
+    rw c.in-Ok.ensures.recovered (report_does store text c.in_ok-report-in-Ok.ensures.report
+    (replay_says g.O.Object.means g.O.Texted.wording c.args.core.now c.args.keep found text.items c.in_ok-report-in-Ok.ensures.report c.in_ok-report-in-Ok.ensures.reads))
 
-pub returns-in_err-text-in-Ok : goal.returns-in_err-text-in-Ok
-returns-in_err-text-in-Ok g c store = none_does [] store _ c.from_residual-in_err-text-in-Ok.ensures.1
+pub returns-in_err-report-in-Ok : goal.returns-in_err-report-in-Ok
+returns-in_err-report-in-Ok g c store = none_does [] store _ c.from_residual-in_err-report-in-Ok.ensures.1
 
 pub returns-in_err-object : goal.returns-in_err-object
 returns-in_err-object g c store = none_does [] store _ c.from_residual.ensures.1

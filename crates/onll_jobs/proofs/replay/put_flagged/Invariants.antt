@@ -1,6 +1,7 @@
 use Rattle.std.proofs.Common.{◌≡◌, drop, true, IsSome}
-use Rattle.std.specs.List.{AllByRecursion}
+use Rattle.std.specs.List.{All, AllByRecursion}
 use Rattle.onll_text.specs.Bytes.{begins_line, with_lines}
+use Rattle.onll_text.specs.Reports.{NodeReads}
 use Rattle.onll_jobs.specs.ReplayJob.{flagged_lines}
 use Rattle.onll_jobs.proofs.replay.put_flagged.Given as goal
 
@@ -12,5 +13,6 @@ invariant-loop-index g l =
     record {
       lines : with_lines l.out (flagged_lines b w l.index (drop l.index l.trace) (drop l.index l.flags)) ≡ with_lines l.fn.out (flagged_lines b w 0 l.trace l.flags);
       operations : AllByRecursion (λ n. IsSome (b.op_at n.row)) (drop l.index l.trace);
+      reads : All (NodeReads b w) (drop l.index l.trace) → All (NodeReads b w) l.trace;
       begins : begins_line l.out ≡ true;
     }

@@ -2,6 +2,8 @@ use Rattle.std.proofs.Common.{◌≡◌, ◌++◌, drop, true, map}
 use Rattle.onll_core.specs.Outcomes.{returned_end, current_ends}
 use Rattle.onll_text.specs.Bytes.{begins_line, with_lines}
 use Rattle.onll_text.specs.Lines.{call_lines}
+use Rattle.std.specs.List.{All}
+use Rattle.onll_text.specs.Reports.{EndReads}
 use Rattle.onll_jobs.proofs.replay.put_thread.Given as goal
 
 -- the calls that are left make the lines that all make
@@ -12,4 +14,5 @@ invariant-loop-index g l =
     record {
       lines : with_lines l.out (call_lines w l.thread l.index (drop l.index l.script) (drop l.index ends)) ≡ with_lines l.fn.out (call_lines w l.thread 0 l.script ends);
       begins : begins_line l.out ≡ true;
+      reads : All (EndReads w) (drop l.index ends) → All (EndReads w) ends;
     }

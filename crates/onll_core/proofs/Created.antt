@@ -1,4 +1,5 @@
 use Rattle.std.proofs.Common.{ℕ, zero, suc, ◌≡◌, ◌+◌, ◌<◌, ◌≤◌, List, length, Some, sym, refl, ap, ◌∙◌, subst, arith}
+use Rattle.onll_model.specs.Limits.{greatest_code}
 use Rattle.std.specs.List.{slice_get}
 use Rattle.onll_model.specs.declared.call.Call.{Call}
 use Rattle.onll_model.proofs.Lists.{same_some, some_not_none, all_at}
@@ -19,7 +20,7 @@ pub length-heads_from : (count object : ℕ) (init : List ℕ) (t n : ℕ) → l
 length-heads_from count object init t zero = refl
 length-heads_from count object init t (suc n) = ap suc (length-heads_from count object init (suc t) n)
 
-pub head_for_is : (count object : ℕ) (init : List ℕ) (t : ℕ) → count ≤ 16 → (1 ≤ object) × (object ≤ 4) → t < count → IsHeadOf count t (head_for 2 t count object init)
+pub head_for_is : (count object : ℕ) (init : List ℕ) (t : ℕ) → count ≤ 16 → (1 ≤ object) × (object ≤ greatest_code) → t < count → IsHeadOf count t (head_for 2 t count object init)
 head_for_is count object init t few code low = record {
   fits = record { thread = low; threads = few; object = code; format = (omega arith, omega arith); digest = length-digest_words _ };
   thread = refl;
@@ -27,7 +28,7 @@ head_for_is count object init t few code low = record {
   format = refl;
 }
 
-heads_are : (count object : ℕ) (init : List ℕ) (t n : ℕ) → count ≤ 16 → (1 ≤ object) × (object ≤ 4) → t + n ≤ count → (i : ℕ) (head : LogHead) → slice_get (heads_from count object init t n) i ≡ Some head → IsHeadOf count (t + i) head
+heads_are : (count object : ℕ) (init : List ℕ) (t n : ℕ) → count ≤ 16 → (1 ≤ object) × (object ≤ greatest_code) → t + n ≤ count → (i : ℕ) (head : LogHead) → slice_get (heads_from count object init t n) i ≡ Some head → IsHeadOf count (t + i) head
 heads_are count object init t zero few code low i head e = some_not_none head (sym e)
 heads_are count object init t (suc n) few code low zero head e = let z : t ≡ t + 0 = omega arith in
     subst (λ (m : ℕ). IsHeadOf count m head) z (subst (IsHeadOf count t) (same_some (head_for 2 t count object init) head e) (head_for_is count object init t few code (omega arith)))

@@ -1,4 +1,5 @@
 use Rattle.std.proofs.Common.{ℕ, zero, suc, ◌≡◌, ◌+◌, ◌*◌, ◌≤◌, Bool, List, [], ◌∷◌, ◌++◌, length, map, replicate, Some, sym, refl, ap, ◌∙◌, subst, arith, append_assoc}
+use Rattle.onll_model.specs.Limits.{greatest_code}
 use Rattle.std.specs.List.{slice_get, All}
 use Rattle.std.proofs.lemmas.List.{length-set, length-replicate, length-map}
 use Rattle.std.proofs.lemmas.List.Elements.{All-head, All-tail}
@@ -104,7 +105,7 @@ module _ {State Op Query Reply : Type 0} (b : Behaviour State Op Query Reply) (i
       (λ i. (room i, flag_room i, os i, no_nodes i, no_flags i, ws i)) first_keeps
 
 -- scripts that the code holds
-pub within_limits : {State Op Query Reply A : Type 0} (f : A → List (Call State Op Query Reply)) (object : ℕ) (scripts : List A) → (1 ≤ object) × (object ≤ 4) → length scripts ≤ 16 → All (λ (s : A). updates_in (f s) ≤ 4096) scripts → IsWithinLimits object (map f scripts)
+pub within_limits : {State Op Query Reply A : Type 0} (f : A → List (Call State Op Query Reply)) (object : ℕ) (scripts : List A) → (1 ≤ object) × (object ≤ greatest_code) → length scripts ≤ 16 → All (λ (s : A). updates_in (f s) ≤ 4096) scripts → IsWithinLimits object (map f scripts)
 within_limits {State} {Op} {Query} {Reply} {A} f object scripts code few updates = record { code = code; few = omega (arith, length-map scripts f); updates = each scripts updates }
   where
     each : (xs : List A) → All (λ (s : A). updates_in (f s) ≤ 4096) xs → AllByRecursion (λ (script : List (Call State Op Query Reply)). updates_in script ≤ 4096) (map f xs)

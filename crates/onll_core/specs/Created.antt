@@ -1,5 +1,5 @@
 use Rattle.std.specs.Prelude.{ℕ, zero, suc, ◌≤◌, List, [], ◌∷◌, length}
-use Rattle.onll_model.specs.Limits.{most_threads, most_updates}
+use Rattle.onll_model.specs.Limits.{most_threads, most_updates, greatest_code}
 use Rattle.std.specs.List.{AllByRecursion}
 use Rattle.onll_model.specs.declared.call.Call.{Call}
 use Rattle.onll_model.specs.Calls.{updates_in}
@@ -25,6 +25,6 @@ created_core initial object init scripts = first_core initial (created_heads obj
 
 -- an object's code and scripts within the limits
 pub record IsWithinLimits {State Op Query Reply : Type 0} (object : ℕ) (scripts : List (List (Call State Op Query Reply))) : Type 0 where
-  pub code : (1 ≤ object) × (object ≤ 4)
+  pub code : (1 ≤ object) × (object ≤ greatest_code)
   pub few : length scripts ≤ most_threads
   pub updates : AllByRecursion (λ (script : List (Call State Op Query Reply)). updates_in script ≤ most_updates) scripts

@@ -1,4 +1,5 @@
 use Rattle.std.proofs.Common.{ℕ, zero, suc, ◌≡◌, ◌+◌, ◌-◌, ◌<◌, ◌≤◌, ◌^◌, Bool, true, false, List, [], ◌∷◌, ◌++◌, Option, Some, None, length, drop, get_or, map, sym, ap, ◌∙◌, subst, arith}
+use Rattle.onll_model.specs.Limits.{greatest_code}
 use Rattle.std.specs.List.{All, slice_get}
 use Rattle.std.specs.Option.{IfSome}
 use Rattle.std.proofs.lemmas.List.{drop_more, drop_all}
@@ -126,8 +127,8 @@ made_one_more f P xs i x h same first rest =
     subst (λ l. All P (map f l)) (sym (drop_more xs i x h ∙ ap (λ y. y ∷ drop (i + 1) xs) (sym same))) (All-cons P (f x) (map f (drop (i + 1) xs)) first rest)
 
 -- what an image holds, where it has a head
-pub shown_reads : (head : Option LogHead) (h : LogHead) (entries : List Segment) (used : ℕ) → head ≡ Some h → IfSome head (λ x. (1 ≤ x.object) × (x.object ≤ 4)) → h.thread < 2 ^ 64 → h.threads < 2 ^ 64
+pub shown_reads : (head : Option LogHead) (h : LogHead) (entries : List Segment) (used : ℕ) → head ≡ Some h → IfSome head (λ x. (1 ≤ x.object) × (x.object ≤ greatest_code)) → h.thread < 2 ^ 64 → h.threads < 2 ^ 64
     → All EntryReads entries → used < 2 ^ 64 → ShowReads (shown_with head entries used)
 shown_reads head h entries used e object thread threads reads few =
     subst (λ (o : Option LogHead). ShowReads (shown_with o entries used)) (sym e)
-    (record { thread = thread; threads = threads; object = subst (λ (o : Option LogHead). IfSome o (λ (x : LogHead). (1 ≤ x.object) × (x.object ≤ 4))) e object; entries = reads; lines = few })
+    (record { thread = thread; threads = threads; object = subst (λ (o : Option LogHead). IfSome o (λ (x : LogHead). (1 ≤ x.object) × (x.object ≤ greatest_code))) e object; entries = reads; lines = few })

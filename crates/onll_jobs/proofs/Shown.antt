@@ -1,4 +1,5 @@
 use Rattle.std.proofs.Common.{ℕ, zero, suc, ◌≡◌, ◌==◌, ◌&&◌, ◌||◌, ◌≤◌, nat_le, nat_lt, Bool, true, false, List, [], ◌∷◌, ⊎_elim, Option, Some, None, cond, take, refl, sym, subst, arith}
+use Rattle.onll_model.specs.Limits.{greatest_code}
 use Rattle.std.proofs.lemmas.Bool.{leb-true, cases_Bool}
 use Rattle.std.proofs.lemmas.List.{length-map, length-take}
 use Rattle.std.specs.List.{AllByRecursion}
@@ -45,30 +46,30 @@ content_placed lines c e = subst (λ o. AllByRecursion IsPlaced (entries_in o)) 
 -- a head names one of the four objects
 abbrev OfAnObject : Option Content → Type 0
 OfAnObject None = Unit {0}
-OfAnObject (Some c) = IfSome c.head (λ head. (1 ≤ head.object) × (head.object ≤ 4))
+OfAnObject (Some c) = IfSome c.head (λ head. (1 ≤ head.object) × (head.object ≤ greatest_code))
 
-object_fits : (line : List ℕ) → is_head line ≡ true → (1 ≤ word line 4) × (word line 4 ≤ 4)
+object_fits : (line : List ℕ) → is_head line ≡ true → (1 ≤ word line 4) × (word line 4 ≤ greatest_code)
 object_fits line e =
     let known = (word line 1 == 1) || (word line 1 == 2) in
     let least = nat_le 1 (word line 4) in
-    let object = least && nat_le (word line 4) 4 in
+    let object = least && nat_le (word line 4) greatest_code in
     let few = nat_le (word line 3) 16 in
     let below = nat_lt (word line 2) (word line 3) in
     let a = both_true (word line 0 == log_magic) (known && (below && (few && object))) e in
     let b = both_true known (below && (few && object)) a.1 in
     let c = both_true below (few && object) b.1 in
     let d = both_true few object c.1 in
-    let f = both_true least (nat_le (word line 4) 4) d.1 in
+    let f = both_true least (nat_le (word line 4) greatest_code) d.1 in
     (leb-true 1 (word line 4) f.0, leb-true (word line 4) 4 f.1)
 
-if_object : (a b : Bool) (c d : Content) → (a ≡ true → IfSome c.head (λ head. (1 ≤ head.object) × (head.object ≤ 4))) → d.head ≡ None → OfAnObject (cond a (Some c) (cond b (Some d) None))
+if_object : (a b : Bool) (c d : Content) → (a ≡ true → IfSome c.head (λ head. (1 ≤ head.object) × (head.object ≤ greatest_code))) → d.head ≡ None → OfAnObject (cond a (Some c) (cond b (Some d) None))
 if_object true b c d h none = h refl
-if_object false true c d h none = subst (λ o. IfSome o (λ (head : LogHead). (1 ≤ head.object) × (head.object ≤ 4))) (sym none) tt
+if_object false true c d h none = subst (λ o. IfSome o (λ (head : LogHead). (1 ≤ head.object) × (head.object ≤ greatest_code))) (sym none) tt
 if_object false false c d h none = tt
 
 of_an_object : (lines : List (List ℕ)) → OfAnObject (content_of lines)
 of_an_object [] = tt
 of_an_object (l ∷ ls) = if_object (is_head l) (are_zero_lines (l ∷ ls)) (record { head = Some (head_of l); entries = entries_from (head_of l) 0 0 ls }) (record { head = None; entries = [] }) (object_fits l) refl
 
-pub content_object : (lines : List (List ℕ)) (c : Content) → content_of lines ≡ Some c → IfSome c.head (λ head. (1 ≤ head.object) × (head.object ≤ 4))
+pub content_object : (lines : List (List ℕ)) (c : Content) → content_of lines ≡ Some c → IfSome c.head (λ head. (1 ≤ head.object) × (head.object ≤ greatest_code))
 content_object lines c e = subst OfAnObject e (of_an_object lines)

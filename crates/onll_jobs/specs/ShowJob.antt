@@ -1,6 +1,7 @@
 -- What `show IMAGE` does: it says what an image of a log holds.
 
 use Rattle.std.specs.Prelude.{ℕ, List, [], ◌∷◌, ◌++◌, ◌+◌, ◌-◌, ◌<◌, ◌≤◌, ◌^◌, Option, Some, None, codes, decimal, length, map}
+use Rattle.onll_model.specs.Limits.{greatest_code}
 use Rattle.std.specs.List.{All, flat_map}
 use Rattle.onll_words.specs.Texts.{line_text}
 use Rattle.onll_model.specs.declared.node.Node.{Node}
@@ -84,7 +85,7 @@ pub record EntryReads (s : Segment) : Type 0 where
 pub record LogShownReads (log : ShownLog) : Type 0 where
   pub thread : log.thread < 2 ^ 64
   pub threads : log.threads < 2 ^ 64
-  pub object : (1 ≤ log.object) × (log.object ≤ 4)
+  pub object : (1 ≤ log.object) × (log.object ≤ greatest_code)
   pub entries : All EntryReads log.entries
   pub lines : log.lines < 2 ^ 64
 

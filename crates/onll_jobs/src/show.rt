@@ -1,6 +1,7 @@
 //! The command `show`: what an image of a log holds.
 
 ghost use Rattle.std.specs.Prelude.{◌≡◌, ◌∷◌, ◌++◌, ◌+◌, ◌-◌, ◌<◌, ◌≤◌, ◌^◌, [], length, true, IfOk, OnOk, Some, IfSome, All, map, decimal};
+ghost use Rattle.onll_model.specs.Limits.{greatest_code};
 ghost use Rattle.std.specs.List.{AllByRecursion};
 ghost use Rattle.onll_words.specs.Texts.{line_text};
 ghost use Rattle.onll_pmem.specs.Pmem.{words_of};
@@ -139,7 +140,7 @@ fn put_counts(entries: u64, lines: u64, out: &mut Report) -> Result<(), NoMemory
 fn put_log(head: &LogHead, decoded: &Decoded, out: &mut Report) -> Result<(), NoMemory>
     requires begins { begins_line out.old ≡ true }
     requires head { decoded.now.head ≡ Some head.now }
-    requires object { IfSome decoded.now.head (λ head. (1 ≤ head.object) × (head.object ≤ 4)) }
+    requires object { IfSome decoded.now.head (λ head. (1 ≤ head.object) × (head.object ≤ greatest_code)) }
     requires placed { AllByRecursion IsPlaced (segments_in decoded.now.entries) }
     requires used { used_by (content_in decoded.now) < 2 ^ 64 }
     ensures lines { let content = content_in decoded.now in
@@ -155,7 +156,7 @@ fn put_log(head: &LogHead, decoded: &Decoded, out: &mut Report) -> Result<(), No
 /// The lines of what an image holds.
 fn put_content(decoded: &Decoded, out: &mut Report) -> Result<(), NoMemory>
     requires begins { begins_line out.old ≡ true }
-    requires object { IfSome decoded.now.head (λ head. (1 ≤ head.object) × (head.object ≤ 4)) }
+    requires object { IfSome decoded.now.head (λ head. (1 ≤ head.object) × (head.object ≤ greatest_code)) }
     requires placed { AllByRecursion IsPlaced (segments_in decoded.now.entries) }
     requires used { used_by (content_in decoded.now) < 2 ^ 64 }
     ensures lines { let content = content_in decoded.now in
@@ -170,7 +171,7 @@ fn put_content(decoded: &Decoded, out: &mut Report) -> Result<(), NoMemory>
 
 /// The report of what an image holds. All that it says reads back.
 fn report(alloc: Global, decoded: &Decoded) -> Result<Vec<u8>, NoMemory>
-    requires object { IfSome decoded.now.head (λ head. (1 ≤ head.object) × (head.object ≤ 4)) }
+    requires object { IfSome decoded.now.head (λ head. (1 ≤ head.object) × (head.object ≤ greatest_code)) }
     requires placed { AllByRecursion IsPlaced (segments_in decoded.now.entries) }
     requires used { used_by (content_in decoded.now) < 2 ^ 64 }
     ensures report { IfOk result (λ bytes. bytes.items ≡ show_report (content_in decoded.now)) }

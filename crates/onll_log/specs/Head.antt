@@ -1,5 +1,5 @@
 use Rattle.std.specs.Prelude.{ℕ, ◌≤◌, ◌<◌, ◌≡◌, ◌==◌, ◌&&◌, ◌||◌, ◌++◌, Bool, List, [], ◌∷◌, length, take, drop, nat_le, nat_lt, slice_index_or}
-use Rattle.onll_model.specs.Limits.{most_threads}
+use Rattle.onll_model.specs.Limits.{most_threads, greatest_code}
 use Rattle.sha2.specs.Sha256.{sha256}
 use Rattle.onll_words.specs.Lines.{bytes_of_words}
 use Rattle.onll_words.specs.Bytes.{words_in, low_word}
@@ -39,7 +39,7 @@ head_line head = head_front head.format head.thread head.threads head.object ++ 
 pub record FitsHead (head : LogHead) : Type 0 where
   pub thread : head.thread < head.threads
   pub threads : head.threads ≤ most_threads
-  pub object : (1 ≤ head.object) × (head.object ≤ 4)
+  pub object : (1 ≤ head.object) × (head.object ≤ greatest_code)
   pub format : (1 ≤ head.format) × (head.format ≤ 2)
   pub digest : length head.digest ≡ 3
 
@@ -48,7 +48,7 @@ abbrev pub is_head : List ℕ → Bool
 is_head line = (word line 0 == log_magic)
     && (((word line 1 == 1) || (word line 1 == 2))
     && (nat_lt (word line 2) (word line 3)
-    && (nat_le (word line 3) 16 && (nat_le 1 (word line 4) && nat_le (word line 4) 4))))
+    && (nat_le (word line 3) 16 && (nat_le 1 (word line 4) && nat_le (word line 4) greatest_code))))
 
 -- the head that a line says
 abbrev pub head_of : List ℕ → LogHead

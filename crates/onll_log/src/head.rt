@@ -1,13 +1,13 @@
 //! The head of a log, and its line.
 
 ghost use Rattle.std.specs.Prelude.{◌≡◌, ◌≤◌, ◌<◌, ◌==◌, ◌&&◌, ◌||◌, nat_lt, nat_le, if◌then◌else◌, Option, Some, None, IfSome};
-ghost use Rattle.onll_model.specs.Limits.{most_threads};
+ghost use Rattle.onll_model.specs.Limits.{most_threads, greatest_code};
 ghost use Rattle.onll_pmem.specs.Pmem.{words_of};
 ghost use Rattle.onll_log.specs.Head.{head_for, head_line, head_of, is_head, FitsHead, log_magic};
 ghost use Rattle.onll_log.specs.Grammar.{format_in};
 
 use crate::digest::Message;
-use onll_model::MOST_THREADS;
+use onll_model::{GREATEST_CODE, MOST_THREADS};
 use onll_words::Line;
 
 /// The first word of a log: the bytes `ONLLLOG1`.
@@ -34,7 +34,7 @@ impl LogHead {
     pub fn new(thread: u64, threads: u64, object: u64, init: &[u8]) -> LogHead
         requires thread { thread < threads }
         requires threads { threads ≤ most_threads }
-        requires object { (1 ≤ object) × (object ≤ 4) }
+        requires object { (1 ≤ object) × (object ≤ greatest_code) }
         ensures head { result ≡ head_for 2 thread threads object init.now }
         ensures fits { FitsHead result }
     {
@@ -46,7 +46,7 @@ impl LogHead {
         requires format { (1 ≤ format) × (format ≤ 2) }
         requires thread { thread < threads }
         requires threads { threads ≤ most_threads }
-        requires object { (1 ≤ object) × (object ≤ 4) }
+        requires object { (1 ≤ object) × (object ≤ greatest_code) }
         ensures head { result ≡ head_for format thread threads object init.now }
         ensures fits { FitsHead result }
     {
@@ -110,9 +110,9 @@ fn is_first(magic: u64, format: u64) -> bool
 
 /// Whether a head can say these numbers.
 fn are_in_range(thread: u64, threads: u64, object: u64) -> bool
-    ensures { result ≡ nat_lt thread threads && (nat_le threads most_threads && (nat_le 1 object && nat_le object 4)) }
+    ensures { result ≡ nat_lt thread threads && (nat_le threads most_threads && (nat_le 1 object && nat_le object greatest_code)) }
 {
-    thread < threads && threads <= MOST_THREADS && 1 <= object && object <= 4
+    thread < threads && threads <= MOST_THREADS && 1 <= object && object <= GREATEST_CODE
 }
 
 /// The format by which an image is read: 2 where its first line says so, and else 1.

@@ -3,7 +3,7 @@
 ghost use Rattle.std.specs.Prelude.{◌≡◌, ◌≤◌, ◌⊎◌, [], length, map, Ok, Err, Some, None, IfOk, MatchResult};
 ghost use Rattle.std.specs.Option.{option_or};
 ghost use Rattle.std.specs.List.{AllByRecursion};
-ghost use Rattle.onll_model.specs.Limits.{most_threads};
+ghost use Rattle.onll_model.specs.Limits.{most_threads, greatest_code};
 ghost use Rattle.onll_pmem.specs.Pmem.{words_of};
 ghost use Rattle.onll_merge.specs.Merge.{AllRise, unlike, nodes_to, stray_above};
 ghost use Rattle.onll_merge.specs.Recovered.{recovered_from, recovered_in, merge_images, expected_heads, state_recovered};
@@ -93,7 +93,7 @@ fn heads_for(
     init: &[u8],
     images: &[Vec<Line>],
 ) -> Result<Vec<LogHead>, ImagesFault>
-    requires object { (1 ≤ object) × (object ≤ 4) }
+    requires object { (1 ≤ object) × (object ≤ greatest_code) }
     requires images { length images.now ≤ most_threads }
     ensures heads { MatchResult result (λ heads. heads.items
         ≡ expected_heads object init.now (length images.now) 0 (map (λ image. words_of image.items) images.now))

@@ -13,3 +13,7 @@ most_updates = 4096
 -- how many accounts, pairs, items or resources an object has room for at most
 abbrev pub most_elements : ℕ
 most_elements = 4096
+
+-- the greatest code of an object in the head of a log; the least is 1
+abbrev pub greatest_code : ℕ
+greatest_code = 4

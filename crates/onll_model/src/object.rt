@@ -1,6 +1,7 @@
 //! The trait of a deterministic sequential object.
 
 ghost use Rattle.std.specs.Prelude.{◌≡◌, ℕ, ◌≤◌, IfOk};
+ghost use Rattle.onll_model.specs.Limits.{greatest_code};
 ghost use Rattle.onll_model.specs.Object.{Behaviour};
 
 use onll_words::{NoMemory, OpRow};
@@ -17,7 +18,7 @@ pub trait Object: Sized {
     /// What an operation or a query gives back.
     type Reply: Copy + Send + Sync;
 
-    /// The object's code in a log's header, 1 to 4.
+    /// The object's code in a log's header, 1 to `GREATEST_CODE`.
     const CODE: u64;
 
     ghost CODE: { ℕ };
@@ -55,5 +56,5 @@ pub trait Object: Sized {
     fn capacity(&self) -> u64
         ensures { result ≡ means.capacity self.now };
 
-    ghost code_in_range: { (1 ≤ CODE) × (CODE ≤ 4) };
+    ghost code_in_range: { (1 ≤ CODE) × (CODE ≤ greatest_code) };
 }

@@ -9,28 +9,28 @@ use Rattle.onll_text.specs.Init.{init_of}
 use Rattle.onll_text.specs.Kinds.{ObjectKind, on_object}
 use Rattle.onll_text.proofs.EachKind.{each_object}
 use Rattle.onll_jobs.specs.Fold.{fold_report}
-use Rattle.onll_jobs.specs.declared.ending.Ending.{Ending}
-use Rattle.onll_jobs.specs.declared.ending.Ending.TheVariants.{Done, Usage, Refused, BadLog, ReadFault, WriteFault}
-use Rattle.onll_jobs.specs.declared.ending.Exit.{Exit}
-use Rattle.onll_jobs.specs.declared.ending.Exit.TheVariants.{Said, SinkFault, NoMemory}
+use Rattle.onll_task.specs.declared.ending.Ending.{Ending}
+use Rattle.onll_task.specs.declared.ending.Ending.TheVariants.{Done, Usage, Refused, BadLog, ReadFault, WriteFault}
+use Rattle.onll_task.specs.declared.ending.Exit.{Exit}
+use Rattle.onll_task.specs.declared.ending.Exit.TheVariants.{Said, SinkFault, NoMemory}
 use Rattle.onll_jobs.specs.Seen.{Seen}
 use Rattle.onll_jobs.specs.Command.{Form, Fold, Show, Recover, Replay, form_of}
-use Rattle.onll_jobs.specs.Printed.{usage_text, status_of, exit_status}
-use Rattle.onll_jobs.specs.Job.{Say, JobEnds, Never, Decides}
+use Rattle.onll_task.specs.Printed.{usage_text, status_of, exit_status}
+use Rattle.onll_task.specs.Job.{Say, JobEnds, Never, Decides}
 use Rattle.onll_log.specs.Grammar.{Content, content_of}
 use Rattle.onll_log.specs.ImageFile.{image_lines}
 use Rattle.onll_jobs.specs.ShowJob.{shown_task}
 use Rattle.onll_merge.specs.declared.fault.StateFault.{StateFault}
 use Rattle.onll_merge.specs.Recovered.{Recovered, state_recovered}
-use Rattle.onll_jobs.specs.RecoverJob.{found_task, images_task}
+use Rattle.onll_recovery.specs.RecoverJob.{found_task, images_task}
 use Rattle.onll_jobs.specs.FoldJob.{script_task}
 use Rattle.onll_jobs.specs.Exits.{PutExits}
 use Rattle.onll_jobs.specs.Says.{job_of, Allows, PutWhole, OutOfMemory, SinkFailed, ExitSays, NothingFailed, NoneRose, SaysThis}
-use Rattle.onll_jobs.specs.Doing.{Task}
+use Rattle.onll_task.specs.Doing.{Task}
 use Rattle.onll_jobs.specs.Over.{OverForm, FoldOver, RecoverOver, over_task, over_work}
-use Rattle.onll_jobs.proofs.Onwards.{ends_cut}
-use Rattle.onll_jobs.proofs.Jobs.{TellsFault, nothing_failed, decided, never_says, reading_never, reading_whole_never}
-use Rattle.onll_jobs.proofs.ImageFiles.{reading_images_never}
+use Rattle.onll_task.proofs.Onwards.{ends_cut}
+use Rattle.onll_task.proofs.Jobs.{TellsFault, nothing_failed, decided, never_says, reading_never, reading_whole_never}
+use Rattle.onll_task.proofs.ImageFiles.{reading_images_never}
 use Rattle.onll_jobs.proofs.ReplayEnds.{replay_not_usage}
 
 -- the ending of a status

@@ -1,13 +1,13 @@
 use Rattle.std.proofs.Common.{ℕ, ◌≡◌, arith, refl, subst, sym}
-use Rattle.onll_jobs.specs.declared.ending.Exit.{Exit}
-use Rattle.onll_jobs.specs.declared.ending.Ending.TheVariants.{Done, Refused, BadLog, ReadFault}
+use Rattle.onll_task.specs.declared.ending.Exit.{Exit}
+use Rattle.onll_task.specs.declared.ending.Ending.TheVariants.{Done, Refused, BadLog, ReadFault}
 use Rattle.onll_jobs.specs.Command.{form_of}
 use Rattle.onll_jobs.specs.Durable.{RecoverPromises, ReplayPromises}
-use Rattle.onll_jobs.specs.Printed.{exit_status}
+use Rattle.onll_task.specs.Printed.{exit_status}
 use Rattle.onll_jobs.specs.Promises.{Promises}
 use Rattle.onll_jobs.specs.Says.{writes_of, ExitSays, ExitDetermined}
 use Rattle.onll_jobs.specs.Seen.{Seen}
-use Rattle.onll_jobs.specs.Writing.{SameBut}
+use Rattle.onll_task.specs.Writing.{SameBut}
 use Rattle.onll_jobs.proofs.ExitCauses.{said_of, none_failed_of, usage_of, failed_of, no_memory_of, count_of, decided_exactly}
 use Rattle.onll_jobs.proofs.FormsDetermined.{exit_done}
 use Rattle.onll_jobs.proofs.ReplayEnds.{replay_not_bad, replay_durable}

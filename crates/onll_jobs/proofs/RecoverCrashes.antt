@@ -14,24 +14,24 @@ use Rattle.onll_text.specs.Init.{init_of}
 use Rattle.onll_text.specs.Kinds.{on_object}
 use Rattle.onll_text.proofs.EachKind.{each_goes}
 use Rattle.onll_outside.specs.Views.{StoreView}
-use Rattle.onll_jobs.specs.declared.ending.Ending.{Ending}
-use Rattle.onll_jobs.specs.declared.ending.Ending.TheVariants.{Done}
-use Rattle.onll_jobs.specs.declared.ending.Exit.{Exit}
+use Rattle.onll_task.specs.declared.ending.Ending.{Ending}
+use Rattle.onll_task.specs.declared.ending.Ending.TheVariants.{Done}
+use Rattle.onll_task.specs.declared.ending.Exit.{Exit}
 use Rattle.onll_merge.specs.declared.fault.StateFault.{StateFault}
-use Rattle.onll_jobs.specs.Reading.{IsTold}
-use Rattle.onll_jobs.specs.Job.{Job, Decides, on_value}
-use Rattle.onll_jobs.specs.Images.{image_names}
-use Rattle.onll_jobs.specs.Doing.{lines_stage, each_job}
+use Rattle.onll_task.specs.Reading.{IsTold}
+use Rattle.onll_task.specs.Job.{Job, Decides, on_value}
+use Rattle.onll_task.specs.Images.{image_names}
+use Rattle.onll_task.specs.Doing.{lines_stage, each_job}
 use Rattle.onll_jobs.specs.Seen.{Seen}
 use Rattle.onll_jobs.specs.Command.{form_of, Recover}
-use Rattle.onll_jobs.specs.Printed.{exit_status}
+use Rattle.onll_task.specs.Printed.{exit_status}
 use Rattle.onll_jobs.specs.Says.{job_of, ExitSays, NoneRose, SaysThis}
-use Rattle.onll_jobs.specs.RecoverJob.{recover_report, found_task, images_task}
+use Rattle.onll_recovery.specs.RecoverJob.{recover_report, found_task, images_task}
 use Rattle.onll_merge.specs.Recovered.{Recovered, recovered_with, state_recovered}
 use Rattle.onll_jobs.specs.Durable.{TellImages, IsLeft, RecoversLeft, RecoversCrashes}
 use Rattle.onll_jobs.specs.Over.{RecoverOver, over_task, over_work}
-use Rattle.onll_jobs.specs.Doing.{Task}
-use Rattle.onll_jobs.proofs.Crashes.{crash_recovered}
+use Rattle.onll_task.specs.Doing.{Task}
+use Rattle.onll_recovery.proofs.Crashes.{crash_recovered}
 use Rattle.onll_jobs.proofs.ExitCauses.{decided_exactly}
 
 -- What a crash left in told files is recovered.

@@ -23,22 +23,22 @@ use Rattle.onll_text.specs.Schedule.{schedule_of}
 use Rattle.onll_text.proofs.FewCalls.{few_calls}
 use Rattle.onll_text.proofs.EachKind.{each_goes}
 use Rattle.onll_outside.specs.Views.{StoreView, SameFaults}
-use Rattle.onll_jobs.specs.declared.ending.Ending.{Ending}
-use Rattle.onll_jobs.specs.declared.ending.Ending.TheVariants.{Done, Usage, Refused, BadLog, ReadFault, WriteFault}
+use Rattle.onll_task.specs.declared.ending.Ending.{Ending}
+use Rattle.onll_task.specs.declared.ending.Ending.TheVariants.{Done, Usage, Refused, BadLog, ReadFault, WriteFault}
 use Rattle.onll_merge.specs.declared.fault.StateFault.{StateFault}
-use Rattle.onll_jobs.specs.Reading.{ReadsWhole, CannotRead}
-use Rattle.onll_jobs.specs.Writing.{FilesStay, CannotWrite, written}
-use Rattle.onll_jobs.specs.Job.{Job, JobEnds, on_value, reading_whole}
-use Rattle.onll_jobs.specs.Images.{image_name, image_bytes, writing_images}
+use Rattle.onll_task.specs.Reading.{ReadsWhole, CannotRead}
+use Rattle.onll_task.specs.Writing.{FilesStay, CannotWrite, written}
+use Rattle.onll_task.specs.Job.{Job, JobEnds, on_value, reading_whole}
+use Rattle.onll_task.specs.Images.{image_name, image_bytes, writing_images}
 use Rattle.onll_jobs.specs.Seen.{Seen}
 use Rattle.onll_jobs.specs.Command.{form_of, Replay}
 use Rattle.onll_jobs.specs.Says.{job_of, PutWhole}
 use Rattle.onll_merge.specs.Recovered.{Recovered, recovered_with, state_recovered}
-use Rattle.onll_jobs.specs.ReplayJob.{played, ReadScripts, replay_report, run_task, crash_task, schedule_task, scripts_stage, scripts_task}
+use Rattle.onll_recovery.specs.ReplayJob.{played, ReadScripts, replay_report, run_task, crash_task, schedule_task, scripts_stage, scripts_task}
 use Rattle.onll_jobs.specs.Durable.{with_images, HasReplayed, HasReplayedAny, ReplayPut}
 use Rattle.onll_jobs.specs.Over.{ReplayOver, over_task, over_work}
-use Rattle.onll_jobs.specs.Doing.{Task}
-use Rattle.onll_jobs.proofs.Crashes.{crash_recovered}
+use Rattle.onll_task.specs.Doing.{Task}
+use Rattle.onll_recovery.proofs.Crashes.{crash_recovered}
 use Rattle.onll_jobs.proofs.Forms.{few-scripts}
 
 -- How a replay ends where each file is read and written and no text is refused: it is done, and its run is durable.

@@ -14,15 +14,15 @@ use Rattle.onll_text.specs.Init.{init_of}
 use Rattle.onll_text.specs.Schedule.{schedule_of}
 use Rattle.onll_text.specs.Kinds.{on_object}
 use Rattle.onll_outside.specs.Views.{StoreView, Puts}
-use Rattle.onll_jobs.specs.declared.ending.Ending.TheVariants.{Done}
+use Rattle.onll_task.specs.declared.ending.Ending.TheVariants.{Done}
 use Rattle.onll_jobs.specs.Seen.{Seen}
 use Rattle.onll_jobs.specs.Command.{Recover, Replay, form_of}
-use Rattle.onll_jobs.specs.Reading.{IsTold, Reads, ReadsWhole}
-use Rattle.onll_jobs.specs.Writing.{FilesStay, written}
-use Rattle.onll_jobs.specs.Images.{image_name, image_bytes}
+use Rattle.onll_task.specs.Reading.{IsTold, Reads, ReadsWhole}
+use Rattle.onll_task.specs.Writing.{FilesStay, written}
+use Rattle.onll_task.specs.Images.{image_name, image_bytes}
 use Rattle.onll_merge.specs.Recovered.{recovered_with}
-use Rattle.onll_jobs.specs.RecoverJob.{recover_report}
-use Rattle.onll_jobs.specs.ReplayJob.{played, ReadScripts, replay_report}
+use Rattle.onll_recovery.specs.RecoverJob.{recover_report}
+use Rattle.onll_recovery.specs.ReplayJob.{played, ReadScripts, replay_report}
 use Rattle.onll_jobs.specs.Says.{NoneRose, SaysThis}
 
 -- What `replay` and `recover` say of crashes.

@@ -1,8 +1,8 @@
 use Rattle.std.specs.Prelude.{ℕ, List, ◌≡◌}
 use Rattle.onll_outside.specs.Views.{SinkView, Puts, PutsFront, Rose}
-use Rattle.onll_jobs.specs.declared.ending.Ending.{Ending}
-use Rattle.onll_jobs.specs.declared.ending.Exit.{Exit}
-use Rattle.onll_jobs.specs.declared.ending.Exit.TheVariants.{Said, SinkFault, NoMemory}
+use Rattle.onll_task.specs.declared.ending.Ending.{Ending}
+use Rattle.onll_task.specs.declared.ending.Exit.{Exit}
+use Rattle.onll_task.specs.declared.ending.Exit.TheVariants.{Said, SinkFault, NoMemory}
 
 -- how the putting of a text with this ending ends the call
 abbrev pub PutExits : SinkView → SinkView → Ending → List ℕ → Exit → Type 0

@@ -8,7 +8,7 @@ use Rattle.onll_text.specs.Wording.{Wording}
 use Rattle.onll_text.specs.Script.{script_of}
 use Rattle.onll_text.specs.Reports.{FoldData, fold_data_lines, FoldDataReads, SaysOnly}
 use Rattle.onll_jobs.specs.Fold.{fold_report}
-use Rattle.onll_jobs.specs.Doing.{Task, after_stage, report_task, text_stage}
+use Rattle.onll_task.specs.Doing.{Task, after_stage, report_task, text_stage}
 
 -- what the report of a fold says
 abbrev pub fold_data : {State Op Query Reply : Type 0} → Behaviour State Op Query Reply → State

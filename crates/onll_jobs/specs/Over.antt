@@ -6,11 +6,11 @@ use Rattle.onll_text.specs.Init.{init_of}
 use Rattle.onll_text.specs.Kinds.{ObjectKind, on_object}
 use Rattle.onll_jobs.specs.declared.objects.Over.{Over}
 use Rattle.onll_jobs.specs.declared.objects.Over.TheVariants as overs
-use Rattle.onll_jobs.specs.Doing.{Task, Work, after_stage, whole_stage}
+use Rattle.onll_task.specs.Doing.{Task, Work, after_stage, whole_stage}
 use Rattle.onll_jobs.specs.FoldJob.{script_task}
-use Rattle.onll_jobs.specs.Images.{image_names}
-use Rattle.onll_jobs.specs.RecoverJob.{logs_task}
-use Rattle.onll_jobs.specs.ReplayJob.{scripts_task}
+use Rattle.onll_task.specs.Images.{image_names}
+use Rattle.onll_recovery.specs.RecoverJob.{logs_task}
+use Rattle.onll_recovery.specs.ReplayJob.{scripts_task}
 
 -- What is done over an object: a script is folded, the logs of so many threads are recovered, or scripts are replayed.
 pub data OverForm : Type 0 where

@@ -2,15 +2,15 @@
 
 use Rattle.std.specs.Prelude.{ℕ, List, ◌≡◌, ◌⊎◌, None}
 use Rattle.onll_outside.specs.Views.{Puts}
-use Rattle.onll_jobs.specs.declared.ending.Ending.{Ending}
-use Rattle.onll_jobs.specs.declared.ending.Ending.TheVariants.{Done, Refused, BadLog, ReadFault, WriteFault}
+use Rattle.onll_task.specs.declared.ending.Ending.{Ending}
+use Rattle.onll_task.specs.declared.ending.Ending.TheVariants.{Done, Refused, BadLog, ReadFault, WriteFault}
 use Rattle.onll_jobs.specs.Command.{form_of}
 use Rattle.onll_jobs.specs.Durable.{RecoverPromises, ReplayPromises}
-use Rattle.onll_jobs.specs.Job.{Decides}
-use Rattle.onll_jobs.specs.Printed.{usage_text}
+use Rattle.onll_task.specs.Job.{Decides}
+use Rattle.onll_task.specs.Printed.{usage_text}
 use Rattle.onll_jobs.specs.Says.{job_of, writes_of, Ended, IsDetermined, NoneRose, NothingFailed, OutOfMemory, PutWhole, SaysThis, SinkFailed}
 use Rattle.onll_jobs.specs.Seen.{Seen}
-use Rattle.onll_jobs.specs.Writing.{SameBut}
+use Rattle.onll_task.specs.Writing.{SameBut}
 
 pub record Promises (seen : Seen) (status : ℕ) : Type 0 where
   -- The status is that of an exit, which says this of the words, the files and what was put.

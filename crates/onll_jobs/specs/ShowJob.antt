@@ -10,8 +10,8 @@ use Rattle.onll_log.specs.declared.head.LogHead.{LogHead}
 use Rattle.onll_log.specs.Grammar.{Content, content_of, used_by}
 use Rattle.onll_text.specs.Kinds.{object_name}
 use Rattle.onll_text.specs.Reports.{SaysOnly}
-use Rattle.onll_jobs.specs.declared.ending.Ending.TheVariants.{BadLog}
-use Rattle.onll_jobs.specs.Doing.{Task, Work, after_stage, report_task, say_task, lines_stage}
+use Rattle.onll_task.specs.declared.ending.Ending.TheVariants.{BadLog}
+use Rattle.onll_task.specs.Doing.{Task, Work, after_stage, report_task, say_task, lines_stage}
 
 -- `log thread T threads N object NAME`
 abbrev pub head_line : (thread threads object : ℕ) → List (List ℕ)

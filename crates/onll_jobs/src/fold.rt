@@ -8,12 +8,12 @@ ghost use Rattle.onll_text.specs.Lines.{call_lines, node_lines};
 ghost use Rattle.onll_text.specs.Reports.{EndsRead, NodeReads, FoldDataReads};
 ghost use Rattle.onll_jobs.specs.Fold.{fold_report};
 ghost use Rattle.onll_jobs.specs.FoldJob.{fold_data, script_task};
-ghost use Rattle.onll_jobs.specs.Doing.{Does};
+ghost use Rattle.onll_task.specs.Doing.{Does};
 
-use crate::answer::Stop;
-use crate::texts::script_file;
 use onll_model::{Call, CallEnd, Node};
 use onll_outside::Store;
+use onll_recovery::put_nodes;
+use onll_task::{Stop, script_file};
 use onll_text::{Report, Texted};
 use onll_words::NoMemory;
 use std::alloc::Global;
@@ -71,21 +71,6 @@ fn put_calls<O: Texted>(
         number += 1;
         let end = fold_call(object, call, trace.len() as u64, trace)?;
         out.call_line(0, number, call, &end)?;
-    }
-    Ok(())
-}
-
-/// Appends the line of each node.
-pub(crate) fn put_nodes<O: Texted>(trace: &[Node], out: &mut Report) -> Result<(), NoMemory>
-    requires operations { AllByRecursion (λ n. IsSome (O.means.op_at n.row)) trace.now }
-    requires begins { begins_line out.old ≡ true }
-    ensures lines { OnOk result (out.new ≡ with_lines out.old (node_lines O.means O.wording 0 trace.now)) }
-    ensures reads { OnOk result (All (NodeReads O.means O.wording) trace.now) }
-{
-    let mut place = 0;
-    for node in trace {
-        place += 1;
-        out.node_line::<O>(place, *node, None)?;
     }
     Ok(())
 }

@@ -1,13 +1,13 @@
 //! The commands over an object: one dispatch over the kinds of object, for all of them.
 
 ghost use Rattle.onll_text.specs.Kinds.{kind_by, on_object};
-ghost use Rattle.onll_jobs.specs.Doing.{Does};
+ghost use Rattle.onll_task.specs.Doing.{Does};
 ghost use Rattle.onll_jobs.specs.Over.{over_in, IsOver, over_task, over_writes, over_work};
 
-use crate::answer::Stop;
-use crate::texts::init_file;
-use crate::{fold, recover, replay};
+use crate::fold;
 use onll_outside::Store;
+use onll_recovery::{recover_logs, replay_on};
+use onll_task::{Stop, init_file};
 use onll_text::{AnyObject, Texted};
 use std::alloc::Global;
 
@@ -43,13 +43,13 @@ fn over_one<O: Texted + Drop, S: Store>(
     match over {
         Over::Fold { script } => fold::fold_object(alloc, &mut object, script, store),
         Over::Recover { logs, threads } => {
-            recover::recover_logs(alloc, &mut object, init, logs, threads, store)
+            recover_logs(alloc, &mut object, init, logs, threads, store)
         }
         Over::Replay {
             schedule,
             logs,
             scripts,
-        } => replay::replay_on(alloc, object, init, schedule, logs, scripts, store),
+        } => replay_on(alloc, object, init, schedule, logs, scripts, store),
     }
 }
 

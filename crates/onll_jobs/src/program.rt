@@ -4,17 +4,16 @@ ghost use Rattle.std.specs.Prelude.{map, string_bytes, Some};
 ghost use Rattle.onll_jobs.specs.Command.{form_of, form_in, IsCommand};
 ghost use Rattle.onll_jobs.specs.Exits.{PutExits};
 ghost use Rattle.onll_jobs.specs.Seen.{seen_by};
-ghost use Rattle.onll_jobs.specs.Writing.{SameBut};
+ghost use Rattle.onll_task.specs.Writing.{SameBut};
 ghost use Rattle.onll_jobs.specs.Says.{work_of, writes_of, ExitSays, ExitDetermined};
 ghost use Rattle.onll_jobs.specs.Promises.{Promises};
-ghost use Rattle.onll_jobs.specs.Doing.{Does};
+ghost use Rattle.onll_task.specs.Doing.{Does};
 
-use crate::answer::Stop;
 use crate::command::Command;
-use crate::ending::{Ending, Exit};
 use crate::objects::Over;
 use crate::{objects, show};
 use onll_outside::{OutsideFault, Sink, Store};
+use onll_task::{Ending, Exit, Stop};
 use std::alloc::Global;
 
 /// A command's report, or what is said in its place.

@@ -10,14 +10,12 @@ ghost use Rattle.onll_log.specs.Decoded.{segment_in, segments_in, content_in};
 ghost use Rattle.onll_text.specs.Bytes.{begins_line, with_words, with_lines};
 ghost use Rattle.onll_outside.specs.Views.{StoreView};
 ghost use Rattle.onll_jobs.specs.ShowJob.{head_line, row_line, row_lines, entry_words, entry_lines, entries_lines, count_words, content_lines, show_report, RowReads, EntryReads, ShowReads, show_data, shown_task, show_work, IsPlaced};
-ghost use Rattle.onll_jobs.specs.Doing.{Does};
+ghost use Rattle.onll_task.specs.Doing.{Does};
 
-use crate::answer::Stop;
-use crate::ending::Ending;
-use crate::texts::image_file;
 use onll_log::{DecodeFault, Decoded, Entry, LogHead, decode};
 use onll_model::Node;
 use onll_outside::Store;
+use onll_task::{Ending, Stop, image_file};
 use onll_text::{Piece, Report, object_name};
 use onll_words::{Line, NoMemory};
 use std::alloc::Global;

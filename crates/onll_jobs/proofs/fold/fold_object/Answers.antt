@@ -2,7 +2,7 @@ use Rattle.std.proofs.Common.{[], sym}
 use Rattle.onll_text.specs.Reports.{fold_data_lines, FoldDataReads}
 use Rattle.onll_text.proofs.Determined.{fold_determined, says_only}
 use Rattle.onll_jobs.specs.FoldJob.{fold_data, calls_task}
-use Rattle.onll_jobs.proofs.Stages.{read_does, stop_does, report_does, none_does}
+use Rattle.onll_task.proofs.Stages.{read_does, stop_does, report_does, none_does}
 use Rattle.onll_jobs.proofs.fold.fold_object.Goals as goal
 
 pub returns-in_ok-fold_script-in-Ok : goal.returns-in_ok-fold_script-in-Ok

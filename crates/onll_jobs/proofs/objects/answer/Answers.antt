@@ -1,7 +1,7 @@
 use Rattle.std.proofs.Common.{sym}
 use Rattle.onll_text.specs.Kinds.{on_object}
 use Rattle.onll_jobs.specs.Over.{over_in, over_task}
-use Rattle.onll_jobs.proofs.Stages.{read_does, unread_does}
+use Rattle.onll_task.proofs.Stages.{read_does, unread_does}
 use Rattle.onll_jobs.proofs.objects.answer.Goals as goal
 
 pub returns-in-Ok : goal.returns-in-Ok

@@ -1,9 +1,9 @@
 use Rattle.std.proofs.Common.{map, string_bytes, sym}
-use Rattle.onll_jobs.specs.declared.ending.Ending.TheVariants.{Done}
+use Rattle.onll_task.specs.declared.ending.Ending.TheVariants.{Done}
 use Rattle.onll_jobs.specs.Seen.{seen_by}
 use Rattle.onll_jobs.proofs.ExitCauses.{put_says}
 use Rattle.onll_jobs.proofs.FormsDetermined.{put_determined}
-use Rattle.onll_jobs.proofs.Stages.{stay_same}
+use Rattle.onll_task.proofs.Stages.{stay_same}
 use Rattle.onll_jobs.proofs.program.run.Goals as goal
 
 pub returns-in-Ok-clause-says : goal.returns-in-Ok-clause-says

@@ -1,7 +1,7 @@
 use Rattle.std.proofs.Common.{sym}
 use Rattle.onll_log.specs.Grammar.{content_of}
 use Rattle.onll_jobs.specs.ShowJob.{shown_task}
-use Rattle.onll_jobs.proofs.Stages.{read_does, stop_does}
+use Rattle.onll_task.proofs.Stages.{read_does, stop_does}
 use Rattle.onll_jobs.proofs.show.answer.Goals as goal
 
 pub returns-in-Ok : goal.returns-in-Ok

@@ -5,7 +5,7 @@ use Rattle.onll_log.specs.declared.decoded.Entry.{Entry}
 use Rattle.onll_log.specs.Decoded.{segment_in, segments_in}
 use Rattle.onll_text.specs.Bytes.{with_lines}
 use Rattle.onll_jobs.specs.ShowJob.{entry_lines, EntryReads, IsPlaced}
-use Rattle.onll_jobs.proofs.PrintedReads.{made_one_more}
+use Rattle.onll_recovery.proofs.PrintedReads.{made_one_more}
 use Rattle.onll_jobs.proofs.ShowWords.{entry_lines_more}
 use Rattle.onll_jobs.proofs.show.put_entries.Goals as goal
 

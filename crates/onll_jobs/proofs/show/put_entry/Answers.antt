@@ -3,7 +3,7 @@ use Rattle.onll_words.specs.Texts.{line_text}
 use Rattle.onll_model.specs.declared.node.Node.{Node}
 use Rattle.onll_log.specs.Decoded.{segment_in}
 use Rattle.onll_jobs.specs.ShowJob.{entry_words}
-use Rattle.onll_jobs.proofs.FoldSteps.{begins_after}
+use Rattle.onll_recovery.proofs.FoldSteps.{begins_after}
 use Rattle.onll_jobs.proofs.ShowWords.{entry_in_words}
 use Rattle.onll_jobs.proofs.show.put_entry.Goals as goal
 

@@ -4,7 +4,7 @@ use Rattle.std.proofs.lemmas.List.Elements.{All-cons}
 use Rattle.std.specs.List.{All}
 use Rattle.onll_model.specs.declared.node.Node.{Node}
 use Rattle.onll_jobs.specs.ShowJob.{row_line, RowReads}
-use Rattle.onll_jobs.proofs.FoldSteps.{begins_after}
+use Rattle.onll_recovery.proofs.FoldSteps.{begins_after}
 use Rattle.onll_jobs.proofs.ShowWords.{row_lines_more}
 use Rattle.onll_jobs.proofs.show.put_rows.Goals as goal
 

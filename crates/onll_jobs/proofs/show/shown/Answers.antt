@@ -2,7 +2,7 @@ use Rattle.onll_log.specs.Decoded.{content_in}
 use Rattle.onll_pmem.specs.Pmem.{words_of}
 use Rattle.onll_jobs.proofs.Shown.{content_placed, content_object}
 use Rattle.onll_jobs.proofs.ShowDetermined.{show_says}
-use Rattle.onll_jobs.proofs.Stages.{report_does}
+use Rattle.onll_task.proofs.Stages.{report_does}
 use Rattle.onll_jobs.proofs.show.shown.Goals as goal
 
 pub report-requires-clause-placed : goal.report-requires-clause-placed

@@ -1,9 +1,0 @@
-use Rattle.std.specs.Prelude.{ℕ, List}
-use Rattle.onll_jobs.specs.declared.ending.Ending.{Ending}
-use Rattle.onll_jobs.specs.declared.answer.Stop.{Stop}
-use Rattle.onll_jobs.specs.declared.answer.Stop.TheVariants.{Says, NoMemory}
-
--- what is said where a call stops, if anything, has this fact
-abbrev pub StopSays : Stop → (Ending → List ℕ → Type 0) → Type 0
-StopSays (Says answer) P = P answer.ending answer.text.items
-StopSays NoMemory P = Unit {0}

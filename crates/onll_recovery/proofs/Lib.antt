@@ -1,0 +1,7 @@
+pub mod Crashes
+pub mod Determined
+pub mod FoldSteps
+pub mod PrintedReads
+pub mod RecoverSteps
+pub mod ReplaySteps
+pub mod Replays

@@ -1,0 +1,44 @@
+use Rattle.std.proofs.Common.{ℕ, false, ◌≡◌, List, [], ◌∷◌, Option, Some, None, IsSome, refl, ◌+◌, ◌<◌, ◌++◌, length, drop, get_or, sym, ap, ◌∙◌}
+use Rattle.std.proofs.lemmas.List.{drop_more}
+use Rattle.std.specs.List.{AllByRecursion}
+use Rattle.onll_merge.specs.declared.counts.LogCounts.{LogCounts}
+use Rattle.onll_text.specs.Bytes.{with_lines}
+use Rattle.onll_text.proofs.Appending.{with_lines-one}
+use Rattle.onll_words.specs.Texts.{AreWords, line_text}
+use Rattle.onll_words.proofs.Decimals.{IsWord-decimal}
+use Rattle.onll_model.specs.declared.node.Node.{Node}
+use Rattle.onll_model.specs.Object.{Behaviour}
+use Rattle.onll_model.specs.Recovered.{operations_front, where_some}
+use Rattle.onll_recovery.specs.RecoverJob.{content_line, log_lines, recovered_line}
+
+-- The parts of a recovery, as they are done one after the other.
+
+-- ---- words
+pub empty_in_words : (thread : ℕ) → AreWords (content_line thread false 0 0)
+empty_in_words thread = (record { some = refl; bytes = refl }, (IsWord-decimal thread, (record { some = refl; bytes = refl }, tt)))
+
+pub recovered_in_words : (nodes : ℕ) → AreWords (recovered_line nodes)
+recovered_in_words nodes = (record { some = refl; bytes = refl }, (IsWord-decimal nodes, tt))
+
+-- ---- rows
+-- nodes all of whose rows are operations
+where_same : {A : Type 0} (o : Option A) (n : Node) (front nodes : List Node) → where_some o (n ∷ front) ≡ n ∷ nodes → IsSome o × (front ≡ nodes)
+where_same None n front nodes e = (cc)
+where_same (Some x) n front nodes e = (refl, (cc))
+
+pub all_operations : {State Op Query Reply : Type 0} (b : Behaviour State Op Query Reply) (nodes : List Node) → operations_front b nodes ≡ nodes → AllByRecursion (λ (n : Node). IsSome (b.op_at n.row)) nodes
+all_operations b [] e = tt
+all_operations b (n ∷ nodes) e =
+    let found = where_same (b.op_at n.row) n (operations_front b nodes) nodes e in (found.0, all_operations b nodes found.1)
+
+-- ---- lines
+-- one log's line before those of the rest
+pub log_lines_more : (out text : List ℕ) (t i : ℕ) (logs : List LogCounts) (none : LogCounts) → i < length logs
+    → text ≡ out ++ line_text (content_line t (get_or logs i none).head (get_or logs i none).entries (get_or logs i none).lines)
+    → with_lines text (log_lines (t + 1) (drop (i + 1) logs)) ≡ with_lines out (log_lines t (drop i logs))
+log_lines_more out text t i logs none h e =
+    let d : LogCounts = get_or logs i none in
+    let rest = log_lines (t + 1) (drop (i + 1) logs) in
+    ap (λ z. with_lines z rest) e
+    ∙ sym (with_lines-one out (content_line t d.head d.entries d.lines) rest)
+    ∙ sym (ap (λ (l : List LogCounts). with_lines out (log_lines t l)) (drop_more logs i none h))

@@ -1,0 +1,2 @@
+pub mod RecoverJob
+pub mod ReplayJob

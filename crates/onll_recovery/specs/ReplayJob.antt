@@ -1,0 +1,193 @@
+-- What `replay INIT SCHEDULE LOGS SCRIPT..` does: it plays a schedule on the step core, crashes it, writes the images, and says
+-- the run and what recovery finds.
+
+use Rattle.std.specs.Prelude.{ℕ, ◌≡◌, ◌<◌, ◌≤◌, ◌^◌, ◌+◌, ◌-◌, Bool, List, [], ◌∷◌, ◌++◌, Some, Result, Ok, Err, codes, decimal, length, map}
+use Rattle.std.specs.List.{All, flat_map}
+use Rattle.onll_words.specs.Texts.{line_text}
+use Rattle.onll_model.specs.declared.node.Node.{Node}
+use Rattle.onll_model.specs.declared.call.Call.{Call}
+use Rattle.onll_model.specs.declared.call.CallEnd.{CallEnd}
+use Rattle.onll_model.specs.declared.turn.Turn.{Turn}
+use Rattle.onll_model.specs.Object.{Behaviour}
+use Rattle.onll_model.specs.Trace.{state_after}
+use Rattle.onll_core.specs.Core.{CoreThread, CoreState}
+use Rattle.onll_core.specs.Step.{steps_of}
+use Rattle.onll_core.specs.Turns.{turns_of}
+use Rattle.onll_core.specs.Created.{created_core}
+use Rattle.onll_core.specs.Outcomes.{ends_of}
+use Rattle.onll_core.specs.Crash.{images_of}
+use Rattle.onll_text.specs.declared.any_object.AnyObject.{AnyObject}
+use Rattle.onll_text.specs.declared.schedule.Schedule.{Schedule}
+use Rattle.onll_text.specs.Wording.{Wording}
+use Rattle.onll_text.specs.Lines.{call_lines, trace_line, node_line, log_line, state_lines}
+use Rattle.onll_text.specs.Init.{init_of}
+use Rattle.onll_text.specs.Script.{script_of}
+use Rattle.onll_text.specs.Schedule.{schedule_of}
+use Rattle.onll_text.specs.Reports.{EndsRead, NodeReads, StateReads, SaysOnly}
+use Rattle.onll_outside.specs.Views.{StoreView}
+use Rattle.onll_task.specs.declared.ending.Ending.TheVariants.{BadLog}
+use Rattle.onll_merge.specs.declared.fault.StateFault.{StateFault}
+use Rattle.onll_task.specs.Doing.{Task, Work, Stage, after_stage, each_stage, report_task, say_task, text_stage, whole_stage}
+use Rattle.onll_task.specs.Images.{image_names, writing_stage}
+use Rattle.onll_recovery.specs.RecoverJob.{fault_line, recovered_line}
+use Rattle.onll_merge.specs.declared.counts.LogCounts.{LogCounts}
+use Rattle.onll_merge.specs.Recovered.{Recovered, state_recovered}
+
+-- the core that is made of scripts, after the steps of turns
+abbrev pub played : {State Op Query Reply : Type 0} → Behaviour State Op Query Reply → ℕ → List ℕ → State
+    → List (List (Call State Op Query Reply)) → List Turn → CoreState State Op Query Reply
+played b code init s scripts turns = steps_of b (created_core s code init scripts) (turns_of turns)
+
+-- ---- the report
+-- the lines of the calls of each thread that have begun, from thread t on
+abbrev pub begun_lines : {State Op Query Reply : Type 0} → Wording State Op Query Reply → ℕ
+    → List (CoreThread State Op Query Reply) → List (List (List ℕ))
+begun_lines w t [] = []
+begun_lines w t (th ∷ ths) = call_lines w t 0 th.script (ends_of th) ++ begun_lines w (t + 1) ths
+
+-- the line of each node with its flag, the first of them at place p + 1
+abbrev pub flagged_lines : {State Op Query Reply : Type 0} → Behaviour State Op Query Reply
+    → Wording State Op Query Reply → ℕ → List Node → List Bool → List (List (List ℕ))
+flagged_lines b w p (n ∷ nodes) (flag ∷ flags) = node_line b w (p + 1) n (Some flag) ∷ flagged_lines b w (p + 1) nodes flags
+flagged_lines b w p nodes flags = []
+
+abbrev pub crash_line : ℕ → List (List ℕ)
+crash_line keep = codes "crash" ∷ decimal keep ∷ []
+
+-- the line of each thread's log, from thread t on: what its image holds, and the fences after the header's
+abbrev pub fenced_lines : {State Op Query Reply : Type 0} → ℕ → List LogCounts → List (CoreThread State Op Query Reply)
+    → List (List (List ℕ))
+fenced_lines t (log ∷ logs) (th ∷ ths) =
+    log_line t log.entries log.lines (Some (th.device.fences - 1)) ∷ fenced_lines (t + 1) logs ths
+fenced_lines t logs ths = []
+
+-- the lines of the core's calls and trace
+abbrev pub run_lines : {State Op Query Reply : Type 0} → Behaviour State Op Query Reply → Wording State Op Query Reply
+    → CoreState State Op Query Reply → List (List (List ℕ))
+run_lines b w c = begun_lines w 0 c.threads ++ (trace_line (length c.trace) ∷ flagged_lines b w 0 c.trace c.flags)
+
+-- the lines of the crash, of the logs, and of this state, which is recovered
+abbrev pub crash_lines : {State Op Query Reply : Type 0} → Wording State Op Query Reply → CoreState State Op Query Reply
+    → ℕ → Recovered → State → List (List (List ℕ))
+crash_lines w c keep r s = crash_line keep ∷ (fenced_lines 0 r.logs c.threads ++ (recovered_line (length r.nodes) ∷ state_lines w s))
+
+abbrev pub replay_report : {State Op Query Reply : Type 0} → Behaviour State Op Query Reply
+    → Wording State Op Query Reply → CoreState State Op Query Reply → ℕ → Recovered → List ℕ
+replay_report b w c keep r = flat_map line_text (run_lines b w c ++ crash_lines w c keep r (state_after b c.initial r.nodes))
+
+-- ---- what the report says
+-- what is said of a log: its entries, its lines, and the fences after the header's
+pub record LogData : Type 0 where
+  pub entries : ℕ
+  pub lines : ℕ
+  pub fences : ℕ
+
+-- what a report of threads says: what became of the calls of each, the trace with its flags, the crash, the logs, how many nodes
+-- are recovered, and the state after them
+pub record RunData (State Op Query Reply : Type 0) : Type 0 where
+  pub ends : List (List (CallEnd State Op Query Reply))
+  pub nodes : List Node
+  pub flags : List Bool
+  pub keep : ℕ
+  pub logs : List LogData
+  pub recovered : ℕ
+  pub state : State
+
+-- the lines of the calls of each thread, from thread t on
+abbrev pub thread_lines : {State Op Query Reply : Type 0} → Wording State Op Query Reply → ℕ
+    → List (List (Call State Op Query Reply)) → List (List (CallEnd State Op Query Reply)) → List (List (List ℕ))
+thread_lines w t (script ∷ scripts) (ends ∷ more) = call_lines w t 0 script ends ++ thread_lines w (t + 1) scripts more
+thread_lines w t scripts ends = []
+
+-- the line of each log, from thread t on
+abbrev pub counted_lines : ℕ → List LogData → List (List (List ℕ))
+counted_lines t [] = []
+counted_lines t (log ∷ logs) = log_line t log.entries log.lines (Some log.fences) ∷ counted_lines (t + 1) logs
+
+-- the lines of all of it, for these scripts
+abbrev pub run_data_lines : {State Op Query Reply : Type 0} → Behaviour State Op Query Reply
+    → Wording State Op Query Reply → List (List (Call State Op Query Reply)) → RunData State Op Query Reply
+    → List (List (List ℕ))
+run_data_lines b w scripts said =
+    (thread_lines w 0 scripts said.ends ++ (trace_line (length said.nodes) ∷ flagged_lines b w 0 said.nodes said.flags))
+    ++ (crash_line said.keep ∷ (counted_lines 0 said.logs ++ (recovered_line said.recovered ∷ state_lines w said.state)))
+
+-- the outcomes of the first calls of each script read back
+abbrev pub EachReads : {State Op Query Reply : Type 0} → Wording State Op Query Reply
+    → List (List (Call State Op Query Reply)) → List (List (CallEnd State Op Query Reply)) → Type 0
+EachReads w [] [] = Unit {0}
+EachReads w (script ∷ scripts) (ends ∷ more) = EndsRead w script ends × EachReads w scripts more
+EachReads w scripts ends = ⊥
+
+-- the numbers of a log are of 64 bits
+pub record LogReads (log : LogData) : Type 0 where
+  pub entries : log.entries < 2 ^ 64
+  pub lines : log.lines < 2 ^ 64
+  pub fences : log.fences < 2 ^ 64
+
+-- all that is said of these scripts' run reads back
+pub record RunReads {State Op Query Reply : Type 0} (b : Behaviour State Op Query Reply)
+    (w : Wording State Op Query Reply) (scripts : List (List (Call State Op Query Reply)))
+    (said : RunData State Op Query Reply) : Type 0 where
+  pub threads : length scripts ≤ 2 ^ 64
+  pub ends : EachReads w scripts said.ends
+  pub nodes : All (NodeReads b w) said.nodes
+  pub flags : length said.flags ≡ length said.nodes
+  pub keep : said.keep < 2 ^ 64
+  pub logs : All LogReads said.logs
+  pub recovered : said.recovered < 2 ^ 64
+  pub state : StateReads w said.state
+
+-- the counts of logs and of their threads' devices
+abbrev pub counts_of : {State Op Query Reply : Type 0} → List LogCounts → List (CoreThread State Op Query Reply) → List LogData
+counts_of (log ∷ logs) (th ∷ ths) =
+    record { entries = log.entries; lines = log.lines; fences = th.device.fences - 1 } ∷ counts_of logs ths
+counts_of logs ths = []
+
+-- what the report of a replay says
+abbrev pub replay_data : {State Op Query Reply : Type 0} → Behaviour State Op Query Reply
+    → CoreState State Op Query Reply → ℕ → Recovered → RunData State Op Query Reply
+replay_data b c keep r = record {
+  ends = map ends_of c.threads;
+  nodes = c.trace;
+  flags = c.flags;
+  keep = keep;
+  logs = counts_of r.logs c.threads;
+  recovered = length r.nodes;
+  state = state_after b c.initial r.nodes;
+}
+
+-- ---- the work
+-- the run of these scripts, its crash, and what was found are reported: the report says that, and nothing else
+abbrev pub run_task : {State Op Query Reply : Type 0} → Behaviour State Op Query Reply → Wording State Op Query Reply
+    → List (List (Call State Op Query Reply)) → CoreState State Op Query Reply → ℕ → Result Recovered StateFault → Task
+run_task b w scripts c keep (Ok r) = report_task (replay_report b w c keep r)
+    (λ text. SaysOnly (run_data_lines b w scripts) (RunReads b w scripts) text (replay_data b c keep r))
+run_task b w scripts c keep (Err fault) = say_task BadLog (fault_line fault)
+
+-- a core of an object of this code, whose initial state these bytes say, crashes: its images are written, and then recovered
+abbrev pub crash_task : {State Op Query Reply : Type 0} → Behaviour State Op Query Reply → Wording State Op Query Reply
+    → ℕ → List ℕ → List ℕ → List (List (Call State Op Query Reply)) → CoreState State Op Query Reply → ℕ → Task
+crash_task b w code init logs scripts c keep = after_stage (writing_stage logs (images_of keep c.threads))
+    (λ _. run_task b w scripts c keep (state_recovered b code init (images_of keep c.threads)))
+
+-- the schedule of these scripts is read and played, and the core crashes
+abbrev pub schedule_task : {State Op Query Reply : Type 0} → Behaviour State Op Query Reply
+    → Wording State Op Query Reply → ℕ → List ℕ → State → (schedule logs : List ℕ)
+    → List (List (Call State Op Query Reply)) → Task
+schedule_task b w code init s schedule logs scripts = after_stage (text_stage schedule (schedule_of (length scripts)))
+    (λ (plan : Schedule). crash_task b w code init logs scripts (played b code init s scripts plan.turns) plan.keep)
+
+-- scripts are read, one after the other
+abbrev pub scripts_stage : {State Op Query Reply : Type 0} → Wording State Op Query Reply → List (List ℕ)
+    → Stage (List (List (Call State Op Query Reply)))
+scripts_stage w names = each_stage (λ name. text_stage name (script_of w)) names
+
+-- a script is read from each of these files
+abbrev pub ReadScripts : {State Op Query Reply : Type 0} → Wording State Op Query Reply → StoreView → List (List ℕ)
+    → List (List (Call State Op Query Reply)) → Type 0
+ReadScripts w store names scripts = (scripts_stage w names).known store scripts
+
+abbrev pub scripts_task : {State Op Query Reply : Type 0} → Behaviour State Op Query Reply → Wording State Op Query Reply
+    → ℕ → List ℕ → (schedule logs : List ℕ) → List (List ℕ) → State → Task
+scripts_task b w code init schedule logs names s = after_stage (scripts_stage w names) (schedule_task b w code init s schedule logs)

@@ -1,0 +1,130 @@
+//! The command `recover`: the trace and the state that the logs of one run give.
+
+ghost use Rattle.std.specs.Prelude.{[], ◌≡◌, ◌≤◌, ◌++◌, length, true, IfOk, OnOk, ◌<◌, ◌^◌, All, map};
+ghost use Rattle.onll_model.specs.Limits.{most_threads};
+ghost use Rattle.std.specs.List.{flat_map};
+ghost use Rattle.onll_words.specs.Texts.{line_text};
+ghost use Rattle.onll_model.specs.Recovered.{operations_front};
+ghost use Rattle.onll_merge.specs.Recovered.{recovered_in};
+ghost use Rattle.onll_text.specs.Bytes.{begins_line, with_lines};
+ghost use Rattle.onll_text.specs.Lines.{node_lines, state_lines};
+ghost use Rattle.onll_text.specs.Reports.{NodeReads, StateReads};
+ghost use Rattle.onll_task.specs.Images.{images_in};
+ghost use Rattle.onll_task.specs.Doing.{Does};
+ghost use Rattle.onll_outside.specs.Views.{StoreView};
+ghost use Rattle.onll_recovery.specs.RecoverJob.{HeldReads, RecoverReads, held_of, found_data, content_line, log_lines, recovered_line, lines_with, images_task, logs_task};
+
+use crate::bad_logs::bad_logs;
+use crate::nodes::put_nodes;
+use onll_merge::{LogCounts, Recovery, StateFault, recover_state};
+use onll_model::Node;
+use onll_outside::Store;
+use onll_task::{Stop, read_images};
+use onll_text::{Piece, Report, Texted};
+use onll_words::{Line, NoMemory};
+use std::alloc::Global;
+
+/// The line of what a thread's log holds.
+fn put_log(thread: u64, log: LogCounts, out: &mut Report) -> Result<(), NoMemory>
+    requires { begins_line out.old ≡ true }
+    ensures line { OnOk result (out.new ≡ out.old ++ line_text (content_line thread log.head log.entries log.lines)) }
+    ensures reads { OnOk result ((log.entries < 2 ^ 64) × (log.lines < 2 ^ 64)) }
+{
+    if log.head {
+        out.log_line(thread, log.entries, log.lines, None)
+    } else {
+        out.line(&[
+            Piece::Text(b"log"),
+            Piece::Number(thread),
+            Piece::Text(b"empty"),
+        ])
+    }
+}
+
+/// The line of each log.
+fn put_logs(logs: &[LogCounts], out: &mut Report) -> Result<(), NoMemory>
+    requires { begins_line out.old ≡ true }
+    ensures lines { OnOk result (out.new ≡ with_lines out.old (log_lines 0 logs.now)) }
+    ensures begins { OnOk result (begins_line out.new ≡ true) }
+    ensures reads { OnOk result (All HeldReads (map held_of logs.now)) }
+{
+    let mut thread = 0;
+    for log in logs {
+        put_log(thread, *log, out)?;
+        thread += 1;
+    }
+    Ok(())
+}
+
+/// How many nodes the trace has.
+pub fn put_count(nodes: u64, out: &mut Report) -> Result<(), NoMemory>
+    requires { begins_line out.old ≡ true }
+    ensures lines { OnOk result (out.new ≡ out.old ++ line_text (recovered_line nodes)) }
+    ensures begins { OnOk result (begins_line out.new ≡ true) }
+{
+    out.line(&[Piece::Text(b"recovered"), Piece::Number(nodes)])
+}
+
+/// The lines of nodes, and of the object after them.
+fn put_trace<O: Texted>(object: &O, nodes: &[Node], out: &mut Report) -> Result<(), NoMemory>
+    requires begins { begins_line out.old ≡ true }
+    requires rows { operations_front O.means nodes.now ≡ nodes.now }
+    ensures lines { OnOk result (out.new ≡ with_lines (with_lines out.old (node_lines O.means O.wording 0 nodes.now))
+        (state_lines O.wording object.now)) }
+    ensures nodes { OnOk result (All (NodeReads O.means O.wording) nodes.now) }
+    ensures state { OnOk result (StateReads O.wording object.now) }
+{
+    put_nodes::<O>(nodes, out)?;
+    out.state_lines(object)
+}
+
+/// The report of what logs give, with the object after it. All that it says reads back.
+fn report<O: Texted>(alloc: Global, object: &O, found: &Recovery) -> Result<Vec<u8>, NoMemory>
+    requires { operations_front O.means found.now.nodes.items ≡ found.now.nodes.items }
+    ensures report { let lines = lines_with O.means O.wording (recovered_in found.now) object.now in
+        IfOk result (λ bytes. bytes.items ≡ flat_map line_text lines) }
+    ensures reads { OnOk result (RecoverReads O.means O.wording (found_data (recovered_in found.now) object.now)) }
+{
+    let mut out = Report::new(alloc);
+    put_logs(&found.logs, &mut out)?;
+    put_count(found.nodes.len() as u64, &mut out)?;
+    put_trace(object, &found.nodes, &mut out)?;
+    Ok(out.into_bytes())
+}
+
+/// What is said of images, over the object from these bytes of an initial state.
+fn recover_on<O: Texted>(
+    alloc: Global,
+    object: &mut O,
+    init: &[u8],
+    images: &[Vec<Line>],
+) -> Result<Vec<u8>, Stop>
+    requires { (1 ≤ length images.now) × (length images.now ≤ most_threads) }
+    ensures { let task = images_task O.means O.wording O.CODE init.now object.old (images_in images.now) in
+        (store : StoreView) → Does [] store store task result }
+{
+    match recover_state(alloc, object, init, images) {
+        Ok(found) => Ok(report(alloc, object, &found)?),
+        Err(StateFault::NoMemory) => Err(Stop::NoMemory),
+        Err(fault) => Err(bad_logs(alloc, fault)),
+    }
+}
+
+/// Recovers an object, whose initial state these bytes say, from the images of the logs of so many threads.
+pub fn recover_logs<O: Texted, S: Store>(
+    alloc: Global,
+    object: &mut O,
+    init: &[u8],
+    logs: &str,
+    threads: u64,
+    store: &mut S,
+) -> Result<Vec<u8>, Stop>
+    requires { (1 ≤ threads) × (threads ≤ most_threads) }
+    ensures { let task = logs_task O.means O.wording O.CODE init.now logs.now threads object.old in
+        Does [] (S.seen store.old) (S.seen store.new) task result }
+{
+    match read_images(alloc, logs, threads, store) {
+        Ok(images) => recover_on(alloc, object, init, &images),
+        Err(stop) => Err(stop),
+    }
+}

@@ -1,0 +1,6 @@
+pub mod Cuts
+pub mod ImageFiles
+pub mod Jobs
+pub mod Onwards
+pub mod Stages
+pub mod Stops

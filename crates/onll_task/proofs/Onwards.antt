@@ -1,0 +1,180 @@
+-- How jobs that read and write go on.
+
+use Rattle.std.proofs.Common.{Vec, Global, ℕ, zero, suc, true, false, List, ◌≡◌, inl, inr, ⊎_elim, Option, Some, cond, ◌+◌, ◌<◌, length, drop, get_or, true≢false, Result, refl, sym, ap, ◌∙◌, subst, arith}
+use Rattle.std.proofs.lemmas.List.{drop_more}
+use Rattle.std.proofs.lemmas.Bool.{cases_Bool}
+use Rattle.std.proofs.lemmas.Slice.Eq.{bytes_eq-Decides}
+use Rattle.std.specs.List.{AllByRecursion}
+use Rattle.std.specs.Str.{bytes_eq}
+use Rattle.onll_words.specs.declared.line.Line.{Line}
+use Rattle.onll_pmem.specs.Pmem.{words_of}
+use Rattle.onll_log.specs.ImageFile.{image_lines}
+use Rattle.onll_outside.specs.Views.{StoreView, SameFiles, SameOthers, SameFaults, Rose, Holds}
+use Rattle.onll_text.specs.Refusal.{Refusal}
+use Rattle.onll_task.specs.declared.ending.Ending.{Ending}
+use Rattle.onll_task.specs.declared.ending.Ending.TheVariants.{Done, Usage, Refused, BadLog, ReadFault, WriteFault}
+use Rattle.onll_task.specs.Reading.{Reads, ReadsWhole, HoldsImage, Stops}
+use Rattle.onll_task.specs.Images.{image_name, images_in, image_bytes, image_names, writing_images}
+use Rattle.onll_task.specs.Writing.{FilesStay, OthersStay, SameBut, HasWritten, CannotWrite, WriteFailed, written}
+use Rattle.onll_task.specs.Job.{Job, Say, Read, Write, JobEnds, JobCut, GoesOn, on_value, reading, reading_whole}
+use Rattle.onll_task.proofs.Jobs.{files_stay, cannot_from}
+
+pub stay_more : (store mid after : StoreView) → FilesStay store mid → FilesStay mid after → FilesStay store after
+stay_more store mid after first then_ = record { tells = then_.tells ∙ first.tells; file = λ tells name. then_.file (first.tells ∙ tells) name ∙ first.file tells name }
+
+faults_more : (store mid after : StoreView) → SameFaults store mid → SameFaults mid after → SameFaults store after
+faults_more store mid after first then_ = (then_.0 ∙ first.0, then_.1 ∙ first.1)
+
+others_more : (store mid after : StoreView) (name : List ℕ) → FilesStay store mid → OthersStay name mid after → OthersStay name store after
+others_more store mid after name first then_ = record { tells = then_.tells ∙ first.tells; file = λ tells other differs. then_.file (first.tells ∙ tells) other differs ∙ first.file tells other }
+
+written_stays : (store mid : StoreView) (name bytes : List ℕ) → FilesStay store mid → FilesStay (written store name bytes) (written mid name bytes)
+written_stays store mid name bytes h = record { tells = h.tells; file = λ tells other. ap (λ o. cond {A = Option (List ℕ)} (bytes_eq other name) (Some bytes) o) (h.file tells other) }
+
+write_failed_from : (store mid after : StoreView) (name : List ℕ) → FilesStay store mid → SameFaults store mid → WriteFailed mid after name → WriteFailed store after name
+write_failed_from store mid after name files same h = record { rose = subst (λ n. Rose n after.faults) same.0 h.rose; last = h.last; others = others_more store mid after name files h.others }
+
+cannot_write_from : (store mid after : StoreView) (name : List ℕ) (ending : Ending) (text : List ℕ) → FilesStay store mid → SameFaults store mid → CannotWrite mid after name ending text → CannotWrite store after name ending text
+cannot_write_from store mid after name Done text files same h = absurd h
+cannot_write_from store mid after name Usage text files same h = absurd h
+cannot_write_from store mid after name Refused text files same h = absurd h
+cannot_write_from store mid after name BadLog text files same h = absurd h
+cannot_write_from store mid after name ReadFault text files same h = absurd h
+cannot_write_from store mid after name WriteFault text files same h =
+    record { failed = write_failed_from store mid after name files same h.failed; line = h.line }
+
+-- what a job does from a store it does from the store before, where neither files nor faults changed
+pub ends_from : (store mid after : StoreView) (job : Job) (ending : Ending) (text : List ℕ) → FilesStay store mid → SameFaults store mid → JobEnds mid after job ending text → JobEnds store after job ending text
+ends_from store mid after (Say e t) ending text files faults h = (h.0, h.1, stay_more store mid after files h.2, faults_more store mid after faults h.3)
+ends_from store mid after (Read name next) ending text files faults (inl h) = inl (cannot_from store mid after name ending text faults h.0, stay_more store mid after files h.1)
+ends_from store mid after (Read name next) ending text files faults (inr h) =
+    inr (h.0, ((λ tells. sym (files.file tells name) ∙ h.1.0 (files.tells ∙ tells)), ends_from store mid after (next h.0) ending text files faults h.1.1))
+ends_from store mid after (Write name bytes next) ending text files faults (inl h) = inl (cannot_write_from store mid after name ending text files faults h)
+ends_from store mid after (Write name bytes next) ending text files faults (inr h) =
+    inr (ends_from (written store name bytes) (written mid name bytes) after next ending text (written_stays store mid name bytes files) faults h)
+
+-- ---- jobs that stop early
+pub stay_cut : (store after : StoreView) (job : Job) → FilesStay store after → JobCut store after job
+stay_cut store after (Say e t) h = h
+stay_cut store after (Read name next) h = inl h
+stay_cut store after (Write name bytes next) h = inl (inl h)
+
+cut_from : (store mid after : StoreView) (job : Job) → FilesStay store mid → SameFaults store mid → JobCut mid after job → JobCut store after job
+cut_from store mid after (Say e t) files faults h = stay_more store mid after files h
+cut_from store mid after (Read name next) files faults (inl h) = inl (stay_more store mid after files h)
+cut_from store mid after (Read name next) files faults (inr h) =
+    inr (h.0, ((λ tells. sym (files.file tells name) ∙ h.1.0 (files.tells ∙ tells)), cut_from store mid after (next h.0) files faults h.1.1))
+cut_from store mid after (Write name bytes next) files faults (inl (inl h)) = inl (inl (stay_more store mid after files h))
+cut_from store mid after (Write name bytes next) files faults (inl (inr h)) = inl (inr (write_failed_from store mid after name files faults h))
+cut_from store mid after (Write name bytes next) files faults (inr h) =
+    inr (cut_from (written store name bytes) (written mid name bytes) after next (written_stays store mid name bytes files) faults h)
+
+cannot_write_failed : (store after : StoreView) (name : List ℕ) (ending : Ending) (text : List ℕ) → CannotWrite store after name ending text → WriteFailed store after name
+cannot_write_failed store after name Done text h = absurd h
+cannot_write_failed store after name Usage text h = absurd h
+cannot_write_failed store after name Refused text h = absurd h
+cannot_write_failed store after name BadLog text h = absurd h
+cannot_write_failed store after name ReadFault text h = absurd h
+cannot_write_failed store after name WriteFault text h = h.failed
+
+-- a job that ended may have stopped there
+pub ends_cut : (store after : StoreView) (job : Job) (ending : Ending) (text : List ℕ) → JobEnds store after job ending text → JobCut store after job
+ends_cut store after (Say e t) ending text h = h.2
+ends_cut store after (Read name next) ending text (inl h) = inl h.1
+ends_cut store after (Read name next) ending text (inr h) = inr (h.0, (h.1.0, ends_cut store after (next h.0) ending text h.1.1))
+ends_cut store after (Write name bytes next) ending text (inl h) = inl (inr (cannot_write_failed store after name ending text h))
+ends_cut store after (Write name bytes next) ending text (inr h) = inr (ends_cut (written store name bytes) after next ending text h)
+
+-- ---- jobs one after the other
+pub goes_same : (store : StoreView) (job : Job) → GoesOn store store job job
+goes_same store job = record { ends = λ after ending text h. h; cut = λ after h. h }
+
+pub goes_after : (store mid new : StoreView) (job next last : Job) → GoesOn store mid job next → GoesOn mid new next last → GoesOn store new job last
+goes_after store mid new job next last first then_ = record {
+  ends = λ after ending text h. first.ends after ending text (then_.ends after ending text h);
+  cut = λ after h. first.cut after (then_.cut after h);
+}
+
+-- ---- reading
+on_read : (store mid : StoreView) (name : List ℕ) (next : List ℕ → Job) (bytes : List ℕ) → Holds store name bytes → SameFiles store mid → SameFaults store mid → GoesOn store mid (Read name next) (next bytes)
+on_read store mid name next bytes held same faults =
+    let files = files_stay store mid same in
+    record {
+      ends = λ after ending text h. inr (bytes, (held, ends_from store mid after (next bytes) ending text files faults h));
+      cut = λ after h. inr (bytes, (held, cut_from store mid after (next bytes) files faults h));
+    }
+
+pub on_image : (store mid : StoreView) (name : List ℕ) (next : List (List ℕ) → Job) (lines : List (List ℕ)) → HoldsImage store name lines → SameFiles store mid → SameFaults store mid
+    → GoesOn store mid (Read name (λ bytes. next (image_lines bytes))) (next lines)
+on_image store mid name next lines h same faults =
+    subst (λ l. GoesOn store mid (Read name (λ bytes. next (image_lines bytes))) (next l)) (sym h.image) (on_read store mid name (λ bytes. next (image_lines bytes)) h.bytes h.held same faults)
+
+pub on_whole : {A : Type 0} (store mid : StoreView) (name : List ℕ) (grammar : List ℕ → Result A Refusal) (next : List ℕ → A → Job) (bytes : List ℕ) (value : A)
+    → ReadsWhole store grammar name bytes value → SameFiles store mid → SameFaults store mid → GoesOn store mid (reading_whole name grammar next) (next bytes value)
+on_whole store mid name grammar next bytes value r same faults =
+    subst (λ v. GoesOn store mid (reading_whole name grammar next) (on_value name (next bytes) v)) r.accepted (on_read store mid name (λ b. on_value name (next b) (grammar b)) bytes r.held same faults)
+
+pub on_text : {A : Type 0} (store mid : StoreView) (name : List ℕ) (grammar : List ℕ → Result A Refusal) (next : A → Job) (value : A)
+    → Reads store grammar name value → SameFiles store mid → SameFaults store mid → GoesOn store mid (reading name grammar next) (next value)
+on_text store mid name grammar next value r same faults = on_whole store mid name grammar (λ _. next) r.bytes value (record { held = r.held; accepted = r.accepted }) same faults
+
+-- the reading of a text ended the call
+pub stopped_ends : {A : Type 0} (store after : StoreView) (name : List ℕ) (grammar : List ℕ → Result A Refusal) (next : List ℕ → A → Job) (ending : Ending) (text : List ℕ)
+    → SameFiles store after → Stops store after grammar name ending text → JobEnds store after (reading_whole name grammar next) ending text
+stopped_ends store after name grammar next Done text same h = absurd h
+stopped_ends store after name grammar next Usage text same h = absurd h
+stopped_ends store after name grammar next Refused text same h =
+    inr (h.0.bytes, (h.0.held, subst (λ v. JobEnds store after (on_value name (next h.0.bytes) v) Refused text) (sym h.0.outside) (refl, h.0.line, files_stay store after same, h.1)))
+stopped_ends store after name grammar next BadLog text same h = absurd h
+stopped_ends store after name grammar next ReadFault text same h = inl (h, files_stay store after same)
+stopped_ends store after name grammar next WriteFault text same h = absurd h
+
+-- ---- writing
+-- what a store's write leaves
+pub write_leaves : (old new : StoreView) (name bytes : List ℕ) → Holds new name bytes → SameOthers name old new → FilesStay (written old name bytes) new
+write_leaves old new name bytes held others = record { tells = others.tells; file = each }
+  where
+    each : old.tells ≡ true → (other : List ℕ) → new.file other ≡ cond {A = Option (List ℕ)} (bytes_eq other name) (Some bytes) (old.file other)
+    each tells other = ⊎_elim
+        (λ (t : bytes_eq other name ≡ true). ap new.file ((bytes_eq-Decides other name).0 t) ∙ held (others.tells ∙ tells) ∙ sym (ap (λ b. cond {A = Option (List ℕ)} b (Some bytes) (old.file other)) t))
+        (λ (t : bytes_eq other name ≡ false). others.file other (λ e. true≢false (sym ((bytes_eq-Decides other name).1 e) ∙ t)) ∙ sym (ap (λ b. cond {A = Option (List ℕ)} b (Some bytes) (old.file other)) t))
+        (cases_Bool (bytes_eq other name))
+
+pub on_write : (store mid : StoreView) (name bytes : List ℕ) (next : Job) → HasWritten store mid name bytes → GoesOn store mid (Write name bytes next) next
+on_write store mid name bytes next h = record {
+  ends = λ after ending text k. inr (ends_from (written store name bytes) mid after next ending text h.files h.faults k);
+  cut = λ after k. inr (cut_from (written store name bytes) mid after next h.files h.faults k);
+}
+
+pub others_stay : (name : List ℕ) (old new : StoreView) → SameOthers name old new → OthersStay name old new
+others_stay name old new h = record { tells = h.tells; file = λ tells. h.file }
+
+-- ---- images
+-- so many images were written, and the rest is left
+pub record WroteSo (store mid : StoreView) (logs : List ℕ) (images : List (Vec Line Global)) (i : ℕ) : Type 0 where
+  pub on : (next : Job) → GoesOn store mid (writing_images logs 0 (images_in images) next) (writing_images logs i (images_in (drop i images)) next)
+  pub others : SameBut (image_names logs 0 (length images)) store mid
+
+names_at : (P : List ℕ → Type 0) (logs : List ℕ) (i n k : ℕ) → k < n → AllByRecursion P (image_names logs i n) → P (image_name logs (i + k))
+names_at P logs i zero k h a = absurd (omega arith)
+names_at P logs i (suc n) zero h a = let e : i ≡ i + 0 = omega arith in subst (λ m. P (image_name logs m)) e a.0
+names_at P logs i (suc n) (suc k) h a = let e : suc i + k ≡ i + suc k = omega arith in subst (λ m. P (image_name logs m)) e (names_at P logs (suc i) n k (omega arith) a.1)
+
+pub others_on : (store mid new : StoreView) (logs : List ℕ) (n i : ℕ) → i < n → SameBut (image_names logs 0 n) store mid → SameOthers (image_name logs i) mid new → SameBut (image_names logs 0 n) store new
+others_on store mid new logs n i h before after =
+    record { tells = after.tells ∙ before.tells; file = λ other differs. after.file other (let e : 0 + i ≡ i = omega arith in subst (λ m. other ≡ image_name logs m → ⊥) e (names_at (λ name. other ≡ name → ⊥) logs 0 n i h differs)) ∙ before.file other differs }
+
+-- one image more
+pub wrote_next : (store mid new : StoreView) (logs : List ℕ) (images : List (Vec Line Global)) (image : Vec Line Global) (i : ℕ) → i < length images → image ≡ get_or images i image
+    → WroteSo store mid logs images i → HasWritten mid new (image_name logs i) (image_bytes (words_of image.items)) → SameOthers (image_name logs i) mid new → WroteSo store new logs images (i + 1)
+wrote_next store mid new logs images image i h same so w others = record {
+  on = λ next.
+      let rest : Job = writing_images logs (suc i) (images_in (drop (i + 1) images)) next in
+      let e : i + 1 ≡ suc i = omega arith in
+      goes_after store mid new (writing_images logs 0 (images_in images) next) (writing_images logs i (images_in (drop i images)) next) (writing_images logs (i + 1) (images_in (drop (i + 1) images)) next) (so.on next)
+      (subst (λ l. GoesOn mid new (writing_images logs i (images_in l) next) (writing_images logs (i + 1) (images_in (drop (i + 1) images)) next)) (sym (drop_more images i image h))
+      (subst (λ (x : Vec Line Global). GoesOn mid new (Write (image_name logs i) (image_bytes (words_of x.items)) rest) (writing_images logs (i + 1) (images_in (drop (i + 1) images)) next)) same
+      (subst (λ j. GoesOn mid new (Write (image_name logs i) (image_bytes (words_of image.items)) rest) (writing_images logs j (images_in (drop (i + 1) images)) next)) (sym e)
+      (on_write mid new (image_name logs i) (image_bytes (words_of image.items)) rest w))));
+  others = others_on store mid new logs (length images) i h so.others others;
+}

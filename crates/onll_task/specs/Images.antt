@@ -1,0 +1,44 @@
+-- The images of the logs of one run: one file for each thread.
+
+use Rattle.std.specs.List.{flat_map}
+use Rattle.std.specs.Prelude.{ℕ, zero, suc, List, [], ◌∷◌, ◌++◌, map, codes, decimal}
+use Rattle.std.specs.declared.vec.Vec.{Vec}
+use Rattle.std.specs.declared.alloc.Global.{Global}
+use Rattle.onll_words.specs.declared.line.Line.{Line}
+use Rattle.onll_words.specs.Lines.{bytes_of_words}
+use Rattle.onll_pmem.specs.Pmem.{words_of}
+use Rattle.onll_task.specs.Job.{Job, Write}
+use Rattle.onll_task.specs.Doing.{Stage, lines_stage, each_stage}
+
+-- the name of a thread's image
+abbrev pub image_name : List ℕ → ℕ → List ℕ
+image_name logs thread = logs ++ (codes "." ++ decimal thread)
+
+-- the names of the images of this many threads, from thread i on
+abbrev pub image_names : List ℕ → ℕ → ℕ → List (List ℕ)
+image_names logs i zero = []
+image_names logs i (suc threads) = image_name logs i ∷ image_names logs (suc i) threads
+
+-- the lines of images, as words
+abbrev pub images_in : List (Vec Line Global) → List (List (List ℕ))
+images_in images = map (λ image. words_of image.items) images
+
+-- ---- reading
+-- the images of the logs of this many threads are read
+abbrev pub images_stage : List ℕ → ℕ → Stage (List (List (List ℕ)))
+images_stage logs threads = each_stage lines_stage (image_names logs 0 threads)
+
+-- ---- writing
+-- the bytes of an image's file
+abbrev pub image_bytes : List (List ℕ) → List ℕ
+image_bytes lines = flat_map bytes_of_words lines
+
+-- writes the images of threads, from thread i on, and goes on
+abbrev pub writing_images : List ℕ → ℕ → List (List (List ℕ)) → Job → Job
+writing_images logs i [] next = next
+writing_images logs i (image ∷ images) next = Write (image_name logs i) (image_bytes image) (writing_images logs (suc i) images next)
+
+-- these images are made the files of the logs
+abbrev pub writing_stage : List ℕ → List (List (List ℕ)) → Stage (Unit {0})
+writing_stage logs images =
+    record { job = λ (next : Unit {0} → Job). writing_images logs 0 images (next tt); known = λ _ _. Unit {0} }

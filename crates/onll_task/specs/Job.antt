@@ -1,0 +1,70 @@
+use Rattle.std.specs.Prelude.{ℕ, List, ◌≡◌, ◌⊎◌, Result, Ok, Err}
+use Rattle.onll_text.specs.Refusal.{Refusal}
+use Rattle.onll_outside.specs.Views.{StoreView, Holds, SameFaults}
+use Rattle.onll_task.specs.declared.ending.Ending.{Ending}
+use Rattle.onll_task.specs.declared.ending.Ending.TheVariants.{Refused}
+use Rattle.onll_task.specs.Printed.{refusal_text}
+use Rattle.onll_task.specs.Reading.{CannotRead, IsTold}
+use Rattle.onll_task.specs.Writing.{CannotWrite, FilesStay, WriteStops, written}
+
+-- What a call does, up to the text that it puts: it reads files by their names, each after what the ones before it held, makes
+-- bytes the files of names, and then says a text.
+pub data Job : Type 0 where
+  Say : Ending → List ℕ → Job
+  Read : List ℕ → (List ℕ → Job) → Job
+  Write : (name bytes : List ℕ) → Job → Job
+
+-- The job may end so, and leave the store so: each file that it reads holds some bytes, which it goes on with, or can't be
+-- read; each that it writes is written, or can't be. No other file changes. Where it says its text, no call of the store failed.
+abbrev pub JobEnds : StoreView → StoreView → Job → Ending → List ℕ → Type 0
+JobEnds store after (Say e t) ending text = (ending ≡ e) × (text ≡ t) × FilesStay store after × SameFaults store after
+JobEnds store after (Read name next) ending text =
+    (CannotRead store after name ending text × FilesStay store after)
+    ⊎ ((bytes : List ℕ) × (Holds store name bytes × JobEnds store after (next bytes) ending text))
+JobEnds store after (Write name bytes next) ending text =
+    CannotWrite store after name ending text ⊎ JobEnds (written store name bytes) after next ending text
+
+-- The job may stop early, and leave the store so: it read files and wrote files, each of them whole, up to one that is as it was,
+-- unless a write of it failed. No other file changes.
+abbrev pub JobCut : StoreView → StoreView → Job → Type 0
+JobCut store after (Say e t) = FilesStay store after
+JobCut store after (Read name next) =
+    FilesStay store after ⊎ ((bytes : List ℕ) × (Holds store name bytes × JobCut store after (next bytes)))
+JobCut store after (Write name bytes next) = WriteStops store after name ⊎ JobCut (written store name bytes) after next
+
+-- whatever the other job does from this store, the job may do from the store before
+pub record GoesOn (store mid : StoreView) (job next : Job) : Type 0 where
+  pub ends : (after : StoreView) (ending : Ending) (text : List ℕ) → JobEnds mid after next ending text
+      → JobEnds store after job ending text
+  pub cut : (after : StoreView) → JobCut mid after next → JobCut store after job
+
+-- the job says this without reading any file
+abbrev pub SaysNow : Job → Ending → List ℕ → Type 0
+SaysNow (Say e t) ending text = (ending ≡ e) × (text ≡ t)
+SaysNow (Read name next) ending text = ⊥
+SaysNow (Write name bytes next) ending text = ⊥
+
+-- the files that are told decide that it ends so, unless a write fails
+abbrev pub Decides : StoreView → Job → Ending → List ℕ → Type 0
+Decides store (Say e t) ending text = (e ≡ ending) × (t ≡ text)
+Decides store (Read name next) ending text = (bytes : List ℕ) × (IsTold store name bytes × Decides store (next bytes) ending text)
+Decides store (Write name bytes next) ending text = Decides (written store name bytes) next ending text
+
+-- the job never ends so
+abbrev pub Never : Ending → Job → Type 0
+Never ending (Say e t) = e ≡ ending → ⊥
+Never ending (Read name next) = (bytes : List ℕ) → Never ending (next bytes)
+Never ending (Write name bytes next) = Never ending next
+
+-- goes on with a value, or says why a text is refused
+abbrev pub on_value : {A : Type 0} → List ℕ → (A → Job) → Result A Refusal → Job
+on_value name next (Ok value) = next value
+on_value name next (Err refusal) = Say Refused (refusal_text name refusal)
+
+-- reads a text by its grammar
+abbrev pub reading : {A : Type 0} → List ℕ → (List ℕ → Result A Refusal) → (A → Job) → Job
+reading name grammar next = Read name (λ bytes. on_value name next (grammar bytes))
+
+-- the same, going on with the bytes of the file as well
+abbrev pub reading_whole : {A : Type 0} → List ℕ → (List ℕ → Result A Refusal) → (List ℕ → A → Job) → Job
+reading_whole name grammar next = Read name (λ bytes. on_value name (next bytes) (grammar bytes))

@@ -1,0 +1,39 @@
+use Rattle.std.specs.Prelude.{ℕ, List, ◌++◌, codes, decimal}
+use Rattle.onll_task.specs.declared.ending.Ending.{Ending}
+use Rattle.onll_task.specs.declared.ending.Ending.TheVariants.{Done, Usage, Refused, BadLog, ReadFault, WriteFault}
+use Rattle.onll_task.specs.declared.ending.Exit.{Exit}
+use Rattle.onll_task.specs.declared.ending.Exit.TheVariants.{Said, SinkFault, NoMemory}
+use Rattle.onll_text.specs.Refusal.{Refusal, reason_text}
+
+-- the whole usage text, with the commands to come
+abbrev pub usage_text : List ℕ
+usage_text =
+    codes "usage: onll fold INIT SCRIPT\n       onll show IMAGE\n       onll recover INIT LOGS T\n       onll replay INIT SCHEDULE LOGS SCRIPT..\n       onll run INIT LOGS SCRIPT..\n       onll make T N SEED\n"
+
+-- the line of a refused text
+abbrev pub refusal_text : List ℕ → Refusal → List ℕ
+refusal_text name refusal =
+    codes "refused " ++ name ++ codes " " ++ decimal refusal.line ++ codes " " ++ reason_text refusal.reason ++ codes "\n"
+
+-- the line of a read that failed
+abbrev pub read_fault_text : List ℕ → List ℕ
+read_fault_text name = codes "read fault " ++ name ++ codes "\n"
+
+-- the line of a write that failed
+abbrev pub write_fault_text : List ℕ → List ℕ
+write_fault_text name = codes "write fault " ++ name ++ codes "\n"
+
+-- the exit status of an ending
+abbrev pub status_of : Ending → ℕ
+status_of Done = 0
+status_of Usage = 2
+status_of Refused = 3
+status_of BadLog = 4
+status_of ReadFault = 5
+status_of WriteFault = 6
+
+-- the exit status of a call
+abbrev pub exit_status : Exit → ℕ
+exit_status (Said ending) = status_of ending
+exit_status SinkFault = 6
+exit_status NoMemory = 9

@@ -1,0 +1,146 @@
+//! What is said in place of a report, and why.
+
+ghost use Rattle.std.specs.Prelude.{◌≡◌, IfOk};
+ghost use Rattle.onll_text.specs.Refusal.{refused};
+ghost use Rattle.onll_task.specs.Printed.{usage_text, refusal_text, read_fault_text, write_fault_text};
+ghost use Rattle.onll_task.specs.Stop.{StopSays};
+ghost use Rattle.onll_task.specs.declared.answer.Stop.TheVariants.{NoMemory};
+
+use crate::ending::Ending;
+use itoa::Buffer;
+use onll_text::Reason;
+use onll_words::NoMemory;
+use std::alloc::{AllocError, AllocFailed, Global};
+
+/// The usage text, with the commands to come.
+const USAGE: &[u8] =
+    b"usage: onll fold INIT SCRIPT\n       onll show IMAGE\n       onll recover INIT LOGS T\n       onll replay INIT SCHEDULE LOGS SCRIPT..\n       onll run INIT LOGS SCRIPT..\n       onll make T N SEED\n";
+
+/// A text to be put in place of a report, and how the call ends then.
+#[derive(Drop)]
+pub struct Answer {
+    pub ending: Ending,
+    pub text: Vec<u8>,
+}
+
+/// Why a command gives no report, or a file no value.
+#[derive(Drop)]
+pub enum Stop {
+    /// This is to be said.
+    Says(Answer),
+    NoMemory,
+}
+
+impl From<NoMemory> for Stop {
+    ghost from_gives = { λ _ stop. stop ≡ NoMemory };
+
+    fn from(_e: NoMemory) -> Stop {
+        Stop::NoMemory
+    }
+}
+
+impl From<AllocError> for Stop {
+    ghost from_gives = { λ _ stop. stop ≡ NoMemory };
+
+    fn from(_e: AllocError) -> Stop {
+        Stop::NoMemory
+    }
+}
+
+impl<T: Drop> From<AllocFailed<T>> for Stop {
+    ghost from_gives = { λ _ stop. stop ≡ NoMemory };
+
+    fn from(_e: AllocFailed<T>) -> Stop {
+        Stop::NoMemory
+    }
+}
+
+impl Stop {
+    /// A text that is no report, with its ending.
+    pub fn says(alloc: Global, ending: Ending, text: &[u8]) -> Stop
+        ensures { StopSays result (λ end said. (end ≡ ending) × (said ≡ text.now)) }
+    {
+        match Vec::from_slice(alloc, text) {
+            Ok(text) => Stop::Says(Answer { ending, text }),
+            Err(_) => Stop::NoMemory,
+        }
+    }
+
+    /// The usage text.
+    pub fn usage(alloc: Global) -> Stop
+        ensures { StopSays result (λ end said. (end ≡ Ending.Usage) × (said ≡ usage_text)) }
+    {
+        Stop::says(alloc, Ending::Usage, USAGE)
+    }
+
+    /// The line of a refused text.
+    pub fn refused(alloc: Global, name: &str, line: u64, reason: Reason) -> Stop
+        ensures { StopSays result (λ end said. (end ≡ Ending.Refused) × (said ≡ refusal_text name.now (refused line reason))) }
+    {
+        match refusal_text(alloc, name, line, reason) {
+            Ok(text) => Stop::Says(Answer {
+                ending: Ending::Refused,
+                text,
+            }),
+            Err(_) => Stop::NoMemory,
+        }
+    }
+
+    /// The line of a read that failed.
+    pub fn unread(alloc: Global, name: &str) -> Stop
+        ensures { StopSays result (λ end said. (end ≡ Ending.ReadFault) × (said ≡ read_fault_text name.now)) }
+    {
+        match read_fault_text(alloc, name) {
+            Ok(text) => Stop::Says(Answer {
+                ending: Ending::ReadFault,
+                text,
+            }),
+            Err(_) => Stop::NoMemory,
+        }
+    }
+
+    /// The line of a write that failed.
+    pub fn unwritten(alloc: Global, name: &str) -> Stop
+        ensures { StopSays result (λ end said. (end ≡ Ending.WriteFault) × (said ≡ write_fault_text name.now)) }
+    {
+        match write_fault_text(alloc, name) {
+            Ok(text) => Stop::Says(Answer {
+                ending: Ending::WriteFault,
+                text,
+            }),
+            Err(_) => Stop::NoMemory,
+        }
+    }
+}
+
+fn refusal_text(alloc: Global, name: &str, line: u64, reason: Reason) -> Result<Vec<u8>, AllocError>
+    ensures { IfOk result (λ v. v.items ≡ refusal_text name.now (refused line reason)) }
+{
+    let mut buffer = Buffer::new();
+    let mut text = Vec::from_slice(alloc, b"refused ")?;
+    text.extend_from_slice(name.as_bytes())?;
+    text.extend_from_slice(b" ")?;
+    text.extend_from_slice(buffer.format(line).as_bytes())?;
+    text.extend_from_slice(b" ")?;
+    text.extend_from_slice(reason.text())?;
+    text.extend_from_slice(b"\n")?;
+    Ok(text)
+}
+
+fn read_fault_text(alloc: Global, name: &str) -> Result<Vec<u8>, AllocError>
+    ensures { IfOk result (λ v. v.items ≡ read_fault_text name.now) }
+{
+    let mut text = Vec::from_slice(alloc, b"read fault ")?;
+    text.extend_from_slice(name.as_bytes())?;
+    text.extend_from_slice(b"\n")?;
+    Ok(text)
+}
+
+fn write_fault_text(alloc: Global, name: &str) -> Result<Vec<u8>, AllocError>
+    ensures { IfOk result (λ v. v.items ≡ write_fault_text name.now) }
+{
+    let mut text = Vec::from_slice(alloc, b"write fault ")?;
+    text.extend_from_slice(name.as_bytes())?;
+    text.extend_from_slice(b"\n")?;
+    Ok(text)
+}

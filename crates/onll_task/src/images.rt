@@ -1,0 +1,114 @@
+//! The images of the logs of one run: a file for each thread.
+
+ghost use Rattle.std.specs.Prelude.{◌≡◌, [], length, string_bytes, IfOk, IfErr, OnOk};
+ghost use Rattle.onll_outside.specs.Views.{SameOthers};
+ghost use Rattle.onll_pmem.specs.Pmem.{words_of};
+ghost use Rattle.onll_task.specs.Images.{image_name, image_names, images_in, image_bytes, images_stage, writing_stage};
+ghost use Rattle.onll_task.specs.Writing.{HasWritten, CannotWrite, WriteStops};
+ghost use Rattle.onll_task.specs.Stop.{StopSays};
+ghost use Rattle.onll_task.specs.Doing.{Begins, lines_stage};
+
+use crate::answer::Stop;
+use crate::texts::{image_file, write_file};
+use itoa::Buffer;
+use onll_outside::Store;
+use onll_words::{Line, line_bytes};
+use std::alloc::{AllocError, Global};
+
+/// The name of a thread's image.
+fn image_name(alloc: Global, logs: &str, thread: u64) -> Result<String, AllocError>
+    ensures { IfOk result (λ name. string_bytes name ≡ image_name logs.now thread) }
+{
+    let mut buffer = Buffer::new();
+    let mut name = String::new(alloc);
+    name.push_str(logs)?;
+    name.push_str(".")?;
+    name.push_str(buffer.format(thread))?;
+    Ok(name)
+}
+
+/// The image of a thread's log, or what is said in its place.
+fn read_image<S: Store>(
+    alloc: Global,
+    logs: &str,
+    thread: u64,
+    store: &mut S,
+) -> Result<Vec<Line>, Stop>
+    ensures { let stage = lines_stage (image_name logs.now thread) in
+        Begins [] (S.seen store.old) (S.seen store.new) stage (λ image. words_of image.items) result }
+{
+    let name = image_name(alloc, logs, thread)?;
+    image_file(alloc, &name, store)
+}
+
+/// The images of the logs of so many threads, or what is said in their place.
+pub fn read_images<S: Store>(
+    alloc: Global,
+    logs: &str,
+    threads: u64,
+    store: &mut S,
+) -> Result<Vec<Vec<Line>>, Stop>
+    ensures begins { let stage = images_stage logs.now threads in
+        Begins [] (S.seen store.old) (S.seen store.new) stage (λ images. images_in images.items) result }
+    ensures count { IfOk result (λ images. length images.items ≡ threads) }
+{
+    let mut images = Vec::new(alloc);
+    for thread in 0..threads {
+        match read_image(alloc, logs, thread, store) {
+            Ok(image) => images.push(image)?,
+            Err(stop) => return Err(stop),
+        }
+    }
+    Ok(images)
+}
+
+/// The bytes of an image's file.
+fn image_bytes(alloc: Global, lines: &[Line]) -> Result<Vec<u8>, AllocError>
+    ensures { IfOk result (λ bytes. bytes.items ≡ image_bytes (words_of lines.now)) }
+{
+    let mut bytes = Vec::new(alloc);
+    for line in lines {
+        bytes.extend_from_slice(&line_bytes(*line))?;
+    }
+    Ok(bytes)
+}
+
+/// Writes the image of a thread's log, or gives what is said in its place.
+fn write_image<S: Store>(
+    alloc: Global,
+    logs: &str,
+    thread: u64,
+    image: &[Line],
+    store: &mut S,
+) -> Result<(), Stop>
+    ensures written { OnOk result (HasWritten (S.seen store.old) (S.seen store.new) (image_name logs.now thread)
+        (image_bytes (words_of image.now))) }
+    ensures stop { IfErr result (λ stop. StopSays stop
+        (CannotWrite (S.seen store.old) (S.seen store.new) (image_name logs.now thread))) }
+    ensures cut { IfErr result (λ stop. WriteStops (S.seen store.old) (S.seen store.new) (image_name logs.now thread)) }
+    ensures others { SameOthers (image_name logs.now thread) (S.seen store.old) (S.seen store.new) }
+{
+    let name = image_name(alloc, logs, thread)?;
+    let bytes = image_bytes(alloc, image)?;
+    write_file(alloc, &name, &bytes, store)
+}
+
+/// Writes the images of the threads' logs, in thread order, or gives what is said in their place.
+pub fn write_images<S: Store>(
+    alloc: Global,
+    logs: &str,
+    images: &[Vec<Line>],
+    store: &mut S,
+) -> Result<(), Stop>
+    ensures { let names = image_names logs.now 0 (length images.now) in
+        let stage = writing_stage logs.now (images_in images.now) in
+        Begins names (S.seen store.old) (S.seen store.new) stage (λ _. tt) result }
+{
+    for (thread, image) in images.iter().enumerate() {
+        match write_image(alloc, logs, thread as u64, image, store) {
+            Ok(()) => {}
+            Err(stop) => return Err(stop),
+        }
+    }
+    Ok(())
+}

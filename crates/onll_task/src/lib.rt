@@ -1,0 +1,13 @@
+//! What every command does, and how it ends: files are read, files are written, and a report is made or something else is said in
+//! its place.
+#![tactic(auto)]
+
+mod answer;
+mod ending;
+mod images;
+mod texts;
+
+pub use answer::{Answer, Stop};
+pub use ending::{Ending, Exit};
+pub use images::{read_images, write_images};
+pub use texts::{InitText, image_file, init_file, schedule_file, script_file, write_file};

@@ -1,0 +1,150 @@
+//! Files read as texts, each by its grammar, and images as lines; and bytes written as files.
+
+ghost use Rattle.std.specs.Prelude.{[], ◌≤◌, IfOk, IfErr, OnOk};
+ghost use Rattle.onll_model.specs.Limits.{most_updates};
+ghost use Rattle.onll_outside.specs.Views.{Gives, SameFiles, SameOthers, SameFaults};
+ghost use Rattle.onll_model.specs.Calls.{updates_in};
+ghost use Rattle.onll_pmem.specs.Pmem.{words_of};
+ghost use Rattle.onll_text.specs.Init.{init_of};
+ghost use Rattle.onll_text.specs.Script.{script_of};
+ghost use Rattle.onll_task.specs.Reading.{IsCut, CannotRead};
+ghost use Rattle.onll_task.specs.Stop.{StopSays};
+ghost use Rattle.onll_task.specs.Writing.{HasWritten, CannotWrite, WriteStops};
+ghost use Rattle.onll_text.specs.Schedule.{schedule_of, IsPlayable};
+ghost use Rattle.onll_task.specs.Doing.{Begins, text_stage, whole_stage, lines_stage};
+
+use crate::answer::Stop;
+use onll_log::{LONGEST_IMAGE, image_lines};
+use onll_model::Call;
+use onll_outside::{OutsideFault, Store};
+use onll_text::{
+    AnyObject, LONGEST_TEXT, Schedule, TextFault, Texted, read_init, read_schedule, read_script,
+};
+use onll_words::Line;
+use std::alloc::Global;
+
+/// The first bytes of a file, or what is said in their place.
+fn read_bytes<S: Store>(
+    alloc: Global,
+    name: &str,
+    limit: u64,
+    store: &mut S,
+) -> Result<Vec<u8>, Stop>
+    ensures bytes { IfOk result (λ bytes. Gives (S.seen store.old) name.now limit bytes.items) }
+    ensures stop { IfErr result (λ stop. StopSays stop (CannotRead (S.seen store.old) (S.seen store.new) name.now)) }
+    ensures same { SameFiles (S.seen store.old) (S.seen store.new) }
+    ensures faults { OnOk result (SameFaults (S.seen store.old) (S.seen store.new)) }
+{
+    match store.read(alloc, name, limit) {
+        Ok(bytes) => Ok(bytes),
+        Err(OutsideFault::Failed) => Err(Stop::unread(alloc, name)),
+        Err(OutsideFault::NoMemory) => Err(Stop::NoMemory),
+    }
+}
+
+/// The text of a file, with one byte at most that is too many; or what is said in its place.
+fn read_text<S: Store>(alloc: Global, name: &str, store: &mut S) -> Result<Vec<u8>, Stop>
+    ensures text { IfOk result (λ text. IsCut (S.seen store.old) name.now text.items) }
+    ensures stop { IfErr result (λ stop. StopSays stop (CannotRead (S.seen store.old) (S.seen store.new) name.now)) }
+    ensures same { SameFiles (S.seen store.old) (S.seen store.new) }
+    ensures faults { OnOk result (SameFaults (S.seen store.old) (S.seen store.new)) }
+{
+    read_bytes(alloc, name, LONGEST_TEXT as u64 + 1, store)
+}
+
+/// An initial state, with the text that says it.
+#[derive(Drop)]
+pub struct InitText {
+    pub text: Vec<u8>,
+    pub object: AnyObject,
+}
+
+/// The object that a file holds as an initial state, and the file's bytes; or what is said in its place.
+pub fn init_file<S: Store>(alloc: Global, name: &str, store: &mut S) -> Result<InitText, Stop>
+    ensures { let stage = whole_stage name.now init_of in
+        Begins [] (S.seen store.old) (S.seen store.new) stage (λ read. (read.text.items, read.object)) result }
+{
+    let text = match read_text(alloc, name, store) {
+        Ok(text) => text,
+        Err(stop) => return Err(stop),
+    };
+    match read_init(alloc, &text) {
+        Ok(object) => Ok(InitText { text, object }),
+        Err(TextFault::Refused { line, reason }) => Err(Stop::refused(alloc, name, line, reason)),
+        Err(TextFault::NoMemory) => Err(Stop::NoMemory),
+    }
+}
+
+/// The calls that a file holds as a script, or what is said in their place.
+pub fn script_file<O: Texted, S: Store>(
+    alloc: Global,
+    name: &str,
+    store: &mut S,
+) -> Result<Vec<Call<O>>, Stop>
+    ensures begins { let stage = text_stage name.now (script_of O.wording) in
+        Begins [] (S.seen store.old) (S.seen store.new) stage (λ calls. calls.items) result }
+    ensures updates { IfOk result (λ calls. updates_in calls.items ≤ most_updates) }
+{
+    let text = match read_text(alloc, name, store) {
+        Ok(text) => text,
+        Err(stop) => return Err(stop),
+    };
+    match read_script(alloc, &text) {
+        Ok(calls) => Ok(calls),
+        Err(TextFault::Refused { line, reason }) => Err(Stop::refused(alloc, name, line, reason)),
+        Err(TextFault::NoMemory) => Err(Stop::NoMemory),
+    }
+}
+
+/// The lines of a log's image that a file holds, or what is said in their place.
+pub fn image_file<S: Store>(alloc: Global, name: &str, store: &mut S) -> Result<Vec<Line>, Stop>
+    ensures { let stage = lines_stage name.now in
+        Begins [] (S.seen store.old) (S.seen store.new) stage (λ lines. words_of lines.items) result }
+{
+    let bytes = match read_bytes(alloc, name, LONGEST_IMAGE as u64, store) {
+        Ok(bytes) => bytes,
+        Err(stop) => return Err(stop),
+    };
+    Ok(image_lines(alloc, &bytes)?)
+}
+
+/// The schedule that a file holds for so many threads, or what is said in its place.
+pub fn schedule_file<S: Store>(
+    alloc: Global,
+    name: &str,
+    threads: u64,
+    store: &mut S,
+) -> Result<Schedule, Stop>
+    ensures begins { let stage = text_stage name.now (schedule_of threads) in
+        Begins [] (S.seen store.old) (S.seen store.new) stage (λ schedule. schedule) result }
+    ensures playable { IfOk result (λ schedule. IsPlayable threads schedule) }
+{
+    let text = match read_text(alloc, name, store) {
+        Ok(text) => text,
+        Err(stop) => return Err(stop),
+    };
+    match read_schedule(alloc, &text, threads) {
+        Ok(schedule) => Ok(schedule),
+        Err(TextFault::Refused { line, reason }) => Err(Stop::refused(alloc, name, line, reason)),
+        Err(TextFault::NoMemory) => Err(Stop::NoMemory),
+    }
+}
+
+/// Makes these bytes the file of a name, or gives what is said in its place.
+pub fn write_file<S: Store>(
+    alloc: Global,
+    name: &str,
+    bytes: &[u8],
+    store: &mut S,
+) -> Result<(), Stop>
+    ensures written { OnOk result (HasWritten (S.seen store.old) (S.seen store.new) name.now bytes.now) }
+    ensures stop { IfErr result (λ stop. StopSays stop (CannotWrite (S.seen store.old) (S.seen store.new) name.now)) }
+    ensures cut { IfErr result (λ stop. WriteStops (S.seen store.old) (S.seen store.new) name.now) }
+    ensures others { SameOthers name.now (S.seen store.old) (S.seen store.new) }
+{
+    match store.write(alloc, name, bytes) {
+        Ok(()) => Ok(()),
+        Err(OutsideFault::Failed) => Err(Stop::unwritten(alloc, name)),
+        Err(OutsideFault::NoMemory) => Err(Stop::NoMemory),
+    }
+}

@@ -115,3 +115,17 @@ abbrev pub RecoversCrashes : Seen → ℕ → Type 0
 RecoversCrashes seen status = (init logs bytes : List ℕ) (threads : ℕ) (object : AnyObject)
     → form_of seen.words ≡ Some (Recover init logs threads)
     → IsTold seen.store init bytes → init_of bytes ≡ Ok object → NoneRose seen → RecoversLeftAny bytes seen status logs threads object
+
+-- What a recovery promises beside: from the files of the logs, whatever crash of whatever run left them, it prints that front, or
+-- the status is 9.
+pub record RecoverPromises (seen : Seen) (status : ℕ) : Type 0 where
+  pub crashes : RecoversCrashes seen status
+
+-- What a replay promises beside. What it prints is one run of scripts every run of which is durable at each step: one legal history
+-- in real time, an update that fences once, a read that never does, and, whatever a crash leaves, logs that recover to a prefix
+-- which holds every returned update and all that returned reads saw. The images that this run's crash leaves are in the files.
+-- They always recover.
+pub record ReplayPromises (seen : Seen) (status : ℕ) : Type 0 where
+  pub durable : ReplayIsDurable seen status
+  pub recovers : (init schedule logs : List ℕ) (names : List (List ℕ)) → form_of seen.words ≡ Some (Replay init schedule logs names)
+      → status ≡ 4 → ⊥

@@ -157,7 +157,7 @@ fn logs_of<O: Object + Drop, P: Pmem + Drop>(
 }
 
 impl<O: Object + Drop> Onll<O> {
-    #[tactic(auto, using(crate::proofs::Ending::joined_spots, crate::proofs::Ending::joined_logs, crate::proofs::Ending::ready_long, crate::proofs::Ending::joined_long))]
+    #[tactic(auto, using(crate::proofs::Ending::end_rules))]
     /// Gives the trace and the logs, in the order of the passes. Want of memory hands all back.
     pub fn close<P: Pmem + Drop>(
         self,

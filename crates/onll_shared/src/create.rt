@@ -31,7 +31,8 @@ fn make_pass<O: Object + Drop, P: Pmem + Drop>(
 ) -> Result<Pass<O, P>, NoMemory>
     requires seen { at ≡ spot.me.part.seen }
     requires nodes { nodes ≡ spot.plan.nodes * spot.plan.threads }
-    ensures { IfOk result (λ pass. pass ≡ record { spot = spot; log = log; replica = replica.now; at = at; room = room; broken = None }) }
+    ensures { IfOk result (λ pass.
+        pass ≡ record { spot = spot; log = log; replica = replica.now; at = at; room = room; broken = None }) }
 {
     Ok(Pass {
         spot,

@@ -31,7 +31,7 @@ pub(crate) fn link(trace: &Trace, spot: &mut Spot, row: OpRow) -> Result<Post, T
     }
 }
 
-#[tactic(auto, using(crate::proofs::Updating::linked_point, crate::proofs::Updating::begins_walk, crate::proofs::Updating::may_settle, crate::proofs::Updating::may_set, crate::proofs::Updating::logged, crate::proofs::Updating::not_logged))]
+#[tactic(auto, using(crate::proofs::Updating::window_rules))]
 /// Walks down from the own node, logs the window with one fence, and sets the own flag.
 pub(crate) fn log_window<P: Pmem, G: Gate>(
     trace: &Trace,

@@ -11,7 +11,7 @@ use onll_model::{Node, Object};
 use onll_trace::{Post, Spot, Trace};
 use onll_words::OpRow;
 
-#[tactic(auto, using(crate::proofs::Walking::walk_starts, crate::proofs::Walking::walk_above, crate::proofs::Walking::walk_loads, crate::proofs::Walking::walk_room, crate::proofs::Walking::walk_found, crate::proofs::Walking::walk_none))]
+#[tactic(auto, using(crate::proofs::Walking::walk_rules))]
 /// Loads the flags below the own node, down to the first that is set, and puts the nodes above that into the window, which has
 /// the own node, the highest first.
 pub(crate) fn walk(trace: &Trace, spot: &mut Spot, window: &mut ArrayVec<Node, 16>, front: Post)
@@ -30,7 +30,7 @@ pub(crate) fn walk(trace: &Trace, spot: &mut Spot, window: &mut ArrayVec<Node, 1
     }
 }
 
-#[tactic(auto, using(crate::proofs::Asking::ask_starts, crate::proofs::Asking::ask_above, crate::proofs::Asking::ask_loads, crate::proofs::Asking::ask_goes_on, crate::proofs::Asking::ask_found, crate::proofs::Asking::ask_none))]
+#[tactic(auto, using(crate::proofs::Asking::ask_rules))]
 /// Loads the flags from the front down to the first that is set, and gives the place of that.
 pub(crate) fn find_set(trace: &Trace, spot: &mut Spot, front: Post) -> Post
     requires of { IsOf trace.now spot.old }

@@ -73,12 +73,13 @@ pub fn open_two<O: Object + Drop>(
     object: O,
     lines: u64,
     nodes: u64,
+    failing: u64,
 ) -> Option<(Onll<O>, Pass<O, MemPmem>, Pass<O, MemPmem>)>
     requires lines { lines ≤ 1000000 }
     requires nodes { (1 ≤ nodes) × (nodes ≤ 4096) }
     ensures { IfSome result (λ r. IsTied O.means memory_view r.0 r.1 × IsTied O.means memory_view r.0 r.2) }
 {
-    let Ok(logs) = make_logs::<O>(alloc, 2, lines, 0) else {
+    let Ok(logs) = make_logs::<O>(alloc, 2, lines, failing) else {
         return None;
     };
     let Ok((onll, mut passes)) = Onll::create(alloc, object, logs, nodes) else {

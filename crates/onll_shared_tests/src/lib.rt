@@ -1,8 +1,18 @@
 //! Tests of the shared object, over devices in memory, and a caller of it whose proofs rest on its contracts.
 #![tactic(auto)]
 
+mod count_gate;
 mod fixture;
 #[cfg(test)]
+mod four_tests;
+mod recovery;
+mod resumed;
+#[cfg(test)]
 mod tests;
+mod threads;
 
-pub use fixture::{make_logs, open_one, open_two};
+pub use count_gate::CountGate;
+pub use fixture::{INIT, make_logs, open_one, open_two};
+pub use recovery::recovered;
+pub use resumed::resume_one;
+pub use threads::{Left, Work, four_threads, open_all, read_last, work_all};

@@ -1,5 +1,5 @@
-//! What calls on a shared object answer: notes, refusals, a fence that fails, and a gate that holds.
-use crate::{open_one, open_two};
+//! What calls on a shared object answer: notes, refusals, a fence that fails, a gate that holds, and an object that goes on.
+use crate::{open_one, open_two, resume_one};
 use onll_bank::{Bank, BankOp, BankQuery, BankReply};
 use onll_outside::{FreeGate, Hold, HoldGate, Point};
 use onll_shared::{TryFault, UpdateFault};
@@ -14,7 +14,7 @@ fn a_note_is_learnt(rt: HostRuntime) -> Result<(), Fail> {
     let Ok(bank) = Bank::make(rt.alloc(), 2) else {
         panic!(rt; "no memory")
     };
-    let Some((onll, mut first, mut second)) = open_two(rt.alloc(), bank, 100, 10) else {
+    let Some((onll, mut first, mut second)) = open_two(rt.alloc(), bank, 100, 10, 0) else {
         panic!(rt; "no memory")
     };
     let Ok(receipt) = onll.try_update(&mut first, DEPOSIT, &FreeGate) else {
@@ -112,5 +112,27 @@ fn a_hold_runs_out_of_turns(rt: HostRuntime) -> Result<(), Fail> {
     let receipt = onll.try_update(&mut pass, DEPOSIT, &gate);
     assert!(rt; receipt.is_ok());
     assert!(rt; gate.expired());
+    Ok(())
+}
+
+#[test]
+fn a_pass_goes_on(rt: HostRuntime) -> Result<(), Fail> {
+    let Ok(bank) = Bank::make(rt.alloc(), 2) else {
+        panic!(rt; "no memory")
+    };
+    let Some((onll, mut pass)) = resume_one(rt.alloc(), bank, DEPOSIT, 1) else {
+        panic!(rt; "no memory")
+    };
+    assert!(rt; pass.seen() == 1 && pass.ordered() == 0);
+    let answer = onll.read(&mut pass, BALANCE);
+    assert!(rt; answer.place == 1 && answer.reply == BankReply::Amount(5));
+    let Ok(receipt) = onll.try_update(&mut pass, DEPOSIT, &FreeGate) else {
+        panic!(rt; "refused")
+    };
+    assert!(rt; receipt.place == 2 && pass.ordered() == 1);
+    let Err(fault) = onll.try_update(&mut pass, DEPOSIT, &FreeGate) else {
+        panic!(rt; "answered")
+    };
+    assert!(rt; fault == TryFault::NodesFull);
     Ok(())
 }

@@ -19,3 +19,4 @@ pub mod Determined
 mod FormsDetermined
 mod ShowDetermined
 mod PrintedReads
+mod Kept

@@ -1,3 +1,5 @@
+-- What `replay` and `recover` say of crashes.
+
 use Rattle.std.specs.Prelude.{ℕ, suc, ◌≡◌, List, [], ◌∷◌, length, Some, Ok}
 use Rattle.onll_model.specs.declared.call.Call.{Call}
 use Rattle.onll_model.specs.Object.{Behaviour}
@@ -25,8 +27,6 @@ use Rattle.onll_jobs.specs.RecoverJob.{recover_report}
 use Rattle.onll_jobs.specs.ReplayJob.{played, ReadScripts, replay_report}
 use Rattle.onll_jobs.specs.Says.{NoneRose, SaysThis}
 
--- What `replay` and `recover` say of crashes.
-
 -- ---- a replay
 -- the store after the images of threads, from thread i on, were made files
 abbrev pub with_images : StoreView → List ℕ → ℕ → List (List (List ℕ)) → StoreView
@@ -51,7 +51,8 @@ pub record HasReplayed {State Op Query Reply : Type 0} (b : Behaviour State Op Q
   pub files : FilesStay (with_images store logs 0 (images_of plan.keep core.threads)) after
 
 -- the same for an object of any kind
-abbrev pub HasReplayedAny : (init : List ℕ) → (store after : StoreView) → (schedule logs : List ℕ) → List (List ℕ) → List ℕ → AnyObject → Type 0
+abbrev pub HasReplayedAny : (init : List ℕ) → (store after : StoreView) → (schedule logs : List ℕ)
+    → List (List ℕ) → List ℕ → AnyObject → Type 0
 HasReplayedAny init store after schedule logs names text object =
     on_object (λ k s. HasReplayed k.means k.wording k.code init s store after schedule logs names text) object
 
@@ -115,3 +116,17 @@ abbrev pub RecoversCrashes : Seen → ℕ → Type 0
 RecoversCrashes seen status = (init logs bytes : List ℕ) (threads : ℕ) (object : AnyObject)
     → form_of seen.words ≡ Some (Recover init logs threads)
     → IsTold seen.store init bytes → init_of bytes ≡ Ok object → NoneRose seen → RecoversLeftAny bytes seen status logs threads object
+
+-- What a recovery promises beside: from the files of the logs, whatever crash of whatever run left them, it prints that front, or
+-- the status is 9.
+pub record RecoverPromises (seen : Seen) (status : ℕ) : Type 0 where
+  pub crashes : RecoversCrashes seen status
+
+-- What a replay promises beside. What it prints is one run of scripts every run of which is durable at each step: one legal history
+-- in real time, an update that fences once, a read that never does, and, whatever a crash leaves, logs that recover to a prefix
+-- which holds every returned update and all that returned reads saw. The images that this run's crash leaves are in the files.
+-- They always recover.
+pub record ReplayPromises (seen : Seen) (status : ℕ) : Type 0 where
+  pub durable : ReplayIsDurable seen status
+  pub recovers : (init schedule logs : List ℕ) (names : List (List ℕ)) → form_of seen.words ≡ Some (Replay init schedule logs names)
+      → status ≡ 4 → ⊥

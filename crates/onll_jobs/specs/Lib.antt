@@ -16,3 +16,4 @@ pub mod Stop
 pub mod Writing
 pub mod Durable
 pub mod Doing
+pub mod Promises

@@ -1,0 +1,48 @@
+-- What is promised of a status is kept where its exit says so.
+
+use Rattle.std.proofs.Common.{ℕ, ◌≡◌, arith, refl, subst, sym}
+use Rattle.onll_jobs.specs.declared.ending.Exit.{Exit}
+use Rattle.onll_jobs.specs.declared.ending.Ending.TheVariants.{Done, Refused, BadLog, ReadFault}
+use Rattle.onll_jobs.specs.Command.{form_of}
+use Rattle.onll_jobs.specs.Durable.{ReplayPromises}
+use Rattle.onll_jobs.specs.Printed.{exit_status}
+use Rattle.onll_jobs.specs.Promises.{Promises}
+use Rattle.onll_jobs.specs.Says.{writes_of, ExitSays, ExitDetermined}
+use Rattle.onll_jobs.specs.Seen.{Seen}
+use Rattle.onll_jobs.specs.Writing.{SameBut}
+use Rattle.onll_jobs.proofs.ExitCauses.{said_of, none_failed_of, usage_of, failed_of, no_memory_of, count_of, decided_exactly}
+use Rattle.onll_jobs.proofs.FormsDetermined.{exit_done}
+use Rattle.onll_jobs.proofs.ReplayEnds.{replay_not_bad, replay_durable}
+use Rattle.onll_jobs.proofs.RecoverCrashes.{recovers_crashes}
+
+replay_kept : (seen : Seen) (x : Exit) → ExitSays seen x → ReplayPromises seen (exit_status x)
+replay_kept seen x says = record {
+  durable = λ init schedule logs names form e.
+      replay_durable seen init schedule logs names form (said_of seen x Done (λ e. omega arith) e says);
+  recovers = λ init schedule logs names form e.
+      replay_not_bad seen init schedule logs names form (said_of seen x BadLog (λ e. omega arith) e says);
+}
+
+kept_of : (seen : Seen) (x : Exit) → ExitSays seen x → ExitDetermined seen x
+    → SameBut (writes_of (form_of seen.words)) seen.store seen.store_after → Promises seen (exit_status x)
+kept_of seen x says determined files = record {
+  ended = record { exit = x; is = refl; says = says };
+  done = λ e. said_of seen x Done (λ e. omega arith) e says;
+  usage = λ e. usage_of seen x e says;
+  refused = λ e. said_of seen x Refused (λ e. omega arith) e says;
+  bad_log = λ e. said_of seen x BadLog (λ e. omega arith) e says;
+  unread = λ e. said_of seen x ReadFault (λ e. omega arith) e says;
+  failed = λ e. failed_of seen x e says;
+  no_memory = λ e. no_memory_of seen x e says;
+  nothing_failed = λ good. none_failed_of seen x (exit_status x) refl good says;
+  sink_count = count_of seen x says;
+  decided = λ ending text d none. decided_exactly seen x ending text d none says;
+  determined = λ e. determined (exit_done x e);
+  files = files;
+  recover = record { crashes = recovers_crashes seen x says };
+  replay = replay_kept seen x says;
+}
+
+pub promises_kept : (seen : Seen) (x : Exit) (status : ℕ) → status ≡ exit_status x → ExitSays seen x → ExitDetermined seen x
+    → SameBut (writes_of (form_of seen.words)) seen.store seen.store_after → Promises seen status
+promises_kept seen x status e says determined files = subst (Promises seen) (sym e) (kept_of seen x says determined files)

@@ -1,8 +1,10 @@
+-- What is promised of a status is kept where its exit says so.
+
 use Rattle.std.proofs.Common.{ℕ, ◌≡◌, arith, refl, subst, sym}
 use Rattle.onll_task.specs.declared.ending.Exit.{Exit}
 use Rattle.onll_task.specs.declared.ending.Ending.TheVariants.{Done, Refused, BadLog, ReadFault}
 use Rattle.onll_jobs.specs.Command.{form_of}
-use Rattle.onll_jobs.specs.Durable.{RecoverPromises, ReplayPromises}
+use Rattle.onll_jobs.specs.Durable.{ReplayPromises}
 use Rattle.onll_task.specs.Printed.{exit_status}
 use Rattle.onll_jobs.specs.Promises.{Promises}
 use Rattle.onll_jobs.specs.Says.{writes_of, ExitSays, ExitDetermined}
@@ -12,8 +14,6 @@ use Rattle.onll_jobs.proofs.ExitCauses.{said_of, none_failed_of, usage_of, faile
 use Rattle.onll_jobs.proofs.FormsDetermined.{exit_done}
 use Rattle.onll_jobs.proofs.ReplayEnds.{replay_not_bad, replay_durable}
 use Rattle.onll_jobs.proofs.RecoverCrashes.{recovers_crashes}
-
--- What is promised of a status is kept where its exit says so.
 
 replay_kept : (seen : Seen) (x : Exit) → ExitSays seen x → ReplayPromises seen (exit_status x)
 replay_kept seen x says = record {

@@ -1,3 +1,5 @@
+-- The forms of the program's words, and the commands that they are read as.
+
 use Rattle.std.specs.Prelude.{ℕ, List, [], ◌∷◌, Option, Some, None, if◌then◌else◌, codes, nat_le, ◌&&◌, ◌≤◌, length, map, string_bytes}
 use Rattle.onll_model.specs.Limits.{most_threads}
 use Rattle.std.specs.Str.{bytes_eq}
@@ -25,13 +27,15 @@ replay_form init schedule logs scripts =
 
 -- the form of a replay, where words have it
 abbrev pub replay_of : List (List ℕ) → Option Form
-replay_of (command ∷ init ∷ schedule ∷ logs ∷ script ∷ scripts) = if bytes_eq command (codes "replay") then replay_form init schedule logs (script ∷ scripts) else None
+replay_of (command ∷ init ∷ schedule ∷ logs ∷ script ∷ scripts) =
+    if bytes_eq command (codes "replay") then replay_form init schedule logs (script ∷ scripts) else None
 replay_of _ = None
 
 -- the form that words have, where they have one that is built
 abbrev pub form_of : List (List ℕ) → Option Form
 form_of (command ∷ init ∷ script ∷ []) = if bytes_eq command (codes "fold") then Some (Fold init script) else None
-form_of (command ∷ init ∷ logs ∷ threads ∷ []) = if bytes_eq command (codes "recover") then recover_form init logs (number_of threads) else None
+form_of (command ∷ init ∷ logs ∷ threads ∷ []) =
+    if bytes_eq command (codes "recover") then recover_form init logs (number_of threads) else None
 form_of (command ∷ image ∷ []) = if bytes_eq command (codes "show") then Some (Show image) else None
 form_of words = replay_of words
 

@@ -1,3 +1,5 @@
+-- What `replay` and `recover` say of crashes.
+
 use Rattle.std.specs.Prelude.{ℕ, suc, ◌≡◌, List, [], ◌∷◌, length, Some, Ok}
 use Rattle.onll_model.specs.declared.call.Call.{Call}
 use Rattle.onll_model.specs.Object.{Behaviour}
@@ -25,8 +27,6 @@ use Rattle.onll_recovery.specs.RecoverJob.{recover_report}
 use Rattle.onll_recovery.specs.ReplayJob.{played, ReadScripts, replay_report}
 use Rattle.onll_jobs.specs.Says.{NoneRose, SaysThis}
 
--- What `replay` and `recover` say of crashes.
-
 -- ---- a replay
 -- the store after the images of threads, from thread i on, were made files
 abbrev pub with_images : StoreView → List ℕ → ℕ → List (List (List ℕ)) → StoreView
@@ -51,7 +51,8 @@ pub record HasReplayed {State Op Query Reply : Type 0} (b : Behaviour State Op Q
   pub files : FilesStay (with_images store logs 0 (images_of plan.keep core.threads)) after
 
 -- the same for an object of any kind
-abbrev pub HasReplayedAny : (init : List ℕ) → (store after : StoreView) → (schedule logs : List ℕ) → List (List ℕ) → List ℕ → AnyObject → Type 0
+abbrev pub HasReplayedAny : (init : List ℕ) → (store after : StoreView) → (schedule logs : List ℕ)
+    → List (List ℕ) → List ℕ → AnyObject → Type 0
 HasReplayedAny init store after schedule logs names text object =
     on_object (λ k s. HasReplayed k.means k.wording k.code init s store after schedule logs names text) object
 

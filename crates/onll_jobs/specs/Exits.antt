@@ -1,3 +1,5 @@
+-- How the putting of a text ends a call.
+
 use Rattle.std.specs.Prelude.{ℕ, List, ◌≡◌}
 use Rattle.onll_outside.specs.Views.{SinkView, Puts, PutsFront, Rose}
 use Rattle.onll_task.specs.declared.ending.Ending.{Ending}

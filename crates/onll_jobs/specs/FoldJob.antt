@@ -1,6 +1,6 @@
 -- What `fold INIT SCRIPT` does.
 
-use Rattle.std.specs.Prelude.{ℕ, List, []}
+use Rattle.std.specs.Prelude.{ℕ, List}
 use Rattle.onll_model.specs.declared.call.Call.{Call}
 use Rattle.onll_model.specs.Object.{Behaviour}
 use Rattle.onll_model.specs.Fold.{fold_trace, fold_ends, fold_state}

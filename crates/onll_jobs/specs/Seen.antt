@@ -1,3 +1,5 @@
+-- What a call was handed, and what it left.
+
 use Rattle.std.specs.Prelude.{ℕ, List}
 use Rattle.onll_outside.specs.Views.{StoreView, SinkView}
 

@@ -1,3 +1,5 @@
+//! The words of the program, read as a command.
+
 ghost use Rattle.std.specs.Prelude.{◌≡◌, map, string_bytes, Some, None, MatchOption, IfSome};
 ghost use Rattle.onll_jobs.specs.Command.{form_of, form_in, recover_form, replay_form, replay_of, IsCommand};
 ghost use Rattle.onll_words.specs.Numbers.{number_of};

@@ -38,7 +38,8 @@ fn over_one<O: Texted + Drop, S: Store>(
 ) -> Result<Vec<u8>, Stop>
     requires { IsOver over }
     ensures { let form = over_in over.entry in
-        Does (over_writes form) (S.seen store.old) (S.seen store.new) (over_task form (kind_by O.means O.wording O.CODE) init.now object) result }
+        let task = over_task form (kind_by O.means O.wording O.CODE) init.now object in
+        Does (over_writes form) (S.seen store.old) (S.seen store.new) task result }
 {
     match over {
         Over::Fold { script } => fold::fold_object(alloc, &mut object, script, store),

@@ -10,16 +10,13 @@ use Rattle.onll_merge.specs.declared.fault.RecoverFault.{RecoverFault}
 use Rattle.onll_merge.specs.declared.fault.RecoverFault.TheVariants as merging
 use Rattle.onll_merge.specs.declared.counts.LogCounts.{LogCounts}
 use Rattle.onll_merge.specs.Recovered.{Recovered, state_recovered}
-use Rattle.onll_text.specs.declared.any_object.AnyObject.{AnyObject}
 use Rattle.onll_text.specs.Wording.{Wording}
 use Rattle.onll_text.specs.Lines.{log_line, node_lines, state_lines}
-use Rattle.onll_text.specs.Init.{init_of}
 use Rattle.onll_task.specs.declared.ending.Ending.TheVariants.{BadLog}
 use Rattle.onll_merge.specs.declared.fault.StateFault.{StateFault}
 use Rattle.onll_merge.specs.declared.fault.StateFault.TheVariants.{NotLog, NotMerged, NotOperation, NoMemory}
-use Rattle.onll_text.specs.Kinds.{on_object}
 use Rattle.onll_text.specs.Reports.{NodeReads, StateReads, SaysOnly}
-use Rattle.onll_task.specs.Doing.{Task, Work, after_stage, report_task, say_task, whole_stage}
+use Rattle.onll_task.specs.Doing.{Task, after_stage, report_task, say_task}
 use Rattle.onll_task.specs.Images.{images_stage}
 
 -- ---- the refusals
@@ -31,7 +28,8 @@ merging_line (merging.Clash place log other) =
     line_text (codes "place" ∷ decimal place ∷ codes "differs" ∷ codes "in" ∷ codes "logs" ∷ decimal log ∷ codes "and" ∷ decimal other ∷ [])
 merging_line (merging.Gap place) = line_text (codes "place" ∷ decimal place ∷ codes "missing" ∷ [])
 merging_line (merging.Stray place thread number wanted) =
-    line_text (codes "place" ∷ decimal place ∷ codes "thread" ∷ decimal thread ∷ codes "number" ∷ decimal number ∷ codes "wanted" ∷ decimal wanted ∷ [])
+    line_text (codes "place" ∷ decimal place ∷ codes "thread" ∷ decimal thread ∷ codes "number" ∷ decimal number
+    ∷ codes "wanted" ∷ decimal wanted ∷ [])
 merging_line merging.NoMemory = []
 
 -- the line that says why logs give no state; want of memory, which no images give, has none

@@ -16,19 +16,17 @@ use Rattle.onll_core.specs.Turns.{turns_of}
 use Rattle.onll_core.specs.Created.{created_core}
 use Rattle.onll_core.specs.Outcomes.{ends_of}
 use Rattle.onll_core.specs.Crash.{images_of}
-use Rattle.onll_text.specs.declared.any_object.AnyObject.{AnyObject}
 use Rattle.onll_text.specs.declared.schedule.Schedule.{Schedule}
 use Rattle.onll_text.specs.Wording.{Wording}
 use Rattle.onll_text.specs.Lines.{call_lines, trace_line, node_line, log_line, state_lines}
-use Rattle.onll_text.specs.Init.{init_of}
 use Rattle.onll_text.specs.Script.{script_of}
 use Rattle.onll_text.specs.Schedule.{schedule_of}
 use Rattle.onll_text.specs.Reports.{EndsRead, NodeReads, StateReads, SaysOnly}
 use Rattle.onll_outside.specs.Views.{StoreView}
 use Rattle.onll_task.specs.declared.ending.Ending.TheVariants.{BadLog}
 use Rattle.onll_merge.specs.declared.fault.StateFault.{StateFault}
-use Rattle.onll_task.specs.Doing.{Task, Work, Stage, after_stage, each_stage, report_task, say_task, text_stage, whole_stage}
-use Rattle.onll_task.specs.Images.{image_names, writing_stage}
+use Rattle.onll_task.specs.Doing.{Task, Stage, after_stage, each_stage, report_task, say_task, text_stage}
+use Rattle.onll_task.specs.Images.{writing_stage}
 use Rattle.onll_recovery.specs.RecoverJob.{fault_line, recovered_line}
 use Rattle.onll_merge.specs.declared.counts.LogCounts.{LogCounts}
 use Rattle.onll_merge.specs.Recovered.{Recovered, state_recovered}

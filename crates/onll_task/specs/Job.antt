@@ -1,3 +1,5 @@
+-- Jobs: what a call does, and how it may end.
+
 use Rattle.std.specs.Prelude.{ℕ, List, ◌≡◌, ◌⊎◌, Result, Ok, Err}
 use Rattle.onll_text.specs.Refusal.{Refusal}
 use Rattle.onll_outside.specs.Views.{StoreView, Holds, SameFaults}

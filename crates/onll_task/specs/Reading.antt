@@ -1,3 +1,5 @@
+-- The reading of one text by its grammar, and how it ends a call where it gives no value.
+
 use Rattle.std.specs.Prelude.{ℕ, List, ◌≡◌, ◌+◌, ◌⊎◌, true, Some, Result, Ok, Err, take}
 use Rattle.onll_log.specs.ImageFile.{image_lines}
 use Rattle.onll_text.specs.Refusal.{Refusal}
@@ -7,8 +9,6 @@ use Rattle.onll_outside.specs.declared.store.FaultKind.TheVariants as kinds
 use Rattle.onll_task.specs.declared.ending.Ending.{Ending}
 use Rattle.onll_task.specs.declared.ending.Ending.TheVariants.{Refused, ReadFault}
 use Rattle.onll_task.specs.Printed.{refusal_text, read_fault_text}
-
--- The reading of one text by its grammar, and how it ends a call where it gives no value.
 
 -- the named file is told, and has these bytes
 pub record IsTold (store : StoreView) (name bytes : List ℕ) : Type 0 where

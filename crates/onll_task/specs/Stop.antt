@@ -1,3 +1,5 @@
+-- What is said where a call stops.
+
 use Rattle.std.specs.Prelude.{ℕ, List}
 use Rattle.onll_task.specs.declared.ending.Ending.{Ending}
 use Rattle.onll_task.specs.declared.answer.Stop.{Stop}

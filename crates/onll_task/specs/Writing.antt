@@ -1,3 +1,5 @@
+-- The writing of files, and how it ends a call where it fails.
+
 use Rattle.std.specs.Prelude.{ℕ, List, ◌≡◌, ◌⊎◌, true, Some, if◌then◌else◌}
 use Rattle.std.specs.List.{AllByRecursion}
 use Rattle.std.specs.Str.{bytes_eq}
@@ -6,8 +8,6 @@ use Rattle.onll_outside.specs.declared.store.FaultKind.TheVariants as kinds
 use Rattle.onll_task.specs.declared.ending.Ending.{Ending}
 use Rattle.onll_task.specs.declared.ending.Ending.TheVariants.{WriteFault}
 use Rattle.onll_task.specs.Printed.{write_fault_text}
-
--- The writing of files, and how it ends a call where it fails.
 
 -- the store after these bytes were made the file of this name
 abbrev pub written : StoreView → (name bytes : List ℕ) → StoreView

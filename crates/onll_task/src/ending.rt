@@ -1,3 +1,5 @@
+//! How a call of the program ends, and its exit status.
+
 ghost use Rattle.std.specs.Prelude.{◌≡◌};
 ghost use Rattle.onll_task.specs.Printed.{status_of, exit_status};
 

@@ -10,7 +10,12 @@ use Rattle.onll_text.specs.Refusal.{Refusal, reason_text}
 -- the whole usage text, with the commands to come
 abbrev pub usage_text : List ℕ
 usage_text =
-    codes "usage: onll fold INIT SCRIPT\n       onll show IMAGE\n       onll recover INIT LOGS T\n       onll replay INIT SCHEDULE LOGS SCRIPT..\n       onll run INIT LOGS SCRIPT..\n       onll make T N SEED\n"
+    codes "usage: onll fold INIT SCRIPT\n"
+    ++ codes "       onll show IMAGE\n"
+    ++ codes "       onll recover INIT LOGS T\n"
+    ++ codes "       onll replay INIT SCHEDULE LOGS SCRIPT..\n"
+    ++ codes "       onll run INIT LOGS SCRIPT..\n"
+    ++ codes "       onll make T N SEED\n"
 
 -- the line of a refused text
 abbrev pub refusal_text : List ℕ → Refusal → List ℕ

@@ -13,8 +13,12 @@ use onll_words::NoMemory;
 use std::alloc::{AllocError, AllocFailed, Global};
 
 /// The usage text, with the commands to come.
-const USAGE: &[u8] =
-    b"usage: onll fold INIT SCRIPT\n       onll show IMAGE\n       onll recover INIT LOGS T\n       onll replay INIT SCHEDULE LOGS SCRIPT..\n       onll run INIT LOGS SCRIPT..\n       onll make T N SEED\n";
+const USAGE: &[u8] = b"usage: onll fold INIT SCRIPT\n       \
+      onll show IMAGE\n       \
+      onll recover INIT LOGS T\n       \
+      onll replay INIT SCHEDULE LOGS SCRIPT..\n       \
+      onll run INIT LOGS SCRIPT..\n       \
+      onll make T N SEED\n";
 
 /// A text to be put in place of a report, and how the call ends then.
 #[derive(Drop)]

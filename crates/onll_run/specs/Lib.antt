@@ -1,2 +1,4 @@
 pub mod Outcomes
 pub mod Workers
+pub mod Left
+pub mod Ended

@@ -1,0 +1,11 @@
+//! What threads that each did a script made, whatever code ran them.
+ghost use Rattle.onll_run.specs.Ended.{RunLaw};
+
+use onll_model::Object;
+use onll_pmem::Pmem;
+
+/// What threads made is one legal history in which each call is over; a node's flag is unset exactly where its update's fence failed;
+/// and whatever a crash leaves of their logs recovers to a front of the trace with every answered call.
+pub fn run_law<O: Object, P: Pmem>()
+    ensures { (onll : _) → RunLaw O.means P.means onll }
+{}

@@ -1,6 +1,6 @@
 -- One call more of a worker.
-use Rattle.std.proofs.Common.{◌≡◌, ℕ, zero, suc, ◌+◌, ◌-◌, ◌*◌, ◌<◌, ◌≤◌, List, [], ◌∷◌, ◌++◌, length, take, drop, Option, Some, None, refl, sym, ap, ◌∙◌, subst, arith, append-nil, append_assoc, length-append, get_or}
-use Rattle.std.specs.Prelude.{IfSome, Ok, Err}
+use Rattle.std.proofs.Common.{◌≡◌, ℕ, suc, ◌+◌, ◌*◌, ◌<◌, ◌≤◌, List, [], ◌∷◌, ◌++◌, length, drop, Option, Some, None, refl, sym, ap, ◌∙◌, subst, arith, append-nil, append_assoc, length-append, get_or}
+use Rattle.std.specs.Prelude.{IfSome, Err}
 use Rattle.std.proofs.Math.Nat.{mul-suc, mul-one, mul-le-mul_left}
 use Rattle.std.specs.Option.{option_or}
 use Rattle.std.specs.List.{AllByRecursion, slice_get}
@@ -14,11 +14,10 @@ use Rattle.onll_model.specs.declared.call.CallEnd.TheVariants.{Answered, Running
 use Rattle.onll_model.specs.Object.{Behaviour}
 use Rattle.onll_model.specs.Calls.{updates_in}
 use Rattle.onll_model.specs.Segment.{Segment}
-use Rattle.onll_model.specs.Frames.{segments_of}
 use Rattle.onll_model.specs.Events.{window}
-use Rattle.onll_model.specs.Legal.{place_in, at_place, placed_updates, placed_rows, EachEnd, HasReply, HasAnswer, InOrder, BrokenAfterFailure, IsOver, IsLegalThread}
+use Rattle.onll_model.specs.Legal.{place_in, at_place, placed_updates, EachEnd, HasReply, HasAnswer, InOrder, BrokenAfterFailure, IsOver}
 use Rattle.onll_model.proofs.Lists.{all_append, all_right, all_map}
-use Rattle.onll_model.proofs.Ends.{each_end_map, placed_update, placed_ask, none_placed}
+use Rattle.onll_model.proofs.Ends.{placed_update, placed_ask, none_placed}
 use Rattle.onll_pmem.specs.Pmem.{DeviceView}
 use Rattle.onll_log.specs.Grammar.{lines_in}
 use Rattle.onll_log.specs.Log.{LogState, free_of}
@@ -27,7 +26,7 @@ use Rattle.onll_trace.specs.Plans.{Plan}
 use Rattle.onll_trace.specs.Spots.{base_of}
 use Rattle.onll_shared.specs.declared.calls.UpdateFault.TheVariants as lasting
 use Rattle.onll_shared.specs.Passes.{OnllView, PassView, IsTied}
-use Rattle.onll_shared.specs.Calls.{IsSamePass, IsOrdered, HasOnlyLooked, HasUpdated, HasRead}
+use Rattle.onll_shared.specs.Calls.{IsSamePass, IsOrdered, HasOnlyLooked, HasUpdated}
 use Rattle.onll_run.specs.Outcomes.{CallDone, StandsIn, failed_in, RunsSo, HasRoomFor, HasGoneOn, fault_in}
 use Rattle.std.proofs.lemmas.List.{drop_more}
 use Rattle.onll_run.specs.Workers.{IsReady, HasWorked}

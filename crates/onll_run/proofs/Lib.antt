@@ -1,3 +1,4 @@
 pub mod Outcomes
 pub mod Calling
 pub mod Whole
+pub mod Crewing

@@ -18,7 +18,6 @@ use Rattle.onll_log.specs.Log.{free_of, but_last}
 use Rattle.onll_log.specs.Torn.{log_image}
 use Rattle.onll_log.proofs.Torn.{log_image-more}
 use Rattle.onll_merge.specs.Merge.{top_of}
-use Rattle.onll_trace.specs.declared.trace.Ended.{Ended}
 use Rattle.onll_trace.specs.Plans.{base_place}
 use Rattle.onll_trace.specs.Spots.{SpotView, base_of}
 use Rattle.onll_trace.specs.Closing.{IsIn}

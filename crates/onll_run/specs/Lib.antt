@@ -2,3 +2,4 @@ pub mod Outcomes
 pub mod Workers
 pub mod Left
 pub mod Ended
+pub mod Crew

@@ -2,3 +2,4 @@ pub mod Outcomes
 pub mod Calling
 pub mod Whole
 pub mod Crewing
+pub mod Ending

@@ -6,5 +6,5 @@ mod laws;
 mod worker;
 
 pub use crew::run_passes;
-pub use laws::{passes_law, run_law};
+pub use laws::{passes_law, ready_law, run_law};
 pub use worker::{Worked, Worker, run_all};

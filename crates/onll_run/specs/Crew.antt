@@ -14,7 +14,8 @@ use Rattle.onll_run.specs.declared.worker.Worked.{Worked}
 use Rattle.onll_run.specs.Workers.{IsReady, HasWorked}
 use Rattle.onll_run.specs.Ended.{ThreadRun, script_of, after_of, HaveRun}
 
-abbrev pub script_in : {R State Device G Op Query Reply : Type 0} → Worker R State Device G Op Query Reply → List (Call State Op Query Reply)
+abbrev pub script_in : {R State Device G Op Query Reply : Type 0} → Worker R State Device G Op Query Reply
+    → List (Call State Op Query Reply)
 script_in w = w.script.items
 
 abbrev pub pass_in : {R State Device G Op Query Reply : Type 0} → Worker R State Device G Op Query Reply → PassView State Device

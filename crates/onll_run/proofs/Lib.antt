@@ -1,0 +1,6 @@
+pub mod Outcomes
+pub mod Calling
+pub mod Whole
+pub mod Crewing
+pub mod Ending
+pub mod Beginning

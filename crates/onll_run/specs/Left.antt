@@ -1,0 +1,95 @@
+-- What a run of scripts on threads leaves, as plain data, and what is so of it.
+use Rattle.std.specs.Prelude.{ℕ, ◌+◌, ◌==◌, ◌≡◌, ◌≤◌, ◌||◌, Bool, true, false, if◌then◌else◌, List, [], ◌∷◌, length, map, take}
+use Rattle.std.specs.Prelude.{replicate, Option, Some, None, Ok}
+use Rattle.std.specs.List.{AllByRecursion}
+use mathlib.Core.List.{IsPrefix}
+use Rattle.onll_model.specs.declared.node.Node.{Node}
+use Rattle.onll_model.specs.declared.call.Call.{Call}
+use Rattle.onll_model.specs.declared.call.CallEnd.{CallEnd}
+use Rattle.onll_model.specs.Object.{Behaviour}
+use Rattle.onll_model.specs.Segment.{Segment}
+use Rattle.onll_model.specs.Legal.{placed_updates, IsLegal, IsOver}
+use Rattle.onll_pmem.specs.Device.{Mixed}
+use Rattle.onll_log.specs.declared.head.LogHead.{LogHead}
+use Rattle.onll_log.specs.Grammar.{Content, content_of}
+use Rattle.onll_log.specs.Log.{free_of, but_last}
+use Rattle.onll_log.specs.Torn.{log_image}
+use Rattle.onll_merge.specs.Merge.{merge}
+use Rattle.onll_run.specs.Outcomes.{failed_in, StandsIn}
+
+-- ---- what is run
+-- what threads go on from: the nodes recovered from their logs, and what each log holds; one without a head is begun anew
+pub record Base : Type 0 where
+  pub nodes : List Node
+  pub logs : List Content
+
+-- a script for each thread on an object in this state, the head of each thread's log, and the base
+pub record Plan (State Op Query Reply : Type 0) : Type 0 where
+  pub state : State
+  pub scripts : List (List (Call State Op Query Reply))
+  pub heads : List LogHead
+  pub base : Base
+
+-- ---- what a run leaves
+-- the log of one thread: its head and its entries as read, the fences since it was opened, and all lines of its device as read
+pub record LogLeft : Type 0 where
+  pub head : LogHead
+  pub entries : List Segment
+  pub fences : ℕ
+  pub read : List (List ℕ)
+
+abbrev pub content_in : LogLeft → Content
+content_in log = record { head = Some log.head; entries = log.entries }
+
+-- what became of the calls of each thread, the trace, which begins with the base, and the log of each
+pub record Left (State Op Query Reply : Type 0) : Type 0 where
+  pub ends : List (List (CallEnd State Op Query Reply))
+  pub nodes : List Node
+  pub logs : List LogLeft
+
+abbrev pub is_place : ℕ → Option ℕ → Bool
+is_place place None = false
+is_place place (Some failed) = failed == place
+
+-- the fence of the update at this place failed
+abbrev pub failed_at : {State Op Query Reply : Type 0} → List (List (CallEnd State Op Query Reply)) → ℕ → Bool
+failed_at [] place = false
+failed_at (ends ∷ more) place = is_place place (failed_in ends) || failed_at more place
+
+-- ---- what is so of a run
+-- each call of each script is over: it was answered, its fence failed, or it is broken
+abbrev pub AllOver : {State Op Query Reply : Type 0} → List (List (Call State Op Query Reply))
+    → List (List (CallEnd State Op Query Reply)) → Type 0
+AllOver [] [] = Unit {0}
+AllOver [] (ends ∷ more) = ⊥
+AllOver (calls ∷ scripts) [] = ⊥
+AllOver (calls ∷ scripts) (ends ∷ more) = (length ends ≡ length calls) × AllByRecursion IsOver ends × AllOver scripts more
+
+-- the lines of a log's device as they are fenced: where a fence failed, without the last entry
+abbrev pub fenced_in : LogLeft → Option ℕ → List (List ℕ)
+fenced_in log None = log.read
+fenced_in log (Some place) = log_image log.head (but_last log.entries) (free_of (length log.read) (but_last log.entries))
+
+-- what a crash may leave of the devices: one image of each, by itself
+abbrev pub AreLeft : {State Op Query Reply : Type 0} → List LogLeft → List (List (CallEnd State Op Query Reply))
+    → List (List (List ℕ)) → Type 0
+AreLeft [] [] [] = Unit {0}
+AreLeft (log ∷ logs) (ends ∷ more) (image ∷ images) =
+    Mixed (fenced_in log (failed_in ends)) log.read image × AreLeft logs more images
+AreLeft logs ends images = ⊥
+
+module _ {State Op Query Reply : Type 0} (b : Behaviour State Op Query Reply) (plan : Plan State Op Query Reply)
+    (left : Left State Op Query Reply) where
+  -- Each image is a log, and the logs recover to a front of the trace, which has the base, every answered update and the place of
+  -- every answered read.
+  pub record Recovers (images : List (List (List ℕ))) : Type 0 where
+    pub logs : List Content
+    pub contents : map content_of images ≡ map Some logs
+    pub nodes : List Node
+    pub recovered : merge plan.heads logs ≡ Ok nodes
+    pub front : take (length nodes) left.nodes ≡ nodes
+    pub from_base : length plan.base.nodes ≤ length nodes
+    pub answered : AllByRecursion (λ (ends : List (CallEnd State Op Query Reply)). AllByRecursion (StandsIn (length nodes)) ends) left.ends
+
+  abbrev pub AlwaysRecovers : Type 0
+  AlwaysRecovers = (images : List (List (List ℕ))) → AreLeft left.logs left.ends images → Recovers images

@@ -1,0 +1,5 @@
+pub mod Outcomes
+pub mod Workers
+pub mod Left
+pub mod Ended
+pub mod Crew

@@ -1,0 +1,10 @@
+//! Scripts done on threads, each on its own pass of one shared object.
+#![tactic(auto)]
+
+mod crew;
+mod laws;
+mod worker;
+
+pub use crew::run_passes;
+pub use laws::{passes_law, ready_law, run_law};
+pub use worker::{Worked, Worker, run_all};

@@ -1,4 +1,4 @@
-use Rattle.std.proofs.Common.{ℕ, suc, List, [], ◌∷◌, ◌≡◌, ◌≤◌, inl, inr, length, Some, Result, Ok, Err, refl, sym, ap, subst, arith}
+use Rattle.std.proofs.Common.{ℕ, suc, List, [], ◌∷◌, ◌≡◌, ◌≤◌, inl, inr, length, Some, Result, Ok, Err, refl, sym, ap, subst}
 use Rattle.onll_model.specs.Limits.{greatest_code}
 use Rattle.std.specs.List.{AllByRecursion}
 use Rattle.onll_model.specs.declared.call.Call.{Call}

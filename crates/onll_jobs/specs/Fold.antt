@@ -1,4 +1,4 @@
--- The report of a fold.
+-- The report of a fold: the lines of thread 0's calls, the trace, its nodes, and the state after them.
 
 use Rattle.std.specs.Prelude.{ℕ, List, ◌∷◌, ◌++◌, length}
 use Rattle.std.specs.List.{flat_map}
@@ -9,7 +9,6 @@ use Rattle.onll_model.specs.Fold.{fold_trace, fold_ends, fold_state}
 use Rattle.onll_text.specs.Wording.{Wording}
 use Rattle.onll_text.specs.Lines.{call_lines, trace_line, node_lines, state_lines}
 
--- The report of a fold: the lines of thread 0's calls, the trace, its nodes, and the state after them.
 abbrev pub fold_lines : {State Op Query Reply : Type 0} → Behaviour State Op Query Reply → Wording State Op Query Reply
     → State → List (Call State Op Query Reply) → List (List (List ℕ))
 fold_lines b w s calls =

@@ -4,6 +4,7 @@ ghost use Rattle.std.specs.Prelude.{◌≡◌, map, string_bytes, Some, None, Ma
 ghost use Rattle.onll_jobs.specs.Command.{form_of, form_in, recover_form, replay_form, replay_of, IsCommand};
 ghost use Rattle.onll_words.specs.Numbers.{number_of};
 
+use onll_model::MOST_THREADS;
 use onll_words::whole_number;
 
 /// A command and its names, as the program's words say it.
@@ -36,7 +37,7 @@ fn recover<'a>(init: &'a str, logs: &'a str, threads: &str) -> Option<Command<'a
     ensures command { IfSome result IsCommand }
 {
     match whole_number(threads.as_bytes()) {
-        Some(threads) if 1 <= threads && threads <= 16 => Some(Command::Recover {
+        Some(threads) if 1 <= threads && threads <= MOST_THREADS => Some(Command::Recover {
             init,
             logs,
             threads,
@@ -56,7 +57,7 @@ fn replay<'a>(
         MatchOption result (form ≡ None) (λ command. form ≡ Some (form_in command)) }
     ensures command { IfSome result IsCommand }
 {
-    if scripts.is_empty() || scripts.len() > 16 {
+    if scripts.is_empty() || scripts.len() as u64 > MOST_THREADS {
         return None;
     }
     Some(Command::Replay {

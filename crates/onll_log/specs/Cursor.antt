@@ -1,5 +1,6 @@
 -- A cursor over the image of a log: what the image holds, and how far the cursor went.
 use Rattle.std.specs.Prelude.{ℕ, ◌≡◌, ◌+◌, ◌≤◌, List, [], ◌∷◌, length, take, drop, Option, Some, None, IfSome}
+use Rattle.onll_model.specs.Limits.{most_threads}
 use Rattle.onll_model.specs.declared.node.Node.{Node}
 use Rattle.onll_model.specs.Segment.{Segment}
 use Rattle.onll_log.specs.declared.head.LogHead.{LogHead}
@@ -49,7 +50,7 @@ entries_after (Some head) before lines = entries_from head before 0 lines
 -- After this many entries the cursor stands at the line `at`, where the rest of the image's entries begin, and has looked at
 -- the first of them.
 pub record StandsAt (head : Option LogHead) (lines : List (List ℕ)) (passed at : ℕ) (next : Option EntryView) : Type 0 where
-  pub threads : IfSome head (λ h. h.threads ≤ 16)
+  pub threads : IfSome head (λ h. h.threads ≤ most_threads)
   pub few : passed ≤ at
   pub within : at ≤ length lines
   pub gone : at ≡ used_with head (take passed (entries_under head lines))

@@ -1,6 +1,7 @@
 //! A cursor over an image: what a log holds, entry by entry, without a copy of it.
 
 ghost use Rattle.std.specs.Prelude.{◌≡◌, ℕ, ◌+◌, ◌-◌, ◌<◌, ◌≤◌, ◌^◌, length, drop, Some, None, MatchOption, slice_get};
+ghost use Rattle.onll_model.specs.Limits.{most_threads};
 ghost use Rattle.onll_pmem.specs.Pmem.{words_of};
 ghost use Rattle.onll_log.specs.Grammar.{content_of, entries_from};
 ghost use Rattle.onll_log.specs.Cursor.{entries_left, lines_passed, first_view, first_nodes, one_further};
@@ -48,7 +49,7 @@ impl<'a> Model for LogCursor<'a> {
 
 /// The entry that begins at this line, after this many entries of the log, None where none is accepted there.
 fn entry_at(head: &LogHead, before: u64, at: usize, lines: &[Line]) -> Option<EntryView>
-    requires threads { head.now.threads ≤ 16 }
+    requires threads { head.now.threads ≤ most_threads }
     requires before { before < 2 ^ 64 - 1 }
     requires within { at ≤ length lines.now }
     ensures { result ≡ first_view at (entries_from head.now before 0 (drop at (words_of lines.now))) }

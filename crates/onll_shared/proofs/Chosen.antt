@@ -1,24 +1,21 @@
-use Rattle.std.proofs.Common.{◌≡◌, ◌≢◌, ℕ, zero, suc, ◌+◌, ◌-◌, ◌<◌, ◌≤◌, ◌⊎◌, inl, inr, ⊎_elim, List, [], ◌∷◌, ◌++◌, length, map, take, get_or, Option, Some, None, Ok, option_to_list, refl, sym, ap, ◌∙◌, subst, arith, append-nil}
+use Rattle.std.proofs.Common.{◌≡◌, ℕ, zero, suc, ◌<◌, ◌≤◌, ◌⊎◌, inl, inr, ⊎_elim, List, [], ◌∷◌, ◌++◌, length, map, take, get_or, Option, Some, Ok, option_to_list, refl, sym, ap, ◌∙◌, subst, arith}
 use Rattle.std.specs.Prelude.{IfSome}
 use Rattle.std.specs.List.{AllByRecursion, Contains, slice_get}
-use mathlib.Core.List.{IsPrefix}
-use Rattle.onll_model.specs.declared.node.Node.{Node}
-use Rattle.onll_model.specs.Segment.{Segment, Agrees, LiesIn, Covers, Rises}
+use Rattle.onll_model.specs.Segment.{Segment, Agrees, LiesIn, Rises}
 use Rattle.onll_model.specs.Frames.{Thread, Frame, Sound, IsAvailable, IsSoundSegment, segments_of, fenced_segments}
 use Rattle.onll_model.proofs.Lists.{same_some, some_not_none, inside, present, all_left, all_right, all_map, take_before}
 use Rattle.onll_model.proofs.Segments.{lies_left, lies_right, lies_in_thread}
-use Rattle.onll_pmem.specs.Device.{Mixed, zero_lines}
+use Rattle.onll_pmem.specs.Device.{zero_lines}
 use Rattle.onll_pmem.proofs.Mixes.{FillsLines-then}
 use Rattle.onll_log.specs.declared.head.LogHead.{LogHead}
 use Rattle.onll_log.specs.Encoding.{FitsEntry, FitEntries, entry_lines, log_lines}
 use Rattle.onll_log.specs.Grammar.{Content, content_of}
-use Rattle.onll_log.specs.Torn.{Among, log_image, Holds}
+use Rattle.onll_log.specs.Torn.{Among, Holds}
 use Rattle.onll_log.proofs.Torn.{Mixed-front, Among-mixed, Holds-among, Holds-log_image, log_image-more}
 use Rattle.onll_merge.specs.Merge.{merge, top_of}
 use Rattle.onll_merge.specs.Laws.{all_segments, EachSegment, HeadsFit, HoldOne}
 use Rattle.onll_merge.proofs.Fronts.{merge-front, top_of-lies}
 use Rattle.onll_merge.proofs.FrameLogs.{front_rises, HasBelow, covers_logs, within_logs}
-use Rattle.onll_trace.specs.Plans.{base_place}
 use Rattle.onll_trace.specs.Spots.{SpotView, TraceView, IsLawful}
 use Rattle.onll_trace.specs.Closing.{AreAll, IsIn}
 use Rattle.onll_shared.specs.Passes.{PassView, spot_of}

@@ -1,31 +1,30 @@
-use Rattle.std.proofs.Common.{◌≡◌, ℕ, zero, suc, ◌+◌, ◌-◌, ◌<◌, ◌≤◌, ◌⊎◌, inl, inr, ⊎_elim, Bool, true, false, List, [], ◌∷◌, ◌++◌, length, map, take, Option, Some, None, Ok, option_to_list, refl, sym, ap, ◌∙◌, subst, arith, append-nil}
-use Rattle.std.specs.Prelude.{◌↔◌}
-use Rattle.std.specs.List.{AllByRecursion, Contains, slice_get}
+use Rattle.std.proofs.Common.{◌≡◌, ℕ, zero, suc, ◌<◌, ◌≤◌, inl, inr, ⊎_elim, Bool, true, false, List, [], ◌∷◌, ◌++◌, length, map, take, Option, Some, None, Ok, option_to_list, refl, sym, ap, ◌∙◌, subst, arith, append-nil}
+use Rattle.std.specs.List.{AllByRecursion, slice_get}
 use Rattle.std.proofs.lemmas.List.{length-map}
 use Rattle.onll_model.specs.declared.node.Node.{Node}
 use Rattle.onll_model.specs.Object.{Behaviour}
 use Rattle.onll_model.specs.Segment.{Segment, Agrees, LiesIn}
-use Rattle.onll_model.specs.Frames.{Thread, Frame, Activity, Rest, Logging, IsAvailable, IsLast, is_available, open_at, open_place, segments_of}
+use Rattle.onll_model.specs.Frames.{Thread, Frame, Rest, Logging, IsLast, is_available, open_at, open_place}
 use Rattle.onll_model.proofs.Lists.{same_some, some_not_none, inside, all_at, all_right, take_all}
-use Rattle.onll_model.proofs.Traces.{node_present, node_place}
+use Rattle.onll_model.proofs.Traces.{node_present}
 use Rattle.onll_model.proofs.FrameParts.{unflagged_last}
 use Rattle.onll_model.proofs.Segments.{lies_left, lies_right}
 use Rattle.onll_pmem.specs.Device.{Mixed, zero_lines}
 use Rattle.onll_pmem.specs.Pmem.{DeviceView, Told}
 use Rattle.onll_pmem.proofs.Mixes.{Mixed-same, FillsLines-self}
-use Rattle.onll_log.specs.Encoding.{FitEntries, entry_lines, log_lines}
+use Rattle.onll_log.specs.Encoding.{FitEntries, entry_lines}
 use Rattle.onll_log.specs.Grammar.{Content}
 use Rattle.onll_log.specs.Log.{free_of}
 use Rattle.onll_log.specs.Torn.{log_image}
 use Rattle.onll_log.proofs.Torn.{log_image-more}
-use Rattle.onll_merge.specs.Merge.{merge, top_of}
+use Rattle.onll_merge.specs.Merge.{top_of}
 use Rattle.onll_merge.specs.Laws.{all_segments}
 use Rattle.onll_merge.proofs.Fronts.{top_of-lies}
 use Rattle.onll_trace.specs.declared.trace.Ended.{Ended}
-use Rattle.onll_trace.specs.Spots.{TraceView, IsLawful}
-use Rattle.onll_trace.specs.Closing.{AreAll, HasEnded, IsIn}
+use Rattle.onll_trace.specs.Spots.{IsLawful}
+use Rattle.onll_trace.specs.Closing.{AreAll, HasEnded}
 use Rattle.onll_shared.specs.Passes.{OnllView, PassView, IsTied, IsBetween, spot_of}
-use Rattle.onll_shared.specs.Crash.{HasLog, IsLeft, IsMoment, head_of}
+use Rattle.onll_shared.specs.Crash.{HasLog, IsLeft}
 use Rattle.onll_shared.specs.Ends.{HasClosed, broken_of, content_in}
 use Rattle.onll_shared.proofs.Parts.{pending_of}
 use Rattle.onll_shared.proofs.Chosen.{AreChosen, get_map, map_get, index_of, contained, all_get, shown_at, pass_of, available_held, merged_front, within_trace}

@@ -1,5 +1,5 @@
 -- What a crash leaves of the logs of a shared object's passes, and what is recovered of them.
-use Rattle.std.specs.Prelude.{ℕ, List, [], ◌∷◌, ◌++◌, ◌≡◌, ◌≤◌, ◌<◌, ◌⊎◌, length, map, take, Some, Ok}
+use Rattle.std.specs.Prelude.{ℕ, List, [], ◌∷◌, ◌++◌, ◌≡◌, ◌≤◌, ◌⊎◌, length, map, take, Some, Ok}
 use Rattle.std.specs.List.{AllByRecursion}
 use Rattle.onll_model.specs.Segment.{Segment}
 use Rattle.onll_model.specs.Frames.{Thread, Frame, IsAvailable, segments_of}

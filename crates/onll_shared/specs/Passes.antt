@@ -1,5 +1,5 @@
 -- What contracts see of a shared object and of a pass.
-use Rattle.std.specs.Prelude.{ℕ, Bool, true, false, List, [], ◌≡◌, ◌+◌, ◌*◌, ◌<◌, ◌≤◌, ◌⊎◌, length, take, Option, Some, None, is_some}
+use Rattle.std.specs.Prelude.{ℕ, List, [], ◌≡◌, ◌+◌, ◌*◌, ◌≤◌, ◌⊎◌, length, take, Option, Some, None, is_some}
 use Rattle.onll_model.specs.Object.{Behaviour}
 use Rattle.onll_model.specs.declared.node.Node.{Node}
 use Rattle.onll_model.specs.Trace.{state_after}
@@ -8,7 +8,6 @@ use Rattle.onll_model.specs.Frames.{Thread, Rest, Logging, segments_of}
 use Rattle.onll_pmem.specs.Pmem.{DeviceView, ToldSettled}
 use Rattle.onll_log.specs.Log.{LogState, HoldsLog, free_of}
 use Rattle.onll_log.specs.Torn.{log_image}
-use Rattle.onll_trace.specs.Plans.{Plan}
 use Rattle.onll_trace.specs.Rule.{count_of}
 use Rattle.onll_trace.specs.Spots.{TraceView, SpotView, IsOf, IsLawful, base_of}
 

@@ -1,4 +1,4 @@
-use Rattle.std.proofs.Common.{rules, ◌≡◌, ◌≤◌, ◌+◌, ◌∷◌, ◌++◌, [], List, length, sym, ap, ◌∙◌, subst, arith, length-append, vec_capacity}
+use Rattle.std.proofs.Common.{◌∷◌, [], List, length, sym, ap, ◌∙◌, subst, arith, length-append, vec_capacity}
 use Rattle.std.specs.Prelude.{reverse}
 use Rattle.onll_trace.specs.Spots.{SpotView}
 use Rattle.onll_shared.specs.Ends.{RestView}

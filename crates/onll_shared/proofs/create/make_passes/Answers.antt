@@ -1,5 +1,5 @@
-use Rattle.std.proofs.Common.{rules, ◌≡◌, ℕ, ◌*◌, get_or, length, sym, ap, ◌∙◌}
-use Rattle.onll_shared.proofs.Making.{here, making_none, making_one, making_all}
+use Rattle.std.proofs.Common.{rules, ℕ, ◌*◌, get_or, sym, ap, ◌∙◌}
+use Rattle.onll_shared.proofs.Making.{here, making_one, making_all}
 use Rattle.onll_shared.proofs.create.make_passes.Goals as goal
 
 pub make_pass-requires-clause-seen : goal.make_pass-requires-clause-seen

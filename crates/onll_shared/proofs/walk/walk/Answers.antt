@@ -1,4 +1,4 @@
-use Rattle.std.proofs.Common.{◌≡◌, ◌++◌, ◌∷◌, [], Some, Bool, refl, sym, ap, ◌∙◌, subst, arith}
+use Rattle.std.proofs.Common.{◌≡◌, Some, Bool, sym, ap, ◌∙◌, subst}
 use Rattle.onll_model.specs.Trace.{node_at}
 use Rattle.onll_trace.specs.Hands.{after_flag}
 use Rattle.onll_trace.specs.Spots.{SpotView, IsOf, IsLawful, base_of, becoming}

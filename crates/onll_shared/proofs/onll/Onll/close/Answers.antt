@@ -1,4 +1,4 @@
-use Rattle.std.proofs.Common.{rules, ◌≡◌, ◌≤◌, ℕ, List, length, map, sym, ap, ◌∙◌, subst, arith, vec_capacity}
+use Rattle.std.proofs.Common.{rules, ◌≤◌, List, length, map, sym, ap, ◌∙◌, subst, arith, vec_capacity}
 use Rattle.onll_trace.specs.Spots.{SpotView}
 use Rattle.onll_trace.specs.Closing.{AreAll, HasEnded}
 use Rattle.onll_shared.specs.Passes.{spot_of}

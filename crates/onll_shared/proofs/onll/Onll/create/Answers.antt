@@ -1,4 +1,4 @@
-use Rattle.std.proofs.Common.{rules, refl, sym, ap, ◌∙◌}
+use Rattle.std.proofs.Common.{rules, refl, ◌∙◌}
 use Rattle.onll_shared.proofs.Starting.{new_room, begun_new}
 use Rattle.onll_shared.proofs.onll.Onll.create.Goals as goal
 

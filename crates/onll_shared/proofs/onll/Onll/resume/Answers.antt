@@ -1,4 +1,4 @@
-use Rattle.std.proofs.Common.{sym, ap, ◌∙◌}
+use Rattle.std.proofs.Common.{ap, ◌∙◌}
 use Rattle.onll_model.specs.Trace.{state_after}
 use Rattle.onll_shared.proofs.Starting.{new_room, begun_on}
 use Rattle.onll_shared.proofs.onll.Onll.resume.Goals as goal

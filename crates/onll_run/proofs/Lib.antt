@@ -3,3 +3,4 @@ pub mod Calling
 pub mod Whole
 pub mod Crewing
 pub mod Ending
+pub mod Beginning

@@ -1,10 +1,11 @@
 -- Scripts that are run on the passes of one object.
-use Rattle.std.specs.Prelude.{ℕ, List, [], ◌∷◌, ◌≡◌, ◌≤◌, length, map, vec_capacity}
+use Rattle.std.specs.Prelude.{ℕ, List, [], ◌∷◌, ◌≡◌, ◌≤◌, length, map, vec_capacity, ◌+◌, ◌*◌}
 use Rattle.std.specs.List.{AllByRecursion}
 use Rattle.onll_model.specs.declared.call.Call.{Call}
 use Rattle.onll_model.specs.Object.{Behaviour}
+use Rattle.onll_model.specs.Calls.{updates_in}
 use Rattle.onll_pmem.specs.Pmem.{DeviceView}
-use Rattle.onll_log.specs.Log.{LogState}
+use Rattle.onll_log.specs.Log.{LogState, free_of}
 use Rattle.onll_trace.specs.Closing.{AreAll}
 use Rattle.onll_shared.specs.Passes.{OnllView, PassView, IsTied, spot_of}
 use Rattle.onll_shared.specs.Starts.{AreLogs, HasBegun}
@@ -13,7 +14,8 @@ use Rattle.onll_run.specs.declared.worker.Worked.{Worked}
 use Rattle.onll_run.specs.Workers.{IsReady, HasWorked}
 use Rattle.onll_run.specs.Ended.{ThreadRun, script_of, after_of, HaveRun}
 
-abbrev pub script_in : {R State Device G Op Query Reply : Type 0} → Worker R State Device G Op Query Reply → List (Call State Op Query Reply)
+abbrev pub script_in : {R State Device G Op Query Reply : Type 0} → Worker R State Device G Op Query Reply
+    → List (Call State Op Query Reply)
 script_in w = w.script.items
 
 abbrev pub pass_in : {R State Device G Op Query Reply : Type 0} → Worker R State Device G Op Query Reply → PassView State Device
@@ -77,3 +79,18 @@ PassesLaw {State} {Op} {Query} {Reply} {Device} b means = (onll : OnllView State
     (scripts : List (List (Call State Op Query Reply))) (passes : List (PassView State Device))
     (all : List (Worked State Device Op Query Reply)) → AreLogs logs → HasBegun b means onll logs rooms passes
     → AreDone b means onll scripts passes all → CanEnd b means onll scripts passes all
+
+-- Each script has room in its pass, and lines in its log, for all its updates, among so many threads.
+abbrev pub AreFit : {State Op Query Reply Device : Type 0} → (Device → DeviceView) → ℕ → List (List (Call State Op Query Reply)) → List ℕ
+    → List (LogState Device) → Type 0
+AreFit means threads [] [] [] = Unit {0}
+AreFit means threads (s ∷ ss) (room ∷ rooms) (log ∷ logs) =
+    (updates_in s ≤ room) × ((threads + 1) * updates_in s ≤ free_of (length (means log.device).read) log.entries)
+    × AreFit means threads ss rooms logs
+AreFit means threads ss rooms logs = ⊥
+
+-- The passes that an object begins with are ready for such scripts.
+abbrev pub ReadyLaw : {State Op Query Reply Device : Type 0} → Behaviour State Op Query Reply → (Device → DeviceView) → Type 0
+ReadyLaw {State} {Op} {Query} {Reply} {Device} b means = (onll : OnllView State) (logs : List (LogState Device)) (rooms : List ℕ)
+    (scripts : List (List (Call State Op Query Reply))) (passes : List (PassView State Device)) → HasBegun b means onll logs rooms passes
+    → AreFit means onll.trace.plan.threads scripts rooms logs → AreReady b means onll scripts passes

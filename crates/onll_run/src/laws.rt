@@ -1,6 +1,6 @@
 //! What threads that each did a script made, whatever code ran them.
 ghost use Rattle.onll_run.specs.Ended.{RunLaw};
-ghost use Rattle.onll_run.specs.Crew.{PassesLaw};
+ghost use Rattle.onll_run.specs.Crew.{PassesLaw, ReadyLaw};
 
 use onll_model::Object;
 use onll_pmem::Pmem;
@@ -15,4 +15,9 @@ pub fn run_law<O: Object, P: Pmem>()
 /// each thread has done its own script.
 pub fn passes_law<O: Object, P: Pmem>()
     ensures { PassesLaw O.means P.means }
+{}
+
+/// The passes that a shared object begins with are ready for scripts that have room in their passes and lines in their logs.
+pub fn ready_law<O: Object, P: Pmem>()
+    ensures { ReadyLaw O.means P.means }
 {}

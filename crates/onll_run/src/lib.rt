@@ -9,6 +9,6 @@ mod tests;
 mod worker;
 
 pub use crew::run_passes;
-pub use laws::{passes_law, run_law};
+pub use laws::{passes_law, ready_law, run_law};
 pub use run::{DoneScript, Run, RunFault, run_scripts};
 pub use worker::{Worked, Worker, run_all};

@@ -87,7 +87,8 @@ fn do_calls<R: Wait, O: Object, P: Pmem, G: Gate>(
 fn work<R: Wait, O: Object, P: Pmem, G: Gate>(worker: Worker<'_, R, O, P, G>) -> Worked<O, P>
     requires { CanWork O.means P.means worker.onll.now worker.script.items worker.pass worker.ends.items (vec_capacity worker.ends) }
     ensures script { result.script ≡ worker.entry.script }
-    ensures worked { HasWorked O.means P.means worker.entry.onll.now worker.entry.script.items result.ends.items worker.entry.pass result.pass }
+    ensures worked { HasWorked O.means P.means worker.entry.onll.now worker.entry.script.items
+        result.ends.items worker.entry.pass result.pass }
 {
     let Worker {
         rt,
@@ -122,9 +123,11 @@ pub fn run_all<
         rt,
         workers,
         &|worker: Worker<'_, R, O, P, G>| -> Worked<O, P>
-            requires { CanWork O.means P.means worker.onll.now worker.script.items worker.pass worker.ends.items (vec_capacity worker.ends) }
+            requires { CanWork O.means P.means worker.onll.now worker.script.items worker.pass
+                worker.ends.items (vec_capacity worker.ends) }
             ensures script { result.script ≡ worker.entry.script }
-            ensures worked { HasWorked O.means P.means worker.entry.onll.now worker.entry.script.items result.ends.items worker.entry.pass result.pass }
+            ensures worked { HasWorked O.means P.means worker.entry.onll.now worker.entry.script.items
+                result.ends.items worker.entry.pass result.pass }
         { work(worker) },
     )
 }

@@ -8,6 +8,8 @@ mod four_tests;
 mod recovery;
 mod resumed;
 #[cfg(test)]
+mod script_tests;
+#[cfg(test)]
 mod tests;
 mod threads;
 

@@ -5,7 +5,7 @@ use Rattle.std.proofs.lemmas.List.{length-map}
 use Rattle.onll_outside.specs.Views.{StoreView}
 use Rattle.onll_words.specs.Numbers.{number_of}
 use Rattle.onll_jobs.specs.Command.{Form, Fold, Show, Recover, Replay, form_of, recover_form, replay_form}
-use Rattle.onll_task.specs.Images.{image_names}
+use Rattle.onll_task.specs.ImageNames.{image_names}
 use Rattle.onll_task.specs.Writing.{SameBut}
 
 -- The scripts of a replay.

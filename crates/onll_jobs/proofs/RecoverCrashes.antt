@@ -20,7 +20,7 @@ use Rattle.onll_task.specs.declared.ending.Exit.{Exit}
 use Rattle.onll_merge.specs.declared.fault.StateFault.{StateFault}
 use Rattle.onll_task.specs.Reading.{IsTold}
 use Rattle.onll_task.specs.Job.{Job, Decides, on_value}
-use Rattle.onll_task.specs.Images.{image_names}
+use Rattle.onll_task.specs.ImageNames.{image_names}
 use Rattle.onll_task.specs.Doing.{lines_stage, each_job}
 use Rattle.onll_jobs.specs.Seen.{Seen}
 use Rattle.onll_jobs.specs.Command.{form_of, Recover}

@@ -29,7 +29,8 @@ use Rattle.onll_merge.specs.declared.fault.StateFault.{StateFault}
 use Rattle.onll_task.specs.Reading.{ReadsWhole, CannotRead}
 use Rattle.onll_task.specs.Writing.{FilesStay, CannotWrite, written}
 use Rattle.onll_task.specs.Job.{Job, JobEnds, on_value, reading_whole}
-use Rattle.onll_task.specs.Images.{image_name, image_bytes, writing_images}
+use Rattle.onll_task.specs.ImageNames.{image_name}
+use Rattle.onll_task.specs.Images.{image_bytes, writing_images}
 use Rattle.onll_jobs.specs.Seen.{Seen}
 use Rattle.onll_jobs.specs.Command.{form_of, Replay}
 use Rattle.onll_jobs.specs.Says.{job_of, PutWhole}

@@ -21,7 +21,8 @@ use Rattle.onll_jobs.specs.Seen.{Seen}
 use Rattle.onll_jobs.specs.Command.{Recover, Replay, form_of}
 use Rattle.onll_task.specs.Reading.{IsTold, Reads, ReadsWhole}
 use Rattle.onll_task.specs.Writing.{FilesStay, written}
-use Rattle.onll_task.specs.Images.{image_name, image_bytes}
+use Rattle.onll_task.specs.ImageNames.{image_name}
+use Rattle.onll_task.specs.Images.{image_bytes}
 use Rattle.onll_merge.specs.Recovered.{recovered_with}
 use Rattle.onll_recovery.specs.RecoverJob.{recover_report}
 use Rattle.onll_recovery.specs.ReplayJob.{played, ReadScripts, replay_report}

@@ -8,7 +8,7 @@ use Rattle.onll_jobs.specs.declared.objects.Over.{Over}
 use Rattle.onll_jobs.specs.declared.objects.Over.TheVariants as overs
 use Rattle.onll_task.specs.Doing.{Task, Work, after_stage, whole_stage}
 use Rattle.onll_jobs.specs.FoldJob.{script_task}
-use Rattle.onll_task.specs.Images.{image_names}
+use Rattle.onll_task.specs.ImageNames.{image_names}
 use Rattle.onll_recovery.specs.RecoverJob.{logs_task}
 use Rattle.onll_recovery.specs.ReplayJob.{scripts_task}
 

@@ -23,7 +23,8 @@ use Rattle.onll_text.specs.declared.schedule.Schedule.{Schedule}
 use Rattle.onll_text.specs.Schedule.{schedule_of}
 use Rattle.onll_outside.specs.Views.{StoreView}
 use Rattle.onll_task.specs.declared.answer.Stop.{Stop}
-use Rattle.onll_task.specs.Images.{image_names, images_in, writing_stage}
+use Rattle.onll_task.specs.ImageNames.{image_names}
+use Rattle.onll_task.specs.Images.{images_in, writing_stage}
 use Rattle.onll_task.specs.Doing.{Task, after_stage, text_stage, Does, Begins}
 use Rattle.onll_recovery.specs.ReplayJob.{played, run_task, crash_task, schedule_task}
 use Rattle.onll_task.proofs.Stages.{wrote_does, stop_does, read_does}

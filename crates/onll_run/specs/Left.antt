@@ -7,7 +7,7 @@ use Rattle.onll_model.specs.declared.call.Call.{Call}
 use Rattle.onll_model.specs.declared.call.CallEnd.{CallEnd}
 use Rattle.onll_model.specs.Object.{Behaviour}
 use Rattle.onll_model.specs.Segment.{Segment}
-use Rattle.onll_model.specs.Legal.{IsOver}
+use Rattle.onll_model.specs.Legal.{IsLegal, IsOver}
 use Rattle.onll_pmem.specs.Device.{Mixed}
 use Rattle.onll_log.specs.declared.head.LogHead.{LogHead}
 use Rattle.onll_log.specs.Grammar.{Content, content_of}
@@ -92,3 +92,11 @@ module _ {State Op Query Reply : Type 0} (b : Behaviour State Op Query Reply) (p
 
   abbrev pub AlwaysRecovers : Type 0
   AlwaysRecovers = (images : List (List (List ℕ))) → AreLeft left.logs left.ends images → Recovers images
+
+  -- A run of this plan left this: one legal history in which each call is over; the logs hold it; and whatever images of the devices
+  -- a crash may leave, they recover to a front of it.
+  pub record HasRun : Type 0 where
+    pub legal : IsLegal b plan.state plan.base.nodes plan.scripts left.nodes left.ends
+    pub over : AllOver plan.scripts left.ends
+    pub merged : merge plan.heads (map content_in left.logs) ≡ Ok left.nodes
+    pub crash : AlwaysRecovers

@@ -7,7 +7,8 @@ use Rattle.onll_pmem.specs.Pmem.{words_of}
 use Rattle.onll_log.specs.ImageFile.{image_lines}
 use Rattle.onll_task.specs.declared.ending.Ending.TheVariants.{Usage}
 use Rattle.onll_task.specs.Job.{Job, Never}
-use Rattle.onll_task.specs.Images.{image_name, image_names, images_in}
+use Rattle.onll_task.specs.ImageNames.{image_name, image_names}
+use Rattle.onll_task.specs.Images.{images_in}
 use Rattle.onll_task.specs.Doing.{lines_stage, each_job}
 
 -- the name of one thread before those of the rest

@@ -4,14 +4,16 @@ use Rattle.onll_words.specs.declared.NoMemory.{NoMemory}
 use Rattle.onll_outside.specs.Views.{StoreView, SameFiles, SameFaults, Rose, Holds}
 use Rattle.onll_text.specs.Refusal.{Refusal}
 use Rattle.onll_task.specs.declared.ending.Ending.{Ending}
-use Rattle.onll_task.specs.declared.ending.Ending.TheVariants.{Done, Usage, Refused, BadLog, ReadFault, WriteFault}
+use Rattle.onll_task.specs.declared.ending.Ending.TheVariants.{Done, Usage, Refused, BadLog, ReadFault, WriteFault, Faulty}
 use Rattle.onll_task.specs.declared.answer.Answer.{Answer}
 use Rattle.onll_task.specs.declared.answer.Stop.{Stop}
 use Rattle.onll_task.specs.declared.answer.Stop.TheVariants as stops
 use Rattle.onll_task.specs.Stop.{StopSays}
 use Rattle.onll_task.specs.Reading.{IsTold, CannotRead}
-use Rattle.onll_task.specs.Writing.{FilesStay, CannotWrite, written}
-use Rattle.onll_task.specs.Job.{Job, Say, Read, Write, JobEnds, Decides, Never, on_value, reading, reading_whole}
+use Rattle.onll_text.specs.Kinds.{ObjectKind}
+use Rattle.onll_task.specs.Running.{RunPlan, RunStops}
+use Rattle.onll_task.specs.Writing.{FilesStay, SameCounts, CannotWrite, written}
+use Rattle.onll_task.specs.Job.{Job, Say, Read, Write, Threads, JobEnds, Decides, Never, on_value, reading, reading_whole}
 
 -- a told file holds its bytes alone
 held_bytes : (store : StoreView) (name bytes found : List ℕ) → IsTold store name bytes → Holds store name found → found ≡ bytes
@@ -24,6 +26,7 @@ cannot store after name Refused text h = absurd h
 cannot store after name BadLog text h = absurd h
 cannot store after name ReadFault text h = h.rose
 cannot store after name WriteFault text h = absurd h
+cannot store after name Faulty text h = absurd h
 
 cannot_write : (store after : StoreView) (name : List ℕ) (ending : Ending) (text : List ℕ) → CannotWrite store after name ending text → Rose store.faults after.faults
 cannot_write store after name Done text h = absurd h
@@ -32,6 +35,7 @@ cannot_write store after name Refused text h = absurd h
 cannot_write store after name BadLog text h = absurd h
 cannot_write store after name ReadFault text h = absurd h
 cannot_write store after name WriteFault text h = h.failed.rose
+cannot_write store after name Faulty text h = absurd h
 
 -- where no count rose, the told files decide how the job ends
 pub decided : (store after : StoreView) (job : Job) (ending e : Ending) (text t : List ℕ) → (Rose store.faults after.faults → ⊥) → Decides store job ending text → JobEnds store after job e t → (e ≡ ending) × (t ≡ text)
@@ -42,6 +46,7 @@ decided store after (Read name next) ending e text t none d (inr h) =
     decided store after (next d.0) ending e text t none d.1.1 (subst (λ bytes. JobEnds store after (next bytes) e t) same h.1.1)
 decided store after (Write name bytes next) ending e text t none d (inl h) = absurd (none (cannot_write store after name e t h))
 decided store after (Write name bytes next) ending e text t none d (inr h) = decided (written store name bytes) after next ending e text t none d h
+decided store after (Threads kind plan next) ending e text t none d h = absurd d
 
 -- ---- endings that tell of a fault
 abbrev pub TellsFault : Ending → Type 0
@@ -56,6 +61,7 @@ cannot_tells store after name Refused text h = absurd h
 cannot_tells store after name BadLog text h = absurd h
 cannot_tells store after name ReadFault text h = tt
 cannot_tells store after name WriteFault text h = absurd h
+cannot_tells store after name Faulty text h = absurd h
 
 cannot_write_tells : (store after : StoreView) (name : List ℕ) (ending : Ending) (text : List ℕ) → CannotWrite store after name ending text → TellsFault ending
 cannot_write_tells store after name Done text h = absurd h
@@ -64,14 +70,28 @@ cannot_write_tells store after name Refused text h = absurd h
 cannot_write_tells store after name BadLog text h = absurd h
 cannot_write_tells store after name ReadFault text h = absurd h
 cannot_write_tells store after name WriteFault text h = tt
+cannot_write_tells store after name Faulty text h = absurd h
+
+run_stops_sound : {k : ObjectKind} (plan : RunPlan k) (store after : StoreView) (ending : Ending) (text : List ℕ) → (TellsFault ending → ⊥) → RunStops plan store after ending text → SameFaults store after
+run_stops_sound plan store after Done text sound h = absurd h
+run_stops_sound plan store after Usage text sound h = absurd h
+run_stops_sound plan store after Refused text sound h = absurd h
+run_stops_sound plan store after BadLog text sound h = absurd h
+run_stops_sound plan store after ReadFault text sound h = absurd h
+run_stops_sound plan store after WriteFault text sound h = absurd (sound tt)
+run_stops_sound plan store after Faulty text sound h = h.calls
 
 -- a job that ends otherwise ends where nothing failed
 pub nothing_failed : (store after : StoreView) (job : Job) (ending : Ending) (text : List ℕ) → (TellsFault ending → ⊥) → JobEnds store after job ending text → SameFaults store after
-nothing_failed store after (Say e t) ending text sound h = h.3
+nothing_failed store after (Say e t) ending text sound h = h.3.0
 nothing_failed store after (Read name next) ending text sound (inl h) = absurd (sound (cannot_tells store after name ending text h.0))
 nothing_failed store after (Read name next) ending text sound (inr h) = nothing_failed store after (next h.0) ending text sound h.1.1
 nothing_failed store after (Write name bytes next) ending text sound (inl h) = absurd (sound (cannot_write_tells store after name ending text h))
 nothing_failed store after (Write name bytes next) ending text sound (inr h) = nothing_failed (written store name bytes) after next ending text sound h
+nothing_failed store after (Threads kind plan next) ending text sound (inl h) = run_stops_sound plan store after ending text sound h
+nothing_failed store after (Threads kind plan next) ending text sound (inr h) =
+    let rest = nothing_failed h.1 after (next h.0) ending text sound h.4 in
+    (rest.0 ∙ h.3.calls.0, rest.1 ∙ h.3.calls.1)
 
 pub files_stay : (store after : StoreView) → SameFiles store after → FilesStay store after
 files_stay store after same = record { tells = same.tells; file = λ tells. same.file }
@@ -83,14 +103,17 @@ never_says store after (Read name next) text never (inl h) = h.0
 never_says store after (Read name next) text never (inr h) = never_says store after (next h.0) text (never h.0) h.1.1
 never_says store after (Write name bytes next) text never (inl h) = h
 never_says store after (Write name bytes next) text never (inr h) = never_says (written store name bytes) after next text never h
+never_says store after (Threads kind plan next) text never (inl h) = h
+never_says store after (Threads kind plan next) text never (inr h) = never_says h.1 after (next h.0) text (never h.0) h.4
 
-pub cannot_from : (store mid after : StoreView) (name : List ℕ) (ending : Ending) (text : List ℕ) → SameFaults store mid → CannotRead mid after name ending text → CannotRead store after name ending text
+pub cannot_from : (store mid after : StoreView) (name : List ℕ) (ending : Ending) (text : List ℕ) → SameCounts store mid → CannotRead mid after name ending text → CannotRead store after name ending text
 cannot_from store mid after name Done text same h = h
 cannot_from store mid after name Usage text same h = h
 cannot_from store mid after name Refused text same h = h
 cannot_from store mid after name BadLog text same h = h
 cannot_from store mid after name WriteFault text same h = h
-cannot_from store mid after name ReadFault text same h = record { rose = subst (λ n. Rose n after.faults) same.0 h.rose; last = h.last; line = h.line }
+cannot_from store mid after name Faulty text same h = h
+cannot_from store mid after name ReadFault text same h = record { rose = subst (λ n. Rose n after.faults) same.0.0 h.rose; last = h.last; line = h.line }
 
 -- what is said of the stop is said of the answer
 pub stopped_says : (s : Stop) (r : Result Answer NoMemory) (P Q : Ending → List ℕ → Type 0) → ((e : Ending) (t : List ℕ) → P e t → Q e t)

@@ -2,5 +2,6 @@ pub mod Cuts
 pub mod ImageFiles
 pub mod Jobs
 pub mod Onwards
+pub mod Runs
 pub mod Stages
 pub mod Stops

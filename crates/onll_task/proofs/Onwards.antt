@@ -1,6 +1,6 @@
 -- How jobs that read and write go on.
 
-use Rattle.std.proofs.Common.{Vec, Global, ℕ, zero, suc, true, false, List, ◌≡◌, inl, inr, ⊎_elim, Option, Some, cond, ◌+◌, ◌<◌, length, drop, get_or, true≢false, Result, refl, sym, ap, ◌∙◌, subst, arith}
+use Rattle.std.proofs.Common.{Vec, Global, ℕ, zero, suc, true, false, List, [], ◌∷◌, ◌≡◌, inl, inr, ⊎_elim, Option, Some, cond, ◌+◌, ◌<◌, length, drop, get_or, true≢false, Result, refl, sym, ap, ◌∙◌, subst, arith}
 use Rattle.std.proofs.lemmas.List.{drop_more}
 use Rattle.std.proofs.lemmas.Bool.{cases_Bool}
 use Rattle.std.proofs.lemmas.Slice.Eq.{bytes_eq-Decides}
@@ -9,14 +9,17 @@ use Rattle.std.specs.Str.{bytes_eq}
 use Rattle.onll_words.specs.declared.line.Line.{Line}
 use Rattle.onll_pmem.specs.Pmem.{words_of}
 use Rattle.onll_log.specs.ImageFile.{image_lines}
-use Rattle.onll_outside.specs.Views.{StoreView, SameFiles, SameOthers, SameFaults, Rose, Holds}
+use Rattle.onll_outside.specs.Views.{StoreView, SameFiles, SameOthers, SameFaults, Rose, Holds, counted}
 use Rattle.onll_text.specs.Refusal.{Refusal}
 use Rattle.onll_task.specs.declared.ending.Ending.{Ending}
-use Rattle.onll_task.specs.declared.ending.Ending.TheVariants.{Done, Usage, Refused, BadLog, ReadFault, WriteFault}
+use Rattle.onll_task.specs.declared.ending.Ending.TheVariants.{Done, Usage, Refused, BadLog, ReadFault, WriteFault, Faulty}
 use Rattle.onll_task.specs.Reading.{Reads, ReadsWhole, HoldsImage, Stops}
-use Rattle.onll_task.specs.Images.{image_name, images_in, image_bytes, image_names, writing_images}
-use Rattle.onll_task.specs.Writing.{FilesStay, OthersStay, SameBut, HasWritten, CannotWrite, WriteFailed, written}
-use Rattle.onll_task.specs.Job.{Job, Say, Read, Write, JobEnds, JobCut, GoesOn, on_value, reading, reading_whole}
+use Rattle.onll_task.specs.ImageNames.{image_name, image_names}
+use Rattle.onll_task.specs.Images.{images_in, image_bytes, writing_images}
+use Rattle.onll_text.specs.Kinds.{ObjectKind}
+use Rattle.onll_task.specs.Running.{RunPlan, RunLeft, HasKept, StaysOrZeros, RunStops, broken_threads, fences_of, log_files}
+use Rattle.onll_task.specs.Writing.{FilesStay, SameCounts, AllButStay, OthersStay, SameBut, HasWritten, CannotWrite, WriteFailed, written}
+use Rattle.onll_task.specs.Job.{Job, Say, Read, Write, Threads, JobEnds, JobCut, GoesOn, on_value, reading, reading_whole}
 use Rattle.onll_task.proofs.Jobs.{files_stay, cannot_from}
 
 pub stay_more : (store mid after : StoreView) → FilesStay store mid → FilesStay mid after → FilesStay store after
@@ -25,49 +28,106 @@ stay_more store mid after first then_ = record { tells = then_.tells ∙ first.t
 faults_more : (store mid after : StoreView) → SameFaults store mid → SameFaults mid after → SameFaults store after
 faults_more store mid after first then_ = (then_.0 ∙ first.0, then_.1 ∙ first.1)
 
+counts_more : (store mid after : StoreView) → SameCounts store mid → SameCounts mid after → SameCounts store after
+counts_more store mid after first then_ =
+    (faults_more store mid after first.0 then_.0, (then_.1.0 ∙ first.1.0, then_.1.1 ∙ first.1.1))
+
 others_more : (store mid after : StoreView) (name : List ℕ) → FilesStay store mid → OthersStay name mid after → OthersStay name store after
 others_more store mid after name first then_ = record { tells = then_.tells ∙ first.tells; file = λ tells other differs. then_.file (first.tells ∙ tells) other differs ∙ first.file tells other }
 
 written_stays : (store mid : StoreView) (name bytes : List ℕ) → FilesStay store mid → FilesStay (written store name bytes) (written mid name bytes)
 written_stays store mid name bytes h = record { tells = h.tells; file = λ tells other. ap (λ o. cond {A = Option (List ℕ)} (bytes_eq other name) (Some bytes) o) (h.file tells other) }
 
-write_failed_from : (store mid after : StoreView) (name : List ℕ) → FilesStay store mid → SameFaults store mid → WriteFailed mid after name → WriteFailed store after name
-write_failed_from store mid after name files same h = record { rose = subst (λ n. Rose n after.faults) same.0 h.rose; last = h.last; others = others_more store mid after name files h.others }
+write_failed_from : (store mid after : StoreView) (name : List ℕ) → FilesStay store mid → SameCounts store mid → WriteFailed mid after name → WriteFailed store after name
+write_failed_from store mid after name files same h = record { rose = subst (λ n. Rose n after.faults) same.0.0 h.rose; last = h.last; others = others_more store mid after name files h.others }
 
-cannot_write_from : (store mid after : StoreView) (name : List ℕ) (ending : Ending) (text : List ℕ) → FilesStay store mid → SameFaults store mid → CannotWrite mid after name ending text → CannotWrite store after name ending text
+cannot_write_from : (store mid after : StoreView) (name : List ℕ) (ending : Ending) (text : List ℕ) → FilesStay store mid → SameCounts store mid → CannotWrite mid after name ending text → CannotWrite store after name ending text
 cannot_write_from store mid after name Done text files same h = absurd h
 cannot_write_from store mid after name Usage text files same h = absurd h
 cannot_write_from store mid after name Refused text files same h = absurd h
 cannot_write_from store mid after name BadLog text files same h = absurd h
 cannot_write_from store mid after name ReadFault text files same h = absurd h
+cannot_write_from store mid after name Faulty text files same h = absurd h
 cannot_write_from store mid after name WriteFault text files same h =
     record { failed = write_failed_from store mid after name files same h.failed; line = h.line }
 
--- what a job does from a store it does from the store before, where neither files nor faults changed
-pub ends_from : (store mid after : StoreView) (job : Job) (ending : Ending) (text : List ℕ) → FilesStay store mid → SameFaults store mid → JobEnds mid after job ending text → JobEnds store after job ending text
-ends_from store mid after (Say e t) ending text files faults h = (h.0, h.1, stay_more store mid after files h.2, faults_more store mid after faults h.3)
-ends_from store mid after (Read name next) ending text files faults (inl h) = inl (cannot_from store mid after name ending text faults h.0, stay_more store mid after files h.1)
-ends_from store mid after (Read name next) ending text files faults (inr h) =
-    inr (h.0, ((λ tells. sym (files.file tells name) ∙ h.1.0 (files.tells ∙ tells)), ends_from store mid after (next h.0) ending text files faults h.1.1))
-ends_from store mid after (Write name bytes next) ending text files faults (inl h) = inl (cannot_write_from store mid after name ending text files faults h)
-ends_from store mid after (Write name bytes next) ending text files faults (inr h) =
-    inr (ends_from (written store name bytes) (written mid name bytes) after next ending text (written_stays store mid name bytes files) faults h)
+-- ---- runs from the store before
+but_more : (names : List (List ℕ)) (store mid after : StoreView) → FilesStay store mid → AllButStay names mid after → AllButStay names store after
+but_more names store mid after first then_ = record { tells = then_.tells ∙ first.tells; file = λ tells other differs. then_.file (first.tells ∙ tells) other differs ∙ first.file tells other }
+
+kept_from : {k : ObjectKind} (plan : RunPlan k) (left : RunLeft k) (store mid kept : StoreView) → FilesStay store mid → SameCounts store mid → HasKept plan left mid kept → HasKept plan left store kept
+kept_from plan left store mid kept files counts h = record {
+  calls = faults_more store mid kept counts.0 h.calls;
+  faults = h.faults ∙ ap (λ n. counted n (broken_threads left.ends)) counts.1.0;
+  fences = h.fences ∙ ap (λ n. counted n (fences_of left.logs + length plan.run.scripts)) counts.1.1;
+  files = h.files;
+  others = but_more (log_files plan) store mid kept files h.others;
+}
+
+zeros_from : (store mid after : StoreView) (names : List (List ℕ)) → FilesStay store mid → AllByRecursion (StaysOrZeros mid after) names → AllByRecursion (StaysOrZeros store after) names
+zeros_from store mid after [] files h = tt
+zeros_from store mid after (name ∷ names) files h = (first, zeros_from store mid after names files h.1)
+  where
+    first : StaysOrZeros store after name
+    first tells = ⊎_elim (λ (e : after.file name ≡ mid.file name). inl (e ∙ files.file tells name)) (λ z. inr z) (h.0 (files.tells ∙ tells))
+
+run_stops_from : {k : ObjectKind} (plan : RunPlan k) (store mid after : StoreView) (ending : Ending) (text : List ℕ) → FilesStay store mid → SameCounts store mid → RunStops plan mid after ending text → RunStops plan store after ending text
+run_stops_from plan store mid after Done text files counts h = absurd h
+run_stops_from plan store mid after Usage text files counts h = absurd h
+run_stops_from plan store mid after Refused text files counts h = absurd h
+run_stops_from plan store mid after BadLog text files counts h = absurd h
+run_stops_from plan store mid after ReadFault text files counts h = absurd h
+run_stops_from plan store mid after WriteFault text files counts h = record {
+  thread = h.thread;
+  within = h.within;
+  line = h.line;
+  rose = subst (λ n. Rose n after.faults) counts.0.0 h.rose;
+  last = h.last;
+  others = but_more (log_files plan) store mid after files h.others;
+}
+run_stops_from plan store mid after Faulty text files counts h = record {
+  thread = h.thread;
+  within = h.within;
+  line = h.line;
+  calls = faults_more store mid after counts.0 h.calls;
+  faults = h.faults ∙ ap (λ n. counted n 1) counts.1.0;
+  fences = h.fences ∙ ap (λ n. counted n (h.thread + 1)) counts.1.1;
+  files = zeros_from store mid after (log_files plan) files h.files;
+  others = but_more (log_files plan) store mid after files h.others;
+}
+
+-- what a job does from a store it does from the store before, where neither files nor counts changed
+pub ends_from : (store mid after : StoreView) (job : Job) (ending : Ending) (text : List ℕ) → FilesStay store mid → SameCounts store mid → JobEnds mid after job ending text → JobEnds store after job ending text
+ends_from store mid after (Say e t) ending text files counts h = (h.0, h.1, stay_more store mid after files h.2, counts_more store mid after counts h.3)
+ends_from store mid after (Read name next) ending text files counts (inl h) = inl (cannot_from store mid after name ending text counts h.0, stay_more store mid after files h.1)
+ends_from store mid after (Read name next) ending text files counts (inr h) =
+    inr (h.0, ((λ tells. sym (files.file tells name) ∙ h.1.0 (files.tells ∙ tells)), ends_from store mid after (next h.0) ending text files counts h.1.1))
+ends_from store mid after (Write name bytes next) ending text files counts (inl h) = inl (cannot_write_from store mid after name ending text files counts h)
+ends_from store mid after (Write name bytes next) ending text files counts (inr h) =
+    inr (ends_from (written store name bytes) (written mid name bytes) after next ending text (written_stays store mid name bytes files) counts h)
+ends_from store mid after (Threads kind plan next) ending text files counts (inl h) = inl (run_stops_from plan store mid after ending text files counts h)
+ends_from store mid after (Threads kind plan next) ending text files counts (inr h) =
+    inr (h.0, h.1, h.2, kept_from plan h.0 store mid h.1 files counts h.3, h.4)
 
 -- ---- jobs that stop early
 pub stay_cut : (store after : StoreView) (job : Job) → FilesStay store after → JobCut store after job
 stay_cut store after (Say e t) h = h
 stay_cut store after (Read name next) h = inl h
 stay_cut store after (Write name bytes next) h = inl (inl h)
+stay_cut store after (Threads kind plan next) h = inl (record { tells = h.tells; file = λ tells other differs. h.file tells other })
 
-cut_from : (store mid after : StoreView) (job : Job) → FilesStay store mid → SameFaults store mid → JobCut mid after job → JobCut store after job
-cut_from store mid after (Say e t) files faults h = stay_more store mid after files h
-cut_from store mid after (Read name next) files faults (inl h) = inl (stay_more store mid after files h)
-cut_from store mid after (Read name next) files faults (inr h) =
-    inr (h.0, ((λ tells. sym (files.file tells name) ∙ h.1.0 (files.tells ∙ tells)), cut_from store mid after (next h.0) files faults h.1.1))
-cut_from store mid after (Write name bytes next) files faults (inl (inl h)) = inl (inl (stay_more store mid after files h))
-cut_from store mid after (Write name bytes next) files faults (inl (inr h)) = inl (inr (write_failed_from store mid after name files faults h))
-cut_from store mid after (Write name bytes next) files faults (inr h) =
-    inr (cut_from (written store name bytes) (written mid name bytes) after next (written_stays store mid name bytes files) faults h)
+cut_from : (store mid after : StoreView) (job : Job) → FilesStay store mid → SameCounts store mid → JobCut mid after job → JobCut store after job
+cut_from store mid after (Say e t) files counts h = stay_more store mid after files h
+cut_from store mid after (Read name next) files counts (inl h) = inl (stay_more store mid after files h)
+cut_from store mid after (Read name next) files counts (inr h) =
+    inr (h.0, ((λ tells. sym (files.file tells name) ∙ h.1.0 (files.tells ∙ tells)), cut_from store mid after (next h.0) files counts h.1.1))
+cut_from store mid after (Write name bytes next) files counts (inl (inl h)) = inl (inl (stay_more store mid after files h))
+cut_from store mid after (Write name bytes next) files counts (inl (inr h)) = inl (inr (write_failed_from store mid after name files counts h))
+cut_from store mid after (Write name bytes next) files counts (inr h) =
+    inr (cut_from (written store name bytes) (written mid name bytes) after next (written_stays store mid name bytes files) counts h)
+cut_from store mid after (Threads kind plan next) files counts (inl h) = inl (but_more (log_files plan) store mid after files h)
+cut_from store mid after (Threads kind plan next) files counts (inr h) =
+    inr (h.0, h.1, h.2, kept_from plan h.0 store mid h.1 files counts h.3, h.4)
 
 cannot_write_failed : (store after : StoreView) (name : List ℕ) (ending : Ending) (text : List ℕ) → CannotWrite store after name ending text → WriteFailed store after name
 cannot_write_failed store after name Done text h = absurd h
@@ -75,7 +135,17 @@ cannot_write_failed store after name Usage text h = absurd h
 cannot_write_failed store after name Refused text h = absurd h
 cannot_write_failed store after name BadLog text h = absurd h
 cannot_write_failed store after name ReadFault text h = absurd h
+cannot_write_failed store after name Faulty text h = absurd h
 cannot_write_failed store after name WriteFault text h = h.failed
+
+run_stops_cut : {k : ObjectKind} (plan : RunPlan k) (store after : StoreView) (ending : Ending) (text : List ℕ) → RunStops plan store after ending text → AllButStay (log_files plan) store after
+run_stops_cut plan store after Done text h = absurd h
+run_stops_cut plan store after Usage text h = absurd h
+run_stops_cut plan store after Refused text h = absurd h
+run_stops_cut plan store after BadLog text h = absurd h
+run_stops_cut plan store after ReadFault text h = absurd h
+run_stops_cut plan store after WriteFault text h = h.others
+run_stops_cut plan store after Faulty text h = h.others
 
 -- a job that ended may have stopped there
 pub ends_cut : (store after : StoreView) (job : Job) (ending : Ending) (text : List ℕ) → JobEnds store after job ending text → JobCut store after job
@@ -84,6 +154,8 @@ ends_cut store after (Read name next) ending text (inl h) = inl h.1
 ends_cut store after (Read name next) ending text (inr h) = inr (h.0, (h.1.0, ends_cut store after (next h.0) ending text h.1.1))
 ends_cut store after (Write name bytes next) ending text (inl h) = inl (inr (cannot_write_failed store after name ending text h))
 ends_cut store after (Write name bytes next) ending text (inr h) = inr (ends_cut (written store name bytes) after next ending text h)
+ends_cut store after (Threads kind plan next) ending text (inl h) = inl (run_stops_cut plan store after ending text h)
+ends_cut store after (Threads kind plan next) ending text (inr h) = inr (h.0, h.1, h.2, h.3, ends_cut h.1 after (next h.0) ending text h.4)
 
 -- ---- jobs one after the other
 pub goes_same : (store : StoreView) (job : Job) → GoesOn store store job job
@@ -96,27 +168,27 @@ goes_after store mid new job next last first then_ = record {
 }
 
 -- ---- reading
-on_read : (store mid : StoreView) (name : List ℕ) (next : List ℕ → Job) (bytes : List ℕ) → Holds store name bytes → SameFiles store mid → SameFaults store mid → GoesOn store mid (Read name next) (next bytes)
-on_read store mid name next bytes held same faults =
+on_read : (store mid : StoreView) (name : List ℕ) (next : List ℕ → Job) (bytes : List ℕ) → Holds store name bytes → SameFiles store mid → SameCounts store mid → GoesOn store mid (Read name next) (next bytes)
+on_read store mid name next bytes held same counts =
     let files = files_stay store mid same in
     record {
-      ends = λ after ending text h. inr (bytes, (held, ends_from store mid after (next bytes) ending text files faults h));
-      cut = λ after h. inr (bytes, (held, cut_from store mid after (next bytes) files faults h));
+      ends = λ after ending text h. inr (bytes, (held, ends_from store mid after (next bytes) ending text files counts h));
+      cut = λ after h. inr (bytes, (held, cut_from store mid after (next bytes) files counts h));
     }
 
-pub on_image : (store mid : StoreView) (name : List ℕ) (next : List (List ℕ) → Job) (lines : List (List ℕ)) → HoldsImage store name lines → SameFiles store mid → SameFaults store mid
+pub on_image : (store mid : StoreView) (name : List ℕ) (next : List (List ℕ) → Job) (lines : List (List ℕ)) → HoldsImage store name lines → SameFiles store mid → SameCounts store mid
     → GoesOn store mid (Read name (λ bytes. next (image_lines bytes))) (next lines)
-on_image store mid name next lines h same faults =
-    subst (λ l. GoesOn store mid (Read name (λ bytes. next (image_lines bytes))) (next l)) (sym h.image) (on_read store mid name (λ bytes. next (image_lines bytes)) h.bytes h.held same faults)
+on_image store mid name next lines h same counts =
+    subst (λ l. GoesOn store mid (Read name (λ bytes. next (image_lines bytes))) (next l)) (sym h.image) (on_read store mid name (λ bytes. next (image_lines bytes)) h.bytes h.held same counts)
 
 pub on_whole : {A : Type 0} (store mid : StoreView) (name : List ℕ) (grammar : List ℕ → Result A Refusal) (next : List ℕ → A → Job) (bytes : List ℕ) (value : A)
-    → ReadsWhole store grammar name bytes value → SameFiles store mid → SameFaults store mid → GoesOn store mid (reading_whole name grammar next) (next bytes value)
-on_whole store mid name grammar next bytes value r same faults =
-    subst (λ v. GoesOn store mid (reading_whole name grammar next) (on_value name (next bytes) v)) r.accepted (on_read store mid name (λ b. on_value name (next b) (grammar b)) bytes r.held same faults)
+    → ReadsWhole store grammar name bytes value → SameFiles store mid → SameCounts store mid → GoesOn store mid (reading_whole name grammar next) (next bytes value)
+on_whole store mid name grammar next bytes value r same counts =
+    subst (λ v. GoesOn store mid (reading_whole name grammar next) (on_value name (next bytes) v)) r.accepted (on_read store mid name (λ b. on_value name (next b) (grammar b)) bytes r.held same counts)
 
 pub on_text : {A : Type 0} (store mid : StoreView) (name : List ℕ) (grammar : List ℕ → Result A Refusal) (next : A → Job) (value : A)
-    → Reads store grammar name value → SameFiles store mid → SameFaults store mid → GoesOn store mid (reading name grammar next) (next value)
-on_text store mid name grammar next value r same faults = on_whole store mid name grammar (λ _. next) r.bytes value (record { held = r.held; accepted = r.accepted }) same faults
+    → Reads store grammar name value → SameFiles store mid → SameCounts store mid → GoesOn store mid (reading name grammar next) (next value)
+on_text store mid name grammar next value r same counts = on_whole store mid name grammar (λ _. next) r.bytes value (record { held = r.held; accepted = r.accepted }) same counts
 
 -- the reading of a text ended the call
 pub stopped_ends : {A : Type 0} (store after : StoreView) (name : List ℕ) (grammar : List ℕ → Result A Refusal) (next : List ℕ → A → Job) (ending : Ending) (text : List ℕ)
@@ -128,6 +200,7 @@ stopped_ends store after name grammar next Refused text same h =
 stopped_ends store after name grammar next BadLog text same h = absurd h
 stopped_ends store after name grammar next ReadFault text same h = inl (h, files_stay store after same)
 stopped_ends store after name grammar next WriteFault text same h = absurd h
+stopped_ends store after name grammar next Faulty text same h = absurd h
 
 -- ---- writing
 -- what a store's write leaves
@@ -142,8 +215,8 @@ write_leaves old new name bytes held others = record { tells = others.tells; fil
 
 pub on_write : (store mid : StoreView) (name bytes : List ℕ) (next : Job) → HasWritten store mid name bytes → GoesOn store mid (Write name bytes next) next
 on_write store mid name bytes next h = record {
-  ends = λ after ending text k. inr (ends_from (written store name bytes) mid after next ending text h.files h.faults k);
-  cut = λ after k. inr (cut_from (written store name bytes) mid after next h.files h.faults k);
+  ends = λ after ending text k. inr (ends_from (written store name bytes) mid after next ending text h.files h.counts k);
+  cut = λ after k. inr (cut_from (written store name bytes) mid after next h.files h.counts k);
 }
 
 pub others_stay : (name : List ℕ) (old new : StoreView) → SameOthers name old new → OthersStay name old new

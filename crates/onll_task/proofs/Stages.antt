@@ -6,18 +6,19 @@ use Rattle.std.proofs.lemmas.List.{drop_more, drop_all}
 use Rattle.onll_words.specs.declared.line.Line.{Line}
 use Rattle.onll_pmem.specs.Pmem.{words_of}
 use Rattle.std.proofs.lemmas.Result.{err_from_is_err_and}
-use Rattle.onll_outside.specs.Views.{StoreView, SameFiles, SameOthers, SameFaults}
+use Rattle.onll_outside.specs.Views.{StoreView, SameFiles, SameOthers}
 use Rattle.onll_text.specs.Refusal.{Refusal}
 use Rattle.onll_task.specs.declared.ending.Ending.{Ending}
-use Rattle.onll_task.specs.declared.ending.Ending.TheVariants.{Done, Usage, Refused, BadLog, ReadFault, WriteFault}
+use Rattle.onll_task.specs.declared.ending.Ending.TheVariants.{Done, Usage, Refused, BadLog, ReadFault, WriteFault, Faulty}
 use Rattle.onll_task.specs.declared.answer.Stop.{Stop}
 use Rattle.onll_task.specs.declared.answer.Stop.TheVariants.{Says, NoMemory}
 use Rattle.onll_task.specs.Doing.{Task, Stage, after_stage, report_task, say_task, text_stage, whole_stage, lines_stage, each_job, AreKnown, each_stage, StopsSo, Does, Begins}
 use Rattle.onll_task.specs.Job.{Job, Say, Read, Write, JobEnds, GoesOn, reading, reading_whole}
 use Rattle.onll_task.specs.Reading.{Reads, ReadsWhole, HoldsImage, CannotRead, Stops}
-use Rattle.onll_task.specs.Images.{image_name, image_names, images_in, image_bytes, writing_images, writing_stage}
+use Rattle.onll_task.specs.ImageNames.{image_name, image_names}
+use Rattle.onll_task.specs.Images.{images_in, image_bytes, writing_images, writing_stage}
 use Rattle.onll_task.specs.Stop.{StopSays}
-use Rattle.onll_task.specs.Writing.{FilesStay, SameBut, CannotWrite, WriteStops}
+use Rattle.onll_task.specs.Writing.{FilesStay, SameBut, SameCounts, CannotWrite, WriteStops}
 use Rattle.onll_task.proofs.Onwards.{on_whole, on_text, on_image, stay_cut, stay_more, stopped_ends, goes_same, goes_after, WroteSo, others_on}
 use Rattle.onll_task.proofs.Jobs.{files_stay}
 
@@ -78,6 +79,7 @@ refused_end store after grammar name Refused text h e = cc e
 refused_end store after grammar name BadLog text h e = h
 refused_end store after grammar name ReadFault text h e = cc e
 refused_end store after grammar name WriteFault text h e = h
+refused_end store after grammar name Faulty text h e = h
 
 cannot_end : (store after : StoreView) (name : List ℕ) (ending : Ending) (text : List ℕ) → CannotRead store after name ending text → ending ≡ Done → ⊥
 cannot_end store after name Done text h e = h
@@ -86,6 +88,7 @@ cannot_end store after name Refused text h e = h
 cannot_end store after name BadLog text h e = h
 cannot_end store after name ReadFault text h e = cc e
 cannot_end store after name WriteFault text h e = h
+cannot_end store after name Faulty text h e = h
 
 -- a file can't be read
 pub unread_stops : (store after : StoreView) (name : List ℕ) (next : List ℕ → Job) (s : Stop) → StopSays s (CannotRead store after name) → SameFiles store after → StopsSo store after (Read name next) s
@@ -134,7 +137,7 @@ unread_does {X} names {store} {after} next first = record { done = tt; reports =
 -- a report
 pub report_does : {A : Type 0} (store : StoreView) {report : List ℕ} {Holds : List ℕ → Type 0} (text : Vec ℕ A) → text.items ≡ report → Holds text.items
     → Does [] store store (report_task report Holds) (Ok text)
-report_does store text e holds = record { done = (refl, e, stay_same store, (refl, refl)); reports = λ before same. holds; stops = tt; files = none_changes [] store }
+report_does store text e holds = record { done = (refl, e, stay_same store, ((refl, refl), (refl, refl))); reports = λ before same. holds; stops = tt; files = none_changes [] store }
 
 -- memory could not be had
 pub none_does : {A : Type 0} (names : List (List ℕ)) (store : StoreView) (task : Task) {r : Result (Vec ℕ A) Stop} → IsErrAnd r (λ stop. stop ≡ NoMemory) → Does names store store task r
@@ -149,7 +152,7 @@ pub says_does : {A : Type 0} (store : StoreView) (ending : Ending) (text : List 
 says_does store ending text s bad h = record {
   done = tt;
   reports = tt;
-  stops = says_stops store store (Say ending text) s (λ end said. (end ≡ ending) × (said ≡ text)) (stay_same store) (λ end said k. ((λ e. bad (sym k.0 ∙ e)), (k.0, k.1, stay_same store, (refl, refl)))) h;
+  stops = says_stops store store (Say ending text) s (λ end said. (end ≡ ending) × (said ≡ text)) (stay_same store) (λ end said k. ((λ e. bad (sym k.0 ∙ e)), (k.0, k.1, stay_same store, ((refl, refl), (refl, refl))))) h;
   files = none_changes [] store;
 }
 
@@ -172,7 +175,7 @@ none_begins {store = store} {after} {stage} {value} {r} h same =
 
 -- a text that is read by its grammar
 pub read_begins : {V A : Type 0} {store mid : StoreView} {name : List ℕ} {grammar : List ℕ → Result A Refusal} {value : V → A} (v : V)
-    → Reads store grammar name (value v) → SameFiles store mid → SameFaults store mid → Begins [] store mid (text_stage name grammar) value (Ok v)
+    → Reads store grammar name (value v) → SameFiles store mid → SameCounts store mid → Begins [] store mid (text_stage name grammar) value (Ok v)
 read_begins {store = store} {mid} {name} {grammar} {value} v read same faults =
     goes_begins v (λ next. on_text store mid name grammar next (value v) read same faults) (λ before files. reads_before files read) same
 
@@ -185,7 +188,7 @@ refused_begins {store = store} {after} name grammar s stop same =
 
 -- the same with its bytes
 pub whole_begins : {V A : Type 0} {store mid : StoreView} {name : List ℕ} {grammar : List ℕ → Result A Refusal} {value : V → List ℕ × A} (v : V)
-    → ReadsWhole store grammar name (value v).0 (value v).1 → SameFiles store mid → SameFaults store mid → Begins [] store mid (whole_stage name grammar) value (Ok v)
+    → ReadsWhole store grammar name (value v).0 (value v).1 → SameFiles store mid → SameCounts store mid → Begins [] store mid (whole_stage name grammar) value (Ok v)
 whole_begins {store = store} {mid} {name} {grammar} {value} v read same faults =
     goes_begins v (λ next. on_whole store mid name grammar (λ bytes a. next (bytes, a)) (value v).0 (value v).1 read same faults) (λ before files. whole_before files read) same
 
@@ -197,7 +200,7 @@ refused_whole {store = store} {after} name grammar s stop same =
 
 -- the lines of an image
 pub lines_begins : {V : Type 0} {store mid : StoreView} {name : List ℕ} {value : V → List (List ℕ)} (v : V)
-    → HoldsImage store name (value v) → SameFiles store mid → SameFaults store mid → Begins [] store mid (lines_stage name) value (Ok v)
+    → HoldsImage store name (value v) → SameFiles store mid → SameCounts store mid → Begins [] store mid (lines_stage name) value (Ok v)
 lines_begins {store = store} {mid} {name} {value} v h same faults =
     goes_begins v (λ next. on_image store mid name next (value v) h same faults) (λ before files. image_before files h) same
 
@@ -209,6 +212,7 @@ unwritten_end store after name Refused text h e = h
 unwritten_end store after name BadLog text h e = h
 unwritten_end store after name ReadFault text h e = h
 unwritten_end store after name WriteFault text h e = cc e
+unwritten_end store after name Faulty text h e = h
 
 unwritten_stops : (store after : StoreView) (name bytes : List ℕ) (next : Job) (s : Stop) → StopSays s (CannotWrite store after name) → WriteStops store after name → StopsSo store after (Write name bytes next) s
 unwritten_stops store after name bytes next (Says answer) stop cut = (unwritten_end store after name answer.ending answer.text.items stop, inl stop)

@@ -1,5 +1,5 @@
 use Rattle.std.proofs.Common.{ℕ, List, ◌≡◌, Result, Ok, Err, sym, ◌∙◌, subst}
-use Rattle.onll_outside.specs.Views.{StoreView, SameFaults}
+use Rattle.onll_outside.specs.Views.{StoreView}
 use Rattle.onll_text.specs.declared.reason.Reason.{Reason}
 use Rattle.onll_text.specs.Refusal.{Refusal, refused}
 use Rattle.onll_task.specs.declared.ending.Ending.{Ending}
@@ -9,6 +9,7 @@ use Rattle.onll_task.specs.declared.answer.Stop.TheVariants.{Says, NoMemory}
 use Rattle.onll_task.specs.Printed.{refusal_text}
 use Rattle.onll_task.specs.Reading.{IsCut, Reads, Stops}
 use Rattle.onll_task.specs.Stop.{StopSays}
+use Rattle.onll_task.specs.Writing.{SameCounts}
 
 pub StopSays-weaker : (s : Stop) (P Q : Ending → List ℕ → Type 0) → ((e : Ending) (t : List ℕ) → P e t → Q e t) → StopSays s P → StopSays s Q
 StopSays-weaker (Says answer) P Q f h = f answer.ending answer.text.items h
@@ -22,7 +23,7 @@ reads_cut store grammar name text value c same h = record { bytes = c.bytes; hel
 -- what was read of the file is refused
 pub stops_refused : {A : Type 0} (store after : StoreView) (grammar : List ℕ → Result A Refusal) (name text : List ℕ) (line : ℕ) (reason : Reason) (s : Stop) (c : IsCut store name text)
     → grammar c.bytes ≡ grammar text → grammar text ≡ Err (refused line reason)
-    → SameFaults store after → StopSays s (λ end said. (end ≡ Refused) × (said ≡ refusal_text name (refused line reason))) → StopSays s (Stops store after grammar name)
+    → SameCounts store after → StopSays s (λ end said. (end ≡ Refused) × (said ≡ refusal_text name (refused line reason))) → StopSays s (Stops store after grammar name)
 stops_refused store after grammar name text line reason s c same h faults =
     StopSays-weaker s (λ end said. (end ≡ Refused) × (said ≡ refusal_text name (refused line reason))) (Stops store after grammar name)
     (λ end said k. subst (λ e. Stops store after grammar name e said) (sym k.0)

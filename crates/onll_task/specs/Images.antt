@@ -1,23 +1,15 @@
 -- The images of the logs of one run: one file for each thread.
 
 use Rattle.std.specs.List.{flat_map}
-use Rattle.std.specs.Prelude.{ℕ, zero, suc, List, [], ◌∷◌, ◌++◌, map, codes, decimal}
+use Rattle.std.specs.Prelude.{ℕ, suc, List, [], ◌∷◌, map}
 use Rattle.std.specs.declared.vec.Vec.{Vec}
 use Rattle.std.specs.declared.alloc.Global.{Global}
 use Rattle.onll_words.specs.declared.line.Line.{Line}
 use Rattle.onll_words.specs.Lines.{bytes_of_words}
 use Rattle.onll_pmem.specs.Pmem.{words_of}
+use Rattle.onll_task.specs.ImageNames.{image_name, image_names}
 use Rattle.onll_task.specs.Job.{Job, Write}
 use Rattle.onll_task.specs.Doing.{Stage, lines_stage, each_stage}
-
--- the name of a thread's image
-abbrev pub image_name : List ℕ → ℕ → List ℕ
-image_name logs thread = logs ++ (codes "." ++ decimal thread)
-
--- the names of the images of this many threads, from thread i on
-abbrev pub image_names : List ℕ → ℕ → ℕ → List (List ℕ)
-image_names logs i zero = []
-image_names logs i (suc threads) = image_name logs i ∷ image_names logs (suc i) threads
 
 -- the lines of images, as words
 abbrev pub images_in : List (Vec Line Global) → List (List (List ℕ))

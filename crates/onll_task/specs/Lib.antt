@@ -1,7 +1,10 @@
 pub mod Doing
+pub mod ImageNames
 pub mod Images
 pub mod Job
 pub mod Printed
 pub mod Reading
+pub mod Running
+pub mod Standing
 pub mod Stop
 pub mod Writing

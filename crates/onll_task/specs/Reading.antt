@@ -4,11 +4,12 @@ use Rattle.std.specs.Prelude.{ℕ, List, ◌≡◌, ◌+◌, ◌⊎◌, true, So
 use Rattle.onll_log.specs.ImageFile.{image_lines}
 use Rattle.onll_text.specs.Refusal.{Refusal}
 use Rattle.onll_text.specs.Script.{longest_text}
-use Rattle.onll_outside.specs.Views.{StoreView, Holds, SameFaults, Rose}
+use Rattle.onll_outside.specs.Views.{StoreView, Holds, Rose}
 use Rattle.onll_outside.specs.declared.store.FaultKind.TheVariants as kinds
 use Rattle.onll_task.specs.declared.ending.Ending.{Ending}
 use Rattle.onll_task.specs.declared.ending.Ending.TheVariants.{Refused, ReadFault}
 use Rattle.onll_task.specs.Printed.{refusal_text, read_fault_text}
+use Rattle.onll_task.specs.Writing.{SameCounts}
 
 -- the named file is told, and has these bytes
 pub record IsTold (store : StoreView) (name bytes : List ℕ) : Type 0 where
@@ -60,6 +61,6 @@ CannotRead store after name ending text = ⊥
 
 -- how the reading of a file ends a call; a text that is refused was read
 abbrev pub Stops : {A : Type 0} → StoreView → StoreView → (List ℕ → Result A Refusal) → List ℕ → Ending → List ℕ → Type 0
-Stops store after grammar name Refused text = Refuses store grammar name text × SameFaults store after
+Stops store after grammar name Refused text = Refuses store grammar name text × SameCounts store after
 Stops store after grammar name ReadFault text = Unread store after name text
 Stops store after grammar name ending text = ⊥

@@ -3,7 +3,7 @@
 use Rattle.std.specs.Prelude.{ℕ, List, ◌≡◌, ◌⊎◌, true, Some, if◌then◌else◌}
 use Rattle.std.specs.List.{AllByRecursion}
 use Rattle.std.specs.Str.{bytes_eq}
-use Rattle.onll_outside.specs.Views.{StoreView, SameFaults, Rose}
+use Rattle.onll_outside.specs.Views.{StoreView, SameFaults, SameDevices, Rose}
 use Rattle.onll_outside.specs.declared.store.FaultKind.TheVariants as kinds
 use Rattle.onll_task.specs.declared.ending.Ending.{Ending}
 use Rattle.onll_task.specs.declared.ending.Ending.TheVariants.{WriteFault}
@@ -23,6 +23,15 @@ pub record OthersStay (name : List ℕ) (old new : StoreView) : Type 0 where
   pub tells : new.tells ≡ old.tells
   pub file : old.tells ≡ true → (other : List ℕ) → (other ≡ name → ⊥) → new.file other ≡ old.file other
 
+-- where the store tells its files, none changed but perhaps those of these names
+pub record AllButStay (names : List (List ℕ)) (old new : StoreView) : Type 0 where
+  pub tells : new.tells ≡ old.tells
+  pub file : old.tells ≡ true → (other : List ℕ) → AllByRecursion (λ name. other ≡ name → ⊥) names → new.file other ≡ old.file other
+
+-- no call of the store failed, and no device was handed back
+abbrev pub SameCounts : StoreView → StoreView → Type 0
+SameCounts old new = SameFaults old new × SameDevices old new
+
 -- no file changed but perhaps those of these names
 pub record SameBut (names : List (List ℕ)) (old new : StoreView) : Type 0 where
   pub tells : new.tells ≡ old.tells
@@ -31,7 +40,7 @@ pub record SameBut (names : List (List ℕ)) (old new : StoreView) : Type 0 wher
 -- these bytes were made the file of this name
 pub record HasWritten (old new : StoreView) (name bytes : List ℕ) : Type 0 where
   pub files : FilesStay (written old name bytes) new
-  pub faults : SameFaults old new
+  pub counts : SameCounts old new
 
 -- a write of the file failed: the store's count rose and this write is its last fault; no other file changed
 pub record WriteFailed (store after : StoreView) (name : List ℕ) : Type 0 where

@@ -18,6 +18,8 @@ pub enum Ending {
     ReadFault,
     /// A file could not be written.
     WriteFault,
+    /// A fence failed; the text is the report, or the one line of a header whose fence failed.
+    Faulty,
 }
 
 impl Ending {
@@ -32,6 +34,7 @@ impl Ending {
             Ending::BadLog => 4,
             Ending::ReadFault => 5,
             Ending::WriteFault => 6,
+            Ending::Faulty => 7,
         }
     }
 }

@@ -3,7 +3,8 @@
 ghost use Rattle.std.specs.Prelude.{◌≡◌, [], length, string_bytes, IfOk, IfErr, OnOk};
 ghost use Rattle.onll_outside.specs.Views.{SameOthers};
 ghost use Rattle.onll_pmem.specs.Pmem.{words_of};
-ghost use Rattle.onll_task.specs.Images.{image_name, image_names, images_in, image_bytes, images_stage, writing_stage};
+ghost use Rattle.onll_task.specs.ImageNames.{image_name, image_names};
+ghost use Rattle.onll_task.specs.Images.{images_in, image_bytes, images_stage, writing_stage};
 ghost use Rattle.onll_task.specs.Writing.{HasWritten, CannotWrite, WriteStops};
 ghost use Rattle.onll_task.specs.Stop.{StopSays};
 ghost use Rattle.onll_task.specs.Doing.{Begins, lines_stage};
@@ -16,7 +17,7 @@ use onll_words::{Line, line_bytes};
 use std::alloc::{AllocError, Global};
 
 /// The name of a thread's image.
-fn image_name(alloc: Global, logs: &str, thread: u64) -> Result<String, AllocError>
+pub fn image_name(alloc: Global, logs: &str, thread: u64) -> Result<String, AllocError>
     ensures { IfOk result (λ name. string_bytes name ≡ image_name logs.now thread) }
 {
     let mut buffer = Buffer::new();

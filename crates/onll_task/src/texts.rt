@@ -2,14 +2,14 @@
 
 ghost use Rattle.std.specs.Prelude.{[], ◌≤◌, IfOk, IfErr, OnOk};
 ghost use Rattle.onll_model.specs.Limits.{most_updates};
-ghost use Rattle.onll_outside.specs.Views.{Gives, SameFiles, SameOthers, SameFaults};
+ghost use Rattle.onll_outside.specs.Views.{Gives, SameFiles, SameOthers};
 ghost use Rattle.onll_model.specs.Calls.{updates_in};
 ghost use Rattle.onll_pmem.specs.Pmem.{words_of};
 ghost use Rattle.onll_text.specs.Init.{init_of};
 ghost use Rattle.onll_text.specs.Script.{script_of};
 ghost use Rattle.onll_task.specs.Reading.{IsCut, CannotRead};
 ghost use Rattle.onll_task.specs.Stop.{StopSays};
-ghost use Rattle.onll_task.specs.Writing.{HasWritten, CannotWrite, WriteStops};
+ghost use Rattle.onll_task.specs.Writing.{SameCounts, HasWritten, CannotWrite, WriteStops};
 ghost use Rattle.onll_text.specs.Schedule.{schedule_of, IsPlayable};
 ghost use Rattle.onll_task.specs.Doing.{Begins, text_stage, whole_stage, lines_stage};
 
@@ -33,7 +33,7 @@ fn read_bytes<S: Store>(
     ensures bytes { IfOk result (λ bytes. Gives (S.seen store.old) name.now limit bytes.items) }
     ensures stop { IfErr result (λ stop. StopSays stop (CannotRead (S.seen store.old) (S.seen store.new) name.now)) }
     ensures same { SameFiles (S.seen store.old) (S.seen store.new) }
-    ensures faults { OnOk result (SameFaults (S.seen store.old) (S.seen store.new)) }
+    ensures counts { OnOk result (SameCounts (S.seen store.old) (S.seen store.new)) }
 {
     match store.read(alloc, name, limit) {
         Ok(bytes) => Ok(bytes),
@@ -47,7 +47,7 @@ fn read_text<S: Store>(alloc: Global, name: &str, store: &mut S) -> Result<Vec<u
     ensures text { IfOk result (λ text. IsCut (S.seen store.old) name.now text.items) }
     ensures stop { IfErr result (λ stop. StopSays stop (CannotRead (S.seen store.old) (S.seen store.new) name.now)) }
     ensures same { SameFiles (S.seen store.old) (S.seen store.new) }
-    ensures faults { OnOk result (SameFaults (S.seen store.old) (S.seen store.new)) }
+    ensures counts { OnOk result (SameCounts (S.seen store.old) (S.seen store.new)) }
 {
     read_bytes(alloc, name, LONGEST_TEXT as u64 + 1, store)
 }

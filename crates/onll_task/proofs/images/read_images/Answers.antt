@@ -1,5 +1,6 @@
 use Rattle.std.proofs.Common.{◌≡◌, ◌+◌, ◌-◌, ◌++◌, ◌∷◌, [], length, ap, ◌∙◌, subst, arith, rules, length-append}
-use Rattle.onll_task.specs.Images.{image_names, images_in}
+use Rattle.onll_task.specs.ImageNames.{image_names}
+use Rattle.onll_task.specs.Images.{images_in}
 use Rattle.onll_task.specs.Doing.{lines_stage}
 use Rattle.onll_task.proofs.Stages.{ReadSo, none_read, value_next, value_stops, values_read, none_begins, none_then}
 use Rattle.onll_task.proofs.ImageFiles.{images_more, names_more}

@@ -1,5 +1,6 @@
 use Rattle.std.proofs.Common.{◌≡◌, ◌-◌, length}
-use Rattle.onll_task.specs.Images.{image_names, images_in}
+use Rattle.onll_task.specs.ImageNames.{image_names}
+use Rattle.onll_task.specs.Images.{images_in}
 use Rattle.onll_task.specs.Doing.{lines_stage}
 use Rattle.onll_task.proofs.Stages.{ReadSo}
 use Rattle.onll_task.proofs.images.read_images.Given as goal

@@ -13,7 +13,7 @@ returns-in-Ok-read_schedule-clause-begins g c =
     let store = g.S.Store.seen c.args.store.now in
     let cut = c.in-Ok.ensures.text in
     read_begins _ (reads_cut store (schedule_of c.args.threads) c.args.name.now c.in-Ok.text.items c.in-Ok-read_schedule.schedule cut (schedule_of-cut c.args.threads store c.args.name.now c.in-Ok.text.items cut)
-    (sym (ap (schedule_of c.args.threads) c.deref.ensures.value) ∙ c.in-Ok-read_schedule.ensures.schedule)) c.in-Ok.ensures.same c.in-Ok.ensures.faults
+    (sym (ap (schedule_of c.args.threads) c.deref.ensures.value) ∙ c.in-Ok-read_schedule.ensures.schedule)) c.in-Ok.ensures.same c.in-Ok.ensures.counts
 
 pub returns-in-Err-Refused-clause-begins : goal.returns-in-Err-Refused-clause-begins
 returns-in-Err-Refused-clause-begins g c =
@@ -22,4 +22,4 @@ returns-in-Err-Refused-clause-begins g c =
     refused_begins c.args.name.now (schedule_of c.args.threads) c.refused.result
     (stops_refused store (g.S.Store.seen c.read_text.new.store) (schedule_of c.args.threads) c.args.name.now c.in-Ok.text.items c.in-Err-Refused.line c.in-Err-Refused.reason c.refused.result
     cut (schedule_of-cut c.args.threads store c.args.name.now c.in-Ok.text.items cut)
-    (sym (ap (schedule_of c.args.threads) c.deref.ensures.value) ∙ (rw c.in-Err-Refused.field-0-is at c.in-Err-Refused.ensures.schedule)) c.in-Ok.ensures.faults c.refused.ensures) c.in-Ok.ensures.same
+    (sym (ap (schedule_of c.args.threads) c.deref.ensures.value) ∙ (rw c.in-Err-Refused.field-0-is at c.in-Err-Refused.ensures.schedule)) c.in-Ok.ensures.counts c.refused.ensures) c.in-Ok.ensures.same

@@ -14,7 +14,7 @@ returns-in-Ok-read_script-clause-begins g c =
     let w = g.O.Texted.wording in
     let cut = c.in-Ok.ensures.text in
     read_begins _ (reads_cut store (script_of w) c.args.name.now c.in-Ok.text.items c.in-Ok-read_script.calls.items cut (script_of-cut w store c.args.name.now c.in-Ok.text.items cut)
-    (sym (ap (script_of w) c.deref.ensures.value) ∙ c.in-Ok-read_script.ensures.calls)) c.in-Ok.ensures.same c.in-Ok.ensures.faults
+    (sym (ap (script_of w) c.deref.ensures.value) ∙ c.in-Ok-read_script.ensures.calls)) c.in-Ok.ensures.same c.in-Ok.ensures.counts
 
 pub returns-in-Err-Refused-clause-begins : goal.returns-in-Err-Refused-clause-begins
 returns-in-Err-Refused-clause-begins g c =
@@ -24,4 +24,4 @@ returns-in-Err-Refused-clause-begins g c =
     refused_begins c.args.name.now (script_of w) c.refused.result
     (stops_refused store (g.S.Store.seen c.read_text.new.store) (script_of w) c.args.name.now c.in-Ok.text.items c.in-Err-Refused.line c.in-Err-Refused.reason c.refused.result
     cut (script_of-cut w store c.args.name.now c.in-Ok.text.items cut)
-    (sym (ap (script_of w) c.deref.ensures.value) ∙ (rw c.in-Err-Refused.field-0-is at c.in-Err-Refused.ensures.calls)) c.in-Ok.ensures.faults c.refused.ensures) c.in-Ok.ensures.same
+    (sym (ap (script_of w) c.deref.ensures.value) ∙ (rw c.in-Err-Refused.field-0-is at c.in-Err-Refused.ensures.calls)) c.in-Ok.ensures.counts c.refused.ensures) c.in-Ok.ensures.same

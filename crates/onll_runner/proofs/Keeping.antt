@@ -1,0 +1,98 @@
+-- What a store keeps of the logs that a run hands back.
+
+use Rattle.std.proofs.Common.{ℕ, zero, suc, true, false, Bool, List, [], ◌∷◌, ◌≡◌, ◌+◌, ◌-◌, ◌^◌, ◌<◌, length, map, sum_by, Option, Some, None, is_some, refl, sym, ap, ◌∙◌, subst, arith, true≢false}
+use Rattle.std.proofs.lemmas.List.Sums.{sum_by-cons}
+use Rattle.onll_pmem.specs.Device.{Mixed}
+use Rattle.onll_pmem.specs.Laws.{SameLaw}
+use Rattle.onll_pmem.specs.Pmem.{DeviceView, Told, ToldSettled}
+use Rattle.onll_log.specs.Log.{LogState}
+use Rattle.onll_model.specs.declared.call.CallEnd.{CallEnd}
+use Rattle.onll_outside.specs.Views.{StoreView, KeepsDevice, counted, image_bytes, one_fault}
+use Rattle.onll_run.specs.Outcomes.{failed_in, fault_in}
+use Rattle.onll_run.specs.Left.{LogLeft, fenced_in}
+use Rattle.onll_run.specs.Ended.{log_left}
+use Rattle.onll_run.specs.Making.{device_of}
+use Rattle.onll_run.specs.Ran as ran
+use Rattle.onll_task.specs.ImageNames.{image_name}
+use Rattle.onll_task.specs.Running.{HoldsLog, HoldsLogs, broken_threads, fences_of}
+use Rattle.onll_runner.specs.Devices.{AreKept, risen, fault_of, fences_in}
+
+-- ---- counts
+counted_twice : (n a b : ℕ) → counted (counted n a) b ≡ counted n (a + b)
+counted_twice n a b = omega arith
+
+-- a count after each of these devices is the count after all of them
+pub risen_all : (g : DeviceView → ℕ) (n : ℕ) (d : DeviceView) (ds : List DeviceView) → risen n (map g (d ∷ ds)) ≡ counted n (sum_by g (d ∷ ds))
+risen_all g n d [] = let one = sum_by-cons g d [] in ap (counted n) (omega (arith, one))
+risen_all g n d (e ∷ ds) = risen_all g (counted n (g d)) e ds ∙ counted_twice n (g d) (sum_by g (e ∷ ds)) ∙ ap (counted n) (sym (sum_by-cons g d (e ∷ ds)))
+
+-- ---- files
+told_by : (d : DeviceView) → is_some d.told ≡ true → (t : Told) × (d.told ≡ Some t)
+told_by d h = by d.told refl h
+  where
+    by : (o : Option Told) → d.told ≡ o → is_some o ≡ true → (t : Told) × (d.told ≡ Some t)
+    by None e h = absurd (true≢false (sym h))
+    by (Some t) e h = (t, e)
+
+module _ (same : SameLaw) where
+  -- the file of a device that was kept holds its log
+  kept_log : (store : StoreView) (name : List ℕ) (log : LogLeft) (failed : Option ℕ) (d : DeviceView) → (store.tells ≡ true → is_some d.told ≡ true) → d.read ≡ log.read → ToldSettled d.told (fenced_in log failed)
+      → KeepsDevice store name d → HoldsLog store name log failed
+  kept_log store name log None d tells read settled kept on =
+      let k = kept on in
+      let t = told_by d (tells on) in
+      let mixed : Mixed log.read log.read k.0 = subst (λ r. Mixed log.read r k.0) read (subst (λ f. Mixed f d.read k.0) (settled t.0 t.1) (k.2 t.0 t.1)) in
+      k.1 ∙ ap (λ image. Some (image_bytes image)) (same log.read k.0 mixed)
+  kept_log store name log (Some place) d tells read settled kept on =
+      let k = kept on in
+      let t = told_by d (tells on) in
+      (k.0, (subst (λ r. Mixed (fenced_in log (Some place)) r k.0) read (subst (λ f. Mixed f d.read k.0) (settled t.0 t.1) (k.2 t.0 t.1)), k.1))
+
+  module _ {State Op Query Reply Device : Type 0} (means : Device → DeviceView) where
+    -- so do the files of all devices
+    pub kept_logs : (store : StoreView) (name : List ℕ) (t : ℕ) (ends : List (List (CallEnd State Op Query Reply))) (olds : List Device) (logs : List (LogState Device))
+        → (store.tells ≡ true → (d : Device) → is_some (means d).told ≡ true) → ran.AreKept means ends olds logs
+        → AreKept name t (map means (map device_of logs)) store → HoldsLogs store name t (map (log_left means) logs) ends
+    kept_logs store name t [] [] [] tells all kept = tt
+    kept_logs store name t (es ∷ ends) (d ∷ olds) (log ∷ logs) tells all kept =
+        (kept_log store (image_name name t) (log_left means log) (failed_in es) (means log.device) (λ on. tells on log.device) refl all.0.fenced kept.0,
+        kept_logs store name (suc t) ends olds logs tells all.1 kept.1)
+    kept_logs store name t [] [] (log ∷ logs) tells all kept = absurd all
+    kept_logs store name t [] (d ∷ olds) logs tells all kept = absurd all
+    kept_logs store name t (es ∷ ends) [] logs tells all kept = absurd all
+    kept_logs store name t (es ∷ ends) (d ∷ olds) [] tells all kept = absurd all
+
+module _ {State Op Query Reply Device : Type 0} (means : Device → DeviceView) where
+  one_is : (failed : Option ℕ) → one_fault (fault_in failed) ≡ fault_in failed
+  one_is None = refl
+  one_is (Some place) = refl
+
+  -- the devices that count a fault are those of the threads whose fence failed
+  pub faults_sum : (ends : List (List (CallEnd State Op Query Reply))) (olds : List Device) (logs : List (LogState Device)) → ran.AreKept means ends olds logs
+      → sum_by fault_of (map means (map device_of logs)) ≡ broken_threads ends
+  faults_sum [] [] [] all = refl
+  faults_sum (es ∷ ends) (d ∷ olds) (log ∷ logs) all =
+      let one = ap one_fault all.0.faults ∙ one_is (failed_in es) in
+      let rest = faults_sum ends olds logs all.1 in
+      let here = sum_by-cons fault_of (means log.device) (map means (map device_of logs)) in
+      let there = sum_by-cons (λ (e : List (CallEnd State Op Query Reply)). fault_in (failed_in e)) es ends in
+      omega (arith, one, rest, here, there)
+  faults_sum [] [] (log ∷ logs) all = absurd all
+  faults_sum [] (d ∷ olds) logs all = absurd all
+  faults_sum (es ∷ ends) [] logs all = absurd all
+  faults_sum (es ∷ ends) (d ∷ olds) [] all = absurd all
+
+  -- the devices were fenced once for each header, and for each fence of the logs
+  pub fences_sum : (ends : List (List (CallEnd State Op Query Reply))) (olds : List Device) (logs : List (LogState Device)) → ran.AreKept means ends olds logs
+      → sum_by fences_in (map means (map device_of logs)) ≡ fences_of (map (log_left means) logs) + length logs
+  fences_sum [] [] [] all = refl
+  fences_sum (es ∷ ends) (d ∷ olds) (log ∷ logs) all =
+      let one = all.0.fences in
+      let rest = fences_sum ends olds logs all.1 in
+      let here = sum_by-cons fences_in (means log.device) (map means (map device_of logs)) in
+      let there = sum_by-cons (λ (l : LogLeft). l.fences) (log_left means log) (map (log_left means) logs) in
+      omega (arith, one, rest, here, there)
+  fences_sum [] [] (log ∷ logs) all = absurd all
+  fences_sum [] (d ∷ olds) logs all = absurd all
+  fences_sum (es ∷ ends) [] logs all = absurd all
+  fences_sum (es ∷ ends) (d ∷ olds) [] all = absurd all

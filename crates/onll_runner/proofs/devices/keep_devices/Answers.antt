@@ -1,0 +1,22 @@
+use Rattle.std.proofs.Common.{length, arith}
+use Rattle.onll_task.specs.ImageNames.{image_names}
+use Rattle.onll_task.proofs.Onwards.{others_on}
+use Rattle.onll_runner.proofs.Handing.{kept_start, kept_next, kept_low, same_after}
+use Rattle.onll_runner.proofs.devices.keep_devices.Goals as goal
+
+pub loop-device-init : goal.loop-device-init
+loop-device-init g c = kept_start g.S.Dev.Pmem.means c.args.logs.now c.args.devices.items c.reverse.new.self.items (g.S.Store.seen c.args.store.now) c.reverse.ensures.items
+
+pub loop-device-preserved : goal.loop-device-preserved
+loop-device-preserved g c =
+    kept_next g.S.Dev.Pmem.means c.args.logs.now c.args.devices.items c.loop-device.devices.items c.pop.new.self.items c.in-Some.device c.loop-device.thread
+    (g.S.Store.seen c.args.store.now) (g.S.Store.seen c.loop-device.store) (g.S.Store.seen c.keep_device.new.store) c.in-Some.ensures.items (omega arith) c.loop-device.invariant
+    c.in-Ok.ensures.kept c.in-Ok.ensures.faults c.in-Ok.ensures.devices c.in-Ok.ensures.others
+
+pub returns-in-Err-clause-others : goal.returns-in-Err-clause-others
+returns-in-Err-clause-others g c =
+    same_after (image_names c.args.logs.now 0 (length c.args.devices.items)) (g.S.Store.seen c.args.store.now) (g.S.Store.seen c.keep_device.new.store) (g.S.Store.seen c.give_up_all.new.store)
+    (others_on (g.S.Store.seen c.args.store.now) (g.S.Store.seen c.loop-device.store) (g.S.Store.seen c.keep_device.new.store) c.args.logs.now (length c.args.devices.items) c.loop-device.thread
+    (kept_low g.S.Dev.Pmem.means c.args.logs.now c.args.devices.items c.loop-device.devices.items c.pop.new.self.items c.in-Some.device c.loop-device.thread _ _ c.in-Some.ensures.items c.loop-device.invariant)
+    c.loop-device.invariant.others c.in-Err.ensures.others)
+    c.give_up_all.ensures.files

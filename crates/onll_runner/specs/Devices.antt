@@ -1,0 +1,59 @@
+-- Devices that a store hands out for the logs of a run, and takes back.
+
+use Rattle.std.specs.Prelude.{ℕ, zero, suc, ◌<◌, ◌≡◌, ◌⊎◌, List, [], ◌∷◌, length, map, Some}
+use Rattle.onll_pmem.specs.Device.{zero_lines}
+use Rattle.onll_pmem.specs.Pmem.{DeviceView}
+use Rattle.onll_outside.specs.Views.{StoreView, Rose, IsFresh, KeepsDevice, KeptOrZeros, counted, one_fault}
+use Rattle.onll_outside.specs.declared.store.FaultKind.{FaultKind}
+use Rattle.onll_task.specs.declared.ending.Ending.{Ending}
+use Rattle.onll_task.specs.declared.ending.Ending.TheVariants.{WriteFault}
+use Rattle.onll_task.specs.ImageNames.{image_name}
+use Rattle.onll_task.specs.Printed.{write_fault_text}
+
+-- A call of this kind failed for the file of this name, which this line says.
+pub record DeviceFails (kind : FaultKind) (name : List ℕ) (store after : StoreView) (ending : Ending) (text : List ℕ) : Type 0 where
+  pub ends : ending ≡ WriteFault
+  pub line : text ≡ write_fault_text name
+  pub rose : Rose store.faults after.faults
+  pub last : after.last ≡ Some (record { kind = kind; name = name })
+
+-- the same for one of so many threads' files
+pub record ThreadFails (kind : FaultKind) (logs : List ℕ) (threads : ℕ) (store after : StoreView) (ending : Ending)
+    (text : List ℕ) : Type 0 where
+  pub thread : ℕ
+  pub within : thread < threads
+  pub fails : DeviceFails kind (image_name logs thread) store after ending text
+
+-- ---- made
+-- new devices of so many lines
+abbrev pub AreNew : {Device : Type 0} → (Device → DeviceView) → List ℕ → List Device → Type 0
+AreNew means [] [] = Unit {0}
+AreNew means (lines ∷ more) (device ∷ devices) = IsFresh (zero_lines lines) (means device) × AreNew means more devices
+AreNew means lines devices = ⊥
+
+-- each thread's file, from thread t on, is as it was or holds zeros alone
+abbrev pub AreBlank : List ℕ → ℕ → ℕ → StoreView → StoreView → Type 0
+AreBlank logs t zero old new = Unit {0}
+AreBlank logs t (suc threads) old new = KeptOrZeros (image_name logs t) old new × AreBlank logs (suc t) threads old new
+
+-- ---- handed back
+-- a count after each of these more
+abbrev pub risen : ℕ → List ℕ → ℕ
+risen n [] = n
+risen n (more ∷ rest) = risen (counted n more) rest
+
+abbrev pub fences_in : DeviceView → ℕ
+fences_in d = d.fences
+
+abbrev pub fault_of : DeviceView → ℕ
+fault_of d = one_fault d.faults
+
+-- these devices were handed back, the first of them first, and no other
+pub record HandsEach (ds : List DeviceView) (old new : StoreView) : Type 0 where
+  pub faults : new.device_faults ≡ risen old.device_faults (map fault_of ds)
+  pub fences : new.device_fences ≡ risen old.device_fences (map fences_in ds)
+
+-- each device was kept as its thread's file, from thread t on
+abbrev pub AreKept : List ℕ → ℕ → List DeviceView → StoreView → Type 0
+AreKept logs t [] store = Unit {0}
+AreKept logs t (d ∷ ds) store = KeepsDevice store (image_name logs t) d × AreKept logs (suc t) ds store

@@ -1,0 +1,81 @@
+-- The report of `run`: what became of each call, the trace, the logs, and the state after the trace.
+
+use Rattle.std.specs.Prelude.{ℕ, ◌≡◌, ◌<◌, ◌≤◌, ◌+◌, ◌^◌, Bool, List, [], ◌∷◌, ◌++◌, Option, Some, None, length, map}
+use Rattle.std.specs.List.{All, flat_map}
+use Rattle.onll_words.specs.Texts.{line_text}
+use Rattle.onll_model.specs.declared.node.Node.{Node}
+use Rattle.onll_model.specs.declared.call.Call.{Call}
+use Rattle.onll_model.specs.declared.call.CallEnd.{CallEnd}
+use Rattle.onll_model.specs.Object.{Behaviour}
+use Rattle.onll_model.specs.Trace.{state_after}
+use Rattle.onll_log.specs.Grammar.{used_by}
+use Rattle.onll_run.specs.Outcomes.{failed_in}
+use Rattle.onll_run.specs.Left.{Left, LogLeft, content_in}
+use Rattle.onll_text.specs.Wording.{Wording}
+use Rattle.onll_text.specs.Lines.{trace_line, state_lines}
+use Rattle.onll_text.specs.Reports.{NodeReads, StateReads}
+use Rattle.onll_task.specs.Printed.{fault_line}
+use Rattle.onll_recovery.specs.RecoverJob.{recovered_line}
+use Rattle.onll_recovery.specs.ReplayJob.{LogData, LogReads, EachReads, thread_lines, flagged_lines, counted_lines}
+
+-- ---- its lines
+-- the line of a thread's fence that failed, if one did
+abbrev pub faults_at : ℕ → Option ℕ → List (List (List ℕ))
+faults_at t None = []
+faults_at t (Some place) = fault_line t place ∷ []
+
+-- the line of each thread's fence that failed, from thread t on
+abbrev pub fault_lines : {State Op Query Reply : Type 0} → ℕ → List (List (CallEnd State Op Query Reply)) → List (List (List ℕ))
+fault_lines t [] = []
+fault_lines t (ends ∷ more) = faults_at t (failed_in ends) ++ fault_lines (t + 1) more
+
+-- What the report says: what became of the calls of each thread, the trace with its flags, the logs, and the state after the trace.
+pub record RunData (State Op Query Reply : Type 0) : Type 0 where
+  pub ends : List (List (CallEnd State Op Query Reply))
+  pub nodes : List Node
+  pub flags : List Bool
+  pub logs : List LogData
+  pub state : State
+
+-- the lines of the logs, of the fences that failed, and of the state; as many nodes are recovered from the logs as the trace has
+abbrev pub end_lines : {State Op Query Reply : Type 0} → Wording State Op Query Reply → RunData State Op Query Reply
+    → List (List (List ℕ))
+end_lines w said = counted_lines 0 said.logs
+    ++ (recovered_line (length said.nodes) ∷ (fault_lines 0 said.ends ++ state_lines w said.state))
+
+-- the lines of all of it, for these scripts
+abbrev pub run_lines : {State Op Query Reply : Type 0} → Behaviour State Op Query Reply → Wording State Op Query Reply
+    → List (List (Call State Op Query Reply)) → RunData State Op Query Reply → List (List (List ℕ))
+run_lines b w scripts said =
+    (thread_lines w 0 scripts said.ends ++ (trace_line (length said.nodes) ∷ flagged_lines b w 0 said.nodes said.flags)) ++ end_lines w said
+
+-- all that is said reads back
+pub record RunReads {State Op Query Reply : Type 0} (b : Behaviour State Op Query Reply) (w : Wording State Op Query Reply)
+    (scripts : List (List (Call State Op Query Reply))) (said : RunData State Op Query Reply) : Type 0 where
+  pub threads : length scripts ≤ 2 ^ 64
+  pub ends : EachReads w scripts said.ends
+  pub nodes : All (NodeReads b w) said.nodes
+  pub flags : length said.flags ≡ length said.nodes
+  pub logs : All LogReads said.logs
+  pub few : length said.nodes < 2 ^ 64
+  pub state : StateReads w said.state
+
+-- ---- what a run left
+-- what is said of a log: its entries, the lines that it uses, and its fences after the header's
+abbrev pub log_data : LogLeft → LogData
+log_data log = record { entries = length log.entries; lines = used_by (content_in log); fences = log.fences }
+
+-- what is said of a run that left this, from this state on
+abbrev pub run_data : {State Op Query Reply : Type 0} → Behaviour State Op Query Reply → State → Left State Op Query Reply
+    → RunData State Op Query Reply
+run_data b state left = record {
+  ends = left.ends;
+  nodes = left.nodes;
+  flags = left.flags;
+  logs = map log_data left.logs;
+  state = state_after b state left.nodes;
+}
+
+abbrev pub run_report : {State Op Query Reply : Type 0} → Behaviour State Op Query Reply → Wording State Op Query Reply → State
+    → List (List (Call State Op Query Reply)) → Left State Op Query Reply → List ℕ
+run_report b w state scripts left = flat_map line_text (run_lines b w scripts (run_data b state left))

@@ -1,0 +1,4 @@
+//! The command that runs scripts on threads, over devices that a store keeps as logs.
+#![tactic(auto)]
+
+mod devices;

@@ -1,0 +1,63 @@
+-- How a function that runs scripts on threads does its task.
+
+use Rattle.std.proofs.Common.{Vec, Global, ℕ, List, [], ◌≡◌, Result, Ok, Err, inl, inr, refl, sym, ◌∙◌, subst}
+use Rattle.onll_outside.specs.Views.{StoreView}
+use Rattle.onll_run.specs.Left.{HasRun}
+use Rattle.onll_text.specs.Kinds.{ObjectKind}
+use Rattle.onll_task.specs.declared.ending.Ending.{Ending}
+use Rattle.onll_task.specs.declared.ending.Ending.TheVariants.{Done, Faulty, WriteFault}
+use Rattle.onll_task.specs.declared.answer.Stop.{Stop}
+use Rattle.onll_task.specs.declared.answer.Stop.TheVariants.{Says, NoMemory}
+use Rattle.onll_task.specs.Job.{Job, Say, JobEnds}
+use Rattle.onll_task.specs.Doing.{Task, after_stage, report_task, say_task, Does, StopsSo}
+use Rattle.onll_task.specs.Running.{RunPlan, RunLeft, HasKept, RunStops, DeviceFault, HeaderFault, log_files}
+use Rattle.onll_task.specs.Standing.{StandsForRuns, threads_stage}
+use Rattle.onll_task.specs.Stop.{StopSays}
+use Rattle.onll_task.specs.Writing.{AllButStay, SameBut}
+use Rattle.onll_task.proofs.Stages.{stay_same}
+
+module _ {k : ObjectKind} (threads : RunPlan k → (RunLeft k → Job) → Job) (stands : StandsForRuns k threads) (plan : RunPlan k)
+    (next : RunLeft k → Task) where
+  task : Task
+  task = after_stage (threads_stage threads plan) next
+
+  -- what was run is kept, and its report is said
+  pub run_does : {A : Type 0} (store after : StoreView) (left : RunLeft k) (text : Vec ℕ A) → HasRun k.means plan.run left → HasKept plan left store after
+      → SameBut (log_files plan) store after → JobEnds after after (next left).job Done text.items → ((before : StoreView) → (next left).reports before text.items)
+      → Does (log_files plan) store after (after_stage (threads_stage threads plan) next) (Ok text)
+  run_does store after left text run kept files ends reports = record {
+    done = stands.ends plan (λ l. (next l).job) store after Done text.items (inr (left, after, run, kept, ends));
+    reports = λ before same. record { value = left; known = run; reports = reports before };
+    stops = tt;
+    files = files;
+  }
+
+  -- the same with fences that failed
+  pub broken_does : {A : Type 0} (store after : StoreView) (left : RunLeft k) (s : Stop) (said : List ℕ) → HasRun k.means plan.run left → HasKept plan left store after
+      → SameBut (log_files plan) store after → JobEnds after after (next left).job Faulty said → StopSays s (λ end text. (end ≡ Faulty) × (text ≡ said))
+      → Does {A = A} (log_files plan) store after (after_stage (threads_stage threads plan) next) (Err s)
+  broken_does store after left (Says answer) said run kept files ends says = record {
+    done = tt;
+    reports = tt;
+    stops = ((λ e. cc), stands.ends plan (λ l. (next l).job) store after answer.ending answer.text.items (inr (left, after, run, kept,
+        subst (λ e. JobEnds after after (next left).job e answer.text.items) (sym says.0) (subst (JobEnds after after (next left).job Faulty) (sym says.1) ends))));
+    files = files;
+  }
+  broken_does store after left NoMemory said run kept files ends says =
+      record { done = tt; reports = tt; stops = stands.cut plan (λ l. (next l).job) store after (inl kept.others); files = files }
+
+  -- the run stopped so
+  pub stopped_does : {A : Type 0} (store after : StoreView) (s : Stop) → SameBut (log_files plan) store after → AllButStay (log_files plan) store after
+      → StopSays s (RunStops plan store after) → Does {A = A} (log_files plan) store after (after_stage (threads_stage threads plan) next) (Err s)
+  stopped_does store after (Says answer) files others says = record {
+    done = tt;
+    reports = tt;
+    stops = (not_done answer.ending says, stands.ends plan (λ l. (next l).job) store after answer.ending answer.text.items (inl says));
+    files = files;
+  }
+    where
+      not_done : (ending : Ending) → RunStops plan store after ending answer.text.items → ending ≡ Done → ⊥
+      not_done Done h e = h
+      not_done ending h e = subst (λ x. RunStops plan store after x answer.text.items) e h
+  stopped_does store after NoMemory files others says =
+      record { done = tt; reports = tt; stops = stands.cut plan (λ l. (next l).job) store after (inl others); files = files }

@@ -38,15 +38,15 @@ module _ (same : SameLaw) where
   -- the file of a device that was kept holds its log
   kept_log : (store : StoreView) (name : List ℕ) (log : LogLeft) (failed : Option ℕ) (d : DeviceView) → (store.tells ≡ true → is_some d.told ≡ true) → d.read ≡ log.read → ToldSettled d.told (fenced_in log failed)
       → KeepsDevice store name d → HoldsLog store name log failed
-  kept_log store name log None d tells read settled kept on =
+  kept_log store name log None d tells read settled kept = λ on.
       let k = kept on in
       let t = told_by d (tells on) in
       let mixed : Mixed log.read log.read k.0 = subst (λ r. Mixed log.read r k.0) read (subst (λ f. Mixed f d.read k.0) (settled t.0 t.1) (k.2 t.0 t.1)) in
       k.1 ∙ ap (λ image. Some (image_bytes image)) (same log.read k.0 mixed)
-  kept_log store name log (Some place) d tells read settled kept on =
+  kept_log store name log (Some place) d tells read settled kept = λ on.
       let k = kept on in
       let t = told_by d (tells on) in
-      (k.0, (subst (λ r. Mixed (fenced_in log (Some place)) r k.0) read (subst (λ f. Mixed f d.read k.0) (settled t.0 t.1) (k.2 t.0 t.1)), k.1))
+      (k.0, subst (λ r. Mixed (fenced_in log (Some place)) r k.0) read (subst (λ f. Mixed f d.read k.0) (settled t.0 t.1) (k.2 t.0 t.1)), k.1)
 
   module _ {State Op Query Reply Device : Type 0} (means : Device → DeviceView) where
     -- so do the files of all devices
@@ -62,11 +62,11 @@ module _ (same : SameLaw) where
     kept_logs store name t (es ∷ ends) [] logs tells all kept = absurd all
     kept_logs store name t (es ∷ ends) (d ∷ olds) [] tells all kept = absurd all
 
-module _ {State Op Query Reply Device : Type 0} (means : Device → DeviceView) where
-  one_is : (failed : Option ℕ) → one_fault (fault_in failed) ≡ fault_in failed
-  one_is None = refl
-  one_is (Some place) = refl
+one_is : (failed : Option ℕ) → one_fault (fault_in failed) ≡ fault_in failed
+one_is None = refl
+one_is (Some place) = refl
 
+module _ {State Op Query Reply Device : Type 0} (means : Device → DeviceView) where
   -- the devices that count a fault are those of the threads whose fence failed
   pub faults_sum : (ends : List (List (CallEnd State Op Query Reply))) (olds : List Device) (logs : List (LogState Device)) → ran.AreKept means ends olds logs
       → sum_by fault_of (map means (map device_of logs)) ≡ broken_threads ends

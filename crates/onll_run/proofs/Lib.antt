@@ -4,3 +4,5 @@ pub mod Whole
 pub mod Crewing
 pub mod Ending
 pub mod Beginning
+pub mod Headers
+pub mod Leaving

@@ -2,6 +2,7 @@
 use Rattle.std.specs.Prelude.{ℕ, List, [], ◌∷◌, ◌≡◌, ◌≤◌, length, map, vec_capacity, ◌+◌, ◌*◌}
 use Rattle.std.specs.List.{AllByRecursion}
 use Rattle.onll_model.specs.declared.call.Call.{Call}
+use Rattle.onll_model.specs.declared.call.CallEnd.{CallEnd}
 use Rattle.onll_model.specs.Object.{Behaviour}
 use Rattle.onll_model.specs.Calls.{updates_in}
 use Rattle.onll_pmem.specs.Pmem.{DeviceView}
@@ -55,6 +56,12 @@ module _ {State Op Query Reply Device : Type 0} (b : Behaviour State Op Query Re
 
 abbrev pub pass_done : {State Op Query Reply Device : Type 0} → Worked State Device Op Query Reply → PassView State Device
 pass_done w = w.pass
+
+abbrev pub script_done : {State Op Query Reply Device : Type 0} → Worked State Device Op Query Reply → List (Call State Op Query Reply)
+script_done w = w.script.items
+
+abbrev pub ends_done : {State Op Query Reply Device : Type 0} → Worked State Device Op Query Reply → List (CallEnd State Op Query Reply)
+ends_done w = w.ends.items
 
 -- what each thread made
 abbrev pub runs_of : {State Op Query Reply Device : Type 0} → List (List (Call State Op Query Reply)) → List (PassView State Device)

@@ -51,6 +51,7 @@ module _ {State Op Query Reply Device : Type 0} (b : Behaviour State Op Query Re
   left_of trace runs closed = record {
     ends = map ends_of runs;
     nodes = closed.ended.frame.trace;
+    flags = closed.ended.frame.flags;
     logs = map (λ (r : ThreadRun State Op Query Reply Device). log_left means r.after.log) runs;
   }
 

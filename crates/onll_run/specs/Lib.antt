@@ -3,3 +3,5 @@ pub mod Workers
 pub mod Left
 pub mod Ended
 pub mod Crew
+pub mod Making
+pub mod Ran

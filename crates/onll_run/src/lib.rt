@@ -3,8 +3,12 @@
 
 mod crew;
 mod laws;
+mod logs;
+mod run;
 mod worker;
 
 pub use crew::run_passes;
 pub use laws::{passes_law, ready_law, run_law};
+pub use logs::{RunFault, make_logs};
+pub use run::{DoneScript, Ran, run_scripts};
 pub use worker::{Worked, Worker, run_all};

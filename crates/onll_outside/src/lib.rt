@@ -8,16 +8,12 @@ mod disk;
 mod faults;
 mod file_store;
 mod gate;
-#[cfg(test)]
-mod handed_out;
 mod hold_gate;
 mod mem_sink;
 mod mem_store;
 mod out_sink;
 mod sink;
 mod store;
-#[cfg(test)]
-mod tests;
 
 pub use file_store::FileStore;
 pub use gate::{FreeGate, Gate, Point};

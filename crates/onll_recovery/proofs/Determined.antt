@@ -27,7 +27,7 @@ use Rattle.onll_recovery.proofs.RecoverSteps.{recovered_in_words}
 
 -- ---- the logs
 -- the first of these lines is no log's
-abbrev NoLogNext : List (List (List ℕ)) → Type 0
+abbrev pub NoLogNext : List (List (List ℕ)) → Type 0
 NoLogNext [] = Unit {0}
 NoLogNext (ws ∷ lines) = (rest : List (List ℕ)) → ws ≢ codes "log" ∷ rest
 
@@ -54,7 +54,7 @@ no_log_next t log lines [] h e = line_none (counted_line t log) lines e
 no_log_next t log lines (ws ∷ more) h e =
     h (decimal t ∷ codes "entries" ∷ decimal log.entries ∷ codes "lines" ∷ decimal log.lines ∷ codes "fences" ∷ decimal log.fences ∷ []) (sym (line_same (counted_line t log) ws lines more e).0)
 
-logs_determined : (t : ℕ) (logs others : List LogData) (lines more : List (List (List ℕ))) → All LogReads logs → All LogReads others → NoLogNext lines → NoLogNext more
+pub logs_determined : (t : ℕ) (logs others : List LogData) (lines more : List (List (List ℕ))) → All LogReads logs → All LogReads others → NoLogNext lines → NoLogNext more
     → counted_lines t logs ++ lines ≡ counted_lines t others ++ more → (logs ≡ others) × (lines ≡ more)
 logs_determined t [] [] lines more g h u v e = (refl, e)
 logs_determined t [] (m ∷ others) lines more g h u v e = absurd (no_log_next t m (counted_lines (t + 1) others ++ more) lines u (sym e))
@@ -64,7 +64,7 @@ logs_determined t (l ∷ logs) (m ∷ others) lines more g h u v e =
     let rest = logs_determined (t + 1) logs others lines more (All-tail LogReads l logs g) (All-tail LogReads m others h) u v parts.1 in
     (ap (λ (x : LogData). x ∷ logs) (log_determined t l m (All-head LogReads l logs g) (All-head LogReads m others h) parts.0) ∙ ap (λ (xs : List LogData). m ∷ xs) rest.0, rest.1)
 
-logs_meaningful : (t : ℕ) (logs : List LogData) → AreMeaningful (counted_lines t logs)
+pub logs_meaningful : (t : ℕ) (logs : List LogData) → AreMeaningful (counted_lines t logs)
 logs_meaningful t [] = tt
 logs_meaningful t (l ∷ logs) = (log_line_in_words t l.entries l.lines (Some l.fences), refl, logs_meaningful (t + 1) logs)
 
@@ -129,7 +129,7 @@ recover_same {State} a b e₁ e₂ e₃ =
     ∙ ap (λ (v : State). record { logs = b.logs; nodes = b.nodes; state = v }) e₃
 
 -- the first of these lines is no call's
-abbrev NoCall : List (List (List ℕ)) → Type 0
+abbrev pub NoCall : List (List (List ℕ)) → Type 0
 NoCall lines = (t : ℕ) → NoCallNext t lines
 
 module _ {State Op Query Reply : Type 0} where
@@ -150,7 +150,7 @@ module _ {State Op Query Reply : Type 0} where
   later_next w t u ([] ∷ scripts) ((x ∷ es) ∷ ends) lines lt few h = later_next w t (u + 1) scripts ends lines (omega arith) (omega arith) h
   later_next w t u ((c ∷ s) ∷ scripts) ((x ∷ es) ∷ ends) lines lt few h = λ rest e. other_thread w t u c x rest lt (omega arith) e
 
-  threads_determined : (w : Wording State Op Query Reply) (t : ℕ) (scripts : List (List (Call State Op Query Reply))) (ends others : List (List (CallEnd State Op Query Reply))) (lines more : List (List (List ℕ)))
+  pub threads_determined : (w : Wording State Op Query Reply) (t : ℕ) (scripts : List (List (Call State Op Query Reply))) (ends others : List (List (CallEnd State Op Query Reply))) (lines more : List (List (List ℕ)))
       → t + length scripts ≤ 2 ^ 64 → EachReads w scripts ends → EachReads w scripts others → NoCall lines → NoCall more
       → thread_lines w t scripts ends ++ lines ≡ thread_lines w t scripts others ++ more → (ends ≡ others) × (lines ≡ more)
   threads_determined w t [] [] [] lines more few g h u v e = (refl, e)
@@ -167,14 +167,14 @@ module _ {State Op Query Reply : Type 0} where
       let rest = threads_determined w (t + 1) scripts ends others lines more (omega arith) g.1 h.1 u v first.1 in
       (ap (λ (x : List (CallEnd State Op Query Reply)). x ∷ ends) first.0 ∙ ap (λ (xs : List (List (CallEnd State Op Query Reply))). fs ∷ xs) rest.0, rest.1)
 
-  threads_meaningful : (w : Wording State Op Query Reply) (t : ℕ) (scripts : List (List (Call State Op Query Reply))) (ends : List (List (CallEnd State Op Query Reply))) → AreMeaningful (thread_lines w t scripts ends)
+  pub threads_meaningful : (w : Wording State Op Query Reply) (t : ℕ) (scripts : List (List (Call State Op Query Reply))) (ends : List (List (CallEnd State Op Query Reply))) → AreMeaningful (thread_lines w t scripts ends)
   threads_meaningful w t [] [] = tt
   threads_meaningful w t [] (es ∷ ends) = tt
   threads_meaningful w t (s ∷ scripts) [] = tt
   threads_meaningful w t (s ∷ scripts) (es ∷ ends) = AreMeaningful-append (call_lines w t 0 s es) (thread_lines w (t + 1) scripts ends) (calls_meaningful w t 0 s es) (threads_meaningful w (t + 1) scripts ends)
 
   -- ---- the trace with its flags
-  flagged_determined : (b : Behaviour State Op Query Reply) (w : Wording State Op Query Reply) (p : ℕ) (nodes others : List Node) (flags marks : List Bool) (lines more : List (List (List ℕ)))
+  pub flagged_determined : (b : Behaviour State Op Query Reply) (w : Wording State Op Query Reply) (p : ℕ) (nodes others : List Node) (flags marks : List Bool) (lines more : List (List (List ℕ)))
       → length flags ≡ length nodes → length marks ≡ length others → All (NodeReads b w) nodes → All (NodeReads b w) others → NoNodeNext lines → NoNodeNext more
       → flagged_lines b w p nodes flags ++ lines ≡ flagged_lines b w p others marks ++ more → (nodes ≡ others) × (flags ≡ marks) × (lines ≡ more)
   flagged_determined b w p [] [] [] [] lines more i j g h u v e = (refl, refl, e)
@@ -197,7 +197,7 @@ module _ {State Op Query Reply : Type 0} where
         rest.2,
       )
 
-  flagged_meaningful : (b : Behaviour State Op Query Reply) (w : Wording State Op Query Reply) (p : ℕ) (nodes : List Node) (flags : List Bool) → AreMeaningful (flagged_lines b w p nodes flags)
+  pub flagged_meaningful : (b : Behaviour State Op Query Reply) (w : Wording State Op Query Reply) (p : ℕ) (nodes : List Node) (flags : List Bool) → AreMeaningful (flagged_lines b w p nodes flags)
   flagged_meaningful b w p [] [] = tt
   flagged_meaningful b w p [] (x ∷ flags) = tt
   flagged_meaningful b w p (n ∷ nodes) [] = tt

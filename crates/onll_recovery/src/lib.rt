@@ -7,5 +7,5 @@ mod recover;
 mod replay;
 
 pub use nodes::put_nodes;
-pub use recover::recover_logs;
+pub use recover::{put_count, recover_logs};
 pub use replay::replay_on;

@@ -1,9 +1,8 @@
 -- What a run over new logs leaves, from what each thread made.
-use Rattle.std.proofs.Common.{◌≡◌, ℕ, zero, suc, ◌+◌, ◌-◌, ◌*◌, ◌<◌, ◌≤◌, ◌↔◌, Bool, true, false, if◌then◌else◌, List, [], ◌∷◌, length, map, replicate, Option, Some, None, refl, sym, ap, ◌∙◌, subst, arith}
-use Rattle.std.specs.Prelude.{Ok, is_some, slice_index_or, drop}
+use Rattle.std.proofs.Common.{◌≡◌, ℕ, zero, suc, ◌+◌, ◌-◌, ◌<◌, ◌≤◌, ◌↔◌, Bool, true, false, if◌then◌else◌, List, [], ◌∷◌, length, map, replicate, Option, Some, None, refl, sym, ap, ◌∙◌, subst, arith}
+use Rattle.std.specs.Prelude.{is_some, slice_index_or, drop}
 use Rattle.std.specs.List.{AllByRecursion, slice_get}
 use Rattle.std.proofs.lemmas.List.{length-map}
-use Rattle.onll_words.specs.declared.line.OpRow.{OpRow}
 use Rattle.onll_model.specs.Limits.{most_updates}
 use Rattle.onll_model.specs.declared.node.Node.{Node}
 use Rattle.onll_model.specs.declared.call.Call.{Call}
@@ -11,7 +10,6 @@ use Rattle.onll_model.specs.declared.call.CallEnd.{CallEnd}
 use Rattle.onll_model.specs.Object.{Behaviour}
 use Rattle.onll_model.specs.Frames.{is_available}
 use Rattle.onll_model.specs.Legal.{placed_updates}
-use Rattle.onll_model.specs.Calls.{updates_in}
 use Rattle.onll_pmem.specs.Pmem.{DeviceView, ToldSettled}
 use Rattle.onll_log.specs.declared.head.LogHead.{LogHead}
 use Rattle.onll_log.specs.Grammar.{Content, content_of}
@@ -22,8 +20,7 @@ use Rattle.onll_merge.specs.Merge.{merge}
 use Rattle.onll_trace.specs.declared.trace.Ended.{Ended}
 use Rattle.onll_trace.specs.Closing.{ends_of as ended_of}
 use Rattle.onll_trace.specs.Plans.{Plan as TracePlan, new_plan}
-use Rattle.onll_trace.specs.Spots.{SpotView}
-use Rattle.onll_shared.specs.Passes.{OnllView, PassView, IsTied, log_of}
+use Rattle.onll_shared.specs.Passes.{OnllView, PassView, log_of}
 use Rattle.onll_shared.specs.Starts.{AreLogs, IsLogOf, IsNewcomer, HasBegun}
 use Rattle.onll_shared.specs.Crash.{head_of}
 use Rattle.onll_shared.specs.Ends.{HasClosed}
@@ -34,8 +31,8 @@ use Rattle.onll_run.specs.Left.{Plan, Left, LogLeft, LogTells, LogsTell, HasRun,
 use Rattle.onll_run.specs.Ended.{ThreadRun, script_of, ends_of, after_of, log_left, HaveRun, plan_of, left_of, IsWhole}
 use Rattle.onll_run.specs.declared.worker.Worked.{Worked}
 use Rattle.onll_run.specs.Crew.{AreFit, AreReady, AreDone, runs_of, pass_done, script_done, ends_done, CanEnd}
-use Rattle.onll_run.specs.Making.{IsHeadOf, AreHeads, IsBlank, IsBegun, AreBegun}
-use Rattle.onll_run.specs.Ran.{IsRoomyFor, AreRoomy, CanRun, IsKept, AreKept, anew, node_in, flag_in}
+use Rattle.onll_run.specs.Making.{AreHeads, IsBlank, IsBegun, AreBegun}
+use Rattle.onll_run.specs.Ran.{AreRoomy, CanRun, IsKept, AreKept, anew, node_in, flag_in}
 use Rattle.onll_run.proofs.Beginning.{ready_all}
 use Rattle.onll_run.proofs.Ending.{passes_end}
 use Rattle.onll_run.proofs.Whole.{run_whole}

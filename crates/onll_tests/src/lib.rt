@@ -9,8 +9,6 @@ mod crashes;
 #[cfg(test)]
 mod faults;
 #[cfg(test)]
-mod files;
-#[cfg(test)]
 mod hostile_images;
 #[cfg(test)]
 mod hostile_inits;

@@ -1,4 +1,4 @@
-use Rattle.std.proofs.Common.{rules, ◌≡◌, ◌∷◌, ◌+◌, ◌<◌, ◌≤◌, [], ℕ, length, drop, sym, ap, ◌∙◌, subst, arith, length-append, vec_capacity}
+use Rattle.std.proofs.Common.{rules, ◌≡◌, ◌∷◌, ◌<◌, ◌≤◌, [], ℕ, length, drop, ap, subst, arith, length-append, vec_capacity}
 use Rattle.std.specs.Prelude.{reverse}
 use Rattle.std.proofs.lemmas.List.{length-reverse}
 use Rattle.onll_run.specs.Making.{HeaderFailed}

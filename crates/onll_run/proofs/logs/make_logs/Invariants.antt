@@ -1,4 +1,4 @@
-use Rattle.std.proofs.Common.{◌≡◌, ◌≤◌, ◌+◌, length, drop, vec_capacity}
+use Rattle.std.proofs.Common.{◌≤◌, ◌+◌, length, drop, vec_capacity}
 use Rattle.std.specs.Prelude.{reverse}
 use Rattle.onll_run.proofs.Headers.{BegunTo}
 use Rattle.onll_run.proofs.logs.make_logs.Given as goal

@@ -1,6 +1,5 @@
-use Rattle.std.proofs.Common.{rules, ◌≡◌, ◌≤◌, [], length, map, refl, sym, ap, ◌∙◌, arith}
+use Rattle.std.proofs.Common.{map, sym, ap, ◌∙◌, arith}
 use Rattle.std.proofs.lemmas.List.{length-map}
-use Rattle.onll_model.specs.Limits.{most_threads}
 use Rattle.onll_trace.specs.Plans.{Plan}
 use Rattle.onll_run.specs.Ran.{ends_in}
 use Rattle.onll_run.proofs.Leaving.{can_many, can_heads, can_blank, logs_long, logs_are, logs_empty, passes_long, passes_ready, passes_ended, scripts_done, run_leaves}

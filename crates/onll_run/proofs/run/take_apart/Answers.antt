@@ -1,4 +1,4 @@
-use Rattle.std.proofs.Common.{rules, ◌∷◌, [], map, ap, ◌∙◌}
+use Rattle.std.proofs.Common.{rules, map, ap, ◌∙◌}
 use Rattle.std.proofs.lemmas.List.{map-append}
 use Rattle.onll_run.specs.Crew.{script_done, ends_done, pass_done}
 use Rattle.onll_run.specs.Ran.{script_in, ends_in}

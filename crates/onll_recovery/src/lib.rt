@@ -8,4 +8,4 @@ mod replay;
 
 pub use nodes::put_nodes;
 pub use recover::{put_count, recover_logs};
-pub use replay::replay_on;
+pub use replay::{replay_on, script_files};

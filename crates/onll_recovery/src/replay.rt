@@ -265,7 +265,7 @@ fn played<O: Texted + Drop>(
 }
 
 /// The calls of each script, or what is said in their place.
-fn script_files<O: Texted, S: Store>(
+pub fn script_files<O: Texted, S: Store>(
     alloc: Global,
     names: &[String],
     store: &mut S,

@@ -1,3 +1,4 @@
 pub mod Devices
+pub mod RunEnds
 pub mod RunJob
 pub mod RunReport

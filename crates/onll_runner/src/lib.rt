@@ -2,3 +2,7 @@
 #![tactic(auto)]
 
 mod devices;
+mod report;
+mod run;
+
+pub use run::run_on;

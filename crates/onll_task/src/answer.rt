@@ -2,7 +2,8 @@
 
 ghost use Rattle.std.specs.Prelude.{◌≡◌, IfOk};
 ghost use Rattle.onll_text.specs.Refusal.{refused};
-ghost use Rattle.onll_task.specs.Printed.{usage_text, refusal_text, read_fault_text, write_fault_text};
+ghost use Rattle.onll_words.specs.Texts.{line_text};
+ghost use Rattle.onll_task.specs.Printed.{fault_line, usage_text, refusal_text, read_fault_text, write_fault_text};
 ghost use Rattle.onll_task.specs.Stop.{StopSays};
 ghost use Rattle.onll_task.specs.declared.answer.Stop.TheVariants.{NoMemory};
 
@@ -115,6 +116,31 @@ impl Stop {
             Err(_) => Stop::NoMemory,
         }
     }
+
+    /// The line of a fence that failed: of an update of this thread at this place, or of its log's header at place 0.
+    pub fn fence_failed(alloc: Global, thread: u64, place: u64) -> Stop
+        ensures { StopSays result (λ end said. (end ≡ Ending.Faulty) × (said ≡ line_text (fault_line thread place))) }
+    {
+        match fault_text(alloc, thread, place) {
+            Ok(text) => Stop::Says(Answer {
+                ending: Ending::Faulty,
+                text,
+            }),
+            Err(_) => Stop::NoMemory,
+        }
+    }
+}
+
+fn fault_text(alloc: Global, thread: u64, place: u64) -> Result<Vec<u8>, AllocError>
+    ensures { IfOk result (λ v. v.items ≡ line_text (fault_line thread place)) }
+{
+    let mut buffer = Buffer::new();
+    let mut text = Vec::from_slice(alloc, b"fault thread ")?;
+    text.extend_from_slice(buffer.format(thread).as_bytes())?;
+    text.extend_from_slice(b" place ")?;
+    text.extend_from_slice(buffer.format(place).as_bytes())?;
+    text.extend_from_slice(b"\n")?;
+    Ok(text)
 }
 
 fn refusal_text(alloc: Global, name: &str, line: u64, reason: Reason) -> Result<Vec<u8>, AllocError>

@@ -17,3 +17,4 @@ pub use outcomes::{order_law, reached_law, report_law, return_law};
 pub use phase::Phase;
 pub use returned::{Current, Returned, Stepped};
 pub use step_core::Core;
+pub use worker::count_updates;

@@ -25,7 +25,7 @@ pub fn with_room<T: Drop>(alloc: Global, count: usize) -> Result<Vec<T>, NoMemor
 }
 
 /// How many of these calls are updates.
-fn count_updates<O: Object>(calls: &[Call<O>]) -> u64
+pub fn count_updates<O: Object>(calls: &[Call<O>]) -> u64
     requires { updates_in calls.now ≤ most_updates }
     ensures { result ≡ updates_in calls.now }
 {

@@ -25,8 +25,8 @@ pub struct Base {
     pub marks: Vec<Mark>,
 }
 
-// The lines of a device, as read.
-fn lines_of<P: Pmem>(alloc: Global, device: &P) -> Result<Vec<Line>, NoMemory>
+/// The lines of a device, as read.
+pub fn lines_of<P: Pmem>(alloc: Global, device: &P) -> Result<Vec<Line>, NoMemory>
     ensures { IfOk result (λ lines. words_of lines.items ≡ (P.means device.now).read) }
 {
     let mut lines = Vec::new(alloc);

@@ -218,7 +218,7 @@ module _ {Device : Type 0} (means : Device → DeviceView) where
   -- the next device could not be made, and those before it were given up
   pub made_fails : (kind : FaultKind) (logs : List ℕ) (threads thread : ℕ) (old mid new last : StoreView) (s : Stop) → thread < threads → SameFaults old mid → SameFaults new last
       → StopSays s (DeviceFails kind (image_name logs thread) mid new) → StopSays s (ThreadFails kind logs threads old last)
-  made_fails kind logs threads thread old mid new last (Says answer) low first then_ h = record {
+  made_fails kind logs threads thread old mid new last (Says ending text) low first then_ h = record {
     thread = thread;
     within = low;
     fails = record {

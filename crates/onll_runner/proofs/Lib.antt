@@ -1,2 +1,7 @@
+pub mod Determined
 pub mod Handing
 pub mod Keeping
+pub mod LegalRows
+pub mod NewHeads
+pub mod ReportSteps
+pub mod RunRecovers

@@ -6,8 +6,7 @@ ghost use Rattle.onll_words.specs.Texts.{line_text};
 ghost use Rattle.onll_model.specs.Recovered.{operations_front};
 ghost use Rattle.onll_model.specs.Trace.{state_after};
 ghost use Rattle.onll_pmem.specs.Pmem.{words_of};
-ghost use Rattle.onll_merge.specs.declared.fault.ImagesFault.TheVariants.{Recover};
-ghost use Rattle.onll_merge.specs.declared.fault.RecoverFault.TheVariants.{NoMemory as OutOfMemory};
+ghost use Rattle.onll_merge.specs.declared.fault.StateFault.TheVariants.{NoMemory as OutOfMemory};
 ghost use Rattle.onll_merge.specs.Recovered.{log_counts};
 ghost use Rattle.onll_run.specs.Outcomes.{failed_in};
 ghost use Rattle.onll_run.specs.Left.{HasRun, AllOver, content_in};
@@ -21,11 +20,12 @@ ghost use Rattle.onll_recovery.specs.ReplayJob.{LogReads, EachReads, thread_line
 ghost use Rattle.onll_runner.specs.RunReport.{faults_at, fault_lines, log_data, run_data, run_report, RunReads};
 
 use onll_log::{LogHead, ThreadLog};
-use onll_merge::{ImagesFault, LogCounts, RecoverFault, Recovery, recover_images};
-use onll_model::{Call, CallEnd, Object, fold_nodes};
+use onll_merge::{LogCounts, Recovery, StateFault, recover_state};
+use onll_model::{Call, CallEnd, Object};
 use onll_pmem::Pmem;
 use onll_recovery::put_count;
 use onll_run::{DoneScript, Ran};
+use onll_shared::lines_of;
 use onll_text::{Piece, Report, Texted};
 use onll_trace::Ended;
 use onll_words::{Line, NoMemory};
@@ -142,17 +142,6 @@ fn put_faults<O: Object>(threads: &[DoneScript<O>], out: &mut Report) -> Result<
     Ok(())
 }
 
-/// The lines of a device, as read.
-fn lines_of<P: Pmem>(alloc: Global, device: &P) -> Result<Vec<Line>, NoMemory>
-    ensures { IfOk result (λ lines. words_of lines.items ≡ (P.means device.now).read) }
-{
-    let mut lines = Vec::new(alloc);
-    for line in 0..device.lines() {
-        lines.push(device.read(line))?;
-    }
-    Ok(lines)
-}
-
 /// The lines of each log's device, as read.
 fn images_of<P: Pmem>(alloc: Global, logs: &[ThreadLog<P>]) -> Result<Vec<Vec<Line>>, NoMemory>
     ensures lines { IfOk result (λ images. map (λ image. words_of image.items) images.items
@@ -167,12 +156,12 @@ fn images_of<P: Pmem>(alloc: Global, logs: &[ThreadLog<P>]) -> Result<Vec<Vec<Li
 }
 
 /// A refusal of recovery where it can only be want of memory.
-fn wants_memory(fault: ImagesFault) -> NoMemory
-    requires { fault ≡ Recover OutOfMemory }
+fn wants_memory(fault: StateFault) -> NoMemory
+    requires { fault ≡ OutOfMemory }
 {
     match fault {
-        ImagesFault::Recover(_) => NoMemory,
-        ImagesFault::NotLog { .. } => unreachable!(),
+        StateFault::NoMemory => NoMemory,
+        _ => unreachable!(),
     }
 }
 
@@ -190,13 +179,9 @@ fn recover_run<O: Object, P: Pmem>(
     ensures state { IfOk result (λ _. object.new ≡ state_after O.means object.old (map node_in ran.now.trace.items)) }
 {
     let images = images_of(alloc, &ran.logs)?;
-    let recovery = match recover_images(alloc, &images, heads) {
-        Ok(recovery) => recovery,
-        Err(fault) => return Err(wants_memory(fault)),
-    };
-    match fold_nodes(object, &recovery.nodes) {
-        Ok(()) => Ok(recovery),
-        Err(_) => unreachable!(),
+    match recover_state(alloc, object, heads, &images) {
+        Ok(recovery) => Ok(recovery),
+        Err(fault) => Err(wants_memory(fault)),
     }
 }
 

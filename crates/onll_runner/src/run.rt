@@ -1,7 +1,7 @@
 //! The command `run`: a script on each thread, over devices that are kept as logs.
 
-ghost use Rattle.std.specs.Prelude.{◌≡◌, ◌≤◌, List, length, list_any, map, string_bytes, IfOk, All};
-ghost use Rattle.std.specs.List.{AllByRecursion};
+ghost use Rattle.std.specs.Prelude.{◌≡◌, ◌≤◌, List, length, map, string_bytes, IfOk, All};
+ghost use Rattle.std.specs.List.{list_any};
 ghost use Rattle.onll_model.specs.Limits.{most_threads, most_updates, greatest_code};
 ghost use Rattle.onll_model.specs.Calls.{updates_in};
 ghost use Rattle.onll_core.specs.Created.{created_heads, heads_from};
@@ -26,7 +26,7 @@ use onll_outside::{Gate, Store};
 use onll_pmem::Pmem;
 use onll_recovery::script_files;
 use onll_run::{Ran, RunFault, run_scripts};
-use onll_task::{Answer, Ending, Stop};
+use onll_task::{Ending, Stop};
 use onll_text::Texted;
 use std::alloc::{AllocError, Global};
 use std::sync::Wait;
@@ -108,10 +108,10 @@ fn end_run<O: Texted + Drop, S: Store>(
     let broken = is_broken(&ran.logs);
     let devices = devices_of(alloc, ran.logs)?;
     match keep_devices(alloc, logs, devices, store) {
-        Ok(()) if broken => Err(Stop::Says(Answer {
+        Ok(()) if broken => Err(Stop::Says {
             ending: Ending::Faulty,
             text: report,
-        })),
+        }),
         Ok(()) => Ok(report),
         Err(stop) => Err(stop),
     }

@@ -36,11 +36,11 @@ module _ {k : ObjectKind} (threads : RunPlan k → (RunLeft k → Job) → Job) 
   pub broken_does : {A : Type 0} (store after : StoreView) (left : RunLeft k) (s : Stop) (said : List ℕ) → HasRun k.means plan.run left → HasKept plan left store after
       → SameBut (log_files plan) store after → JobEnds after after (next left).job Faulty said → StopSays s (λ end text. (end ≡ Faulty) × (text ≡ said))
       → Does {A = A} (log_files plan) store after (after_stage (threads_stage threads plan) next) (Err s)
-  broken_does store after left (Says answer) said run kept files ends says = record {
+  broken_does store after left (Says ending text) said run kept files ends says = record {
     done = tt;
     reports = tt;
-    stops = ((λ e. cc), stands.ends plan (λ l. (next l).job) store after answer.ending answer.text.items (inr (left, after, run, kept,
-        subst (λ e. JobEnds after after (next left).job e answer.text.items) (sym says.0) (subst (JobEnds after after (next left).job Faulty) (sym says.1) ends))));
+    stops = ((λ e. cc), stands.ends plan (λ l. (next l).job) store after ending text.items (inr (left, after, run, kept,
+        subst (λ e. JobEnds after after (next left).job e text.items) (sym says.0) (subst (JobEnds after after (next left).job Faulty) (sym says.1) ends))));
     files = files;
   }
   broken_does store after left NoMemory said run kept files ends says =
@@ -49,15 +49,15 @@ module _ {k : ObjectKind} (threads : RunPlan k → (RunLeft k → Job) → Job) 
   -- the run stopped so
   pub stopped_does : {A : Type 0} (store after : StoreView) (s : Stop) → SameBut (log_files plan) store after → AllButStay (log_files plan) store after
       → StopSays s (RunStops plan store after) → Does {A = A} (log_files plan) store after (after_stage (threads_stage threads plan) next) (Err s)
-  stopped_does store after (Says answer) files others says = record {
+  stopped_does store after (Says ending text) files others says = record {
     done = tt;
     reports = tt;
-    stops = (not_done answer.ending says, stands.ends plan (λ l. (next l).job) store after answer.ending answer.text.items (inl says));
+    stops = (not_done ending says, stands.ends plan (λ l. (next l).job) store after ending text.items (inl says));
     files = files;
   }
     where
-      not_done : (ending : Ending) → RunStops plan store after ending answer.text.items → ending ≡ Done → ⊥
+      not_done : (ending : Ending) → RunStops plan store after ending text.items → ending ≡ Done → ⊥
       not_done Done h e = h
-      not_done ending h e = subst (λ x. RunStops plan store after x answer.text.items) e h
+      not_done ending h e = subst (λ x. RunStops plan store after x text.items) e h
   stopped_does store after NoMemory files others says =
       record { done = tt; reports = tt; stops = stands.cut plan (λ l. (next l).job) store after (inl others); files = files }

@@ -100,10 +100,10 @@ impl Stop {
         ensures { StopSays result (λ end said. (end ≡ Ending.Faulty) × (said ≡ line_text (fault_line thread place))) }
     {
         match fault_text(alloc, thread, place) {
-            Ok(text) => Stop::Says(Answer {
+            Ok(text) => Stop::Says {
                 ending: Ending::Faulty,
                 text,
-            }),
+            },
             Err(_) => Stop::NoMemory,
         }
     }

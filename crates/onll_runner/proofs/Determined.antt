@@ -1,0 +1,91 @@
+-- The bytes of a run's report determine all that it says.
+
+use Rattle.std.proofs.Common.{ℕ, Bool, ◌≡◌, ◌+◌, ◌<◌, ◌^◌, List, [], ◌∷◌, ◌++◌, Option, Some, None, length, refl, sym, ap, ◌∙◌, arith, append_assoc}
+use Rattle.std.specs.List.{flat_map}
+use Rattle.std.proofs.lemmas.List.{append_cancel_left}
+use Rattle.onll_words.specs.Texts.{line_text, AreMeaningful}
+use Rattle.onll_words.proofs.Decimals.{IsWord-decimal}
+use Rattle.onll_model.specs.declared.node.Node.{Node}
+use Rattle.onll_model.specs.declared.call.Call.{Call}
+use Rattle.onll_model.specs.declared.call.CallEnd.{CallEnd}
+use Rattle.onll_model.specs.Object.{Behaviour}
+use Rattle.onll_run.specs.Outcomes.{failed_in}
+use Rattle.onll_run.specs.Left.{Left}
+use Rattle.onll_text.specs.Wording.{Wording}
+use Rattle.onll_text.specs.Lines.{trace_line, state_lines}
+use Rattle.onll_text.specs.Reports.{NoNodeNext, SaysOnly}
+use Rattle.onll_text.proofs.Determined.{text_determined, AreMeaningful-append, line_same, state_determined, state_meaningful, says_only}
+use Rattle.onll_recovery.specs.RecoverJob.{recovered_line}
+use Rattle.onll_recovery.specs.ReplayJob.{LogData, thread_lines, flagged_lines, counted_lines}
+use Rattle.onll_recovery.proofs.RecoverSteps.{recovered_in_words}
+use Rattle.onll_recovery.proofs.Determined.{threads_determined, threads_meaningful, flagged_determined, flagged_meaningful, logs_determined, logs_meaningful}
+use Rattle.onll_runner.specs.RunReport.{RunData, RunReads, faults_at, fault_lines, end_lines, run_lines, run_data, run_report}
+use Rattle.onll_runner.proofs.ReportSteps.{fault_in_words}
+
+-- ---- all are lines of words
+fault_meaningful : (t : ℕ) (place : Option ℕ) → AreMeaningful (faults_at t place)
+fault_meaningful t None = tt
+fault_meaningful t (Some place) = (fault_in_words t place, refl, tt)
+
+module _ {State Op Query Reply : Type 0} where
+  faults_meaningful : (t : ℕ) (ends : List (List (CallEnd State Op Query Reply))) → AreMeaningful (fault_lines t ends)
+  faults_meaningful t [] = tt
+  faults_meaningful t (es ∷ ends) = AreMeaningful-append (faults_at t (failed_in es)) (fault_lines (t + 1) ends) (fault_meaningful t (failed_in es)) (faults_meaningful (t + 1) ends)
+
+  end_meaningful : (w : Wording State Op Query Reply) (said : RunData State Op Query Reply) → AreMeaningful (end_lines w said)
+  end_meaningful w said =
+      let ending = fault_lines 0 said.ends ++ state_lines w said.state in
+      AreMeaningful-append (counted_lines 0 said.logs) (recovered_line (length said.nodes) ∷ ending) (logs_meaningful 0 said.logs) (
+        recovered_in_words (length said.nodes),
+        refl,
+        AreMeaningful-append (fault_lines 0 said.ends) (state_lines w said.state) (faults_meaningful 0 said.ends) (state_meaningful w said.state),
+      )
+
+  run_meaningful : (b : Behaviour State Op Query Reply) (w : Wording State Op Query Reply) (scripts : List (List (Call State Op Query Reply))) (said : RunData State Op Query Reply) → AreMeaningful (run_lines b w scripts said)
+  run_meaningful b w scripts said =
+      let flagged = flagged_lines b w 0 said.nodes said.flags in
+      AreMeaningful-append (thread_lines w 0 scripts said.ends ++ (trace_line (length said.nodes) ∷ flagged)) (end_lines w said)
+      (
+      AreMeaningful-append (thread_lines w 0 scripts said.ends) (trace_line (length said.nodes) ∷ flagged) (threads_meaningful w 0 scripts said.ends)
+      ((record { some = refl; bytes = refl }, (IsWord-decimal (length said.nodes), tt)), refl, flagged_meaningful b w 0 said.nodes said.flags)
+      ) (end_meaningful w said)
+
+  -- the lines after the trace begin with no node's
+  no_node_in_end : (w : Wording State Op Query Reply) (said : RunData State Op Query Reply) → NoNodeNext (end_lines w said)
+  no_node_in_end w said = by said.logs
+    where
+      by : (logs : List LogData) → NoNodeNext (counted_lines 0 logs ++ (recovered_line (length said.nodes) ∷ (fault_lines 0 said.ends ++ state_lines w said.state)))
+      by [] = λ rest d. cc d
+      by (log ∷ logs) = λ rest d. cc d
+
+  -- ---- all that is said
+  run_same : (a b : RunData State Op Query Reply) → a.ends ≡ b.ends → a.nodes ≡ b.nodes → a.flags ≡ b.flags → a.logs ≡ b.logs → a.state ≡ b.state → a ≡ b
+  run_same a b e₁ e₂ e₃ e₄ e₅ =
+      ap (λ (v : List (List (CallEnd State Op Query Reply))). record { ends = v; nodes = a.nodes; flags = a.flags; logs = a.logs; state = a.state }) e₁
+      ∙ ap (λ (v : List Node). record { ends = b.ends; nodes = v; flags = a.flags; logs = a.logs; state = a.state }) e₂
+      ∙ ap (λ (v : List Bool). record { ends = b.ends; nodes = b.nodes; flags = v; logs = a.logs; state = a.state }) e₃
+      ∙ ap (λ (v : List LogData). record { ends = b.ends; nodes = b.nodes; flags = b.flags; logs = v; state = a.state }) e₄
+      ∙ ap (λ (v : State). record { ends = b.ends; nodes = b.nodes; flags = b.flags; logs = b.logs; state = v }) e₅
+
+  run_determined : (b : Behaviour State Op Query Reply) (w : Wording State Op Query Reply) (scripts : List (List (Call State Op Query Reply))) (said other : RunData State Op Query Reply)
+      → RunReads b w scripts said → RunReads b w scripts other → flat_map line_text (run_lines b w scripts said) ≡ flat_map line_text (run_lines b w scripts other) → said ≡ other
+  run_determined b w scripts said other g h e =
+      let ending : RunData State Op Query Reply → List (List (List ℕ)) = λ r. fault_lines 0 r.ends ++ state_lines w r.state in
+      let rest : RunData State Op Query Reply → List (List (List ℕ)) = λ r. recovered_line (length r.nodes) ∷ ending r in
+      let flagged : RunData State Op Query Reply → List (List (List ℕ)) = λ r. flagged_lines b w 0 r.nodes r.flags in
+      let trace : RunData State Op Query Reply → List (List (List ℕ)) = λ r. trace_line (length r.nodes) ∷ flagged r in
+      let lines = text_determined (run_lines b w scripts said) (run_lines b w scripts other) (run_meaningful b w scripts said) (run_meaningful b w scripts other) e in
+      let same = sym (append_assoc (thread_lines w 0 scripts said.ends) (trace said) (end_lines w said)) ∙ lines ∙ append_assoc (thread_lines w 0 scripts other.ends) (trace other) (end_lines w other) in
+      let calls = threads_determined w 0 scripts said.ends other.ends (trace said ++ end_lines w said) (trace other ++ end_lines w other) (omega (arith, g.threads)) g.ends h.ends (λ t rest d. cc d) (λ t rest d. cc d) same in
+      let traces = line_same (trace_line (length said.nodes)) (trace_line (length other.nodes)) (flagged said ++ end_lines w said) (flagged other ++ end_lines w other) calls.1 in
+      let nodes = flagged_determined b w 0 said.nodes other.nodes said.flags other.flags (end_lines w said) (end_lines w other) g.flags h.flags g.nodes h.nodes (no_node_in_end w said) (no_node_in_end w other) traces.1 in
+      let logs = logs_determined 0 said.logs other.logs (rest said) (rest other) g.logs h.logs (λ ws d. cc d) (λ ws d. cc d) nodes.2 in
+      let endings = line_same (recovered_line (length said.nodes)) (recovered_line (length other.nodes)) (ending said) (ending other) logs.1 in
+      let faults = ap (fault_lines 0) calls.0 in
+      let states = append_cancel_left (fault_lines 0 said.ends) (state_lines w said.state) (state_lines w other.state) (endings.1 ∙ ap (λ (ls : List (List (List ℕ))). ls ++ state_lines w other.state) (sym faults)) in
+      run_same said other calls.0 nodes.0 nodes.1 logs.0 (state_determined w said.state other.state g.state h.state states)
+
+  -- what is printed says this and nothing else
+  pub run_says : (b : Behaviour State Op Query Reply) (w : Wording State Op Query Reply) (scripts : List (List (Call State Op Query Reply))) (state : State) (left : Left State Op Query Reply) (text : List ℕ)
+      → text ≡ run_report b w state scripts left → RunReads b w scripts (run_data b state left) → SaysOnly (run_lines b w scripts) (RunReads b w scripts) text (run_data b state left)
+  run_says b w scripts state left text e h = says_only (run_lines b w scripts) (RunReads b w scripts) (run_determined b w scripts) text (run_data b state left) e h

@@ -1,0 +1,76 @@
+-- The lines of a run's devices as read recover to its trace.
+
+use Rattle.std.proofs.Common.{ℕ, suc, ◌≡◌, List, [], ◌∷◌, length, map, Some, IsSome, Result, Ok, Err, refl, ap, ◌∙◌, ◌⊎◌, ⊎_elim}
+use Rattle.std.specs.List.{AllByRecursion}
+use Rattle.onll_model.specs.declared.node.Node.{Node}
+use Rattle.onll_model.specs.declared.call.Call.{Call}
+use Rattle.onll_model.specs.declared.call.CallEnd.{CallEnd}
+use Rattle.onll_model.specs.Object.{Behaviour}
+use Rattle.onll_pmem.specs.Pmem.{DeviceView}
+use Rattle.onll_log.specs.declared.head.LogHead.{LogHead}
+use Rattle.onll_log.specs.Grammar.{Content, content_of}
+use Rattle.onll_log.specs.Log.{LogState}
+use Rattle.onll_merge.specs.declared.fault.StateFault.{StateFault}
+use Rattle.onll_merge.specs.declared.fault.StateFault.TheVariants.{NoMemory}
+use Rattle.onll_merge.specs.Recovered.{Recovered, recovered_with, state_recovered}
+use Rattle.onll_merge.proofs.Images.{their_contents}
+use Rattle.onll_run.specs.Left.{Left, LogLeft, LogsTell, HasRun, content_in}
+use Rattle.onll_run.specs.Ended.{log_left}
+use Rattle.onll_run.specs.Ran.{anew}
+use Rattle.onll_recovery.proofs.Crashes.{recovered_is}
+use Rattle.onll_runner.proofs.LegalRows.{legal_operations}
+
+abbrev read_in : LogLeft → List (List ℕ)
+read_in log = log.read
+
+pub lines_read : {Device : Type 0} (means : Device → DeviceView) (logs : List (LogState Device)) → map (λ (log : LogState Device). (means log.device).read) logs ≡ map (λ (log : LogLeft). log.read) (map (log_left means) logs)
+lines_read means [] = refl
+lines_read means (log ∷ logs) = ap (λ ls. (means log.device).read ∷ ls) (lines_read means logs)
+
+same_ok : (v : Result Recovered StateFault) (x y : Recovered) → v ≡ Ok x → v ≡ Ok y → x ≡ y
+same_ok v x y g h = (cc)
+
+ok_not_err : (v : Result Recovered StateFault) (x : Recovered) (fault : StateFault) → v ≡ Ok x → v ≡ Err fault → ⊥
+ok_not_err v x fault g h = (cc)
+
+-- the logs hold what they are said to, one for each head
+pub record AreTold (heads : List LogHead) (logs : List LogLeft) : Type 0 where
+  pub contents : map content_of (map read_in logs) ≡ map Some (map content_in logs)
+  pub many : length heads ≡ length logs
+
+module _ {State Op Query Reply : Type 0} (b : Behaviour State Op Query Reply) where
+  are_told : (heads : List LogHead) (base : List Content) (scripts : List (List (Call State Op Query Reply))) (ends : List (List (CallEnd State Op Query Reply))) (logs : List LogLeft) → LogsTell b heads base scripts ends logs → AreTold heads logs
+  are_told [] [] [] [] [] h = record { contents = refl; many = refl }
+  are_told [] [] [] [] (log ∷ logs) h = absurd h
+  are_told [] [] [] (es ∷ ends) logs h = absurd h
+  are_told [] [] (calls ∷ scripts) ends logs h = absurd h
+  are_told [] (c ∷ base) scripts ends logs h = absurd h
+  are_told (head ∷ heads) [] scripts ends logs h = absurd h
+  are_told (head ∷ heads) (c ∷ base) [] ends logs h = absurd h
+  are_told (head ∷ heads) (c ∷ base) (calls ∷ scripts) [] logs h = absurd h
+  are_told (head ∷ heads) (c ∷ base) (calls ∷ scripts) (es ∷ ends) [] h = absurd h
+  are_told (head ∷ heads) (c ∷ base) (calls ∷ scripts) (es ∷ ends) (log ∷ logs) h =
+      let rest = are_told heads base scripts ends logs h.1 in
+      record { contents = λ i. h.0.holds i ∷ rest.contents i; many = ap suc rest.many }
+
+  module _ (s : State) (heads : List LogHead) (scripts : List (List (Call State Op Query Reply))) (left : Left State Op Query Reply) (run : HasRun b (anew s heads scripts) left) where
+    pub run_told : AreTold heads left.logs
+    run_told = are_told heads _ scripts left.ends left.logs run.logs
+
+    pub run_operations : AllByRecursion (λ (n : Node). IsSome (b.op_at n.row)) left.nodes
+    run_operations = legal_operations b s scripts left.nodes left.ends run.legal
+
+    run_recovers : (images : List (List (List ℕ))) → images ≡ map read_in left.logs → state_recovered b heads images ≡ Ok (recovered_with (map content_in left.logs) left.nodes)
+    run_recovers images e =
+        ap (state_recovered b heads) e
+        ∙ recovered_is b (map read_in left.logs) heads (map content_in left.logs) left.nodes (their_contents 0 (map read_in left.logs) (map content_in left.logs) run_told.contents) run.merged run_operations
+
+    -- what recovery found is that
+    pub recovers_same : (images : List (List (List ℕ))) (r : Recovered) → images ≡ map (λ (log : LogLeft). log.read) left.logs → state_recovered b heads images ≡ Ok r → r ≡ recovered_with (map content_in left.logs) left.nodes
+    recovers_same images r e is = same_ok (state_recovered b heads images) r (recovered_with (map content_in left.logs) left.nodes) is (run_recovers images e)
+
+    -- and it refuses for want of memory alone
+    pub refused_so : (images : List (List (List ℕ))) (fault : StateFault) → images ≡ map (λ (log : LogLeft). log.read) left.logs → (fault ≡ NoMemory) ⊎ (state_recovered b heads images ≡ Err fault) → fault ≡ NoMemory
+    refused_so images fault e h =
+        ⊎_elim (λ (a : fault ≡ NoMemory). a)
+        (λ (is : state_recovered b heads images ≡ Err fault). absurd (ok_not_err (state_recovered b heads images) (recovered_with (map content_in left.logs) left.nodes) fault (run_recovers images e) is)) h

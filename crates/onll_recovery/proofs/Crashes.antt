@@ -120,7 +120,7 @@ module _ {State Op Query Reply : Type 0} (b : Behaviour State Op Query Reply) wh
   operations_are r h = ap (rows_by r) (front_is r.nodes h) ∙ equal (length r.nodes) (Ok r) (Err (NotOperation (length r.nodes + 1)))
 
   -- ---- what is recovered
-  recovered_is : (images : List (List (List ℕ))) (heads : List LogHead) (logs : List Content) (nodes : List Node)
+  pub recovered_is : (images : List (List (List ℕ))) (heads : List LogHead) (logs : List Content) (nodes : List Node)
       → contents_from 0 images ≡ Ok logs → merge heads logs ≡ Ok nodes → AllOperations b nodes → state_recovered b heads images ≡ Ok (recovered_with logs nodes)
   recovered_is images heads logs nodes c m o =
       ap (λ (cs : Result (List Content) ImagesFault). with_operations b (merged heads cs)) c

@@ -1,7 +1,8 @@
 -- What a store keeps of the logs that a run hands back.
 
-use Rattle.std.proofs.Common.{ℕ, zero, suc, true, false, Bool, List, [], ◌∷◌, ◌≡◌, ◌+◌, ◌-◌, ◌^◌, ◌<◌, length, map, sum_by, Option, Some, None, is_some, refl, sym, ap, ◌∙◌, subst, arith, true≢false}
+use Rattle.std.proofs.Common.{ℕ, zero, suc, true, false, Bool, List, [], ◌∷◌, ◌≡◌, ◌+◌, ◌≤◌, ◌||◌, ◌⊎◌, inl, inr, ⊎_elim, length, map, sum_by, Option, Some, None, is_some, refl, sym, ap, ◌∙◌, subst, arith, true≢false}
 use Rattle.std.proofs.lemmas.List.Sums.{sum_by-cons}
+use Rattle.std.specs.List.{list_any}
 use Rattle.onll_pmem.specs.Device.{Mixed}
 use Rattle.onll_pmem.specs.Laws.{SameLaw}
 use Rattle.onll_pmem.specs.Pmem.{DeviceView, Told, ToldSettled}
@@ -62,6 +63,22 @@ module _ (same : SameLaw) where
     kept_logs store name t (es ∷ ends) [] logs tells all kept = absurd all
     kept_logs store name t (es ∷ ends) (d ∷ olds) [] tells all kept = absurd all
 
+or_false : (b c : Bool) → (b || c) ≡ false → (b ≡ false) × (c ≡ false)
+or_false true c h = absurd (true≢false h)
+or_false false c h = (refl, h)
+
+or_true : (b c : Bool) → (b || c) ≡ true → (b ≡ true) ⊎ (c ≡ true)
+or_true true c h = inl refl
+or_true false c h = inr h
+
+fault_none : (failed : Option ℕ) → is_some failed ≡ false → fault_in failed ≡ 0
+fault_none None h = refl
+fault_none (Some place) h = absurd (true≢false h)
+
+fault_some : (failed : Option ℕ) → is_some failed ≡ true → fault_in failed ≡ 1
+fault_some None h = absurd (true≢false (sym h))
+fault_some (Some place) h = refl
+
 one_is : (failed : Option ℕ) → one_fault (fault_in failed) ≡ fault_in failed
 one_is None = refl
 one_is (Some place) = refl
@@ -96,3 +113,42 @@ module _ {State Op Query Reply Device : Type 0} (means : Device → DeviceView) 
   fences_sum [] (d ∷ olds) logs all = absurd all
   fences_sum (es ∷ ends) [] logs all = absurd all
   fences_sum (es ∷ ends) (d ∷ olds) [] all = absurd all
+
+  -- ---- threads whose fence failed
+  pub kept_many : (ends : List (List (CallEnd State Op Query Reply))) (olds : List Device) (logs : List (LogState Device)) → ran.AreKept means ends olds logs → length logs ≡ length ends
+  kept_many [] [] [] all = refl
+  kept_many (es ∷ ends) (d ∷ olds) (log ∷ logs) all = ap suc (kept_many ends olds logs all.1)
+  kept_many [] [] (log ∷ logs) all = absurd all
+  kept_many [] (d ∷ olds) logs all = absurd all
+  kept_many (es ∷ ends) [] logs all = absurd all
+  kept_many (es ∷ ends) (d ∷ olds) [] all = absurd all
+
+  -- where no log is broken, no thread is
+  pub none_broken : (ends : List (List (CallEnd State Op Query Reply))) (olds : List Device) (logs : List (LogState Device)) → ran.AreKept means ends olds logs
+      → list_any (λ (log : LogState Device). log.broken) logs ≡ false → broken_threads ends ≡ 0
+  none_broken [] [] [] all e = refl
+  none_broken (es ∷ ends) (d ∷ olds) (log ∷ logs) all e =
+      let both = or_false log.broken (list_any (λ (l : LogState Device). l.broken) logs) e in
+      let here = fault_none (failed_in es) (sym all.0.broken ∙ both.0) in
+      let rest = none_broken ends olds logs all.1 both.1 in
+      let there = sum_by-cons (λ (x : List (CallEnd State Op Query Reply)). fault_in (failed_in x)) es ends in
+      omega (arith, here, rest, there)
+  none_broken [] [] (log ∷ logs) all e = absurd all
+  none_broken [] (d ∷ olds) logs all e = absurd all
+  none_broken (es ∷ ends) [] logs all e = absurd all
+  none_broken (es ∷ ends) (d ∷ olds) [] all e = absurd all
+
+  -- where a log is broken, a thread is
+  pub some_broken : (ends : List (List (CallEnd State Op Query Reply))) (olds : List Device) (logs : List (LogState Device)) → ran.AreKept means ends olds logs
+      → list_any (λ (log : LogState Device). log.broken) logs ≡ true → 1 ≤ broken_threads ends
+  some_broken [] [] [] all e = absurd (true≢false (sym e))
+  some_broken (es ∷ ends) (d ∷ olds) (log ∷ logs) all e =
+      let there = sum_by-cons (λ (x : List (CallEnd State Op Query Reply)). fault_in (failed_in x)) es ends in
+      ⊎_elim
+      (λ (t : log.broken ≡ true). let here = fault_some (failed_in es) (sym all.0.broken ∙ t) in let all_ : 1 ≤ broken_threads (es ∷ ends) = omega (arith, here, there) in all_)
+      (λ (t : list_any (λ (l : LogState Device). l.broken) logs ≡ true). let rest = some_broken ends olds logs all.1 t in let all_ : 1 ≤ broken_threads (es ∷ ends) = omega (arith, rest, there) in all_)
+      (or_true log.broken (list_any (λ (l : LogState Device). l.broken) logs) e)
+  some_broken [] [] (log ∷ logs) all e = absurd all
+  some_broken [] (d ∷ olds) logs all e = absurd all
+  some_broken (es ∷ ends) [] logs all e = absurd all
+  some_broken (es ∷ ends) (d ∷ olds) [] all e = absurd all

@@ -1,4 +1,5 @@
 pub mod Determined
+pub mod Ending
 pub mod Handing
 pub mod Keeping
 pub mod LegalRows

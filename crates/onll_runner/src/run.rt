@@ -1,6 +1,6 @@
 //! The command `run`: a script on each thread, over devices that are kept as logs.
 
-ghost use Rattle.std.specs.Prelude.{◌≡◌, ◌≤◌, List, length, map, string_bytes, IfOk, All};
+ghost use Rattle.std.specs.Prelude.{◌≡◌, ◌≤◌, List, length, map, string_bytes, IfOk, All, is_some};
 ghost use Rattle.std.specs.List.{list_any};
 ghost use Rattle.onll_model.specs.Limits.{most_threads, most_updates, greatest_code};
 ghost use Rattle.onll_model.specs.Calls.{updates_in};
@@ -23,7 +23,7 @@ use onll_core::count_updates;
 use onll_log::{LogHead, ThreadLog};
 use onll_model::Call;
 use onll_outside::{Gate, Store};
-use onll_pmem::Pmem;
+use onll_pmem::{Pmem, image_laws};
 use onll_recovery::script_files;
 use onll_run::{Ran, RunFault, run_scripts};
 use onll_task::{Ending, Stop};
@@ -87,6 +87,11 @@ fn is_broken<P: Pmem>(logs: &[ThreadLog<P>]) -> bool
     logs.iter().any(ThreadLog::broken)
 }
 
+/// A device tells its fenced words by its type.
+fn told_law<P: Pmem>()
+    ensures { (device : P) → is_some (P.means device).told ≡ P.tells }
+{}
+
 /// Keeps what a run left, and says its report.
 fn end_run<O: Texted + Drop, S: Store>(
     alloc: Global,
@@ -101,9 +106,11 @@ fn end_run<O: Texted + Drop, S: Store>(
     requires run { HasRun O.means (anew object heads.now (map script_in ran.threads.items)) (left_in S.Dev.means ran) }
     requires kept { (devices : List S.Dev) × AreKept S.Dev.means (map ends_in ran.threads.items) devices ran.logs.items }
     ensures { let k = kind_by O.means O.wording O.CODE in
-        let plan : RunPlan k = record { logs = logs.now; run = anew object.entry heads.now (map script_in ran.threads.items) } in
+        let plan : RunPlan k = record { logs = logs.now; run = anew object heads.now (map script_in ran.threads.items) } in
         HasEnded plan (left_in S.Dev.means ran) (S.seen store.old) (S.seen store.new) result }
 {
+    image_laws();
+    told_law::<S::Dev>();
     let report = run_report(alloc, &mut object, heads, &ran)?;
     let broken = is_broken(&ran.logs);
     let devices = devices_of(alloc, ran.logs)?;

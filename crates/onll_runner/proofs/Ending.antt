@@ -1,0 +1,109 @@
+-- What a run left is kept, and its report is said.
+
+use Rattle.std.proofs.Common.{Vec, Global, ℕ, suc, true, false, List, [], ◌∷◌, ◌≡◌, ◌≤◌, ◌+◌, length, map, Result, Ok, Err, is_some, inr, refl, sym, ap, ◌∙◌, subst, arith}
+use Rattle.std.specs.Result.{IsErrAnd}
+use Rattle.std.proofs.lemmas.List.{length-map}
+use Rattle.std.proofs.lemmas.Result.{err_from_is_err_and}
+use Rattle.onll_model.specs.declared.call.CallEnd.{CallEnd}
+use Rattle.onll_pmem.specs.Laws.{SameLaw}
+use Rattle.onll_pmem.specs.Pmem.{DeviceView}
+use Rattle.onll_log.specs.Log.{LogState}
+use Rattle.onll_outside.specs.Views.{StoreView, SameFaults, counted}
+use Rattle.onll_outside.specs.declared.store.FaultKind.TheVariants as kinds
+use Rattle.onll_run.specs.Left.{LogLeft}
+use Rattle.onll_run.specs.Ended.{log_left}
+use Rattle.onll_run.specs.Making.{device_of}
+use Rattle.onll_run.specs.Ran as ran
+use Rattle.onll_text.specs.Kinds.{ObjectKind}
+use Rattle.onll_task.specs.declared.ending.Ending.{Ending}
+use Rattle.onll_task.specs.declared.ending.Ending.TheVariants.{Done, Usage, Refused, BadLog, ReadFault, WriteFault, Faulty}
+use Rattle.onll_task.specs.declared.answer.Stop.{Stop}
+use Rattle.onll_task.specs.declared.answer.Stop.TheVariants.{Says, NoMemory}
+use Rattle.onll_task.specs.ImageNames.{image_names}
+use Rattle.onll_task.specs.Running.{RunPlan, RunLeft, HasKept, HoldsLogs, DeviceFault, broken_threads, fences_of, log_files}
+use Rattle.onll_task.specs.Stop.{StopSays}
+use Rattle.onll_task.specs.Writing.{SameBut, AllButStay}
+use Rattle.onll_runner.specs.Devices.{AreKept, HandsEach, ThreadFails, DeviceFails, fault_of, fences_in}
+use Rattle.onll_runner.specs.RunReport.{run_report, run_data, RunReads}
+use Rattle.onll_runner.specs.RunEnds.{EndSays, HasEnded}
+use Rattle.onll_runner.proofs.Keeping.{risen_all, kept_logs, kept_many, faults_sum, fences_sum}
+
+pub but_stay : {names : List (List ℕ)} {old new : StoreView} → SameBut names old new → AllButStay names old new
+but_stay same = record { tells = same.tells; file = λ on other differs. same.file other differs }
+
+module _ {State Op Query Reply Device : Type 0} (means : Device → DeviceView) where
+  hands_faults : (ends : List (List (CallEnd State Op Query Reply))) (olds : List Device) (logs : List (LogState Device)) (store after : StoreView) → 1 ≤ length logs → ran.AreKept means ends olds logs
+      → HandsEach (map means (map device_of logs)) store after → after.device_faults ≡ counted store.device_faults (broken_threads ends)
+  hands_faults ends olds [] store after some all hands = absurd (omega arith)
+  hands_faults ends olds (log ∷ logs) store after some all hands =
+      hands.faults ∙ risen_all fault_of store.device_faults (means log.device) (map means (map device_of logs)) ∙ ap (counted store.device_faults) (faults_sum means ends olds (log ∷ logs) all)
+
+  hands_fences : (ends : List (List (CallEnd State Op Query Reply))) (olds : List Device) (logs : List (LogState Device)) (store after : StoreView) → 1 ≤ length logs → ran.AreKept means ends olds logs
+      → HandsEach (map means (map device_of logs)) store after → after.device_fences ≡ counted store.device_fences (fences_of (map (log_left means) logs) + length logs)
+  hands_fences ends olds [] store after some all hands = absurd (omega arith)
+  hands_fences ends olds (log ∷ logs) store after some all hands =
+      hands.fences ∙ risen_all fences_in store.device_fences (means log.device) (map means (map device_of logs)) ∙ ap (counted store.device_fences) (fences_sum means ends olds (log ∷ logs) all)
+
+module _ {k : ObjectKind} {Device : Type 0} (same : SameLaw) (means : Device → DeviceView) (plan : RunPlan k) (left : RunLeft k) (olds : List Device) (logs : List (LogState Device)) (store after : StoreView)
+    (logs_are : left.logs ≡ map (log_left means) logs) (some : 1 ≤ length plan.run.scripts) (many : length left.ends ≡ length plan.run.scripts) (all : ran.AreKept means left.ends olds logs) where
+  -- devices that were kept hold what a run left
+  pub has_kept : (after.tells ≡ true → (d : Device) → is_some (means d).told ≡ true) → AreKept plan.logs 0 (map means (map device_of logs)) after → SameFaults store after
+      → HandsEach (map means (map device_of logs)) store after → SameBut (image_names plan.logs 0 (length logs)) store after → HasKept plan left store after
+  has_kept tells kept faults hands others =
+      let long : length logs ≡ length plan.run.scripts = kept_many means left.ends olds logs all ∙ many in
+      let there : 1 ≤ length logs = omega (arith, long, some) in
+      record {
+        calls = faults;
+        faults = hands_faults means left.ends olds logs store after there all hands;
+        fences = hands_fences means left.ends olds logs store after there all hands
+            ∙ ap (λ (ls : List LogLeft). counted store.device_fences (fences_of ls + length logs)) (sym logs_are) ∙ ap (λ n. counted store.device_fences (fences_of left.logs + n)) long;
+        files = subst (λ ls. HoldsLogs after plan.logs 0 ls left.ends) (sym logs_are) (kept_logs same means after plan.logs 0 left.ends olds logs tells all kept);
+        others = but_stay (subst (λ n. SameBut (image_names plan.logs 0 n) store after) long others);
+      }
+
+  -- the same of devices that are those of the logs
+  pub kept_by : (devices : List Device) → devices ≡ map device_of logs → (after.tells ≡ true → (d : Device) → is_some (means d).told ≡ true) → AreKept plan.logs 0 (map means devices) after → SameFaults store after
+      → HandsEach (map means devices) store after → SameBut (image_names plan.logs 0 (length devices)) store after → HasKept plan left store after
+  kept_by devices is tells kept faults hands others = has_kept tells
+      (subst (λ (ds : List Device). AreKept plan.logs 0 (map means ds) after) is kept) faults
+      (subst (λ (ds : List Device). HandsEach (map means ds) store after) is hands)
+      (subst (λ n. SameBut (image_names plan.logs 0 n) store after) (ap length is ∙ length-map logs device_of) others)
+
+module _ {k : ObjectKind} (plan : RunPlan k) (left : RunLeft k) (store after : StoreView) where
+  pub ended_whole : {A : Type 0} (text : Vec ℕ A) → HasKept plan left store after → broken_threads left.ends ≡ 0 → text.items ≡ run_report k.means k.wording plan.run.state plan.run.scripts left
+      → RunReads k.means k.wording plan.run.scripts (run_data k.means plan.run.state left) → SameBut (log_files plan) store after → HasEnded plan left store after (Ok text)
+  ended_whole text kept whole report reads others = record { kept = kept; whole = whole; report = report; reads = reads; stop = tt; others = others }
+
+  pub ended_broken : {A : Type 0} (text : Vec ℕ Global) → HasKept plan left store after → 1 ≤ broken_threads left.ends → text.items ≡ run_report k.means k.wording plan.run.state plan.run.scripts left
+      → SameBut (log_files plan) store after → HasEnded plan left store after {A = A} (Err (Says Faulty text))
+  ended_broken text kept broken report others = record { kept = tt; whole = tt; report = tt; reads = tt; stop = (kept, broken, report); others = others }
+
+  unkept : (ending : Ending) (text : List ℕ) → ThreadFails kinds.Keep plan.logs (length plan.run.scripts) store after ending text → SameBut (log_files plan) store after → EndSays plan left store after ending text
+  unkept ending text h others = subst (λ e. EndSays plan left store after e text) (sym h.fails.ends) fault
+    where
+      fault : DeviceFault plan store after text
+      fault = record { thread = h.thread; within = h.within; line = h.fails.line; rose = h.fails.rose; last = inr h.fails.last; others = but_stay others }
+
+  pub ended_unkept : {A : Type 0} (s : Stop) → StopSays s (ThreadFails kinds.Keep plan.logs (length plan.run.scripts) store after) → SameBut (log_files plan) store after → HasEnded plan left store after {A = A} (Err s)
+  ended_unkept (Says ending text) h others = record { kept = tt; whole = tt; report = tt; reads = tt; stop = unkept ending text.items h others; others = others }
+  ended_unkept NoMemory h others = record { kept = tt; whole = tt; report = tt; reads = tt; stop = tt; others = others }
+
+  -- memory could not be had
+  pub ended_none : {A : Type 0} (r : Result (Vec ℕ A) Stop) → IsErrAnd r (λ stop. stop ≡ NoMemory) → SameBut (log_files plan) store after → HasEnded plan left store after r
+  ended_none {A} r h others =
+      let p = err_from_is_err_and r h in
+      subst (HasEnded plan left store after) (sym p.1) (record { kept = tt; whole = tt; report = tt; reads = tt; stop = subst (λ s. StopSays s (EndSays plan left store after)) (sym p.2) tt; others = others })
+
+-- ---- as many devices as threads
+module _ {State Op Query Reply Device A : Type 0} (means : Device → DeviceView) (ends : List (List (CallEnd State Op Query Reply))) (olds : List Device) (logs : List (LogState Device)) (threads : List A)
+    (devices : List Device) (name : List ℕ) (store after : StoreView) where
+  run_many : length ends ≡ length threads → devices ≡ map device_of logs → ran.AreKept means ends olds logs → length devices ≡ length threads
+  run_many few is all = ap length is ∙ length-map logs device_of ∙ kept_many means ends olds logs all ∙ few
+
+  pub others_many : {B : Type 0} (f : A → B) → length ends ≡ length threads → devices ≡ map device_of logs → ran.AreKept means ends olds logs → SameBut (image_names name 0 (length devices)) store after
+      → SameBut (image_names name 0 (length (map f threads))) store after
+  others_many f few is all = subst (λ n. SameBut (image_names name 0 n) store after) (run_many few is all ∙ sym (length-map threads f))
+
+  pub fails_many : {B : Type 0} (f : A → B) (s : Stop) → length ends ≡ length threads → devices ≡ map device_of logs → ran.AreKept means ends olds logs
+      → StopSays s (ThreadFails kinds.Keep name (length devices) store after) → StopSays s (ThreadFails kinds.Keep name (length (map f threads)) store after)
+  fails_many f s few is all = subst (λ n. StopSays s (ThreadFails kinds.Keep name n store after)) (run_many few is all ∙ sym (length-map threads f))

@@ -6,3 +6,4 @@ pub mod LegalRows
 pub mod NewHeads
 pub mod ReportSteps
 pub mod RunRecovers
+pub mod RunSteps

@@ -9,7 +9,7 @@ use Rattle.onll_text.specs.Kinds.{ObjectKind, on_object}
 use Rattle.onll_text.proofs.EachKind.{each_object}
 use Rattle.onll_jobs.specs.Fold.{fold_report}
 use Rattle.onll_task.specs.declared.ending.Ending.{Ending}
-use Rattle.onll_task.specs.declared.ending.Ending.TheVariants.{Done, Usage, Refused, BadLog, ReadFault, WriteFault}
+use Rattle.onll_task.specs.declared.ending.Ending.TheVariants.{Done, Usage, Refused, BadLog, ReadFault, WriteFault, Faulty}
 use Rattle.onll_task.specs.declared.ending.Exit.{Exit}
 use Rattle.onll_task.specs.declared.ending.Exit.TheVariants.{Said, SinkFault, NoMemory}
 use Rattle.onll_jobs.specs.Seen.{Seen}
@@ -39,6 +39,7 @@ ending_at (suc (suc zero)) = Usage
 ending_at (suc (suc (suc zero))) = Refused
 ending_at (suc (suc (suc (suc zero)))) = BadLog
 ending_at (suc (suc (suc (suc (suc zero))))) = ReadFault
+ending_at (suc (suc (suc (suc (suc (suc (suc zero))))))) = Faulty
 ending_at _ = WriteFault
 
 ending_at_status : (e : Ending) → ending_at (status_of e) ≡ e
@@ -49,6 +50,7 @@ ending_at_status Refused = refl
 ending_at_status BadLog = refl
 ending_at_status ReadFault = refl
 ending_at_status WriteFault = refl
+ending_at_status Faulty = refl
 
 same_ending : (d e : Ending) → status_of d ≡ status_of e → d ≡ e
 same_ending d e h = sym (ending_at_status d) ∙ (ap ending_at h ∙ ending_at_status e)
@@ -60,6 +62,7 @@ not_nine Refused h = omega arith
 not_nine BadLog h = omega arith
 not_nine ReadFault h = omega arith
 not_nine WriteFault h = omega arith
+not_nine Faulty h = omega arith
 
 -- what a put of a text that is allowed says by its exit
 pub put_says : (w : Seen) (ending : Ending) (text : List ℕ) (x : Exit) → Allows w ending text → PutExits w.sink w.sink_after ending text x → ExitSays w x
@@ -143,6 +146,7 @@ tells_none Refused h t = t
 tells_none BadLog h t = t
 tells_none ReadFault h t = omega arith
 tells_none WriteFault h t = omega arith
+tells_none Faulty h t = t
 
 -- a good status says that nothing failed
 pub none_failed_of : (w : Seen) (x : Exit) (status : ℕ) → status ≡ exit_status x → (status ≡ 0) ⊎ (status ≡ 2) ⊎ (status ≡ 3) ⊎ (status ≡ 4) → ExitSays w x → NothingFailed w

@@ -2,7 +2,7 @@
 
 use Rattle.std.proofs.Common.{ℕ, ◌≡◌, arith, refl, subst, sym}
 use Rattle.onll_task.specs.declared.ending.Exit.{Exit}
-use Rattle.onll_task.specs.declared.ending.Ending.TheVariants.{Done, Refused, BadLog, ReadFault}
+use Rattle.onll_task.specs.declared.ending.Ending.TheVariants.{Done, Refused, BadLog, ReadFault, Faulty}
 use Rattle.onll_jobs.specs.Command.{form_of}
 use Rattle.onll_jobs.specs.Durable.{ReplayPromises}
 use Rattle.onll_task.specs.Printed.{exit_status}
@@ -33,6 +33,7 @@ kept_of seen x says determined files = record {
   bad_log = λ e. said_of seen x BadLog (λ e. omega arith) e says;
   unread = λ e. said_of seen x ReadFault (λ e. omega arith) e says;
   failed = λ e. failed_of seen x e says;
+  faulty = λ e. said_of seen x Faulty (λ e. omega arith) e says;
   no_memory = λ e. no_memory_of seen x e says;
   nothing_failed = λ good. none_failed_of seen x (exit_status x) refl good says;
   sink_count = count_of seen x says;

@@ -22,12 +22,12 @@ use Rattle.onll_text.specs.Script.{script_of}
 use Rattle.onll_text.specs.Schedule.{schedule_of}
 use Rattle.onll_text.proofs.FewCalls.{few_calls}
 use Rattle.onll_text.proofs.EachKind.{each_goes}
-use Rattle.onll_outside.specs.Views.{StoreView, SameFaults}
+use Rattle.onll_outside.specs.Views.{StoreView}
 use Rattle.onll_task.specs.declared.ending.Ending.{Ending}
-use Rattle.onll_task.specs.declared.ending.Ending.TheVariants.{Done, Usage, Refused, BadLog, ReadFault, WriteFault}
+use Rattle.onll_task.specs.declared.ending.Ending.TheVariants.{Done, Usage, Refused, BadLog, ReadFault, WriteFault, Faulty}
 use Rattle.onll_merge.specs.declared.fault.StateFault.{StateFault}
 use Rattle.onll_task.specs.Reading.{ReadsWhole, CannotRead}
-use Rattle.onll_task.specs.Writing.{FilesStay, CannotWrite, written}
+use Rattle.onll_task.specs.Writing.{FilesStay, SameCounts, CannotWrite, written}
 use Rattle.onll_task.specs.Job.{Job, JobEnds, on_value, reading_whole}
 use Rattle.onll_task.specs.ImageNames.{image_name}
 use Rattle.onll_task.specs.Images.{image_bytes, writing_images}
@@ -52,6 +52,7 @@ IsSaid BadLog = Unit {0}
 IsSaid Refused = ⊥
 IsSaid ReadFault = ⊥
 IsSaid WriteFault = ⊥
+IsSaid Faulty = ⊥
 
 can_read : (store after : StoreView) (name : List ℕ) (ending : Ending) (text : List ℕ) → IsSaid ending → CannotRead store after name ending text → ⊥
 can_read store after name Done text said h = h
@@ -60,6 +61,7 @@ can_read store after name BadLog text said h = h
 can_read store after name Refused text said h = said
 can_read store after name ReadFault text said h = said
 can_read store after name WriteFault text said h = said
+can_read store after name Faulty text said h = said
 
 can_write : (store after : StoreView) (name : List ℕ) (ending : Ending) (text : List ℕ) → IsSaid ending → CannotWrite store after name ending text → ⊥
 can_write store after name Done text said h = h
@@ -68,6 +70,7 @@ can_write store after name BadLog text said h = h
 can_write store after name Refused text said h = said
 can_write store after name ReadFault text said h = said
 can_write store after name WriteFault text said h = said
+can_write store after name Faulty text said h = said
 
 not_refused : (ending : Ending) → IsSaid ending → ending ≡ Refused → ⊥
 not_refused ending said e = subst IsSaid e said
@@ -132,7 +135,7 @@ module _ (after : StoreView) (ending : Ending) (text : List ℕ) (said : IsSaid 
     module _ (code : ℕ) (is : (1 ≤ code) × (code ≤ greatest_code)) (init : List ℕ) (s : State) (schedule logs : List ℕ) (names : List (List ℕ)) (few : length names ≤ 16) where
       -- what a crash says of a core that was played
       crash_ends : (scripts : List (List (Call State Op Query Reply))) (c : CoreState State Op Query Reply) (keep : ℕ) (store' : StoreView) (recovered : Result Recovered StateFault) (r : Recovered) → recovered ≡ Ok r → JobEnds store' after (run_task b w scripts c keep recovered).job ending text
-          → (ending ≡ Done) × (text ≡ replay_report b w c keep r) × FilesStay store' after × SameFaults store' after
+          → (ending ≡ Done) × (text ≡ replay_report b w c keep r) × FilesStay store' after × SameCounts store' after
       crash_ends scripts c keep store' recovered r e h = subst (λ (x : Result Recovered StateFault). JobEnds store' after (run_task b w scripts c keep x).job ending text) e h
 
       on_ends : JobEnds store after (scripts_task b w code init schedule logs names s).job ending text → (ending ≡ Done) × HasReplayed b w code init s store after schedule logs names text

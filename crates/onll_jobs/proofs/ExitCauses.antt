@@ -5,8 +5,8 @@ use Rattle.onll_model.specs.Object.{Behaviour}
 use Rattle.onll_text.specs.Wording.{Wording}
 use Rattle.onll_text.specs.Script.{script_of}
 use Rattle.onll_text.specs.Init.{init_of}
-use Rattle.onll_text.specs.Kinds.{ObjectKind, on_object}
-use Rattle.onll_text.proofs.EachKind.{each_object}
+use Rattle.onll_text.specs.declared.any_object.Kind.{Kind}
+use Rattle.onll_text.specs.Kinds.{kind_at}
 use Rattle.onll_jobs.specs.Fold.{fold_report}
 use Rattle.onll_task.specs.declared.ending.Ending.{Ending}
 use Rattle.onll_task.specs.declared.ending.Ending.TheVariants.{Done, Usage, Refused, BadLog, ReadFault, WriteFault, Faulty}
@@ -15,7 +15,7 @@ use Rattle.onll_task.specs.declared.ending.Exit.TheVariants.{Said, SinkFault, No
 use Rattle.onll_jobs.specs.Seen.{Seen}
 use Rattle.onll_jobs.specs.Command.{Form, Fold, Show, Recover, Replay, form_of, usage_text}
 use Rattle.onll_task.specs.Printed.{status_of, exit_status}
-use Rattle.onll_task.specs.Job.{Say, JobEnds, Never, Decides}
+use Rattle.onll_task.specs.Job.{Say, Threads, JobEnds, Never, Decides}
 use Rattle.onll_log.specs.Grammar.{Content, content_of}
 use Rattle.onll_log.specs.ImageFile.{image_lines}
 use Rattle.onll_jobs.specs.ShowJob.{shown_task}
@@ -26,10 +26,11 @@ use Rattle.onll_jobs.specs.FoldJob.{script_task}
 use Rattle.onll_jobs.specs.Exits.{PutExits}
 use Rattle.onll_jobs.specs.Says.{job_of, Allows, PutWhole, OutOfMemory, SinkFailed, ExitSays, NothingFailed, NoneRose, SaysThis}
 use Rattle.onll_task.specs.Doing.{Task}
-use Rattle.onll_jobs.specs.Over.{OverForm, FoldOver, RecoverOver, over_task, over_work}
+use Rattle.onll_jobs.specs.Over.{OverForm, FoldOver, RecoverOver, over_task, object_task, over_work}
 use Rattle.onll_task.proofs.Onwards.{ends_cut}
 use Rattle.onll_task.proofs.Jobs.{TellsFault, nothing_failed, decided, never_says, reading_never, reading_whole_never}
 use Rattle.onll_task.proofs.ImageFiles.{reading_images_never}
+use Rattle.onll_jobs.proofs.OnKind.{each_kind}
 use Rattle.onll_jobs.proofs.ReplayEnds.{replay_not_usage}
 
 -- the ending of a status
@@ -105,11 +106,11 @@ recovered_never b w s (Ok r) = λ e. cc
 recovered_never b w s (Err fault) = λ e. cc
 
 -- what never says the usage over any object never says it
-over_never : (init : List ℕ) (over : OverForm) → ((k : ObjectKind) (bytes : List ℕ) (s : k.State) → Never Usage (over_task over k bytes s).job)
+over_never : (init : List ℕ) (over : OverForm) → ((kind : Kind) (bytes : List ℕ) (s : (kind_at kind).State) → Never Usage (over_task over (kind_at kind) (Threads kind) bytes s).job)
     → Never Usage (over_work init over).task.job
 over_never init over never =
-    reading_whole_never init init_of (λ bytes object. (on_object (λ k s. over_task over k bytes s) object).job)
-    (λ bytes object. each_object {A = Task} (λ k s. over_task over k bytes s) (λ task. Never Usage task.job) (λ k s known. never k bytes s) object)
+    reading_whole_never init init_of (λ bytes object. (object_task over bytes object).job)
+    (λ bytes object. each_kind {A = Task} (λ kind s. over_task over (kind_at kind) (Threads kind) bytes s) (λ task. Never Usage task.job) (λ kind s. never kind bytes s) object)
 
 -- words of a form never get the usage text
 not_usage : (w : Seen) (form : Form) → form_of w.words ≡ Some form → Never Usage (job_of (Some form)) → PutWhole w Usage → ⊥
@@ -117,12 +118,13 @@ not_usage w form e never h = never_says w.store w.store_after (job_of (Some form
 
 form_not_usage : (w : Seen) (form : Form) → form_of w.words ≡ Some form → PutWhole w Usage → ⊥
 form_not_usage w (Fold init script) e h =
-    not_usage w (Fold init script) e (over_never init (FoldOver script) (λ k bytes s. report_never k.means k.wording s script)) h
+    not_usage w (Fold init script) e (over_never init (FoldOver script) (λ kind bytes s. report_never (kind_at kind).means (kind_at kind).wording s script)) h
 form_not_usage w (Show image) e h = not_usage w (Show image) e (λ bytes. content_never (content_of (image_lines bytes))) h
 form_not_usage w (Recover init logs threads) e h =
     not_usage w (Recover init logs threads) e
     (over_never init (RecoverOver logs threads)
-    (λ k bytes s. reading_images_never logs threads 0 (λ images. (images_task k.means k.wording k.code bytes s images).job)
+    (λ kind bytes s. let k = kind_at kind in
+    reading_images_never logs threads 0 (λ images. (images_task k.means k.wording k.code bytes s images).job)
     (λ images. recovered_never k.means k.wording s (state_recovered k.means (expected_heads k.code bytes images) images)))) h
 form_not_usage w (Replay init schedule logs scripts) e h = replay_not_usage w init schedule logs scripts e h
 

@@ -7,3 +7,4 @@ pub mod RecoverCrashes
 mod FormsDetermined
 mod ShowDetermined
 mod Kept
+pub mod OnKind

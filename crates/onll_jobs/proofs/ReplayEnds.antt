@@ -17,18 +17,17 @@ use Rattle.onll_text.specs.declared.schedule.Schedule.{Schedule}
 use Rattle.onll_text.specs.Refusal.{Refusal}
 use Rattle.onll_text.specs.Wording.{Wording}
 use Rattle.onll_text.specs.Init.{init_of}
-use Rattle.onll_text.specs.Kinds.{on_object}
+use Rattle.onll_text.specs.Kinds.{kind_at}
 use Rattle.onll_text.specs.Script.{script_of}
 use Rattle.onll_text.specs.Schedule.{schedule_of}
 use Rattle.onll_text.proofs.FewCalls.{few_calls}
-use Rattle.onll_text.proofs.EachKind.{each_goes}
 use Rattle.onll_outside.specs.Views.{StoreView}
 use Rattle.onll_task.specs.declared.ending.Ending.{Ending}
 use Rattle.onll_task.specs.declared.ending.Ending.TheVariants.{Done, Usage, Refused, BadLog, ReadFault, WriteFault, Faulty}
 use Rattle.onll_merge.specs.declared.fault.StateFault.{StateFault}
 use Rattle.onll_task.specs.Reading.{ReadsWhole, CannotRead}
 use Rattle.onll_task.specs.Writing.{FilesStay, SameCounts, CannotWrite, written}
-use Rattle.onll_task.specs.Job.{Job, JobEnds, on_value, reading_whole}
+use Rattle.onll_task.specs.Job.{Job, Threads, JobEnds, on_value, reading_whole}
 use Rattle.onll_task.specs.ImageNames.{image_name}
 use Rattle.onll_task.specs.Images.{image_bytes, writing_images}
 use Rattle.onll_jobs.specs.Seen.{Seen}
@@ -37,9 +36,10 @@ use Rattle.onll_jobs.specs.Says.{job_of, PutWhole}
 use Rattle.onll_merge.specs.Recovered.{Recovered, recovered_with, state_recovered}
 use Rattle.onll_recovery.specs.ReplayJob.{played, ReadScripts, replay_report, run_task, crash_task, schedule_task, scripts_stage, scripts_task}
 use Rattle.onll_jobs.specs.Durable.{with_images, HasReplayed, HasReplayedAny, ReplayPut}
-use Rattle.onll_jobs.specs.Over.{ReplayOver, over_task, over_work}
+use Rattle.onll_jobs.specs.Over.{ReplayOver, over_task, object_task, over_work}
 use Rattle.onll_task.specs.Doing.{Task}
 use Rattle.onll_recovery.proofs.Crashes.{crash_recovered}
+use Rattle.onll_jobs.proofs.OnKind.{kind_goes}
 use Rattle.onll_jobs.proofs.Forms.{few-scripts}
 
 -- How a replay ends where each file is read and written and no text is refused: it is done, and its run is durable.
@@ -170,17 +170,17 @@ module _ (after : StoreView) (ending : Ending) (text : List ℕ) (said : IsSaid 
           )
 
   any_ends : (store : StoreView) (init schedule logs : List ℕ) (names : List (List ℕ)) (object : AnyObject) → length names ≤ 16
-      → JobEnds store after (on_object (λ k s. over_task (ReplayOver schedule logs names) k init s) object).job ending text
+      → JobEnds store after (object_task (ReplayOver schedule logs names) init object).job ending text
       → (ending ≡ Done) × HasReplayedAny init store after schedule logs names text object
   any_ends store init schedule logs names object few h =
-      each_goes {A = Task} (λ k s. over_task (ReplayOver schedule logs names) k init s) (λ task. JobEnds store after task.job ending text)
+      kind_goes {A = Task} (λ kind s. over_task (ReplayOver schedule logs names) (kind_at kind) (Threads kind) init s) (λ task. JobEnds store after task.job ending text)
       (λ k s. HasReplayed k.means k.wording k.code init s store after schedule logs names text) (λ says. (ending ≡ Done) × says)
-      (λ k s known h. on_ends k.means k.wording store k.code known init s schedule logs names few h) object h
+      (λ kind s known h. on_ends (kind_at kind).means (kind_at kind).wording store (kind_at kind).code known init s schedule logs names few h) object h
 
   job_ends : (store : StoreView) (init schedule logs : List ℕ) (names : List (List ℕ)) → length names ≤ 16
       → JobEnds store after (over_work init (ReplayOver schedule logs names)).task.job ending text → ReplayEnds store after init schedule logs names ending text
   job_ends store init schedule logs names few h =
-      let read = whole_ends store init init_of (λ bytes object. (on_object (λ k s. over_task (ReplayOver schedule logs names) k bytes s) object).job) h in
+      let read = whole_ends store init init_of (λ bytes object. (object_task (ReplayOver schedule logs names) bytes object).job) h in
       let end = any_ends store read.bytes schedule logs names read.value few read.ends in
       record { done = end.0; bytes = read.bytes; object = read.value; read = read.read; replayed = end.1 }
 

@@ -1,8 +1,9 @@
 //! The commands over an object: one dispatch over the kinds of object, for all of them.
 
-ghost use Rattle.onll_text.specs.Kinds.{kind_by, on_object};
+ghost use Rattle.onll_text.specs.Kinds.{kind_by};
 ghost use Rattle.onll_task.specs.Doing.{Does};
-ghost use Rattle.onll_jobs.specs.Over.{over_in, IsOver, over_task, over_writes, over_work};
+ghost use Rattle.onll_task.specs.Standing.{StandsForRuns};
+ghost use Rattle.onll_jobs.specs.Over.{over_in, IsOver, object_task, over_task, over_writes, over_work};
 
 use crate::fold;
 use onll_outside::Store;
@@ -38,8 +39,9 @@ fn over_one<O: Texted + Drop, S: Store>(
 ) -> Result<Vec<u8>, Stop>
     requires { IsOver over }
     ensures { let form = over_in over.entry in
-        let task = over_task form (kind_by O.means O.wording O.CODE) init.now object in
-        Does (over_writes form) (S.seen store.old) (S.seen store.new) task result }
+        let k = kind_by O.means O.wording O.CODE in
+        (threads : _) → StandsForRuns k threads
+        → Does (over_writes form) (S.seen store.old) (S.seen store.new) (over_task form k threads init.now object) result }
 {
     match over {
         Over::Fold { script } => fold::fold_object(alloc, &mut object, script, store),
@@ -64,7 +66,7 @@ fn over_any<S: Store>(
 ) -> Result<Vec<u8>, Stop>
     requires { IsOver over }
     ensures { let form = over_in over.entry in
-        Does (over_writes form) (S.seen store.old) (S.seen store.new) (on_object (λ k s. over_task form k init.now s) object) result }
+        Does (over_writes form) (S.seen store.old) (S.seen store.new) (object_task form init.now object) result }
 {
     match object {
         AnyObject::Bank(bank) => over_one(alloc, bank, init, over, store),

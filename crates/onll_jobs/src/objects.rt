@@ -6,11 +6,13 @@ ghost use Rattle.onll_task.specs.Standing.{StandsForRuns};
 ghost use Rattle.onll_jobs.specs.Over.{over_in, IsOver, object_task, over_task, over_writes, over_work};
 
 use crate::fold;
-use onll_outside::Store;
+use onll_outside::{Gate, Store};
 use onll_recovery::{recover_logs, replay_on};
 use onll_task::{Stop, init_file};
 use onll_text::{AnyObject, Texted};
 use std::alloc::Global;
+use std::sync::Wait;
+use std::thread::Threads;
 
 /// What is done over an object, once its initial state is read.
 #[derive(Clone, Copy, Debug)]
@@ -30,11 +32,13 @@ pub(crate) enum Over<'a> {
 }
 
 /// Does it over an object, whose initial state these bytes say.
-fn over_one<O: Texted + Drop, S: Store>(
+fn over_one<R: Threads + Wait + Sync, O: Texted + Drop + Send + Sync, S: Store, G: Gate + Sync>(
+    _rt: &R,
     alloc: Global,
     mut object: O,
     init: &[u8],
     over: Over<'_>,
+    _gate: &G,
     store: &mut S,
 ) -> Result<Vec<u8>, Stop>
     requires { IsOver over }
@@ -57,11 +61,13 @@ fn over_one<O: Texted + Drop, S: Store>(
 }
 
 /// Does it over an object of any kind.
-fn over_any<S: Store>(
+fn over_any<R: Threads + Wait + Sync, S: Store, G: Gate + Sync>(
+    rt: &R,
     alloc: Global,
     object: AnyObject,
     init: &[u8],
     over: Over<'_>,
+    gate: &G,
     store: &mut S,
 ) -> Result<Vec<u8>, Stop>
     requires { IsOver over }
@@ -69,18 +75,20 @@ fn over_any<S: Store>(
         Does (over_writes form) (S.seen store.old) (S.seen store.new) (object_task form init.now object) result }
 {
     match object {
-        AnyObject::Bank(bank) => over_one(alloc, bank, init, over, store),
-        AnyObject::Map(map) => over_one(alloc, map, init, over, store),
-        AnyObject::Queue(queue) => over_one(alloc, queue, init, over, store),
-        AnyObject::Lease(lease) => over_one(alloc, lease, init, over, store),
+        AnyObject::Bank(bank) => over_one(rt, alloc, bank, init, over, gate, store),
+        AnyObject::Map(map) => over_one(rt, alloc, map, init, over, gate, store),
+        AnyObject::Queue(queue) => over_one(rt, alloc, queue, init, over, gate, store),
+        AnyObject::Lease(lease) => over_one(rt, alloc, lease, init, over, gate, store),
     }
 }
 
 /// Does it over the object that a file holds as an initial state.
-pub(crate) fn answer<S: Store>(
+pub(crate) fn answer<R: Threads + Wait + Sync, S: Store, G: Gate + Sync>(
+    rt: &R,
     alloc: Global,
     init: &str,
     over: Over<'_>,
+    gate: &G,
     store: &mut S,
 ) -> Result<Vec<u8>, Stop>
     requires { IsOver over }
@@ -88,7 +96,7 @@ pub(crate) fn answer<S: Store>(
         Does work.writes (S.seen store.old) (S.seen store.new) work.task result }
 {
     match init_file(alloc, init, store) {
-        Ok(read) => over_any(alloc, read.object, &read.text, over, store),
+        Ok(read) => over_any(rt, alloc, read.object, &read.text, over, gate, store),
         Err(stop) => Err(stop),
     }
 }

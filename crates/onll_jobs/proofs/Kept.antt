@@ -8,11 +8,13 @@ use Rattle.onll_jobs.specs.Durable.{ReplayPromises}
 use Rattle.onll_task.specs.Printed.{exit_status}
 use Rattle.onll_jobs.specs.Promises.{Promises}
 use Rattle.onll_jobs.specs.Says.{writes_of, ExitSays, ExitDetermined}
+use Rattle.onll_jobs.specs.RunPromises.{RunPromises}
 use Rattle.onll_jobs.specs.Seen.{Seen}
 use Rattle.onll_task.specs.Writing.{SameBut}
 use Rattle.onll_jobs.proofs.ExitCauses.{said_of, none_failed_of, usage_of, failed_of, no_memory_of, count_of, decided_exactly}
 use Rattle.onll_jobs.proofs.FormsDetermined.{exit_done}
 use Rattle.onll_jobs.proofs.ReplayEnds.{replay_not_bad, replay_durable}
+use Rattle.onll_jobs.proofs.RunEnds.{run_whole, run_broken, run_not_bad}
 use Rattle.onll_jobs.proofs.RecoverCrashes.{recovers_crashes}
 
 replay_kept : (seen : Seen) (x : Exit) → ExitSays seen x → ReplayPromises seen (exit_status x)
@@ -21,6 +23,13 @@ replay_kept seen x says = record {
       replay_durable seen init schedule logs names form (said_of seen x Done (λ e. omega arith) e says);
   recovers = λ init schedule logs names form e.
       replay_not_bad seen init schedule logs names form (said_of seen x BadLog (λ e. omega arith) e says);
+}
+
+run_kept : (seen : Seen) (x : Exit) → ExitSays seen x → RunPromises seen (exit_status x)
+run_kept seen x says = record {
+  whole = λ init logs names form e. run_whole seen init logs names form (said_of seen x Done (λ e. omega arith) e says);
+  broken = λ init logs names form e. run_broken seen init logs names form (said_of seen x Faulty (λ e. omega arith) e says);
+  recovers = λ init logs names form e. run_not_bad seen init logs names form (said_of seen x BadLog (λ e. omega arith) e says);
 }
 
 kept_of : (seen : Seen) (x : Exit) → ExitSays seen x → ExitDetermined seen x
@@ -42,6 +51,7 @@ kept_of seen x says determined files = record {
   files = files;
   recover = record { crashes = recovers_crashes seen x says };
   replay = replay_kept seen x says;
+  run = run_kept seen x says;
 }
 
 pub promises_kept : (seen : Seen) (x : Exit) (status : ℕ) → status ≡ exit_status x → ExitSays seen x → ExitDetermined seen x

@@ -8,6 +8,7 @@ use Rattle.onll_jobs.specs.Command.{form_of, usage_text}
 use Rattle.onll_jobs.specs.Durable.{RecoverPromises, ReplayPromises}
 use Rattle.onll_task.specs.Job.{Decides}
 use Rattle.onll_jobs.specs.Says.{job_of, writes_of, Ended, IsDetermined, NoneRose, NothingFailed, OutOfMemory, PutWhole, SaysThis, SinkFailed}
+use Rattle.onll_jobs.specs.RunPromises.{RunPromises}
 use Rattle.onll_jobs.specs.Seen.{Seen}
 use Rattle.onll_task.specs.Writing.{SameBut}
 
@@ -38,3 +39,4 @@ pub record Promises (seen : Seen) (status : ℕ) : Type 0 where
   -- What single commands promise beside.
   pub recover : RecoverPromises seen status
   pub replay : ReplayPromises seen status
+  pub run : RunPromises seen status

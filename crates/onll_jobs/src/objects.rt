@@ -8,6 +8,7 @@ ghost use Rattle.onll_jobs.specs.Over.{over_in, IsOver, object_task, over_task, 
 use crate::fold;
 use onll_outside::{Gate, Store};
 use onll_recovery::{recover_logs, replay_on};
+use onll_runner::run_on;
 use onll_task::{Stop, init_file};
 use onll_text::{AnyObject, Texted};
 use std::alloc::Global;
@@ -29,16 +30,20 @@ pub(crate) enum Over<'a> {
         logs: &'a str,
         scripts: &'a [String],
     },
+    Run {
+        logs: &'a str,
+        scripts: &'a [String],
+    },
 }
 
 /// Does it over an object, whose initial state these bytes say.
 fn over_one<R: Threads + Wait + Sync, O: Texted + Drop + Send + Sync, S: Store, G: Gate + Sync>(
-    _rt: &R,
+    rt: &R,
     alloc: Global,
     mut object: O,
     init: &[u8],
     over: Over<'_>,
-    _gate: &G,
+    gate: &G,
     store: &mut S,
 ) -> Result<Vec<u8>, Stop>
     requires { IsOver over }
@@ -57,6 +62,9 @@ fn over_one<R: Threads + Wait + Sync, O: Texted + Drop + Send + Sync, S: Store, 
             logs,
             scripts,
         } => replay_on(alloc, object, init, schedule, logs, scripts, store),
+        Over::Run { logs, scripts } => {
+            run_on(rt, alloc, object, init, logs, scripts, gate, store)
+        }
     }
 }
 

@@ -64,6 +64,11 @@ fn command_answer<R: Threads + Wait + Sync, S: Store, G: Gate + Sync>(
             gate,
             store,
         ),
+        Command::Run {
+            init,
+            logs,
+            scripts,
+        } => objects::answer(rt, alloc, init, Over::Run { logs, scripts }, gate, store),
     }
 }
 

@@ -10,3 +10,6 @@ returns-in-Recover g c = λ threads stands. rw c.in-Recover.is c.recover_logs.en
 
 pub returns-in-Replay : goal.returns-in-Replay
 returns-in-Replay g c = λ threads stands. rw (c.in-Replay.is, length-map c.in-Replay.scripts.now string_bytes) c.replay_on.ensures
+
+pub returns-in-Run : goal.returns-in-Run
+returns-in-Run g c = λ threads stands. rw (c.in-Run.is, length-map c.in-Run.scripts.now string_bytes) (c.run_on.ensures threads stands)

@@ -5,17 +5,17 @@ use Rattle.onll_model.specs.Object.{Behaviour}
 use Rattle.onll_text.specs.Wording.{Wording}
 use Rattle.onll_text.specs.Script.{script_of}
 use Rattle.onll_text.specs.Init.{init_of}
-use Rattle.onll_text.specs.Kinds.{ObjectKind, on_object}
-use Rattle.onll_text.proofs.EachKind.{each_object}
+use Rattle.onll_text.specs.declared.any_object.Kind.{Kind}
+use Rattle.onll_text.specs.Kinds.{kind_at}
 use Rattle.onll_jobs.specs.Fold.{fold_report}
 use Rattle.onll_task.specs.declared.ending.Ending.{Ending}
-use Rattle.onll_task.specs.declared.ending.Ending.TheVariants.{Done, Usage, Refused, BadLog, ReadFault, WriteFault}
+use Rattle.onll_task.specs.declared.ending.Ending.TheVariants.{Done, Usage, Refused, BadLog, ReadFault, WriteFault, Faulty}
 use Rattle.onll_task.specs.declared.ending.Exit.{Exit}
 use Rattle.onll_task.specs.declared.ending.Exit.TheVariants.{Said, SinkFault, NoMemory}
 use Rattle.onll_jobs.specs.Seen.{Seen}
-use Rattle.onll_jobs.specs.Command.{Form, Fold, Show, Recover, Replay, form_of, usage_text}
+use Rattle.onll_jobs.specs.Command.{Form, Fold, Show, Recover, Replay, Run, form_of, usage_text}
 use Rattle.onll_task.specs.Printed.{status_of, exit_status}
-use Rattle.onll_task.specs.Job.{Say, JobEnds, Never, Decides}
+use Rattle.onll_task.specs.Job.{Say, Threads, JobEnds, Never, Decides}
 use Rattle.onll_log.specs.Grammar.{Content, content_of}
 use Rattle.onll_log.specs.ImageFile.{image_lines}
 use Rattle.onll_jobs.specs.ShowJob.{shown_task}
@@ -26,11 +26,13 @@ use Rattle.onll_jobs.specs.FoldJob.{script_task}
 use Rattle.onll_jobs.specs.Exits.{PutExits}
 use Rattle.onll_jobs.specs.Says.{job_of, Allows, PutWhole, OutOfMemory, SinkFailed, ExitSays, NothingFailed, NoneRose, SaysThis}
 use Rattle.onll_task.specs.Doing.{Task}
-use Rattle.onll_jobs.specs.Over.{OverForm, FoldOver, RecoverOver, over_task, over_work}
+use Rattle.onll_jobs.specs.Over.{OverForm, FoldOver, RecoverOver, over_task, object_task, over_work}
 use Rattle.onll_task.proofs.Onwards.{ends_cut}
 use Rattle.onll_task.proofs.Jobs.{TellsFault, nothing_failed, decided, never_says, reading_never, reading_whole_never}
 use Rattle.onll_task.proofs.ImageFiles.{reading_images_never}
+use Rattle.onll_jobs.proofs.OnKind.{each_kind}
 use Rattle.onll_jobs.proofs.ReplayEnds.{replay_not_usage}
+use Rattle.onll_jobs.proofs.RunEnds.{run_not_usage}
 
 -- the ending of a status
 ending_at : ℕ → Ending
@@ -39,6 +41,7 @@ ending_at (suc (suc zero)) = Usage
 ending_at (suc (suc (suc zero))) = Refused
 ending_at (suc (suc (suc (suc zero)))) = BadLog
 ending_at (suc (suc (suc (suc (suc zero))))) = ReadFault
+ending_at (suc (suc (suc (suc (suc (suc (suc zero))))))) = Faulty
 ending_at _ = WriteFault
 
 ending_at_status : (e : Ending) → ending_at (status_of e) ≡ e
@@ -49,6 +52,7 @@ ending_at_status Refused = refl
 ending_at_status BadLog = refl
 ending_at_status ReadFault = refl
 ending_at_status WriteFault = refl
+ending_at_status Faulty = refl
 
 same_ending : (d e : Ending) → status_of d ≡ status_of e → d ≡ e
 same_ending d e h = sym (ending_at_status d) ∙ (ap ending_at h ∙ ending_at_status e)
@@ -60,6 +64,7 @@ not_nine Refused h = omega arith
 not_nine BadLog h = omega arith
 not_nine ReadFault h = omega arith
 not_nine WriteFault h = omega arith
+not_nine Faulty h = omega arith
 
 -- what a put of a text that is allowed says by its exit
 pub put_says : (w : Seen) (ending : Ending) (text : List ℕ) (x : Exit) → Allows w ending text → PutExits w.sink w.sink_after ending text x → ExitSays w x
@@ -102,11 +107,11 @@ recovered_never b w s (Ok r) = λ e. cc
 recovered_never b w s (Err fault) = λ e. cc
 
 -- what never says the usage over any object never says it
-over_never : (init : List ℕ) (over : OverForm) → ((k : ObjectKind) (bytes : List ℕ) (s : k.State) → Never Usage (over_task over k bytes s).job)
+over_never : (init : List ℕ) (over : OverForm) → ((kind : Kind) (bytes : List ℕ) (s : (kind_at kind).State) → Never Usage (over_task over (kind_at kind) (Threads kind) bytes s).job)
     → Never Usage (over_work init over).task.job
 over_never init over never =
-    reading_whole_never init init_of (λ bytes object. (on_object (λ k s. over_task over k bytes s) object).job)
-    (λ bytes object. each_object {A = Task} (λ k s. over_task over k bytes s) (λ task. Never Usage task.job) (λ k s known. never k bytes s) object)
+    reading_whole_never init init_of (λ bytes object. (object_task over bytes object).job)
+    (λ bytes object. each_kind {A = Task} (λ kind s. over_task over (kind_at kind) (Threads kind) bytes s) (λ task. Never Usage task.job) (λ kind s. never kind bytes s) object)
 
 -- words of a form never get the usage text
 not_usage : (w : Seen) (form : Form) → form_of w.words ≡ Some form → Never Usage (job_of (Some form)) → PutWhole w Usage → ⊥
@@ -114,14 +119,16 @@ not_usage w form e never h = never_says w.store w.store_after (job_of (Some form
 
 form_not_usage : (w : Seen) (form : Form) → form_of w.words ≡ Some form → PutWhole w Usage → ⊥
 form_not_usage w (Fold init script) e h =
-    not_usage w (Fold init script) e (over_never init (FoldOver script) (λ k bytes s. report_never k.means k.wording s script)) h
+    not_usage w (Fold init script) e (over_never init (FoldOver script) (λ kind bytes s. report_never (kind_at kind).means (kind_at kind).wording s script)) h
 form_not_usage w (Show image) e h = not_usage w (Show image) e (λ bytes. content_never (content_of (image_lines bytes))) h
 form_not_usage w (Recover init logs threads) e h =
     not_usage w (Recover init logs threads) e
     (over_never init (RecoverOver logs threads)
-    (λ k bytes s. reading_images_never logs threads 0 (λ images. (images_task k.means k.wording k.code bytes s images).job)
+    (λ kind bytes s. let k = kind_at kind in
+    reading_images_never logs threads 0 (λ images. (images_task k.means k.wording k.code bytes s images).job)
     (λ images. recovered_never k.means k.wording s (state_recovered k.means (expected_heads k.code bytes images) images)))) h
 form_not_usage w (Replay init schedule logs scripts) e h = replay_not_usage w init schedule logs scripts e h
+form_not_usage w (Run init logs scripts) e h = run_not_usage w init logs scripts e h
 
 usage_put : (w : Seen) (form : Option Form) → form_of w.words ≡ form → PutWhole w Usage → (form ≡ None) × Puts w.sink w.sink_after usage_text
 usage_put w None e h = (refl, subst (Puts w.sink w.sink_after) (subst (λ f. JobEnds w.store w.store_after (job_of f) Usage h.text) e h.allowed).1 h.put)
@@ -143,6 +150,7 @@ tells_none Refused h t = t
 tells_none BadLog h t = t
 tells_none ReadFault h t = omega arith
 tells_none WriteFault h t = omega arith
+tells_none Faulty h t = t
 
 -- a good status says that nothing failed
 pub none_failed_of : (w : Seen) (x : Exit) (status : ℕ) → status ≡ exit_status x → (status ≡ 0) ⊎ (status ≡ 2) ⊎ (status ≡ 3) ⊎ (status ≡ 4) → ExitSays w x → NothingFailed w

@@ -2,17 +2,19 @@
 
 use Rattle.std.proofs.Common.{ℕ, ◌≡◌, arith, refl, subst, sym}
 use Rattle.onll_task.specs.declared.ending.Exit.{Exit}
-use Rattle.onll_task.specs.declared.ending.Ending.TheVariants.{Done, Refused, BadLog, ReadFault}
+use Rattle.onll_task.specs.declared.ending.Ending.TheVariants.{Done, Refused, BadLog, ReadFault, Faulty}
 use Rattle.onll_jobs.specs.Command.{form_of}
 use Rattle.onll_jobs.specs.Durable.{ReplayPromises}
 use Rattle.onll_task.specs.Printed.{exit_status}
 use Rattle.onll_jobs.specs.Promises.{Promises}
 use Rattle.onll_jobs.specs.Says.{writes_of, ExitSays, ExitDetermined}
+use Rattle.onll_jobs.specs.RunPromises.{RunPromises}
 use Rattle.onll_jobs.specs.Seen.{Seen}
 use Rattle.onll_task.specs.Writing.{SameBut}
 use Rattle.onll_jobs.proofs.ExitCauses.{said_of, none_failed_of, usage_of, failed_of, no_memory_of, count_of, decided_exactly}
 use Rattle.onll_jobs.proofs.FormsDetermined.{exit_done}
 use Rattle.onll_jobs.proofs.ReplayEnds.{replay_not_bad, replay_durable}
+use Rattle.onll_jobs.proofs.RunEnds.{run_whole, run_broken, run_not_bad}
 use Rattle.onll_jobs.proofs.RecoverCrashes.{recovers_crashes}
 
 replay_kept : (seen : Seen) (x : Exit) → ExitSays seen x → ReplayPromises seen (exit_status x)
@@ -21,6 +23,13 @@ replay_kept seen x says = record {
       replay_durable seen init schedule logs names form (said_of seen x Done (λ e. omega arith) e says);
   recovers = λ init schedule logs names form e.
       replay_not_bad seen init schedule logs names form (said_of seen x BadLog (λ e. omega arith) e says);
+}
+
+run_kept : (seen : Seen) (x : Exit) → ExitSays seen x → RunPromises seen (exit_status x)
+run_kept seen x says = record {
+  whole = λ init logs names form e. run_whole seen init logs names form (said_of seen x Done (λ e. omega arith) e says);
+  broken = λ init logs names form e. run_broken seen init logs names form (said_of seen x Faulty (λ e. omega arith) e says);
+  recovers = λ init logs names form e. run_not_bad seen init logs names form (said_of seen x BadLog (λ e. omega arith) e says);
 }
 
 kept_of : (seen : Seen) (x : Exit) → ExitSays seen x → ExitDetermined seen x
@@ -33,6 +42,7 @@ kept_of seen x says determined files = record {
   bad_log = λ e. said_of seen x BadLog (λ e. omega arith) e says;
   unread = λ e. said_of seen x ReadFault (λ e. omega arith) e says;
   failed = λ e. failed_of seen x e says;
+  faulty = λ e. said_of seen x Faulty (λ e. omega arith) e says;
   no_memory = λ e. no_memory_of seen x e says;
   nothing_failed = λ good. none_failed_of seen x (exit_status x) refl good says;
   sink_count = count_of seen x says;
@@ -41,6 +51,7 @@ kept_of seen x says determined files = record {
   files = files;
   recover = record { crashes = recovers_crashes seen x says };
   replay = replay_kept seen x says;
+  run = run_kept seen x says;
 }
 
 pub promises_kept : (seen : Seen) (x : Exit) (status : ℕ) → status ≡ exit_status x → ExitSays seen x → ExitDetermined seen x

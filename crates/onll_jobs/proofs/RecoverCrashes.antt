@@ -11,15 +11,14 @@ use Rattle.onll_text.specs.declared.any_object.AnyObject.{AnyObject}
 use Rattle.onll_text.specs.Refusal.{Refusal}
 use Rattle.onll_text.specs.Wording.{Wording}
 use Rattle.onll_text.specs.Init.{init_of}
-use Rattle.onll_text.specs.Kinds.{on_object}
-use Rattle.onll_text.proofs.EachKind.{each_goes}
+use Rattle.onll_text.specs.Kinds.{kind_at}
 use Rattle.onll_outside.specs.Views.{StoreView}
 use Rattle.onll_task.specs.declared.ending.Ending.{Ending}
 use Rattle.onll_task.specs.declared.ending.Ending.TheVariants.{Done}
 use Rattle.onll_task.specs.declared.ending.Exit.{Exit}
 use Rattle.onll_merge.specs.declared.fault.StateFault.{StateFault}
 use Rattle.onll_task.specs.Reading.{IsTold}
-use Rattle.onll_task.specs.Job.{Job, Decides, on_value}
+use Rattle.onll_task.specs.Job.{Job, Threads, Decides, on_value}
 use Rattle.onll_task.specs.ImageNames.{image_names}
 use Rattle.onll_task.specs.Doing.{lines_stage, each_job}
 use Rattle.onll_jobs.specs.Seen.{Seen}
@@ -29,9 +28,10 @@ use Rattle.onll_jobs.specs.Says.{job_of, ExitSays, NoneRose, SaysThis}
 use Rattle.onll_recovery.specs.RecoverJob.{recover_report, recovered_task, images_task}
 use Rattle.onll_merge.specs.Recovered.{Recovered, recovered_with, expected_heads, state_recovered}
 use Rattle.onll_jobs.specs.Durable.{TellImages, IsLeft, RecoversLeft, RecoversCrashes}
-use Rattle.onll_jobs.specs.Over.{RecoverOver, over_task, over_work}
+use Rattle.onll_jobs.specs.Over.{RecoverOver, over_task, object_task, over_work}
 use Rattle.onll_task.specs.Doing.{Task}
 use Rattle.onll_recovery.proofs.Crashes.{left_recovered}
+use Rattle.onll_jobs.proofs.OnKind.{kind_goes}
 use Rattle.onll_jobs.proofs.ExitCauses.{decided_exactly}
 
 -- What a crash left in told files is recovered.
@@ -56,10 +56,10 @@ recovered_decides b w store s recovered r e = subst (λ (x : Result Recovered St
 -- the call says what the told files decide
 module _ (seen : Seen) (x : Exit) (says : ExitSays seen x) (init logs bytes : List ℕ) (threads : ℕ) (object : AnyObject)
     (form : form_of seen.words ≡ Some (Recover init logs threads)) (told : IsTold seen.store init bytes) (accepted : init_of bytes ≡ Ok object) (none : NoneRose seen) where
-  object_says : (text : List ℕ) → Decides seen.store (on_object (λ k s. over_task (RecoverOver logs threads) k bytes s) object).job Done text
+  object_says : (text : List ℕ) → Decides seen.store (object_task (RecoverOver logs threads) bytes object).job Done text
       → SaysThis seen (exit_status x) Done text
   object_says text d =
-      let on : Result AnyObject Refusal → Job = λ r. on_value init (λ o. (on_object (λ k s. over_task (RecoverOver logs threads) k bytes s) o).job) r in
+      let on : Result AnyObject Refusal → Job = λ r. on_value init (λ o. (object_task (RecoverOver logs threads) bytes o).job) r in
       let job : Decides seen.store (over_work init (RecoverOver logs threads)).task.job Done text =
       (bytes, (told, subst (λ (r : Result AnyObject Refusal). Decides seen.store (on r) Done text) (sym accepted) d)) in
       decided_exactly seen x Done text (subst (λ f. Decides seen.store (job_of f) Done text) (sym form) job) none says
@@ -82,10 +82,10 @@ module _ (seen : Seen) (x : Exit) (says : ExitSays seen x) (init logs bytes : Li
 
 pub recovers_crashes : (seen : Seen) (x : Exit) → ExitSays seen x → RecoversCrashes seen (exit_status x)
 recovers_crashes seen x says init logs bytes threads object form told accepted none =
-    each_goes {A = Task} (λ k s. over_task (RecoverOver logs threads) k bytes s)
+    kind_goes {A = Task} (λ kind s. over_task (RecoverOver logs threads) (kind_at kind) (Threads kind) bytes s)
     (λ task. (text : List ℕ) → Decides seen.store task.job Done text → SaysThis seen (exit_status x) Done text)
     (λ k s. (left : IsLeft k.means k.code bytes s seen.store logs threads)
     → RecoversLeft k.means k.wording k.code bytes s seen (exit_status x) logs threads left)
     (λ says. says)
-    (λ k s known say left. left_recovers seen x says init logs bytes threads object form told accepted none k.means k.wording k.code s say left)
+    (λ kind s known say left. left_recovers seen x says init logs bytes threads object form told accepted none (kind_at kind).means (kind_at kind).wording (kind_at kind).code s say left)
     object (object_says seen x says init logs bytes threads object form told accepted none)

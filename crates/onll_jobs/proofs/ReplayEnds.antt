@@ -1,4 +1,4 @@
-use Rattle.std.proofs.Common.{ℕ, suc, List, [], ◌∷◌, ◌≡◌, ◌≤◌, inl, inr, length, Some, Result, Ok, Err, refl, sym, ap, subst}
+use Rattle.std.proofs.Common.{ℕ, suc, List, [], ◌∷◌, ◌≡◌, ◌≤◌, inl, inr, length, Some, Result, Ok, refl, sym, ap, subst}
 use Rattle.onll_model.specs.Limits.{greatest_code}
 use Rattle.std.specs.List.{AllByRecursion}
 use Rattle.onll_model.specs.declared.call.Call.{Call}
@@ -14,76 +14,34 @@ use Rattle.onll_core.proofs.Crashed.{picked_images}
 use Rattle.onll_core.proofs.Durable.{always_durable}
 use Rattle.onll_text.specs.declared.any_object.AnyObject.{AnyObject}
 use Rattle.onll_text.specs.declared.schedule.Schedule.{Schedule}
-use Rattle.onll_text.specs.Refusal.{Refusal}
 use Rattle.onll_text.specs.Wording.{Wording}
 use Rattle.onll_text.specs.Init.{init_of}
-use Rattle.onll_text.specs.Kinds.{on_object}
-use Rattle.onll_text.specs.Script.{script_of}
+use Rattle.onll_text.specs.Kinds.{kind_at}
 use Rattle.onll_text.specs.Schedule.{schedule_of}
 use Rattle.onll_text.proofs.FewCalls.{few_calls}
-use Rattle.onll_text.proofs.EachKind.{each_goes}
-use Rattle.onll_outside.specs.Views.{StoreView, SameFaults}
+use Rattle.onll_outside.specs.Views.{StoreView}
 use Rattle.onll_task.specs.declared.ending.Ending.{Ending}
-use Rattle.onll_task.specs.declared.ending.Ending.TheVariants.{Done, Usage, Refused, BadLog, ReadFault, WriteFault}
+use Rattle.onll_task.specs.declared.ending.Ending.TheVariants.{Done, Usage, BadLog}
 use Rattle.onll_merge.specs.declared.fault.StateFault.{StateFault}
-use Rattle.onll_task.specs.Reading.{ReadsWhole, CannotRead}
-use Rattle.onll_task.specs.Writing.{FilesStay, CannotWrite, written}
-use Rattle.onll_task.specs.Job.{Job, JobEnds, on_value, reading_whole}
+use Rattle.onll_task.specs.Reading.{ReadsWhole}
+use Rattle.onll_task.specs.Writing.{FilesStay, SameCounts, written}
+use Rattle.onll_task.specs.Job.{Job, Threads, JobEnds}
 use Rattle.onll_task.specs.ImageNames.{image_name}
 use Rattle.onll_task.specs.Images.{image_bytes, writing_images}
 use Rattle.onll_jobs.specs.Seen.{Seen}
 use Rattle.onll_jobs.specs.Command.{form_of, Replay}
 use Rattle.onll_jobs.specs.Says.{job_of, PutWhole}
 use Rattle.onll_merge.specs.Recovered.{Recovered, recovered_with, state_recovered}
-use Rattle.onll_recovery.specs.ReplayJob.{played, ReadScripts, replay_report, run_task, crash_task, schedule_task, scripts_stage, scripts_task}
+use Rattle.onll_recovery.specs.ReplayJob.{played, ReadScripts, replay_report, run_task, crash_task, schedule_task, scripts_task}
 use Rattle.onll_jobs.specs.Durable.{with_images, HasReplayed, HasReplayedAny, ReplayPut}
-use Rattle.onll_jobs.specs.Over.{ReplayOver, over_task, over_work}
+use Rattle.onll_jobs.specs.Over.{ReplayOver, over_task, object_task, over_work}
 use Rattle.onll_task.specs.Doing.{Task}
 use Rattle.onll_recovery.proofs.Crashes.{crash_recovered}
+use Rattle.onll_jobs.proofs.SaidEnds.{IsSaid, can_write, whole_ends, scripts_end}
+use Rattle.onll_jobs.proofs.OnKind.{kind_goes}
 use Rattle.onll_jobs.proofs.Forms.{few-scripts}
 
 -- How a replay ends where each file is read and written and no text is refused: it is done, and its run is durable.
-
--- ---- endings that neither a file nor a text gives
-abbrev pub IsSaid : Ending → Type 0
-IsSaid Done = Unit {0}
-IsSaid Usage = Unit {0}
-IsSaid BadLog = Unit {0}
-IsSaid Refused = ⊥
-IsSaid ReadFault = ⊥
-IsSaid WriteFault = ⊥
-
-can_read : (store after : StoreView) (name : List ℕ) (ending : Ending) (text : List ℕ) → IsSaid ending → CannotRead store after name ending text → ⊥
-can_read store after name Done text said h = h
-can_read store after name Usage text said h = h
-can_read store after name BadLog text said h = h
-can_read store after name Refused text said h = said
-can_read store after name ReadFault text said h = said
-can_read store after name WriteFault text said h = said
-
-can_write : (store after : StoreView) (name : List ℕ) (ending : Ending) (text : List ℕ) → IsSaid ending → CannotWrite store after name ending text → ⊥
-can_write store after name Done text said h = h
-can_write store after name Usage text said h = h
-can_write store after name BadLog text said h = h
-can_write store after name Refused text said h = said
-can_write store after name ReadFault text said h = said
-can_write store after name WriteFault text said h = said
-
-not_refused : (ending : Ending) → IsSaid ending → ending ≡ Refused → ⊥
-not_refused ending said e = subst IsSaid e said
-
--- a text was read, and the job went on
-record WholeEnds {A : Type 0} (store after : StoreView) (name : List ℕ) (grammar : List ℕ → Result A Refusal) (next : List ℕ → A → Job) (ending : Ending) (text : List ℕ) : Type 0 where
-  pub bytes : List ℕ
-  pub value : A
-  pub read : ReadsWhole store grammar name bytes value
-  pub ends : JobEnds store after (next bytes value) ending text
-
--- so were scripts
-record ScriptsEnd {State Op Query Reply : Type 0} (w : Wording State Op Query Reply) (store after : StoreView) (names : List (List ℕ)) (next : List (List (Call State Op Query Reply)) → Job) (ending : Ending) (text : List ℕ) : Type 0 where
-  pub scripts : List (List (Call State Op Query Reply))
-  pub read : ReadScripts w store names scripts
-  pub ends : JobEnds store after (next scripts) ending text
 
 -- how a replay ended
 record ReplayEnds (store after : StoreView) (init schedule logs : List ℕ) (names : List (List ℕ)) (ending : Ending) (text : List ℕ) : Type 0 where
@@ -94,28 +52,12 @@ record ReplayEnds (store after : StoreView) (init schedule logs : List ℕ) (nam
   pub replayed : HasReplayedAny bytes store after schedule logs names text object
 
 module _ (after : StoreView) (ending : Ending) (text : List ℕ) (said : IsSaid ending) where
-  -- ---- what was read
-  whole_ends : {A : Type 0} (store : StoreView) (name : List ℕ) (grammar : List ℕ → Result A Refusal) (next : List ℕ → A → Job) → JobEnds store after (reading_whole name grammar next) ending text → WholeEnds store after name grammar next ending text
-  whole_ends store name grammar next (inl h) = absurd (can_read store after name ending text said h.0)
-  whole_ends {A = A} store name grammar next (inr h) = by (grammar h.0) refl h.1.1
-    where
-      by : (r : Result A Refusal) → grammar h.0 ≡ r → JobEnds store after (on_value name (next h.0) r) ending text → WholeEnds store after name grammar next ending text
-      by (Ok value) e k = record { bytes = h.0; value = value; read = record { held = h.1.0; accepted = e }; ends = k }
-      by (Err refusal) e k = absurd (not_refused ending said k.0)
-
   images_end : (store : StoreView) (logs : List ℕ) (i : ℕ) (images : List (List (List ℕ))) (next : Job) → JobEnds store after (writing_images logs i images next) ending text → JobEnds (with_images store logs i images) after next ending text
   images_end store logs i [] next h = h
   images_end store logs i (image ∷ images) next (inl h) = absurd (can_write store after (image_name logs i) ending text said h)
   images_end store logs i (image ∷ images) next (inr h) = images_end (written store (image_name logs i) (image_bytes image)) logs (suc i) images next h
 
   module _ {State Op Query Reply : Type 0} (b : Behaviour State Op Query Reply) (w : Wording State Op Query Reply) (store : StoreView) where
-    scripts_end : (names : List (List ℕ)) (next : List (List (Call State Op Query Reply)) → Job) → JobEnds store after ((scripts_stage w names).job next) ending text → ScriptsEnd w store after names next ending text
-    scripts_end [] next h = record { scripts = []; read = tt; ends = h }
-    scripts_end (name ∷ names) next h =
-        let first = whole_ends store name (script_of w) (λ bytes calls. (scripts_stage w names).job (λ scripts. next (calls ∷ scripts))) h in
-        let rest = scripts_end names (λ scripts. next (first.value ∷ scripts)) first.ends in
-        record { scripts = first.value ∷ rest.scripts; read = (record { bytes = first.bytes; held = first.read.held; accepted = first.read.accepted }, rest.read); ends = rest.ends }
-
     many_scripts : (names : List (List ℕ)) (scripts : List (List (Call State Op Query Reply))) → ReadScripts w store names scripts → length scripts ≡ length names
     many_scripts [] [] h = refl
     many_scripts [] (script ∷ scripts) h = absurd h
@@ -132,15 +74,15 @@ module _ (after : StoreView) (ending : Ending) (text : List ℕ) (said : IsSaid 
     module _ (code : ℕ) (is : (1 ≤ code) × (code ≤ greatest_code)) (init : List ℕ) (s : State) (schedule logs : List ℕ) (names : List (List ℕ)) (few : length names ≤ 16) where
       -- what a crash says of a core that was played
       crash_ends : (scripts : List (List (Call State Op Query Reply))) (c : CoreState State Op Query Reply) (keep : ℕ) (store' : StoreView) (recovered : Result Recovered StateFault) (r : Recovered) → recovered ≡ Ok r → JobEnds store' after (run_task b w scripts c keep recovered).job ending text
-          → (ending ≡ Done) × (text ≡ replay_report b w c keep r) × FilesStay store' after × SameFaults store' after
+          → (ending ≡ Done) × (text ≡ replay_report b w c keep r) × FilesStay store' after × SameCounts store' after
       crash_ends scripts c keep store' recovered r e h = subst (λ (x : Result Recovered StateFault). JobEnds store' after (run_task b w scripts c keep x).job ending text) e h
 
       on_ends : JobEnds store after (scripts_task b w code init schedule logs names s).job ending text → (ending ≡ Done) × HasReplayed b w code init s store after schedule logs names text
       on_ends h =
-          let read = scripts_end names (λ scripts. (schedule_task b w code init s schedule logs scripts).job) h in
+          let read = scripts_end after ending text said w store names (λ scripts. (schedule_task b w code init s schedule logs scripts).job) h in
           let scripts = read.scripts in
           let count = length scripts in
-          let planned = whole_ends store schedule (schedule_of count) (λ bytes (plan : Schedule). (crash_task b w logs scripts (played b code init s scripts plan.turns) plan.keep).job) read.ends in
+          let planned = whole_ends after ending text said store schedule (schedule_of count) (λ bytes (plan : Schedule). (crash_task b w logs scripts (played b code init s scripts plan.turns) plan.keep).job) read.ends in
           let plan = planned.value in
           let core = played b code init s scripts plan.turns in
           let images = images_of plan.keep core.threads in
@@ -167,17 +109,17 @@ module _ (after : StoreView) (ending : Ending) (text : List ℕ) (said : IsSaid 
           )
 
   any_ends : (store : StoreView) (init schedule logs : List ℕ) (names : List (List ℕ)) (object : AnyObject) → length names ≤ 16
-      → JobEnds store after (on_object (λ k s. over_task (ReplayOver schedule logs names) k init s) object).job ending text
+      → JobEnds store after (object_task (ReplayOver schedule logs names) init object).job ending text
       → (ending ≡ Done) × HasReplayedAny init store after schedule logs names text object
   any_ends store init schedule logs names object few h =
-      each_goes {A = Task} (λ k s. over_task (ReplayOver schedule logs names) k init s) (λ task. JobEnds store after task.job ending text)
+      kind_goes {A = Task} (λ kind s. over_task (ReplayOver schedule logs names) (kind_at kind) (Threads kind) init s) (λ task. JobEnds store after task.job ending text)
       (λ k s. HasReplayed k.means k.wording k.code init s store after schedule logs names text) (λ says. (ending ≡ Done) × says)
-      (λ k s known h. on_ends k.means k.wording store k.code known init s schedule logs names few h) object h
+      (λ kind s known h. on_ends (kind_at kind).means (kind_at kind).wording store (kind_at kind).code known init s schedule logs names few h) object h
 
   job_ends : (store : StoreView) (init schedule logs : List ℕ) (names : List (List ℕ)) → length names ≤ 16
       → JobEnds store after (over_work init (ReplayOver schedule logs names)).task.job ending text → ReplayEnds store after init schedule logs names ending text
   job_ends store init schedule logs names few h =
-      let read = whole_ends store init init_of (λ bytes object. (on_object (λ k s. over_task (ReplayOver schedule logs names) k bytes s) object).job) h in
+      let read = whole_ends after ending text said store init init_of (λ bytes object. (object_task (ReplayOver schedule logs names) bytes object).job) h in
       let end = any_ends store read.bytes schedule logs names read.value few read.ends in
       record { done = end.0; bytes = read.bytes; object = read.value; read = read.read; replayed = end.1 }
 

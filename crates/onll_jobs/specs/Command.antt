@@ -14,6 +14,7 @@ pub data Form : Type 0 where
   Show : (image : List ℕ) → Form
   Recover : (init logs : List ℕ) (threads : ℕ) → Form
   Replay : (init schedule logs : List ℕ) (scripts : List (List ℕ)) → Form
+  Run : (init logs : List ℕ) (scripts : List (List ℕ)) → Form
 
 -- ---- what the names after a command's word say
 abbrev pub fold_of : List (List ℕ) → Option Form
@@ -33,6 +34,10 @@ abbrev pub replay_of : List (List ℕ) → Option Form
 replay_of (init ∷ schedule ∷ logs ∷ scripts) = Some (Replay init schedule logs scripts)
 replay_of names = None
 
+abbrev pub run_of : List (List ℕ) → Option Form
+run_of (init ∷ logs ∷ scripts) = Some (Run init logs scripts)
+run_of names = None
+
 -- the form of a command's word with these names
 abbrev pub named_form : List ℕ → List (List ℕ) → Option Form
 named_form command names =
@@ -40,13 +45,15 @@ named_form command names =
     else if bytes_eq command (codes "show") then show_of names
     else if bytes_eq command (codes "recover") then recover_of names
     else if bytes_eq command (codes "replay") then replay_of names
+    else if bytes_eq command (codes "run") then run_of names
     else None
 
 -- ---- the form of words
--- a recovery is from the logs of 1 to 16 threads, and a replay is of 1 to 16 scripts
+-- a recovery is from the logs of 1 to 16 threads, and a replay and a run are of 1 to 16 scripts
 abbrev pub is_within : Form → Bool
 is_within (Recover init logs threads) = nat_le 1 threads && nat_le threads most_threads
 is_within (Replay init schedule logs scripts) = nat_le 1 (length scripts) && nat_le (length scripts) most_threads
+is_within (Run init logs scripts) = nat_le 1 (length scripts) && nat_le (length scripts) most_threads
 is_within form = true
 
 abbrev pub within_limits : Option Form → Option Form
@@ -64,11 +71,13 @@ form_in (commands.Fold init script) = Fold init.now script.now
 form_in (commands.Show image) = Show image.now
 form_in (commands.Recover init logs threads) = Recover init.now logs.now threads
 form_in (commands.Replay init schedule logs scripts) = Replay init.now schedule.now logs.now (map string_bytes scripts.now)
+form_in (commands.Run init logs scripts) = Run init.now logs.now (map string_bytes scripts.now)
 
--- a recovery is from the logs of 1 to 16 threads, and a replay is of 1 to 16 scripts
+-- a recovery is from the logs of 1 to 16 threads, and a replay and a run are of 1 to 16 scripts
 abbrev pub IsCommand : Command → Type 0
 IsCommand (commands.Recover init logs threads) = (1 ≤ threads) × (threads ≤ most_threads)
 IsCommand (commands.Replay init schedule logs scripts) = (1 ≤ length scripts.now) × (length scripts.now ≤ most_threads)
+IsCommand (commands.Run init logs scripts) = (1 ≤ length scripts.now) × (length scripts.now ≤ most_threads)
 IsCommand command = Unit {0}
 
 -- the text that is put where words have no form, with the commands to come

@@ -8,3 +8,4 @@ pub mod Seen
 pub mod ShowJob
 pub mod Durable
 pub mod Promises
+pub mod RunPromises

@@ -3,11 +3,12 @@
 use Rattle.std.specs.Prelude.{ℕ, List, ◌≡◌, ◌⊎◌, None}
 use Rattle.onll_outside.specs.Views.{Puts}
 use Rattle.onll_task.specs.declared.ending.Ending.{Ending}
-use Rattle.onll_task.specs.declared.ending.Ending.TheVariants.{Done, Refused, BadLog, ReadFault, WriteFault}
+use Rattle.onll_task.specs.declared.ending.Ending.TheVariants.{Done, Refused, BadLog, ReadFault, WriteFault, Faulty}
 use Rattle.onll_jobs.specs.Command.{form_of, usage_text}
 use Rattle.onll_jobs.specs.Durable.{RecoverPromises, ReplayPromises}
 use Rattle.onll_task.specs.Job.{Decides}
 use Rattle.onll_jobs.specs.Says.{job_of, writes_of, Ended, IsDetermined, NoneRose, NothingFailed, OutOfMemory, PutWhole, SaysThis, SinkFailed}
+use Rattle.onll_jobs.specs.RunPromises.{RunPromises}
 use Rattle.onll_jobs.specs.Seen.{Seen}
 use Rattle.onll_task.specs.Writing.{SameBut}
 
@@ -21,6 +22,7 @@ pub record Promises (seen : Seen) (status : ℕ) : Type 0 where
   pub bad_log : status ≡ 4 → PutWhole seen BadLog
   pub unread : status ≡ 5 → PutWhole seen ReadFault
   pub failed : status ≡ 6 → SinkFailed seen ⊎ PutWhole seen WriteFault
+  pub faulty : status ≡ 7 → PutWhole seen Faulty
   pub no_memory : status ≡ 9 → OutOfMemory seen
   -- A good ending says that nothing failed, also where no file is told.
   pub nothing_failed : (status ≡ 0) ⊎ (status ≡ 2) ⊎ (status ≡ 3) ⊎ (status ≡ 4) → NothingFailed seen
@@ -37,3 +39,4 @@ pub record Promises (seen : Seen) (status : ℕ) : Type 0 where
   -- What single commands promise beside.
   pub recover : RecoverPromises seen status
   pub replay : ReplayPromises seen status
+  pub run : RunPromises seen status

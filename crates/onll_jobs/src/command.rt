@@ -1,7 +1,7 @@
 //! The words of the program, read as a command.
 
 ghost use Rattle.std.specs.Prelude.{◌≡◌, true, map, string_bytes, Some, None, MatchOption, IfSome};
-ghost use Rattle.onll_jobs.specs.Command.{fold_of, show_of, recover_of, replay_of, named_form, form_of, form_in, is_within, usage_text, IsCommand};
+ghost use Rattle.onll_jobs.specs.Command.{fold_of, show_of, recover_of, replay_of, run_of, named_form, form_of, form_in, is_within, usage_text, IsCommand};
 ghost use Rattle.onll_task.specs.Stop.{StopSays};
 
 use onll_model::MOST_THREADS;
@@ -42,6 +42,11 @@ pub(crate) enum Command<'a> {
     Replay {
         init: &'a str,
         schedule: &'a str,
+        logs: &'a str,
+        scripts: &'a [String],
+    },
+    Run {
+        init: &'a str,
         logs: &'a str,
         scripts: &'a [String],
     },
@@ -100,6 +105,21 @@ fn replay<'a>(names: &'a [String]) -> Option<Command<'a>>
     }
 }
 
+/// The run of scripts on threads.
+fn run<'a>(names: &'a [String]) -> Option<Command<'a>>
+    ensures { let form = run_of (map string_bytes names.now) in
+        MatchOption result (form ≡ None) (λ command. form ≡ Some (form_in command)) }
+{
+    match names {
+        [init, logs, scripts @ ..] => Some(Command::Run {
+            init,
+            logs,
+            scripts,
+        }),
+        _ => None,
+    }
+}
+
 /// The command of a word with these names.
 fn named<'a>(command: &str, names: &'a [String]) -> Option<Command<'a>>
     ensures { let form = named_form command.now (map string_bytes names.now) in
@@ -113,6 +133,8 @@ fn named<'a>(command: &str, names: &'a [String]) -> Option<Command<'a>>
         recover(names)
     } else if command == "replay" {
         replay(names)
+    } else if command == "run" {
+        run(names)
     } else {
         None
     }
@@ -141,7 +163,7 @@ impl<'a> Command<'a> {
     {
         match self {
             Command::Recover { threads, .. } => 1 <= *threads && *threads <= MOST_THREADS,
-            Command::Replay { scripts, .. } => {
+            Command::Replay { scripts, .. } | Command::Run { scripts, .. } => {
                 !scripts.is_empty() && scripts.len() as u64 <= MOST_THREADS
             }
             _ => true,

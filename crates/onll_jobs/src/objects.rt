@@ -1,15 +1,19 @@
 //! The commands over an object: one dispatch over the kinds of object, for all of them.
 
-ghost use Rattle.onll_text.specs.Kinds.{kind_by, on_object};
+ghost use Rattle.onll_text.specs.Kinds.{kind_by};
 ghost use Rattle.onll_task.specs.Doing.{Does};
-ghost use Rattle.onll_jobs.specs.Over.{over_in, IsOver, over_task, over_writes, over_work};
+ghost use Rattle.onll_task.specs.Standing.{StandsForRuns};
+ghost use Rattle.onll_jobs.specs.Over.{over_in, IsOver, object_task, over_task, over_writes, over_work};
 
 use crate::fold;
-use onll_outside::Store;
+use onll_outside::{Gate, Store};
 use onll_recovery::{recover_logs, replay_on};
+use onll_runner::run_on;
 use onll_task::{Stop, init_file};
 use onll_text::{AnyObject, Texted};
 use std::alloc::Global;
+use std::sync::Wait;
+use std::thread::Threads;
 
 /// What is done over an object, once its initial state is read.
 #[derive(Clone, Copy, Debug)]
@@ -26,20 +30,27 @@ pub(crate) enum Over<'a> {
         logs: &'a str,
         scripts: &'a [String],
     },
+    Run {
+        logs: &'a str,
+        scripts: &'a [String],
+    },
 }
 
 /// Does it over an object, whose initial state these bytes say.
-fn over_one<O: Texted + Drop, S: Store>(
+fn over_one<R: Threads + Wait + Sync, O: Texted + Drop + Send + Sync, S: Store, G: Gate + Sync>(
+    rt: &R,
     alloc: Global,
     mut object: O,
     init: &[u8],
     over: Over<'_>,
+    gate: &G,
     store: &mut S,
 ) -> Result<Vec<u8>, Stop>
     requires { IsOver over }
     ensures { let form = over_in over.entry in
-        let task = over_task form (kind_by O.means O.wording O.CODE) init.now object in
-        Does (over_writes form) (S.seen store.old) (S.seen store.new) task result }
+        let k = kind_by O.means O.wording O.CODE in
+        (threads : _) → StandsForRuns k threads
+        → Does (over_writes form) (S.seen store.old) (S.seen store.new) (over_task form k threads init.now object) result }
 {
     match over {
         Over::Fold { script } => fold::fold_object(alloc, &mut object, script, store),
@@ -51,34 +62,41 @@ fn over_one<O: Texted + Drop, S: Store>(
             logs,
             scripts,
         } => replay_on(alloc, object, init, schedule, logs, scripts, store),
+        Over::Run { logs, scripts } => {
+            run_on(rt, alloc, object, init, logs, scripts, gate, store)
+        }
     }
 }
 
 /// Does it over an object of any kind.
-fn over_any<S: Store>(
+fn over_any<R: Threads + Wait + Sync, S: Store, G: Gate + Sync>(
+    rt: &R,
     alloc: Global,
     object: AnyObject,
     init: &[u8],
     over: Over<'_>,
+    gate: &G,
     store: &mut S,
 ) -> Result<Vec<u8>, Stop>
     requires { IsOver over }
     ensures { let form = over_in over.entry in
-        Does (over_writes form) (S.seen store.old) (S.seen store.new) (on_object (λ k s. over_task form k init.now s) object) result }
+        Does (over_writes form) (S.seen store.old) (S.seen store.new) (object_task form init.now object) result }
 {
     match object {
-        AnyObject::Bank(bank) => over_one(alloc, bank, init, over, store),
-        AnyObject::Map(map) => over_one(alloc, map, init, over, store),
-        AnyObject::Queue(queue) => over_one(alloc, queue, init, over, store),
-        AnyObject::Lease(lease) => over_one(alloc, lease, init, over, store),
+        AnyObject::Bank(bank) => over_one(rt, alloc, bank, init, over, gate, store),
+        AnyObject::Map(map) => over_one(rt, alloc, map, init, over, gate, store),
+        AnyObject::Queue(queue) => over_one(rt, alloc, queue, init, over, gate, store),
+        AnyObject::Lease(lease) => over_one(rt, alloc, lease, init, over, gate, store),
     }
 }
 
 /// Does it over the object that a file holds as an initial state.
-pub(crate) fn answer<S: Store>(
+pub(crate) fn answer<R: Threads + Wait + Sync, S: Store, G: Gate + Sync>(
+    rt: &R,
     alloc: Global,
     init: &str,
     over: Over<'_>,
+    gate: &G,
     store: &mut S,
 ) -> Result<Vec<u8>, Stop>
     requires { IsOver over }
@@ -86,7 +104,7 @@ pub(crate) fn answer<S: Store>(
         Does work.writes (S.seen store.old) (S.seen store.new) work.task result }
 {
     match init_file(alloc, init, store) {
-        Ok(read) => over_any(alloc, read.object, &read.text, over, store),
+        Ok(read) => over_any(rt, alloc, read.object, &read.text, over, gate, store),
         Err(stop) => Err(stop),
     }
 }

@@ -12,14 +12,18 @@ ghost use Rattle.onll_task.specs.Doing.{Does};
 use crate::command::{Command, usage};
 use crate::objects::Over;
 use crate::{objects, show};
-use onll_outside::{OutsideFault, Sink, Store};
+use onll_outside::{Gate, OutsideFault, Sink, Store};
 use onll_task::{Ending, Exit, Stop};
 use std::alloc::Global;
+use std::sync::Wait;
+use std::thread::Threads;
 
 /// A command's report, or what is said in its place.
-fn command_answer<S: Store>(
+fn command_answer<R: Threads + Wait + Sync, S: Store, G: Gate + Sync>(
+    rt: &R,
     alloc: Global,
     command: Command<'_>,
+    gate: &G,
     store: &mut S,
 ) -> Result<Vec<u8>, Stop>
     requires { IsCommand command }
@@ -28,20 +32,28 @@ fn command_answer<S: Store>(
 {
     match command {
         Command::Fold { init, script } => {
-            objects::answer(alloc, init, Over::Fold { script }, store)
+            objects::answer(rt, alloc, init, Over::Fold { script }, gate, store)
         }
         Command::Show { image } => show::answer(alloc, image, store),
         Command::Recover {
             init,
             logs,
             threads,
-        } => objects::answer(alloc, init, Over::Recover { logs, threads }, store),
+        } => objects::answer(
+            rt,
+            alloc,
+            init,
+            Over::Recover { logs, threads },
+            gate,
+            store,
+        ),
         Command::Replay {
             init,
             schedule,
             logs,
             scripts,
         } => objects::answer(
+            rt,
             alloc,
             init,
             Over::Replay {
@@ -49,18 +61,30 @@ fn command_answer<S: Store>(
                 logs,
                 scripts,
             },
+            gate,
             store,
         ),
+        Command::Run {
+            init,
+            logs,
+            scripts,
+        } => objects::answer(rt, alloc, init, Over::Run { logs, scripts }, gate, store),
     }
 }
 
 /// What the words ask for, or what is said in its place.
-fn answer_to<S: Store>(alloc: Global, words: &[String], store: &mut S) -> Result<Vec<u8>, Stop>
+fn answer_to<R: Threads + Wait + Sync, S: Store, G: Gate + Sync>(
+    rt: &R,
+    alloc: Global,
+    words: &[String],
+    gate: &G,
+    store: &mut S,
+) -> Result<Vec<u8>, Stop>
     ensures { let work = work_of (form_of (map string_bytes words.now)) in
         Does work.writes (S.seen store.old) (S.seen store.new) work.task result }
 {
     match Command::read(words) {
-        Some(command) => command_answer(alloc, command, store),
+        Some(command) => command_answer(rt, alloc, command, gate, store),
         None => Err(usage(alloc)),
     }
 }
@@ -77,7 +101,14 @@ fn put<K: Sink>(out: &mut K, ending: Ending, text: &[u8]) -> Exit
 }
 
 /// Does what the words say.
-fn run<S: Store, K: Sink>(alloc: Global, words: &[String], store: &mut S, out: &mut K) -> Exit
+fn run<R: Threads + Wait + Sync, S: Store, K: Sink, G: Gate + Sync>(
+    rt: &R,
+    alloc: Global,
+    words: &[String],
+    store: &mut S,
+    out: &mut K,
+    gate: &G,
+) -> Exit
     ensures says { let seen = seen_by (map string_bytes words.now) (S.seen store.old) (S.seen store.new)
         (K.held out.old) (K.held out.new) in
         ExitSays seen result }
@@ -86,7 +117,7 @@ fn run<S: Store, K: Sink>(alloc: Global, words: &[String], store: &mut S, out: &
         ExitDetermined seen result }
     ensures files { SameBut (writes_of (form_of (map string_bytes words.now))) (S.seen store.old) (S.seen store.new) }
 {
-    match answer_to(alloc, words, store) {
+    match answer_to(rt, alloc, words, gate, store) {
         Ok(report) => put(out, Ending::Done, &report),
         Err(Stop::Says { ending, text }) => put(out, ending, &text),
         Err(Stop::NoMemory) => Exit::NoMemory,
@@ -94,11 +125,18 @@ fn run<S: Store, K: Sink>(alloc: Global, words: &[String], store: &mut S, out: &
 }
 
 /// Does what the words say over a store of files and a sink for the output, and answers the exit status.
-/// The words are those of the program without its name.
-pub fn onll<S: Store, K: Sink>(alloc: Global, words: &[String], store: &mut S, out: &mut K) -> u8
+/// The words are those of the program without its name. The gate is called at the points of each update that threads make.
+pub fn onll<R: Threads + Wait + Sync, S: Store, K: Sink, G: Gate + Sync>(
+    rt: &R,
+    alloc: Global,
+    words: &[String],
+    store: &mut S,
+    out: &mut K,
+    gate: &G,
+) -> u8
     ensures { Promises
         (seen_by (map string_bytes words.now) (S.seen store.old) (S.seen store.new) (K.held out.old) (K.held out.new))
         result }
 {
-    run(alloc, words, store, out).status()
+    run(rt, alloc, words, store, out, gate).status()
 }

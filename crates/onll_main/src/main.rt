@@ -1,7 +1,7 @@
 //! The program: the system's files and standard output, and the one call over them.
 #![tactic(auto)]
 
-use onll_outside::{FileStore, OutSink};
+use onll_outside::{FileStore, FreeGate, OutSink};
 use std::alloc::AllocError;
 use std::env::Env;
 use std::io::ErrorKind;
@@ -29,5 +29,5 @@ fn main(rt: HostRuntime) -> ExitCode {
     };
     let mut store = FileStore::new(&rt);
     let mut out = OutSink::new(io::writer(&rt));
-    ExitCode::from(onll_jobs::onll(rt.alloc(), &words, &mut store, &mut out))
+    ExitCode::from(onll_jobs::onll(&rt, rt.alloc(), &words, &mut store, &mut out, &FreeGate))
 }

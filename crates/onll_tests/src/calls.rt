@@ -1,9 +1,11 @@
 //! What the tests of the program share: a call of it, and how it ended.
 
-use onll_outside::{MemSink, MemStore, Named};
+use onll_outside::{FreeGate, MemSink, MemStore, Named};
 use std::alloc::{AllocError, Global};
 use std::process::Abort;
 use std::str;
+use std::sync::Wait;
+use std::thread::Threads;
 
 /// The longest text that is read.
 pub(crate) const LONGEST: usize = 1_048_576;
@@ -79,8 +81,9 @@ impl<'a> Program<'a> {
     }
 
     /// Runs the program over this store and a sink of its own.
-    pub(crate) fn run_over(
+    pub(crate) fn run_over<R: Threads + Wait + Sync>(
         &self,
+        rt: &R,
         alloc: Global,
         store: &mut MemStore,
     ) -> Result<Outcome, AllocError> {
@@ -88,7 +91,7 @@ impl<'a> Program<'a> {
         let failing_puts = Vec::from_slice(alloc, self.failing_puts)?;
         let mut sink = MemSink::new(alloc, failing_puts);
         let faults = store.faults();
-        let status = onll_jobs::onll(alloc, &words, store, &mut sink);
+        let status = onll_jobs::onll(rt, alloc, &words, store, &mut sink, &FreeGate);
         let taken = Vec::from_slice(alloc, sink.taken())?;
         let failed = store.faults() != faults || sink.faults() != 0;
         Ok(Outcome {
@@ -99,21 +102,30 @@ impl<'a> Program<'a> {
     }
 
     /// Runs the program over a store and a sink of its own.
-    pub(crate) fn run(&self, alloc: Global) -> Result<Outcome, AllocError> {
+    pub(crate) fn run<R: Threads + Wait + Sync>(
+        &self,
+        rt: &R,
+        alloc: Global,
+    ) -> Result<Outcome, AllocError> {
         let mut store = self.store(alloc)?;
-        self.run_over(alloc, &mut store)
+        self.run_over(rt, alloc, &mut store)
     }
 }
 
 /// Runs `fold i s` over these two files, where nothing fails.
-pub(crate) fn fold(alloc: Global, init: &[u8], script: &[u8]) -> Result<Outcome, AllocError> {
+pub(crate) fn fold<R: Threads + Wait + Sync>(
+    rt: &R,
+    alloc: Global,
+    init: &[u8],
+    script: &[u8],
+) -> Result<Outcome, AllocError> {
     let program = Program {
         words: &["fold", "i", "s"],
         files: &[("i", init), ("s", script)],
         failing_calls: &[],
         failing_puts: &[],
     };
-    program.run(alloc)
+    program.run(rt, alloc)
 }
 
 impl Outcome {

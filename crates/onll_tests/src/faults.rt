@@ -215,7 +215,7 @@ fn files_and_puts_that_fail(rt: HostRuntime) -> Result<(), Fail> {
             failing_calls: case.failing_calls,
             failing_puts: case.failing_puts,
         };
-        let outcome = program.run(rt.alloc())?;
+        let outcome = program.run(&rt, rt.alloc())?;
         outcome.expect(&rt, case.name, case.status, case.output);
     }
     Ok(())

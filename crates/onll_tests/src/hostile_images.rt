@@ -10,7 +10,9 @@ use crate::images::{
 };
 use crate::recovers::{Recovery, recover, store_of};
 use std::alloc::{AllocError, Global};
+use std::sync::Wait;
 use std::test::Fail;
+use std::thread::Threads;
 
 /// Images in format 1 with one change each, where the digest is that of the changed entry.
 const HOSTILE_IMAGES: &[Recovery<'static>] = &[
@@ -259,7 +261,7 @@ const HOSTILE_IMAGES: &[Recovery<'static>] = &[
 #[test]
 fn hostile_images(rt: HostRuntime) -> Result<(), Fail> {
     for case in HOSTILE_IMAGES {
-        recover(rt.alloc(), case)?.expect(&rt, case.name, case.status, case.output);
+        recover(&rt, rt.alloc(), case)?.expect(&rt, case.name, case.status, case.output);
     }
     Ok(())
 }
@@ -287,21 +289,25 @@ fn turned(mut line: [u64; 8], word: usize, bits: u64) -> [u64; 8] {
 }
 
 /// The outcome of a recovery of one thread over `bank 1` from the log of these lines.
-fn recover_lines(alloc: Global, lines: &[[u64; 8]]) -> Result<Outcome, AllocError> {
+fn recover_lines<R: Threads + Wait + Sync>(
+    rt: &R,
+    alloc: Global,
+    lines: &[[u64; 8]],
+) -> Result<Outcome, AllocError> {
     let image = Image {
         name: "out.0",
         lines,
         length: usize::MAX,
     };
     let mut store = store_of(alloc, b"bank 1\n", &[image])?;
-    Program::new(&["recover", "i", "out", "1"], &[]).run_over(alloc, &mut store)
+    Program::new(&["recover", "i", "out", "1"], &[]).run_over(rt, alloc, &mut store)
 }
 
 #[test]
 fn masks_with_wrong_bits(rt: HostRuntime) -> Result<(), Fail> {
     for (case, word, bits) in WRONG_BITS {
         let entry = turned(ONE_AT_1, *word, *bits);
-        recover_lines(rt.alloc(), &[ONE_HEAD, entry, DEPOSIT_5])?.expect(
+        recover_lines(&rt, rt.alloc(), &[ONE_HEAD, entry, DEPOSIT_5])?.expect(
             &rt,
             case,
             0,

@@ -31,6 +31,8 @@ mod recovers;
 #[cfg(test)]
 mod replays;
 #[cfg(test)]
+mod runs;
+#[cfg(test)]
 mod shows;
 #[cfg(test)]
 mod worked;

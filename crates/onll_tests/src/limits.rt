@@ -4,11 +4,13 @@ ghost use Rattle.std.specs.Prelude.{refl};
 ghost use Rattle.onll_outside.specs.MemStore.{store_of};
 
 use crate::calls::{Program, words_of};
-use onll_outside::{MemSink, MemStore, OutsideFault, Store};
+use onll_outside::{FreeGate, MemSink, MemStore, OutsideFault, Store};
 use onll_pmem::MemPmem;
 use onll_words::Line;
 use std::alloc::{AllocError, Global};
+use std::sync::Wait;
 use std::test::Fail;
+use std::thread::Threads;
 
 /// The longest text and one byte that is too many.
 const TEXT: u64 = 1_048_577;
@@ -81,21 +83,25 @@ const CALLS: &[(&[&str], &[u64])] = &[
 ];
 
 /// The limits of the reads that these words make.
-fn limits_of(alloc: Global, texts: &[&str]) -> Result<Vec<u64>, AllocError> {
+fn limits_of<R: Threads + Wait + Sync>(
+    rt: &R,
+    alloc: Global,
+    texts: &[&str],
+) -> Result<Vec<u64>, AllocError> {
     let words = words_of(alloc, texts)?;
     let mut store = Asked {
         files: Program::new(texts, FILES).store(alloc)?,
         limits: Vec::new(alloc),
     };
     let mut sink = MemSink::new(alloc, Vec::new(alloc));
-    let _status = onll_jobs::onll(alloc, &words, &mut store, &mut sink);
+    let _status = onll_jobs::onll(rt, alloc, &words, &mut store, &mut sink, &FreeGate);
     Ok(store.limits)
 }
 
 #[test]
 fn no_more_is_read_than_a_command_needs(rt: HostRuntime) -> Result<(), Fail> {
     for (words, limits) in CALLS {
-        let asked = limits_of(rt.alloc(), words)?;
+        let asked = limits_of(&rt, rt.alloc(), words)?;
         assert_eq!(rt; asked.as_slice(), *limits, "{:?}", words);
     }
     Ok(())

@@ -10,7 +10,9 @@ use crate::images::{
 };
 use onll_outside::MemStore;
 use std::alloc::{AllocError, Global};
+use std::sync::Wait;
 use std::test::Fail;
+use std::thread::Threads;
 
 /// A recovery from images, and how it ends.
 pub(crate) struct Recovery<'a> {
@@ -38,10 +40,14 @@ pub(crate) fn store_of(
 }
 
 /// The outcome of a recovery.
-pub(crate) fn recover(alloc: Global, case: &Recovery<'_>) -> Result<Outcome, AllocError> {
+pub(crate) fn recover<R: Threads + Wait + Sync>(
+    rt: &R,
+    alloc: Global,
+    case: &Recovery<'_>,
+) -> Result<Outcome, AllocError> {
     let mut store = store_of(alloc, case.init, case.images)?;
     let words: &[&str] = &["recover", "i", "out", case.threads];
-    Program::new(words, &[]).run_over(alloc, &mut store)
+    Program::new(words, &[]).run_over(rt, alloc, &mut store)
 }
 
 /// Recoveries from the logs of one or two threads.
@@ -563,7 +569,7 @@ const RECOVERIES: &[Recovery<'static>] = &[
 #[test]
 fn recoveries_from_logs(rt: HostRuntime) -> Result<(), Fail> {
     for case in RECOVERIES {
-        recover(rt.alloc(), case)?.expect(&rt, case.name, case.status, case.output);
+        recover(&rt, rt.alloc(), case)?.expect(&rt, case.name, case.status, case.output);
     }
     Ok(())
 }
@@ -624,7 +630,7 @@ fn the_put_of_a_recovery_fails(rt: HostRuntime) -> Result<(), Fail> {
     for case in PUTS {
         let mut store = store_of(alloc, case.init, case.images)?;
         program
-            .run_over(alloc, &mut store)?
+            .run_over(&rt, alloc, &mut store)?
             .expect(&rt, case.name, case.status, case.output);
     }
     Ok(())
@@ -648,7 +654,7 @@ const NO_FORMS: &[&[&str]] = &[
 fn words_of_no_form(rt: HostRuntime) -> Result<(), Fail> {
     for words in NO_FORMS {
         Program::new(words, &[("i", b"bank 1\n")])
-            .run(rt.alloc())?
+            .run(&rt, rt.alloc())?
             .expect(&rt, "no form", 2, USAGE);
     }
     Ok(())

@@ -5,7 +5,9 @@ use crate::images::{BOTH_AT_2, DEPOSIT_5, DEPOSIT_7, HEAD_0, HEAD_1, Image, ZERO
 use onll_outside::MemStore;
 use std::alloc::{AllocError, Global};
 use std::process::Abort;
+use std::sync::Wait;
 use std::test::Fail;
+use std::thread::Threads;
 
 /// A replay and how it ends.
 struct Replay<'a> {
@@ -430,7 +432,7 @@ const REPLAYS: &[Replay<'static>] = &[
 fn schedules_that_crash(rt: HostRuntime) -> Result<(), Fail> {
     for case in REPLAYS {
         case.program()
-            .run(rt.alloc())?
+            .run(&rt, rt.alloc())?
             .expect(&rt, case.name, case.status, case.output);
     }
     Ok(())
@@ -569,7 +571,7 @@ fn schedules_that_are_refused(rt: HostRuntime) -> Result<(), Fail> {
             ("s1", b"deposit 1 7\n"),
         ];
         let program = Program::new(TWO, files);
-        program.run(rt.alloc())?.expect(&rt, name, 3, output);
+        program.run(&rt, rt.alloc())?.expect(&rt, name, 3, output);
     }
     Ok(())
 }
@@ -578,7 +580,7 @@ fn schedules_that_are_refused(rt: HostRuntime) -> Result<(), Fail> {
 fn what_is_refused_first(rt: HostRuntime) -> Result<(), Fail> {
     for case in REFUSED_BEFORE {
         case.program()
-            .run(rt.alloc())?
+            .run(&rt, rt.alloc())?
             .expect(&rt, case.name, case.status, case.output);
     }
     Ok(())
@@ -603,7 +605,7 @@ const CUTS: &[(&[u8], &str, &str)] = &[
 ];
 
 /// Replays these turns and a crash that picks this image, and expects this line.
-fn crashes<R: Abort>(
+fn crashes<R: Abort + Threads + Wait + Sync>(
     rt: &R,
     alloc: Global,
     turns: &[u8],
@@ -620,7 +622,7 @@ fn crashes<R: Abort>(
     ];
     let program = Program::new(TWO, files);
     program
-        .run(alloc)?
+        .run(rt, alloc)?
         .expect_line(rt, "a cut schedule", 0, line);
     Ok(())
 }
@@ -691,7 +693,7 @@ fn calls_that_fail(rt: HostRuntime) -> Result<(), Fail> {
         };
         let mut store = program.store(alloc)?;
         program
-            .run_over(alloc, &mut store)?
+            .run_over(&rt, alloc, &mut store)?
             .expect(&rt, "a call fails", *status, output);
         expect_images(&rt, alloc, &store, *images)?;
     }
@@ -709,22 +711,27 @@ fn the_put_of_a_replay_fails(rt: HostRuntime) -> Result<(), Fail> {
     };
     let mut store = program.store(alloc)?;
     program
-        .run_over(alloc, &mut store)?
+        .run_over(&rt, alloc, &mut store)?
         .expect(&rt, "the put of a report fails", 6, "");
     expect_images(&rt, alloc, &store, 2)?;
     Ok(())
 }
 
 /// What this replay leaves in the image of that name.
-fn image(alloc: Global, files: &[(&str, &[u8])], name: &str) -> Result<Vec<u8>, AllocError> {
+fn image<R: Threads + Wait + Sync>(
+    rt: &R,
+    alloc: Global,
+    files: &[(&str, &[u8])],
+    name: &str,
+) -> Result<Vec<u8>, AllocError> {
     let program = Program::new(TWO, files);
     let mut store = program.store(alloc)?;
-    let _ = program.run_over(alloc, &mut store)?;
+    let _ = program.run_over(rt, alloc, &mut store)?;
     Vec::from_slice(alloc, store.file(name).unwrap_or(b""))
 }
 
 /// Recovers a run of two threads from these images.
-fn recovers<R: Abort>(
+fn recovers<R: Abort + Threads + Wait + Sync>(
     rt: &R,
     alloc: Global,
     init: &[u8],
@@ -734,17 +741,19 @@ fn recovers<R: Abort>(
 ) -> Result<(), AllocError> {
     let files: &[(&str, &[u8])] = &[("i", init), ("out.0", images.0), ("out.1", images.1)];
     let program = Program::new(&["recover", "i", "out", "2"], files);
-    program.run(alloc)?.expect(rt, "a recovery", status, output);
+    program
+        .run(rt, alloc)?
+        .expect(rt, "a recovery", status, output);
     Ok(())
 }
 
 #[test]
 fn what_a_crash_left_is_recovered(rt: HostRuntime) -> Result<(), Fail> {
-    let first = image(rt.alloc(), HELPED_FILES, "out.0")?;
-    let second = image(rt.alloc(), HELPED_FILES, "out.1")?;
+    let first = image(&rt, rt.alloc(), HELPED_FILES, "out.0")?;
+    let second = image(&rt, rt.alloc(), HELPED_FILES, "out.1")?;
     let files: &[(&str, &[u8])] = &[("x", &second)];
     let shown = Program::new(&["show", "x"], files);
-    shown.run(rt.alloc())?.expect(
+    shown.run(&rt, rt.alloc())?.expect(
         &rt,
         "the second log",
         0,
@@ -823,10 +832,10 @@ const SIXTEEN_RECOVERED: &str = "log 0 entries 0 lines 1\n\
 fn sixteen_logs_are_recovered(rt: HostRuntime) -> Result<(), Fail> {
     let replay = Program::new(SIXTEEN, SIXTEEN_FILES);
     let mut store = replay.store(rt.alloc())?;
-    let _ = replay.run_over(rt.alloc(), &mut store)?;
+    let _ = replay.run_over(&rt, rt.alloc(), &mut store)?;
     let recovery = Program::new(&["recover", "i", "out", "16"], &[]);
     recovery
-        .run_over(rt.alloc(), &mut store)?
+        .run_over(&rt, rt.alloc(), &mut store)?
         .expect(&rt, "sixteen logs", 0, SIXTEEN_RECOVERED);
     Ok(())
 }
@@ -865,8 +874,8 @@ fn with_amount(mut image: Vec<u8>, amount: u8) -> Vec<u8> {
 
 #[test]
 fn one_changed_byte(rt: HostRuntime) -> Result<(), Fail> {
-    let second = image(rt.alloc(), ALONE_FILES, "out.1")?;
-    let lost = with_amount(image(rt.alloc(), ALONE_FILES, "out.0")?, 0);
+    let second = image(&rt, rt.alloc(), ALONE_FILES, "out.1")?;
+    let lost = with_amount(image(&rt, rt.alloc(), ALONE_FILES, "out.0")?, 0);
     recovers(
         &rt,
         rt.alloc(),
@@ -875,7 +884,7 @@ fn one_changed_byte(rt: HostRuntime) -> Result<(), Fail> {
         4,
         "place 1 missing\n",
     )?;
-    let changed = with_amount(image(rt.alloc(), ALONE_FILES, "out.0")?, 4);
+    let changed = with_amount(image(&rt, rt.alloc(), ALONE_FILES, "out.0")?, 4);
     recovers(
         &rt,
         rt.alloc(),
@@ -897,8 +906,8 @@ fn one_changed_byte(rt: HostRuntime) -> Result<(), Fail> {
 
 #[test]
 fn logs_of_two_runs(rt: HostRuntime) -> Result<(), Fail> {
-    let first = image(rt.alloc(), ALONE_FILES, "out.0")?;
-    let second = image(rt.alloc(), SECOND_FILES, "out.1")?;
+    let first = image(&rt, rt.alloc(), ALONE_FILES, "out.0")?;
+    let second = image(&rt, rt.alloc(), SECOND_FILES, "out.1")?;
     recovers(
         &rt,
         rt.alloc(),
@@ -907,8 +916,8 @@ fn logs_of_two_runs(rt: HostRuntime) -> Result<(), Fail> {
         4,
         "place 1 differs in logs 0 and 1\n",
     )?;
-    let third = image(rt.alloc(), THIRD_FILES, "out.0")?;
-    let helped = image(rt.alloc(), HELPED_FILES, "out.1")?;
+    let third = image(&rt, rt.alloc(), THIRD_FILES, "out.0")?;
+    let helped = image(&rt, rt.alloc(), HELPED_FILES, "out.1")?;
     recovers(
         &rt,
         rt.alloc(),

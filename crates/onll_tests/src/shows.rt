@@ -185,7 +185,7 @@ fn images_of_logs(rt: HostRuntime) -> Result<(), Fail> {
             failing_puts: &[],
         };
         program
-            .run(rt.alloc())?
+            .run(&rt, rt.alloc())?
             .expect(&rt, case.name, case.status, case.output);
     }
     Ok(())
@@ -200,7 +200,7 @@ fn an_image_that_is_not_there(rt: HostRuntime) -> Result<(), Fail> {
         failing_puts: &[],
     };
     program
-        .run(rt.alloc())?
+        .run(&rt, rt.alloc())?
         .expect(&rt, "no image", 5, "read fault out.1\n");
     Ok(())
 }
@@ -215,7 +215,7 @@ fn the_put_of_an_image_fails(rt: HostRuntime) -> Result<(), Fail> {
             failing_calls: &[],
             failing_puts: &[1],
         };
-        program.run(rt.alloc())?.expect(&rt, case.name, 6, "");
+        program.run(&rt, rt.alloc())?.expect(&rt, case.name, 6, "");
     }
     Ok(())
 }
@@ -232,7 +232,7 @@ fn images_that_are_too_long(rt: HostRuntime) -> Result<(), Fail> {
         let files: &[(&str, &[u8])] = &[("out.1", &bytes)];
         let program = Program::new(&["show", "out.1"], files);
         program
-            .run(rt.alloc())?
+            .run(&rt, rt.alloc())?
             .expect(&rt, "zeros and then other bytes", *status, output);
     }
     Ok(())

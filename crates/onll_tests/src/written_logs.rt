@@ -7,7 +7,9 @@ use onll_pmem::MemPmem;
 use onll_words::{Line, OpRow, line_bytes};
 use std::alloc::{AllocError, Global};
 use std::process::Abort;
+use std::sync::Wait;
 use std::test::Fail;
+use std::thread::Threads;
 
 /// The first update of thread 0, `deposit 0 5`, and that of thread 1, `deposit 1 7`.
 const NODES: [Node; 2] = [
@@ -69,7 +71,7 @@ fn a_log_that_a_thread_wrote(rt: HostRuntime) -> Result<(), Fail> {
         let bytes = bytes_of(alloc, &image)?;
         let files: &[(&str, &[u8])] = &[("x", &bytes)];
         Program::new(&["show", "x"], files)
-            .run(alloc)?
+            .run(&rt, alloc)?
             .expect(&rt, "a thread's log", 0, output);
     }
     Ok(())
@@ -87,7 +89,7 @@ fn a_log_of_format_1(rt: HostRuntime) -> Result<(), Fail> {
     let bytes = bytes_of(alloc, &image)?;
     let files: &[(&str, &[u8])] = &[("i", b"bank 1\n"), ("out.0", &bytes)];
     Program::new(&["recover", "i", "out", "1"], files)
-        .run(alloc)?
+        .run(&rt, alloc)?
         .expect(
             &rt,
             "a log of format 1",
@@ -113,7 +115,7 @@ const FENCED_FILES: &[(&str, &[u8])] = &[
 ];
 
 /// What a replay of one thread over these files prints, and the image that it leaves.
-fn replayed<R: Abort>(
+fn replayed<R: Abort + Threads + Wait + Sync>(
     rt: &R,
     alloc: Global,
     files: &[(&str, &[u8])],
@@ -122,16 +124,21 @@ fn replayed<R: Abort>(
     let program = Program::new(&["replay", "i", "c", "out", "s"], files);
     let mut store = program.store(alloc)?;
     program
-        .run_over(alloc, &mut store)?
+        .run_over(rt, alloc, &mut store)?
         .expect(rt, "a replay", 0, output);
     Vec::from_slice(alloc, store.file("out.0").unwrap_or(b""))
 }
 
 /// A recovery of one thread over `bank 1` from this image prints this.
-fn recovers<R: Abort>(rt: &R, alloc: Global, image: &[u8], output: &str) -> Result<(), AllocError> {
+fn recovers<R: Abort + Threads + Wait + Sync>(
+    rt: &R,
+    alloc: Global,
+    image: &[u8],
+    output: &str,
+) -> Result<(), AllocError> {
     let files: &[(&str, &[u8])] = &[("i", b"bank 1\n"), ("out.0", image)];
     Program::new(&["recover", "i", "out", "1"], files)
-        .run(alloc)?
+        .run(rt, alloc)?
         .expect(rt, "a recovery", 0, output);
     Ok(())
 }

@@ -11,3 +11,6 @@ returns-in-Recover g c = rw c.in-Recover.is c.answer-in-Recover.ensures
 
 pub returns-in-Replay : goal.returns-in-Replay
 returns-in-Replay g c = rw c.in-Replay.is c.answer-in-Replay.ensures
+
+pub returns-in-Run : goal.returns-in-Run
+returns-in-Run g c = rw c.in-Run.is c.answer-in-Run.ensures

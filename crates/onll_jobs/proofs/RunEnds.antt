@@ -1,0 +1,191 @@
+-- How a run ends where each file is read and no text is refused: what its threads did is kept and reported, or a header's fence failed.
+
+use Rattle.std.proofs.Common.{ℕ, zero, suc, List, [], ◌∷◌, ◌≡◌, ◌≤◌, ◌⊎◌, inl, inr, Option, Some, None, refl, sym, ◌∙◌, subst, arith}
+use Rattle.onll_model.specs.declared.call.Call.{Call}
+use Rattle.onll_model.specs.declared.call.CallEnd.{CallEnd}
+use Rattle.onll_run.specs.Outcomes.{failed_in}
+use Rattle.onll_run.specs.Left.{LogLeft}
+use Rattle.onll_text.specs.declared.any_object.Kind.{Kind}
+use Rattle.onll_text.specs.Init.{init_of}
+use Rattle.onll_text.specs.Kinds.{ObjectKind, kind_at}
+use Rattle.onll_outside.specs.Views.{StoreView}
+use Rattle.onll_task.specs.declared.ending.Ending.{Ending}
+use Rattle.onll_task.specs.declared.ending.Ending.TheVariants.{Done, Usage, Refused, BadLog, ReadFault, WriteFault, Faulty}
+use Rattle.onll_task.specs.ImageNames.{image_name}
+use Rattle.onll_task.specs.Writing.{FilesStay, SameCounts}
+use Rattle.onll_task.specs.Running.{RunPlan, RunLeft, HoldsLog, HoldsLogs, HasKept, HeaderFault, RunStops, broken_threads}
+use Rattle.onll_task.specs.Doing.{Task}
+use Rattle.onll_task.specs.Job.{Threads, JobEnds}
+use Rattle.onll_recovery.specs.ReplayJob.{ReadScripts}
+use Rattle.onll_runner.specs.RunJob.{run_plan, run_task, calls_task, said_task}
+use Rattle.onll_runner.specs.RunReport.{run_report}
+use Rattle.onll_jobs.specs.Command.{Run, form_of}
+use Rattle.onll_jobs.specs.Seen.{Seen}
+use Rattle.onll_jobs.specs.Over.{RunOver, over_task, object_task}
+use Rattle.onll_jobs.specs.RunPromises.{HasReported, HasNoHeader, RanWhole, RanBroken, RunPut}
+use Rattle.onll_jobs.specs.Says.{job_of, PutWhole}
+use Rattle.onll_jobs.proofs.OnKind.{each_kind, kind_goes}
+use Rattle.onll_jobs.proofs.SaidEnds.{IsSaid, WholeEnds, whole_ends, scripts_end}
+
+-- ---- what is kept stays kept where no file changes
+holds_after : (kept after : StoreView) (name : List ℕ) (log : LogLeft) (failed : Option ℕ) → FilesStay kept after → HoldsLog kept name log failed → HoldsLog after name log failed
+holds_after kept after name log None stay h = λ told. let tells = sym stay.tells ∙ told in stay.file tells name ∙ h tells
+holds_after kept after name log (Some place) stay h =
+    λ told. let tells = sym stay.tells ∙ told in let image = h tells in (image.0, image.1, stay.file tells name ∙ image.2)
+
+logs_after : {State Op Query Reply : Type 0} (kept after : StoreView) (logs : List ℕ) (t : ℕ) (left : List LogLeft) (ends : List (List (CallEnd State Op Query Reply)))
+    → FilesStay kept after → HoldsLogs kept logs t left ends → HoldsLogs after logs t left ends
+logs_after kept after logs t [] [] stay h = tt
+logs_after kept after logs t [] (e ∷ ends) stay h = absurd h
+logs_after kept after logs t (log ∷ left) [] stay h = absurd h
+logs_after kept after logs t (log ∷ left) (e ∷ ends) stay h =
+    (holds_after kept after (image_name logs t) log (failed_in e) stay h.0, logs_after kept after logs (suc t) left ends stay h.1)
+
+kept_after : {k : ObjectKind} (plan : RunPlan k) (left : RunLeft k) (store kept after : StoreView) → HasKept plan left store kept → FilesStay kept after → SameCounts kept after
+    → HasKept plan left store after
+kept_after plan left store kept after h stay same = record {
+  calls = (same.0.0 ∙ h.calls.0, same.0.1 ∙ h.calls.1);
+  faults = same.1.0 ∙ h.faults;
+  fences = same.1.1 ∙ h.fences;
+  files = logs_after kept after plan.logs 0 left.logs left.ends stay h.files;
+  others = record {
+    tells = stay.tells ∙ h.others.tells;
+    file = λ told name other. stay.file (h.others.tells ∙ told) name ∙ h.others.file told name other;
+  };
+}
+
+-- ---- how it ends
+run_stops : {k : ObjectKind} (plan : RunPlan k) (store after : StoreView) (ending : Ending) (text : List ℕ) → IsSaid ending → RunStops plan store after ending text
+    → (ending ≡ Faulty) × HeaderFault plan store after text
+run_stops plan store after Done text said h = absurd h
+run_stops plan store after Usage text said h = absurd h
+run_stops plan store after Refused text said h = absurd h
+run_stops plan store after BadLog text said h = absurd h
+run_stops plan store after ReadFault text said h = absurd h
+run_stops plan store after WriteFault text said h = absurd said
+run_stops plan store after Faulty text said h = (refl, h)
+
+-- the ending of a report, by how many threads have an update whose fence failed
+abbrev ended_by : ℕ → Ending
+ended_by zero = Done
+ended_by (suc more) = Faulty
+
+said_ends : (k : ObjectKind) (plan : RunPlan k) (left : RunLeft k) (kept after : StoreView) (ending : Ending) (text : List ℕ) (broken : ℕ) → JobEnds kept after (said_task k plan left broken).job ending text
+    → (ending ≡ ended_by broken) × (text ≡ run_report k.means k.wording plan.run.state plan.run.scripts left) × FilesStay kept after × SameCounts kept after
+said_ends k plan left kept after ending text zero h = h
+said_ends k plan left kept after ending text (suc more) h = h
+
+none_broken : (n : ℕ) → Done ≡ ended_by n → n ≡ 0
+none_broken zero e = refl
+none_broken (suc n) e = cc e
+
+some_broken : (n : ℕ) → Faulty ≡ ended_by n → 1 ≤ n
+some_broken zero e = cc e
+some_broken (suc n) e = omega arith
+
+-- how a run of scripts ended: reported, or at a header
+abbrev RunEnded : (after : StoreView) (ending : Ending) (text : List ℕ) (k : ObjectKind) → List ℕ → k.State → StoreView → List ℕ → List (List ℕ) → Type 0
+RunEnded after ending text k init s store logs names =
+    HasReported k init s store after logs names text (λ broken. ending ≡ ended_by broken)
+    ⊎ ((ending ≡ Faulty) × HasNoHeader k init s store after logs names text)
+
+module _ (after : StoreView) (ending : Ending) (text : List ℕ) (said : IsSaid ending) (kind : Kind) (init : List ℕ) (s : (kind_at kind).State) (store : StoreView) (logs : List ℕ)
+    (names : List (List ℕ)) where
+  calls_end : (scripts : List (List (Call (kind_at kind).State (kind_at kind).Op (kind_at kind).Query (kind_at kind).Reply))) → ReadScripts (kind_at kind).wording store names scripts
+      → JobEnds store after (calls_task (kind_at kind) (Threads kind) (run_plan (kind_at kind) init logs s scripts)).job ending text
+      → RunEnded after ending text (kind_at kind) init s store logs names
+  calls_end scripts read (inl stops) =
+      let fault = run_stops (run_plan (kind_at kind) init logs s scripts) store after ending text said stops in
+      inr (fault.0, record { scripts = scripts; read = read; fault = fault.1 })
+  calls_end scripts read (inr ran) =
+      let plan = run_plan (kind_at kind) init logs s scripts in
+      let end = said_ends (kind_at kind) plan ran.0 ran.1 after ending text (broken_threads ran.0.ends) ran.4 in
+      inl (record {
+        scripts = scripts;
+        read = read;
+        left = ran.0;
+        run = ran.2;
+        kept = kept_after plan ran.0 store ran.1 after ran.3 end.2 end.3;
+        printed = end.1;
+        broken = end.0;
+      })
+
+  run_ends : JobEnds store after (run_task (kind_at kind) (Threads kind) init logs names s).job ending text → RunEnded after ending text (kind_at kind) init s store logs names
+  run_ends h =
+      let k = kind_at kind in
+      let read = scripts_end after ending text said k.wording store names (λ scripts. (calls_task k (Threads kind) (run_plan k init logs s scripts)).job) h in
+      calls_end read.scripts read.read read.ends
+
+module _ (k : ObjectKind) (init : List ℕ) (s : k.State) (store after : StoreView) (logs : List ℕ) (names : List (List ℕ)) (text : List ℕ) where
+  reported_as : {P Q : ℕ → Type 0} → ((n : ℕ) → P n → Q n) → HasReported k init s store after logs names text P → HasReported k init s store after logs names text Q
+  reported_as f r = record {
+    scripts = r.scripts;
+    read = r.read;
+    left = r.left;
+    run = r.run;
+    kept = r.kept;
+    printed = r.printed;
+    broken = f (broken_threads r.left.ends) r.broken;
+  }
+
+  whole_of : RunEnded after Done text k init s store logs names → RanWhole k init s store after logs names text
+  whole_of (inl r) = reported_as none_broken r
+  whole_of (inr f) = absurd (let e = f.0 in cc)
+
+  broken_of : RunEnded after Faulty text k init s store logs names → RanBroken k init s store after logs names text
+  broken_of (inl r) = inl (reported_as some_broken r)
+  broken_of (inr f) = inr f.1
+
+  never_of : (ending : Ending) → (ending ≡ Done → ⊥) → (ending ≡ Faulty → ⊥) → RunEnded after ending text k init s store logs names → ⊥
+  never_of ending done faulty (inl r) = by (broken_threads r.left.ends) r.broken
+    where
+      by : (n : ℕ) → ending ≡ ended_by n → ⊥
+      by zero e = done e
+      by (suc n) e = faulty e
+  never_of ending done faulty (inr f) = faulty f.0
+
+-- ---- the call
+module _ (seen : Seen) (init logs : List ℕ) (names : List (List ℕ)) (form : form_of seen.words ≡ Some (Run init logs names)) where
+  init_read : (ending : Ending) → IsSaid ending → (h : PutWhole seen ending)
+      → WholeEnds seen.store seen.store_after init init_of (λ bytes object. (object_task (RunOver logs names) bytes object).job) ending h.text
+  init_read ending said h =
+      whole_ends seen.store_after ending h.text said seen.store init init_of (λ bytes object. (object_task (RunOver logs names) bytes object).job)
+      (subst (λ form. JobEnds seen.store seen.store_after (job_of form) ending h.text) form h.allowed)
+
+  run_put : (ending : Ending) → IsSaid ending → (h : PutWhole seen ending)
+      → (Ran : (k : ObjectKind) → List ℕ → k.State → StoreView → StoreView → List ℕ → List (List ℕ) → List ℕ → Type 0)
+      → ((k : ObjectKind) (bytes : List ℕ) (s : k.State) → RunEnded seen.store_after ending h.text k bytes s seen.store logs names → Ran k bytes s seen.store seen.store_after logs names h.text)
+      → RunPut seen init logs names Ran
+  run_put ending said h Ran f =
+      let read = init_read ending said h in
+      record {
+        bytes = read.bytes;
+        object = read.value;
+        read = read.read;
+        text = h.text;
+        ran =
+            kind_goes {A = Task} (λ kind s. over_task (RunOver logs names) (kind_at kind) (Threads kind) read.bytes s) (λ task. JobEnds seen.store seen.store_after task.job ending h.text)
+            (λ k s. Ran k read.bytes s seen.store seen.store_after logs names h.text) (λ says. says)
+            (λ kind s known e. f (kind_at kind) read.bytes s (run_ends seen.store_after ending h.text said kind read.bytes s seen.store logs names e)) read.value read.ends;
+        put = h.put;
+      }
+
+  pub run_whole : PutWhole seen Done → RunPut seen init logs names RanWhole
+  run_whole h = run_put Done tt h RanWhole (λ k bytes s e. whole_of k bytes s seen.store seen.store_after logs names h.text e)
+
+  pub run_broken : PutWhole seen Faulty → RunPut seen init logs names RanBroken
+  run_broken h = run_put Faulty tt h RanBroken (λ k bytes s e. broken_of k bytes s seen.store seen.store_after logs names h.text e)
+
+  -- a run never ends otherwise
+  run_never : (ending : Ending) → IsSaid ending → (ending ≡ Done → ⊥) → (ending ≡ Faulty → ⊥) → PutWhole seen ending → ⊥
+  run_never ending said done faulty h =
+      let read = init_read ending said h in
+      each_kind {A = Task} (λ kind s. over_task (RunOver logs names) (kind_at kind) (Threads kind) read.bytes s) (λ task. JobEnds seen.store seen.store_after task.job ending h.text → ⊥)
+      (λ kind s e. never_of (kind_at kind) read.bytes s seen.store seen.store_after logs names h.text ending done faulty
+      (run_ends seen.store_after ending h.text said kind read.bytes s seen.store logs names e)) read.value read.ends
+
+  pub run_not_usage : PutWhole seen Usage → ⊥
+  run_not_usage h = run_never Usage tt (λ e. cc) (λ e. cc) h
+
+  pub run_not_bad : PutWhole seen BadLog → ⊥
+  run_not_bad h = run_never BadLog tt (λ e. cc) (λ e. cc) h

@@ -17,9 +17,9 @@ use Rattle.onll_jobs.specs.Seen.{Seen}
 
 module _ (k : ObjectKind) (init : List ℕ) (s : k.State) (store after : StoreView) (logs : List ℕ) (names : List (List ℕ))
     (text : List ℕ) where
-  -- This text is the report of a run, on threads, of the scripts that the files hold. What the run left is one legal history in real
-  -- time, one fence for each update, with logs that recover to a front of it whatever a crash leaves of them (`HasRun`); the store
-  -- keeps those logs. So many threads have an update whose fence failed.
+  -- This text is the report of a run, on threads, of the scripts that the files hold. What the run left is one legal history, with one
+  -- fence for each update, and logs that recover to a front of it whatever a crash leaves of them (`HasRun`); the store keeps those
+  -- logs. So many threads have an update whose fence failed.
   pub record HasReported (Broken : ℕ → Type 0) : Type 0 where
     pub scripts : List (List (Call k.State k.Op k.Query k.Reply))
     pub read : ReadScripts k.wording store names scripts

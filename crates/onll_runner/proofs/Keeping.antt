@@ -55,9 +55,10 @@ module _ (same : SameLaw) where
         → (store.tells ≡ true → (d : Device) → is_some (means d).told ≡ true) → ran.AreKept means ends olds logs
         → AreKept name t (map means (map device_of logs)) store → HoldsLogs store name t (map (log_left means) logs) ends
     kept_logs store name t [] [] [] tells all kept = tt
-    kept_logs store name t (es ∷ ends) (d ∷ olds) (log ∷ logs) tells all kept =
-        (kept_log store (image_name name t) (log_left means log) (failed_in es) (means log.device) (λ on. tells on log.device) refl all.0.fenced kept.0,
-        kept_logs store name (suc t) ends olds logs tells all.1 kept.1)
+    kept_logs store name t (es ∷ ends) (d ∷ olds) (log ∷ logs) tells all kept = (
+      kept_log store (image_name name t) (log_left means log) (failed_in es) (means log.device) (λ on. tells on log.device) refl all.0.fenced kept.0,
+      kept_logs store name (suc t) ends olds logs tells all.1 kept.1,
+    )
     kept_logs store name t [] [] (log ∷ logs) tells all kept = absurd all
     kept_logs store name t [] (d ∷ olds) logs tells all kept = absurd all
     kept_logs store name t (es ∷ ends) [] logs tells all kept = absurd all

@@ -32,7 +32,7 @@ heads_next object init threads thread heads pushed head low p is fits so =
     let one : threads - thread ≡ suc (threads - (thread + 1)) = omega arith in
     let next : suc thread ≡ thread + 1 = omega arith in
     let here : heads_from threads object init thread (threads - thread) ≡ head ∷ rest =
-        ap (heads_from threads object init thread) one ∙ ap (λ (h : LogHead). h ∷ heads_from threads object init (suc thread) (threads - (thread + 1))) (sym is) ∙ ap (λ t. head ∷ heads_from threads object init t (threads - (thread + 1))) next in
+    ap (heads_from threads object init thread) one ∙ ap (λ (h : LogHead). h ∷ heads_from threads object init (suc thread) (threads - (thread + 1))) (sym is) ∙ ap (λ t. head ∷ heads_from threads object init t (threads - (thread + 1))) next in
     record {
       all = ap (λ (hs : List LogHead). hs ++ rest) p ∙ append_assoc heads (head ∷ []) rest ∙ ap (λ (hs : List LogHead). heads ++ hs) (sym here) ∙ so.all;
       count = ap length p ∙ length-append heads (head ∷ []) ∙ ap (λ n. n + 1) so.count;
@@ -45,9 +45,10 @@ heads_end object init threads thread heads none so = sym (append-nil heads) ∙ 
 are_heads : (object : ℕ) (init : List ℕ) (threads t n : ℕ) → AllByRecursion FitsHead (heads_from threads object init t n) → AreHeads threads t (heads_from threads object init t n)
 are_heads object init threads t zero fit = tt
 are_heads object init threads t (suc n) fit =
-    let next : suc t ≡ t + 1 = omega arith in
-    (record { thread = refl; threads = refl; format = refl; fits = fit.0 },
-    subst (λ m. AreHeads threads m (heads_from threads object init (suc t) n)) next (are_heads object init threads (suc t) n fit.1))
+    let next : suc t ≡ t + 1 = omega arith in (
+      record { thread = refl; threads = refl; format = refl; fits = fit.0 },
+      subst (λ m. AreHeads threads m (heads_from threads object init (suc t) n)) next (are_heads object init threads (suc t) n fit.1),
+    )
 
 pub heads_fit : (object : ℕ) (init : List ℕ) (threads thread : ℕ) (heads : List LogHead) → threads - thread ≡ 0 → HeadsSo object init threads thread heads → AreHeads threads 0 heads
 heads_fit object init threads thread heads none so =

@@ -286,8 +286,8 @@ module _ {k : ObjectKind} {V Device : Type 0} (means : Device → DeviceView) (i
       → Does (image_names logs 0 (length scripts)) old new (calls_task k threads (run_plan k init logs state (map items scripts))) r
   ran_does left state_ heads_ done new r same alike all run ended =
       let run_is : anew state_ heads_ done ≡ anew state (created_heads k.code init (map items scripts)) (map items scripts) =
-          ap (λ (s : k.State). anew s heads_ done) same ∙ ap (λ (hs : List LogHead). anew state hs done) alike
-          ∙ ap (λ (ss : List (List (Call k.State k.Op k.Query k.Reply))). anew state heads ss) all ∙ by_heads in
+      ap (λ (s : k.State). anew s heads_ done) same ∙ ap (λ (hs : List LogHead). anew state hs done) alike
+      ∙ ap (λ (ss : List (List (Call k.State k.Op k.Query k.Reply))). anew state heads ss) all ∙ by_heads in
       named new r
       (ended_does threads stands (run_plan k init logs state (map items scripts)) left old mid new r (subst (λ (p : Plan k.State k.Op k.Query k.Reply). HasRun k.means p left) by_heads run) counts (names mid files)
       (subst (λ (p : Plan k.State k.Op k.Query k.Reply). HasEnded {k = k} (record { logs = logs; run = p }) left mid new r) run_is ended))
@@ -301,7 +301,7 @@ module _ {k : ObjectKind} {V Device : Type 0} (means : Device → DeviceView) (i
       → Does {A = A} (image_names logs 0 (length scripts)) old new (calls_task k threads (run_plan k init logs state (map items scripts))) (Err s)
   failed_does olds news thread new s failed many blank same faults hands says =
       let fault = header_failed means (run_plan k init logs state (map items scripts)) heads olds news thread old mid new failed (many ∙ sym (length-map scripts items)) counts (names mid files)
-          (subst (λ n. AreBlank logs 0 n old mid) (sym (length-map scripts items)) blank) same faults hands in
+      (subst (λ n. AreBlank logs 0 n old mid) (sym (length-map scripts items)) blank) same faults hands in
       named new (Err s) (header_does threads stands (run_plan k init logs state (map items scripts)) old new thread s fault (same_files (log_files (run_plan k init logs state (map items scripts))) old mid new (names mid files) same) says)
 
 -- a device could not be made

@@ -175,7 +175,7 @@ pub fn run_on<R: Threads + Wait + Sync, O: Texted + Drop + Send + Sync, S: Store
     ensures { let k = kind_by O.means O.wording O.CODE in
         (threads : _) → StandsForRuns k threads
         → Does (image_names logs.now 0 (length scripts.now)) (S.seen store.old) (S.seen store.new)
-            (run_task k threads init.now logs.now (map string_bytes scripts.now) object) result }
+        (run_task k threads init.now logs.now (map string_bytes scripts.now) object) result }
 {
     match script_files::<O, S>(alloc, scripts, store) {
         Ok(calls) => run_calls(rt, alloc, object, init, logs, calls, gate, store),

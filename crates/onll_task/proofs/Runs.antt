@@ -39,8 +39,16 @@ module _ {k : ObjectKind} (threads : RunPlan k → (RunLeft k → Job) → Job) 
   broken_does store after left (Says ending text) said run kept files ends says = record {
     done = tt;
     reports = tt;
-    stops = ((λ e. cc), stands.ends plan (λ l. (next l).job) store after ending text.items (inr (left, after, run, kept,
-        subst (λ e. JobEnds after after (next left).job e text.items) (sym says.0) (subst (JobEnds after after (next left).job Faulty) (sym says.1) ends))));
+    stops = (
+      (λ e. cc),
+      stands.ends plan (λ l. (next l).job) store after ending text.items (inr (
+        left,
+        after,
+        run,
+        kept,
+        subst (λ e. JobEnds after after (next left).job e text.items) (sym says.0) (subst (JobEnds after after (next left).job Faulty) (sym says.1) ends),
+      )),
+    );
     files = files;
   }
   broken_does store after left NoMemory said run kept files ends says =

@@ -1,12 +1,10 @@
 use Rattle.std.proofs.Common.{ℕ, List, [], ◌∷◌, ◌++◌, ◌≡◌, ◌+◌, ◌<◌, true, Option, Some, length, drop, get_or, map, refl, sym, ap, ◌∙◌, codes, decimal}
-use Rattle.std.proofs.lemmas.List.{drop_more, length-map, append-nil}
+use Rattle.std.proofs.lemmas.List.{drop_more, append-nil}
 use Rattle.onll_words.specs.Texts.{AreWords, line_text}
 use Rattle.onll_words.proofs.Decimals.{IsWord-decimal}
 use Rattle.onll_model.specs.declared.node.Node.{Node}
 use Rattle.onll_model.specs.Segment.{Segment}
 use Rattle.onll_log.specs.declared.head.LogHead.{LogHead}
-use Rattle.onll_log.specs.declared.decoded.Entry.{Entry}
-use Rattle.onll_log.specs.Decoded.{segment_in, segments_in}
 use Rattle.onll_text.specs.Bytes.{begins_line, with_word, with_words, with_lines}
 use Rattle.onll_text.proofs.EachKind.{IsWord-object_name}
 use Rattle.onll_text.proofs.Appending.{with_words-line, with_lines-one, with_lines-append}
@@ -64,24 +62,25 @@ row_lines_more out new place i nodes d h e =
     ∙ sym (ap (λ t. with_lines out (row_lines place t)) (drop_more nodes i d h))
 
 -- one entry's lines before those of the rest
-pub entry_lines_more : (out new : List ℕ) (number i : ℕ) (entries : List Entry) (d : Entry) → i < length entries → new ≡ with_lines out (entry_lines (number + 1) (segment_in (get_or entries i d)))
-    → with_lines new (entries_lines (number + 1) (segments_in (drop (i + 1) entries))) ≡ with_lines out (entries_lines number (segments_in (drop i entries)))
-entry_lines_more out new number i entries d h e =
-    ap (λ t. with_lines t (entries_lines (number + 1) (segments_in (drop (i + 1) entries)))) e
-    ∙ sym (with_lines-append out (entry_lines (number + 1) (segment_in (get_or entries i d))) (entries_lines (number + 1) (segments_in (drop (i + 1) entries))))
-    ∙ sym (ap (λ t. with_lines out (entries_lines number (segments_in t))) (drop_more entries i d h))
+pub entry_lines_more : (out new : List ℕ) (number : ℕ) (s : Segment) (more : List Segment) → new ≡ with_lines out (entry_lines (number + 1) s)
+    → with_lines new (entries_lines (number + 1) more) ≡ with_lines out (entries_lines number (s ∷ more))
+entry_lines_more out new number s more e =
+    ap (λ t. with_lines t (entries_lines (number + 1) more)) e ∙ sym (with_lines-append out (entry_lines (number + 1) s) (entries_lines (number + 1) more))
 
 -- the bytes after the parts of a log's lines
-pub log_parts : (head : LogHead) (found : Option LogHead) (entries : List Entry) (used count : ℕ) (old headed entered new : List ℕ)
-    → found ≡ Some head → headed ≡ old ++ line_text (head_words head) → entered ≡ with_lines headed (entries_lines 0 (segments_in entries))
-    → count ≡ length entries → new ≡ entered ++ line_text (count_words count used)
-    → new ≡ with_lines old (content_lines found (segments_in entries) used)
-log_parts head found entries used count old headed entered new known e₁ e₂ n e₃ =
-    let ss = segments_in entries in
+pub log_parts : (head : LogHead) (found : Option LogHead) (ss : List Segment) (used count lines : ℕ) (old headed entered new : List ℕ)
+    → found ≡ Some head → headed ≡ old ++ line_text (head_words head) → entered ≡ with_lines headed (entries_lines 0 ss)
+    → count ≡ length ss → lines ≡ used → new ≡ entered ++ line_text (count_words count lines)
+    → new ≡ with_lines old (content_lines found ss used)
+log_parts head found ss used count lines old headed entered new known e₁ e₂ n u e₃ =
     let counts = count_words (length ss) used in
-    e₃ ∙ ap (λ k. entered ++ line_text (count_words k used)) (n ∙ sym (length-map entries segment_in))
+    e₃ ∙ ap (λ k. entered ++ line_text (count_words k lines)) n ∙ ap (λ k. entered ++ line_text (count_words (length ss) k)) u
     ∙ ap (λ t. t ++ line_text counts) (e₂ ∙ ap (λ t. with_lines t (entries_lines 0 ss)) e₁)
     ∙ ap (λ t. with_lines (old ++ line_text (head_words head)) (entries_lines 0 ss) ++ t) (sym (append-nil (line_text counts)))
     ∙ sym (with_lines-append (old ++ line_text (head_words head)) (entries_lines 0 ss) (counts ∷ []))
     ∙ sym (with_lines-one old (head_words head) (entries_lines 0 ss ++ counts ∷ []))
     ∙ ap (λ h. with_lines old (content_lines h ss used)) (sym known)
+
+-- equal parts make equal segments
+pub segment_same : (s t : Segment) → s.place ≡ t.place → s.nodes ≡ t.nodes → s ≡ t
+segment_same s t p n = λ i. record { place = p i; nodes = n i }

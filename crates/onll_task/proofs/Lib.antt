@@ -3,4 +3,5 @@ pub mod ImageFiles
 pub mod Jobs
 pub mod Onwards
 pub mod Stages
+pub mod Staying
 pub mod Stops

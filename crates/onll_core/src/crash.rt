@@ -13,7 +13,7 @@ use onll_log::LogHead;
 use onll_merge::{ImagesFault, RecoverFault, merge_images};
 use onll_model::{Node, Object};
 use onll_words::{Line, NoMemory};
-use std::alloc::{AllocError, Global};
+use std::alloc::Global;
 
 /// An image of each thread's device.
 fn images_of<O: Object>(
@@ -32,7 +32,7 @@ fn images_of<O: Object>(
 }
 
 /// The head of each thread's log.
-fn heads_of<O: Object>(alloc: Global, workers: &[Worker<O>]) -> Result<Vec<LogHead>, AllocError>
+fn heads_of<O: Object>(alloc: Global, workers: &[Worker<O>]) -> Result<Vec<LogHead>, NoMemory>
     ensures { IfOk result (λ heads. heads.items ≡ heads_of workers.now) }
 {
     let mut heads = Vec::with_capacity(alloc, workers.len())?;
@@ -53,6 +53,13 @@ impl<O: Object + Drop> Core<O> {
         images_of(alloc, self.workers(), keep)
     }
 
+    /// The heads of the threads' logs, in the order of the threads.
+    pub fn heads(&self, alloc: Global) -> Result<Vec<LogHead>, NoMemory>
+        ensures { IfOk result (λ heads. heads.items ≡ heads_of self.now.threads) }
+    {
+        heads_of(alloc, self.workers())
+    }
+
     /// The nodes that images hold as logs with this core's heads, one image for each thread. Images of this core's devices
     /// are refused only for want of memory, and what they hold is a prefix of the trace with every returned update and all
     /// that returned reads saw.
@@ -70,9 +77,9 @@ impl<O: Object + Drop> Core<O> {
             × MatchResult result (λ nodes. nodes.items ≡ all.recovers.nodes) (λ e. e ≡ Recover OutOfMemory) }
     {
         self.reached();
-        match heads_of(alloc, self.workers()) {
+        match self.heads(alloc) {
             Ok(heads) => merge_images(alloc, images, &heads),
-            Err(_) => Err(ImagesFault::Recover(RecoverFault::NoMemory)),
+            Err(NoMemory) => Err(ImagesFault::Recover(RecoverFault::NoMemory)),
         }
     }
 }

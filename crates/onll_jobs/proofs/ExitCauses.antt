@@ -13,15 +13,15 @@ use Rattle.onll_task.specs.declared.ending.Ending.TheVariants.{Done, Usage, Refu
 use Rattle.onll_task.specs.declared.ending.Exit.{Exit}
 use Rattle.onll_task.specs.declared.ending.Exit.TheVariants.{Said, SinkFault, NoMemory}
 use Rattle.onll_jobs.specs.Seen.{Seen}
-use Rattle.onll_jobs.specs.Command.{Form, Fold, Show, Recover, Replay, form_of}
-use Rattle.onll_task.specs.Printed.{usage_text, status_of, exit_status}
+use Rattle.onll_jobs.specs.Command.{Form, Fold, Show, Recover, Replay, form_of, usage_text}
+use Rattle.onll_task.specs.Printed.{status_of, exit_status}
 use Rattle.onll_task.specs.Job.{Say, JobEnds, Never, Decides}
 use Rattle.onll_log.specs.Grammar.{Content, content_of}
 use Rattle.onll_log.specs.ImageFile.{image_lines}
 use Rattle.onll_jobs.specs.ShowJob.{shown_task}
 use Rattle.onll_merge.specs.declared.fault.StateFault.{StateFault}
-use Rattle.onll_merge.specs.Recovered.{Recovered, state_recovered}
-use Rattle.onll_recovery.specs.RecoverJob.{found_task, images_task}
+use Rattle.onll_merge.specs.Recovered.{Recovered, expected_heads, state_recovered}
+use Rattle.onll_recovery.specs.RecoverJob.{recovered_task, images_task}
 use Rattle.onll_jobs.specs.FoldJob.{script_task}
 use Rattle.onll_jobs.specs.Exits.{PutExits}
 use Rattle.onll_jobs.specs.Says.{job_of, Allows, PutWhole, OutOfMemory, SinkFailed, ExitSays, NothingFailed, NoneRose, SaysThis}
@@ -97,9 +97,9 @@ content_never : (content : Option Content) → Never Usage (shown_task content).
 content_never None = λ e. cc
 content_never (Some content) = λ e. cc
 
-found_never : {State Op Query Reply : Type 0} (b : Behaviour State Op Query Reply) (w : Wording State Op Query Reply) (s : State) (r : Result Recovered StateFault) → Never Usage (found_task b w s r).job
-found_never b w s (Ok r) = λ e. cc
-found_never b w s (Err fault) = λ e. cc
+recovered_never : {State Op Query Reply : Type 0} (b : Behaviour State Op Query Reply) (w : Wording State Op Query Reply) (s : State) (r : Result Recovered StateFault) → Never Usage (recovered_task b w s r).job
+recovered_never b w s (Ok r) = λ e. cc
+recovered_never b w s (Err fault) = λ e. cc
 
 -- what never says the usage over any object never says it
 over_never : (init : List ℕ) (over : OverForm) → ((k : ObjectKind) (bytes : List ℕ) (s : k.State) → Never Usage (over_task over k bytes s).job)
@@ -120,7 +120,7 @@ form_not_usage w (Recover init logs threads) e h =
     not_usage w (Recover init logs threads) e
     (over_never init (RecoverOver logs threads)
     (λ k bytes s. reading_images_never logs threads 0 (λ images. (images_task k.means k.wording k.code bytes s images).job)
-    (λ images. found_never k.means k.wording s (state_recovered k.means k.code bytes images)))) h
+    (λ images. recovered_never k.means k.wording s (state_recovered k.means (expected_heads k.code bytes images) images)))) h
 form_not_usage w (Replay init schedule logs scripts) e h = replay_not_usage w init schedule logs scripts e h
 
 usage_put : (w : Seen) (form : Option Form) → form_of w.words ≡ form → PutWhole w Usage → (form ≡ None) × Puts w.sink w.sink_after usage_text

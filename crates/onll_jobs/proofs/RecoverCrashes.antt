@@ -26,12 +26,12 @@ use Rattle.onll_jobs.specs.Seen.{Seen}
 use Rattle.onll_jobs.specs.Command.{form_of, Recover}
 use Rattle.onll_task.specs.Printed.{exit_status}
 use Rattle.onll_jobs.specs.Says.{job_of, ExitSays, NoneRose, SaysThis}
-use Rattle.onll_recovery.specs.RecoverJob.{recover_report, found_task, images_task}
-use Rattle.onll_merge.specs.Recovered.{Recovered, recovered_with, state_recovered}
+use Rattle.onll_recovery.specs.RecoverJob.{recover_report, recovered_task, images_task}
+use Rattle.onll_merge.specs.Recovered.{Recovered, recovered_with, expected_heads, state_recovered}
 use Rattle.onll_jobs.specs.Durable.{TellImages, IsLeft, RecoversLeft, RecoversCrashes}
 use Rattle.onll_jobs.specs.Over.{RecoverOver, over_task, over_work}
 use Rattle.onll_task.specs.Doing.{Task}
-use Rattle.onll_recovery.proofs.Crashes.{crash_recovered}
+use Rattle.onll_recovery.proofs.Crashes.{left_recovered}
 use Rattle.onll_jobs.proofs.ExitCauses.{decided_exactly}
 
 -- What a crash left in told files is recovered.
@@ -49,9 +49,9 @@ decides_images store logs i (image ∷ images) next ending text told d =
       ),
     )
 
-found_decides : {State Op Query Reply : Type 0} (b : Behaviour State Op Query Reply) (w : Wording State Op Query Reply) (store : StoreView) (s : State) (found : Result Recovered StateFault) (r : Recovered) → found ≡ Ok r
-    → Decides store (found_task b w s found).job Done (recover_report b w s r)
-found_decides b w store s found r e = subst (λ (x : Result Recovered StateFault). Decides store (found_task b w s x).job Done (recover_report b w s r)) (sym e) (refl, refl)
+recovered_decides : {State Op Query Reply : Type 0} (b : Behaviour State Op Query Reply) (w : Wording State Op Query Reply) (store : StoreView) (s : State) (recovered : Result Recovered StateFault) (r : Recovered) → recovered ≡ Ok r
+    → Decides store (recovered_task b w s recovered).job Done (recover_report b w s r)
+recovered_decides b w store s recovered r e = subst (λ (x : Result Recovered StateFault). Decides store (recovered_task b w s x).job Done (recover_report b w s r)) (sym e) (refl, refl)
 
 -- the call says what the told files decide
 module _ (seen : Seen) (x : Exit) (says : ExitSays seen x) (init logs bytes : List ℕ) (threads : ℕ) (object : AnyObject)
@@ -72,12 +72,12 @@ module _ (seen : Seen) (x : Exit) (says : ExitSays seen x) (init logs bytes : Li
       let core = steps_of b first left.steps in
       let crash = (always_durable b code bytes s left.scripts left.within left.steps).crash left.images left.left in
       let r : Recovered = recovered_with crash.recovers.logs crash.recovers.nodes in
-      let found = found_decides b w seen.store s (state_recovered b code bytes left.images) r (crash_recovered b code bytes s left.scripts left.steps left.images left.within left.left crash.recovers) in
+      let recovered = recovered_decides b w seen.store s (state_recovered b (expected_heads code bytes left.images) left.images) r (left_recovered b code bytes s left.scripts left.steps left.images left.within left.left crash.recovers) in
       let many : length left.images ≡ threads = images_many core.threads left.images left.left ∙ ((steps_stay b first left.steps).all_threads ∙ (created_threads s code bytes left.scripts ∙ left.many)) in
       record {
         crash = crash;
         says = say (recover_report b w s r) (subst (λ (n : ℕ). Decides seen.store (each_job lines_stage (image_names logs 0 n) (λ images. (images_task b w code bytes s images).job)) Done (recover_report b w s r)) many
-            (decides_images seen.store logs 0 left.images (λ images. (images_task b w code bytes s images).job) Done (recover_report b w s r) left.files found));
+            (decides_images seen.store logs 0 left.images (λ images. (images_task b w code bytes s images).job) Done (recover_report b w s r) left.files recovered));
       }
 
 pub recovers_crashes : (seen : Seen) (x : Exit) → ExitSays seen x → RecoversCrashes seen (exit_status x)

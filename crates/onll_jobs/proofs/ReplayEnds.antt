@@ -7,7 +7,7 @@ use Rattle.onll_model.specs.Calls.{updates_in}
 use Rattle.onll_core.specs.Core.{CoreState}
 use Rattle.onll_core.specs.Turns.{turns_of}
 use Rattle.onll_core.specs.Created.{created_core, IsWithinLimits}
-use Rattle.onll_core.specs.Crash.{images_of}
+use Rattle.onll_core.specs.Crash.{heads_of, images_of}
 use Rattle.onll_core.proofs.Created.{created_consistent}
 use Rattle.onll_core.proofs.Kept.{steps_consistent}
 use Rattle.onll_core.proofs.Crashed.{picked_images}
@@ -130,26 +130,26 @@ module _ (after : StoreView) (ending : Ending) (text : List ℕ) (said : IsSaid 
     -- ---- what was replayed
     module _ (code : ℕ) (is : (1 ≤ code) × (code ≤ greatest_code)) (init : List ℕ) (s : State) (schedule logs : List ℕ) (names : List (List ℕ)) (few : length names ≤ 16) where
       -- what a crash says of a core that was played
-      crash_ends : (scripts : List (List (Call State Op Query Reply))) (c : CoreState State Op Query Reply) (keep : ℕ) (store' : StoreView) (found : Result Recovered StateFault) (r : Recovered) → found ≡ Ok r → JobEnds store' after (run_task b w scripts c keep found).job ending text
+      crash_ends : (scripts : List (List (Call State Op Query Reply))) (c : CoreState State Op Query Reply) (keep : ℕ) (store' : StoreView) (recovered : Result Recovered StateFault) (r : Recovered) → recovered ≡ Ok r → JobEnds store' after (run_task b w scripts c keep recovered).job ending text
           → (ending ≡ Done) × (text ≡ replay_report b w c keep r) × FilesStay store' after × SameFaults store' after
-      crash_ends scripts c keep store' found r e h = subst (λ (x : Result Recovered StateFault). JobEnds store' after (run_task b w scripts c keep x).job ending text) e h
+      crash_ends scripts c keep store' recovered r e h = subst (λ (x : Result Recovered StateFault). JobEnds store' after (run_task b w scripts c keep x).job ending text) e h
 
       on_ends : JobEnds store after (scripts_task b w code init schedule logs names s).job ending text → (ending ≡ Done) × HasReplayed b w code init s store after schedule logs names text
       on_ends h =
           let read = scripts_end names (λ scripts. (schedule_task b w code init s schedule logs scripts).job) h in
           let scripts = read.scripts in
           let count = length scripts in
-          let planned = whole_ends store schedule (schedule_of count) (λ bytes (plan : Schedule). (crash_task b w code init logs scripts (played b code init s scripts plan.turns) plan.keep).job) read.ends in
+          let planned = whole_ends store schedule (schedule_of count) (λ bytes (plan : Schedule). (crash_task b w logs scripts (played b code init s scripts plan.turns) plan.keep).job) read.ends in
           let plan = planned.value in
           let core = played b code init s scripts plan.turns in
           let images = images_of plan.keep core.threads in
-          let found = state_recovered b code init images in
+          let recovered = state_recovered b (heads_of core.threads) images in
           let within : IsWithinLimits code scripts = record { code = is; few = subst (λ (n : ℕ). n ≤ 16) (sym (many_scripts names scripts read.read)) few; updates = few_updates names scripts read.read } in
           let durable = always_durable b code init s scripts within in
           let left = picked_images count core plan.keep (steps_consistent b count (created_core s code init scripts) (turns_of plan.turns) (created_consistent s code init scripts within)) in
           let crash = (durable (turns_of plan.turns)).crash images left in
-          let is_found = crash_recovered b code init s scripts (turns_of plan.turns) images within left crash.recovers in
-          let end = crash_ends scripts core plan.keep (with_images store logs 0 images) found (recovered_with crash.recovers.logs crash.recovers.nodes) is_found (images_end store logs 0 images (run_task b w scripts core plan.keep found).job planned.ends) in (
+          let is_recovered = crash_recovered b code init s scripts (turns_of plan.turns) images crash.recovers in
+          let end = crash_ends scripts core plan.keep (with_images store logs 0 images) recovered (recovered_with crash.recovers.logs crash.recovers.nodes) is_recovered (images_end store logs 0 images (run_task b w scripts core plan.keep recovered).job planned.ends) in (
             end.0,
             record {
               scripts = scripts;

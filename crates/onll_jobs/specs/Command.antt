@@ -1,6 +1,7 @@
 -- The forms of the program's words, and the commands that they are read as.
 
-use Rattle.std.specs.Prelude.{ℕ, List, [], ◌∷◌, Option, Some, None, if◌then◌else◌, codes, nat_le, ◌&&◌, ◌≤◌, length, map, string_bytes}
+use Rattle.std.specs.Prelude.{ℕ, Bool, true, List, [], ◌∷◌, ◌++◌, Option, Some, None, if◌then◌else◌, codes, nat_le, ◌&&◌, ◌≤◌, length, map, string_bytes}
+use Rattle.std.specs.Option.{option_map}
 use Rattle.onll_model.specs.Limits.{most_threads}
 use Rattle.std.specs.Str.{bytes_eq}
 use Rattle.onll_words.specs.Numbers.{number_of}
@@ -14,30 +15,48 @@ pub data Form : Type 0 where
   Recover : (init logs : List ℕ) (threads : ℕ) → Form
   Replay : (init schedule logs : List ℕ) (scripts : List (List ℕ)) → Form
 
--- the form of a recovery from the logs of this many threads
-abbrev pub recover_form : (init logs : List ℕ) → Option ℕ → Option Form
-recover_form init logs None = None
-recover_form init logs (Some threads) = if nat_le 1 threads && nat_le threads most_threads then Some (Recover init logs threads) else None
+-- ---- what the names after a command's word say
+abbrev pub fold_of : List (List ℕ) → Option Form
+fold_of (init ∷ script ∷ []) = Some (Fold init script)
+fold_of names = None
 
--- the form of a replay of this many scripts
-abbrev pub replay_form : (init schedule logs : List ℕ) → List (List ℕ) → Option Form
-replay_form init schedule logs scripts =
-    if nat_le 1 (length scripts) && nat_le (length scripts) most_threads then Some
-    (Replay init schedule logs scripts) else None
+abbrev pub show_of : List (List ℕ) → Option Form
+show_of (image ∷ []) = Some (Show image)
+show_of names = None
 
--- the form of a replay, where words have it
+-- the last name of a recovery is the number of its threads
+abbrev pub recover_of : List (List ℕ) → Option Form
+recover_of (init ∷ logs ∷ threads ∷ []) = option_map (Recover init logs) (number_of threads)
+recover_of names = None
+
 abbrev pub replay_of : List (List ℕ) → Option Form
-replay_of (command ∷ init ∷ schedule ∷ logs ∷ script ∷ scripts) =
-    if bytes_eq command (codes "replay") then replay_form init schedule logs (script ∷ scripts) else None
-replay_of _ = None
+replay_of (init ∷ schedule ∷ logs ∷ scripts) = Some (Replay init schedule logs scripts)
+replay_of names = None
+
+-- the form of a command's word with these names
+abbrev pub named_form : List ℕ → List (List ℕ) → Option Form
+named_form command names =
+    if bytes_eq command (codes "fold") then fold_of names
+    else if bytes_eq command (codes "show") then show_of names
+    else if bytes_eq command (codes "recover") then recover_of names
+    else if bytes_eq command (codes "replay") then replay_of names
+    else None
+
+-- ---- the form of words
+-- a recovery is from the logs of 1 to 16 threads, and a replay is of 1 to 16 scripts
+abbrev pub is_within : Form → Bool
+is_within (Recover init logs threads) = nat_le 1 threads && nat_le threads most_threads
+is_within (Replay init schedule logs scripts) = nat_le 1 (length scripts) && nat_le (length scripts) most_threads
+is_within form = true
+
+abbrev pub within_limits : Option Form → Option Form
+within_limits None = None
+within_limits (Some form) = if is_within form then Some form else None
 
 -- the form that words have, where they have one that is built
 abbrev pub form_of : List (List ℕ) → Option Form
-form_of (command ∷ init ∷ script ∷ []) = if bytes_eq command (codes "fold") then Some (Fold init script) else None
-form_of (command ∷ init ∷ logs ∷ threads ∷ []) =
-    if bytes_eq command (codes "recover") then recover_form init logs (number_of threads) else None
-form_of (command ∷ image ∷ []) = if bytes_eq command (codes "show") then Some (Show image) else None
-form_of words = replay_of words
+form_of [] = None
+form_of (command ∷ names) = within_limits (named_form command names)
 
 -- the form of a command that was read
 abbrev pub form_in : Command → Form
@@ -51,3 +70,13 @@ abbrev pub IsCommand : Command → Type 0
 IsCommand (commands.Recover init logs threads) = (1 ≤ threads) × (threads ≤ most_threads)
 IsCommand (commands.Replay init schedule logs scripts) = (1 ≤ length scripts.now) × (length scripts.now ≤ most_threads)
 IsCommand command = Unit {0}
+
+-- the text that is put where words have no form, with the commands to come
+abbrev pub usage_text : List ℕ
+usage_text =
+    codes "usage: onll fold INIT SCRIPT\n"
+    ++ codes "       onll show IMAGE\n"
+    ++ codes "       onll recover INIT LOGS T\n"
+    ++ codes "       onll replay INIT SCHEDULE LOGS SCRIPT..\n"
+    ++ codes "       onll run INIT LOGS SCRIPT..\n"
+    ++ codes "       onll make T N SEED\n"

@@ -4,10 +4,9 @@ use Rattle.std.specs.Prelude.{ℕ, List, ◌≡◌, ◌⊎◌, None}
 use Rattle.onll_outside.specs.Views.{Puts}
 use Rattle.onll_task.specs.declared.ending.Ending.{Ending}
 use Rattle.onll_task.specs.declared.ending.Ending.TheVariants.{Done, Refused, BadLog, ReadFault, WriteFault}
-use Rattle.onll_jobs.specs.Command.{form_of}
+use Rattle.onll_jobs.specs.Command.{form_of, usage_text}
 use Rattle.onll_jobs.specs.Durable.{RecoverPromises, ReplayPromises}
 use Rattle.onll_task.specs.Job.{Decides}
-use Rattle.onll_task.specs.Printed.{usage_text}
 use Rattle.onll_jobs.specs.Says.{job_of, writes_of, Ended, IsDetermined, NoneRose, NothingFailed, OutOfMemory, PutWhole, SaysThis, SinkFailed}
 use Rattle.onll_jobs.specs.Seen.{Seen}
 use Rattle.onll_task.specs.Writing.{SameBut}

@@ -7,8 +7,8 @@ use Rattle.onll_task.specs.declared.ending.Ending.TheVariants.{Done, Usage}
 use Rattle.onll_task.specs.declared.ending.Exit.{Exit}
 use Rattle.onll_task.specs.declared.ending.Exit.TheVariants.{Said, SinkFault, NoMemory}
 use Rattle.onll_jobs.specs.Seen.{Seen}
-use Rattle.onll_jobs.specs.Command.{Form, Fold, Show, Recover, Replay, form_of}
-use Rattle.onll_task.specs.Printed.{usage_text, status_of, exit_status}
+use Rattle.onll_jobs.specs.Command.{Form, Fold, Show, Recover, Replay, form_of, usage_text}
+use Rattle.onll_task.specs.Printed.{status_of, exit_status}
 use Rattle.onll_task.specs.Job.{Job, JobEnds, JobCut}
 use Rattle.onll_task.specs.Doing.{Work, say_task}
 use Rattle.onll_jobs.specs.Over.{FoldOver, RecoverOver, ReplayOver, over_work}

@@ -1,11 +1,28 @@
 //! The words of the program, read as a command.
 
-ghost use Rattle.std.specs.Prelude.{◌≡◌, map, string_bytes, Some, None, MatchOption, IfSome};
-ghost use Rattle.onll_jobs.specs.Command.{form_of, form_in, recover_form, replay_form, replay_of, IsCommand};
-ghost use Rattle.onll_words.specs.Numbers.{number_of};
+ghost use Rattle.std.specs.Prelude.{◌≡◌, true, map, string_bytes, Some, None, MatchOption, IfSome};
+ghost use Rattle.onll_jobs.specs.Command.{fold_of, show_of, recover_of, replay_of, named_form, form_of, form_in, is_within, usage_text, IsCommand};
+ghost use Rattle.onll_task.specs.Stop.{StopSays};
 
 use onll_model::MOST_THREADS;
+use onll_task::{Ending, Stop};
 use onll_words::whole_number;
+use std::alloc::Global;
+
+/// The usage text, with the commands to come.
+const USAGE: &[u8] = b"usage: onll fold INIT SCRIPT\n       \
+      onll show IMAGE\n       \
+      onll recover INIT LOGS T\n       \
+      onll replay INIT SCHEDULE LOGS SCRIPT..\n       \
+      onll run INIT LOGS SCRIPT..\n       \
+      onll make T N SEED\n";
+
+/// What is said where words are of no form.
+pub(crate) fn usage(alloc: Global) -> Stop
+    ensures { StopSays result (λ end said. (end ≡ Ending.Usage) × (said ≡ usage_text)) }
+{
+    Stop::says(alloc, Ending::Usage, USAGE)
+}
 
 /// A command and its names, as the program's words say it.
 #[derive(Clone, Copy, Debug)]
@@ -30,77 +47,104 @@ pub(crate) enum Command<'a> {
     },
 }
 
-/// The recovery from the logs of so many threads, as the last word says; nothing where it is no number from 1 to 16.
-fn recover<'a>(init: &'a str, logs: &'a str, threads: &str) -> Option<Command<'a>>
-    ensures form { let form = recover_form init.now logs.now (number_of threads.now) in
+/// The fold of a script.
+fn fold<'a>(names: &'a [String]) -> Option<Command<'a>>
+    ensures { let form = fold_of (map string_bytes names.now) in
         MatchOption result (form ≡ None) (λ command. form ≡ Some (form_in command)) }
-    ensures command { IfSome result IsCommand }
 {
-    match whole_number(threads.as_bytes()) {
-        Some(threads) if 1 <= threads && threads <= MOST_THREADS => Some(Command::Recover {
+    match names {
+        [init, script] => Some(Command::Fold { init, script }),
+        _ => None,
+    }
+}
+
+/// What an image holds.
+fn show<'a>(names: &'a [String]) -> Option<Command<'a>>
+    ensures { let form = show_of (map string_bytes names.now) in
+        MatchOption result (form ≡ None) (λ command. form ≡ Some (form_in command)) }
+{
+    match names {
+        [image] => Some(Command::Show { image }),
+        _ => None,
+    }
+}
+
+/// The recovery from the logs of so many threads.
+fn recover<'a>(names: &'a [String]) -> Option<Command<'a>>
+    ensures { let form = recover_of (map string_bytes names.now) in
+        MatchOption result (form ≡ None) (λ command. form ≡ Some (form_in command)) }
+{
+    match names {
+        [init, logs, threads] => Some(Command::Recover {
             init,
             logs,
-            threads,
+            threads: whole_number(threads.as_bytes())?,
         }),
         _ => None,
     }
 }
 
-/// The replay of these scripts; nothing where they are not 1 to 16.
-fn replay<'a>(
-    init: &'a str,
-    schedule: &'a str,
-    logs: &'a str,
-    scripts: &'a [String],
-) -> Option<Command<'a>>
-    ensures form { let form = replay_form init.now schedule.now logs.now (map string_bytes scripts.now) in
+/// The replay of scripts.
+fn replay<'a>(names: &'a [String]) -> Option<Command<'a>>
+    ensures { let form = replay_of (map string_bytes names.now) in
         MatchOption result (form ≡ None) (λ command. form ≡ Some (form_in command)) }
-    ensures command { IfSome result IsCommand }
 {
-    if scripts.is_empty() || scripts.len() as u64 > MOST_THREADS {
-        return None;
+    match names {
+        [init, schedule, logs, scripts @ ..] => Some(Command::Replay {
+            init,
+            schedule,
+            logs,
+            scripts,
+        }),
+        _ => None,
     }
-    Some(Command::Replay {
-        init,
-        schedule,
-        logs,
-        scripts,
-    })
 }
 
-/// The replay of the words; nothing where they are none.
-fn read_replay<'a>(words: &'a [String]) -> Option<Command<'a>>
-    ensures form { let form = replay_of (map string_bytes words.now) in
+/// The command of a word with these names.
+fn named<'a>(command: &str, names: &'a [String]) -> Option<Command<'a>>
+    ensures { let form = named_form command.now (map string_bytes names.now) in
         MatchOption result (form ≡ None) (λ command. form ≡ Some (form_in command)) }
-    ensures command { IfSome result IsCommand }
 {
-    match words {
-        [command, init, schedule, logs, scripts @ ..] if command.as_str() == "replay" => {
-            replay(init.as_str(), schedule.as_str(), logs.as_str(), scripts)
-        }
-        _ => None,
+    if command == "fold" {
+        fold(names)
+    } else if command == "show" {
+        show(names)
+    } else if command == "recover" {
+        recover(names)
+    } else if command == "replay" {
+        replay(names)
+    } else {
+        None
     }
 }
 
 impl<'a> Command<'a> {
     /// The command of the words; nothing where they are of no form.
     pub(crate) fn read(words: &'a [String]) -> Option<Command<'a>>
-        ensures form { MatchOption result (form_of (map string_bytes words.now) ≡ None)
-            (λ command. form_of (map string_bytes words.now) ≡ Some (form_in command)) }
+        ensures form { let form = form_of (map string_bytes words.now) in
+            MatchOption result (form ≡ None) (λ command. form ≡ Some (form_in command)) }
         ensures command { IfSome result IsCommand }
     {
-        match words {
-            [command, init, script] if command.as_str() == "fold" => Some(Command::Fold {
-                init: init.as_str(),
-                script: script.as_str(),
-            }),
-            [command, image] if command.as_str() == "show" => Some(Command::Show {
-                image: image.as_str(),
-            }),
-            [command, init, logs, threads] if command.as_str() == "recover" => {
-                recover(init.as_str(), logs.as_str(), threads.as_str())
+        let (command, names) = words.split_first()?;
+        let command = named(command, names)?;
+        if command.is_within() {
+            Some(command)
+        } else {
+            None
+        }
+    }
+
+    /// Whether its numbers are within the limits.
+    fn is_within(&self) -> bool
+        ensures form { result ≡ is_within (form_in self.now) }
+        ensures command { result ≡ true → IsCommand self.now }
+    {
+        match self {
+            Command::Recover { threads, .. } => 1 <= *threads && *threads <= MOST_THREADS,
+            Command::Replay { scripts, .. } => {
+                !scripts.is_empty() && scripts.len() as u64 <= MOST_THREADS
             }
-            _ => read_replay(words),
+            _ => true,
         }
     }
 }

@@ -9,7 +9,7 @@ ghost use Rattle.onll_jobs.specs.Says.{work_of, writes_of, ExitSays, ExitDetermi
 ghost use Rattle.onll_jobs.specs.Promises.{Promises};
 ghost use Rattle.onll_task.specs.Doing.{Does};
 
-use crate::command::Command;
+use crate::command::{Command, usage};
 use crate::objects::Over;
 use crate::{objects, show};
 use onll_outside::{OutsideFault, Sink, Store};
@@ -61,7 +61,7 @@ fn answer_to<S: Store>(alloc: Global, words: &[String], store: &mut S) -> Result
 {
     match Command::read(words) {
         Some(command) => command_answer(alloc, command, store),
-        None => Err(Stop::usage(alloc)),
+        None => Err(usage(alloc)),
     }
 }
 
@@ -88,7 +88,7 @@ fn run<S: Store, K: Sink>(alloc: Global, words: &[String], store: &mut S, out: &
 {
     match answer_to(alloc, words, store) {
         Ok(report) => put(out, Ending::Done, &report),
-        Err(Stop::Says(answer)) => put(out, answer.ending, &answer.text),
+        Err(Stop::Says { ending, text }) => put(out, ending, &text),
         Err(Stop::NoMemory) => Exit::NoMemory,
     }
 }

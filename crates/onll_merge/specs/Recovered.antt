@@ -65,12 +65,18 @@ nodes_of (Err fault) = Err fault
 abbrev pub merge_images : List LogHead → List (List (List ℕ)) → Result (List Node) ImagesFault
 merge_images heads images = nodes_of (recovered_from heads images)
 
--- ---- a state
+-- ---- the heads of a run
 -- the heads of the logs of this many threads, from thread i on, each in the format of its image
-abbrev pub expected_heads : ℕ → List ℕ → ℕ → ℕ → List (List (List ℕ)) → List LogHead
-expected_heads code init threads i [] = []
-expected_heads code init threads i (image ∷ images) =
-    head_for (format_in image) i threads code init ∷ expected_heads code init threads (i + 1) images
+abbrev pub heads_for : ℕ → List ℕ → ℕ → ℕ → List (List (List ℕ)) → List LogHead
+heads_for code init threads i [] = []
+heads_for code init threads i (image ∷ images) =
+    head_for (format_in image) i threads code init ∷ heads_for code init threads (i + 1) images
+
+-- the heads that the logs of these images have in a run of an object of this code whose initial state these bytes say
+abbrev pub expected_heads : ℕ → List ℕ → List (List (List ℕ)) → List LogHead
+expected_heads code init images = heads_for code init (length images) 0 images
+
+-- ---- a state
 
 -- the rows are read as operations after all else; the first that is none is the fault
 abbrev pub with_operations : {State Op Query Reply : Type 0} → Behaviour State Op Query Reply
@@ -79,7 +85,7 @@ with_operations b (Ok r) = if length (operations_front b r.nodes) == length r.no
     (NotOperation (length (operations_front b r.nodes) + 1))
 with_operations b (Err fault) = Err (state_fault fault)
 
--- what images give over an object of this code whose initial state these bytes say
-abbrev pub state_recovered : {State Op Query Reply : Type 0} → Behaviour State Op Query Reply → ℕ → List ℕ
+-- what images give over an object as the logs of one run with these heads
+abbrev pub state_recovered : {State Op Query Reply : Type 0} → Behaviour State Op Query Reply → List LogHead
     → List (List (List ℕ)) → Result Recovered StateFault
-state_recovered b code init images = with_operations b (recovered_from (expected_heads code init (length images) 0 images) images)
+state_recovered b heads images = with_operations b (recovered_from heads images)

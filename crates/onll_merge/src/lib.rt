@@ -20,7 +20,7 @@ mod tests;
 pub use counts::LogCounts;
 pub use fault::{ImagesFault, RecoverFault, StateFault};
 pub use merge::recover;
-pub use recovery::{Recovery, merge_images, recover_images, recover_state};
+pub use recovery::{Recovery, expected_heads, merge_images, recover_images, recover_state};
 
 /// Logs that hold one trace merge to a front of it that has each of their places, and logs that merge hold the trace
 /// that they merge to.

@@ -10,7 +10,7 @@ ghost use Rattle.onll_merge.specs.Recovered.{recovered_from, recovered_in, merge
 ghost use Rattle.onll_merge.specs.Standing.{contents_under};
 ghost use Rattle.onll_merge.specs.declared.fault.RecoverFault.TheVariants.{NoMemory as OutOfMemory};
 ghost use Rattle.onll_merge.specs.declared.fault.ImagesFault.TheVariants.{Recover};
-ghost use Rattle.onll_merge.specs.declared.fault.StateFault.TheVariants.{NoMemory};
+ghost use Rattle.onll_merge.specs.declared.fault.StateFault.TheVariants.{NoMemory as StateOutOfMemory};
 ghost use Rattle.onll_model.specs.Trace.{state_after};
 ghost use Rattle.onll_model.specs.Recovered.{operations_front};
 
@@ -21,7 +21,7 @@ use crate::numbers::check_numbers;
 use crate::second_pass::gather;
 use onll_log::{LogCursor, LogHead, format_of};
 use onll_model::{Node, Object, fold_nodes};
-use onll_words::Line;
+use onll_words::{Line, NoMemory};
 use std::alloc::Global;
 
 /// What the images of one run give: how much each holds as a log, and the nodes of their trace.
@@ -85,19 +85,18 @@ pub fn merge_images(
     }
 }
 
-/// The heads that the logs of these images have where they are of a run of the object from these bytes of an initial
-/// state: each in the format of its image.
-fn heads_for(
+/// The heads that the logs of these images have where they are of a run of the object of this code from these bytes of an
+/// initial state: each in the format of its image.
+pub fn expected_heads(
     alloc: Global,
     object: u64,
     init: &[u8],
     images: &[Vec<Line>],
-) -> Result<Vec<LogHead>, ImagesFault>
+) -> Result<Vec<LogHead>, NoMemory>
     requires object { (1 ≤ object) × (object ≤ greatest_code) }
     requires images { length images.now ≤ most_threads }
-    ensures heads { MatchResult result (λ heads. heads.items
-        ≡ expected_heads object init.now (length images.now) 0 (map (λ image. words_of image.items) images.now))
-        (λ fault. fault ≡ Recover OutOfMemory) }
+    ensures heads { IfOk result (λ heads. heads.items
+        ≡ expected_heads object init.now (map (λ image. words_of image.items) images.now)) }
     ensures count { IfOk result (λ heads. length heads.items ≡ length images.now) }
 {
     let mut heads = Vec::new(alloc);
@@ -113,23 +112,22 @@ fn heads_for(
     Ok(heads)
 }
 
-/// What images give over an object whose initial state these bytes say: each row is applied to the object. It refuses the first
-/// row that is no operation, after all else.
+/// What images give over an object as the logs of one run with these heads: each row is applied to the object. It refuses the
+/// first row that is no operation, after all else.
 pub fn recover_state<O: Object>(
     alloc: Global,
     object: &mut O,
-    init: &[u8],
+    heads: &[LogHead],
     images: &[Vec<Line>],
 ) -> Result<Recovery, StateFault>
-    requires { length images.now ≤ most_threads }
-    ensures recovered { let recovered = state_recovered O.means O.CODE init.now (map (λ image. words_of image.items) images.now) in
-        MatchResult result (λ r. recovered ≡ Ok (recovered_in r)) (λ e. (e ≡ NoMemory) ⊎ (recovered ≡ Err e)) }
+    requires { length heads.now ≡ length images.now }
+    ensures recovered { let recovered = state_recovered O.means heads.now (map (λ image. words_of image.items) images.now) in
+        MatchResult result (λ r. recovered ≡ Ok (recovered_in r)) (λ e. (e ≡ StateOutOfMemory) ⊎ (recovered ≡ Err e)) }
     ensures count { IfOk result (λ r. length r.logs.items ≡ length images.now) }
     ensures rows { IfOk result (λ r. operations_front O.means r.nodes.items ≡ r.nodes.items) }
     ensures state { IfOk result (λ r. object.new ≡ state_after O.means object.old r.nodes.items) }
 {
-    let heads = heads_for(alloc, O::CODE, init, images)?;
-    let recovery = recover_images(alloc, images, &heads)?;
+    let recovery = recover_images(alloc, images, heads)?;
     match fold_nodes(object, &recovery.nodes) {
         Ok(()) => Ok(recovery),
         Err(fault) => Err(StateFault::NotOperation { place: fault.place }),

@@ -29,7 +29,7 @@ use Rattle.onll_merge.specs.declared.fault.StateFault.{StateFault}
 use Rattle.onll_merge.specs.declared.fault.StateFault.TheVariants.{NotOperation}
 use Rattle.onll_merge.specs.declared.fault.RecoverFault.{RecoverFault}
 use Rattle.onll_merge.specs.declared.fault.ImagesFault.{ImagesFault}
-use Rattle.onll_merge.specs.Recovered.{Recovered, recovered_with, content_before, contents_from, expected_heads, with_logs, merged, with_operations, state_recovered}
+use Rattle.onll_merge.specs.Recovered.{Recovered, recovered_with, content_before, contents_from, heads_for, expected_heads, with_logs, merged, with_operations, state_recovered}
 
 -- The images of a core that was made of scripts are logs of this run, and what is recovered from them are operations.
 
@@ -76,7 +76,7 @@ heads_have_format count code init t zero = tt
 heads_have_format count code init t (suc n) = (refl, heads_have_format count code init (suc t) n)
 
 -- ---- the heads
-heads_expected : (count code : ℕ) (init : List ℕ) (i : ℕ) (images : List (List (List ℕ))) → AreFormat2 images → expected_heads code init count i images ≡ heads_from count code init i (length images)
+heads_expected : (count code : ℕ) (init : List ℕ) (i : ℕ) (images : List (List (List ℕ))) → AreFormat2 images → heads_for code init count i images ≡ heads_from count code init i (length images)
 heads_expected count code init i [] f = refl
 heads_expected count code init i (image ∷ images) f =
     let next : i + 1 ≡ suc i = omega arith in
@@ -120,32 +120,50 @@ module _ {State Op Query Reply : Type 0} (b : Behaviour State Op Query Reply) wh
   operations_are r h = ap (rows_by r) (front_is r.nodes h) ∙ equal (length r.nodes) (Ok r) (Err (NotOperation (length r.nodes + 1)))
 
   -- ---- what is recovered
-  recovered_is : (code : ℕ) (init : List ℕ) (images : List (List (List ℕ))) (heads : List LogHead) (logs : List Content) (nodes : List Node) → expected_heads code init (length images) 0 images ≡ heads
-      → contents_from 0 images ≡ Ok logs → merge heads logs ≡ Ok nodes → AllOperations b nodes → state_recovered b code init images ≡ Ok (recovered_with logs nodes)
-  recovered_is code init images heads logs nodes h c m o =
-      ap (λ (hs : List LogHead). with_operations b (merged hs (contents_from 0 images))) h ∙ ap (λ (cs : Result (List Content) ImagesFault). with_operations b (merged heads cs)) c
+  recovered_is : (images : List (List (List ℕ))) (heads : List LogHead) (logs : List Content) (nodes : List Node)
+      → contents_from 0 images ≡ Ok logs → merge heads logs ≡ Ok nodes → AllOperations b nodes → state_recovered b heads images ≡ Ok (recovered_with logs nodes)
+  recovered_is images heads logs nodes c m o =
+      ap (λ (cs : Result (List Content) ImagesFault). with_operations b (merged heads cs)) c
       ∙ ap (λ (r : Result (List Node) RecoverFault). with_operations b (with_logs logs r)) m ∙ operations_are (recovered_with logs nodes) o
 
-  -- images of a consistent core whose heads are those of its number of threads
-  core_recovers : (count code : ℕ) (init : List ℕ) (c : CoreState State Op Query Reply) (images : List (List (List ℕ))) → IsConsistent count c → AllOperations b c.trace
-      → heads_of c.threads ≡ heads_from count code init 0 count → AreImages c.threads images → (r : Recovers (heads_from count code init 0 count) c images)
-      → state_recovered b code init images ≡ Ok (recovered_with r.logs r.nodes)
-  core_recovers count code init c images k rows same a r =
+  -- images of a core recover to operations
+  images_recover : (heads : List LogHead) (c : CoreState State Op Query Reply) (images : List (List (List ℕ))) → AllOperations b c.trace → (r : Recovers heads c images)
+      → state_recovered b heads images ≡ Ok (recovered_with r.logs r.nodes)
+  images_recover heads c images rows r =
+      recovered_is images heads r.logs r.nodes (contents_are 0 images r.logs r.contents) r.recovered
+      (subst (AllOperations b) (sym r.front) (take_operations (top_of r.logs) c.trace rows))
+
+  -- the heads that images of a consistent core are expected to have are its own
+  heads_are : (count code : ℕ) (init : List ℕ) (c : CoreState State Op Query Reply) (images : List (List (List ℕ))) → IsConsistent count c
+      → heads_of c.threads ≡ heads_from count code init 0 count → AreImages c.threads images → expected_heads code init images ≡ heads_from count code init 0 count
+  heads_are count code init c images k same a =
       let held = are_held c.base c.trace c.threads images a (λ t th at image i. image_either count c k t th at image i) in
       let formats = formats_are (map (frame_thread c.base c.trace) c.threads) (heads_of c.threads) held.logs images held.left held.contents (subst HaveFormat2 (sym same) (heads_have_format count code init 0 count)) in
       let many : length images ≡ count = images_many c.threads images a ∙ sym (length-map c.threads (λ (th : CoreThread State Op Query Reply). th.head)) ∙ ap length same ∙ length-heads_from count code init 0 count in
-      let heads : expected_heads code init (length images) 0 images ≡ heads_from count code init 0 count =
-      heads_expected (length images) code init 0 images formats ∙ ap (λ (n : ℕ). heads_from n code init 0 n) many in
-      let ops = subst (AllOperations b) (sym r.front) (take_operations (top_of r.logs) c.trace rows) in
-      recovered_is code init images (heads_from count code init 0 count) r.logs r.nodes heads (contents_are 0 images r.logs r.contents) r.recovered ops
+      heads_expected (length images) code init 0 images formats ∙ ap (λ (n : ℕ). heads_from n code init 0 n) many
 
-  -- a crash of a core that was made of scripts is recovered, after any steps, whatever it leaves of each device
-  pub crash_recovered : (code : ℕ) (init : List ℕ) (s : State) (scripts : List (List (Call State Op Query Reply))) (ts : List ℕ) (images : List (List (List ℕ))) → IsWithinLimits code scripts
+  -- the heads of a core that was made of scripts, after any steps
+  made_heads : (code : ℕ) (init : List ℕ) (s : State) (scripts : List (List (Call State Op Query Reply))) (ts : List ℕ)
+      → heads_of (steps_of b (created_core s code init scripts) ts).threads ≡ created_heads code init scripts
+  made_heads code init s scripts ts =
+      steps_heads b (created_core s code init scripts) ts ∙ first_heads (created_heads code init scripts) scripts (length-heads_from (length scripts) code init 0 (length scripts))
+
+  -- A crash of a core that was made of scripts is recovered, after any steps, whatever it leaves of each device: with the core's own
+  -- heads, and with those that its images are expected to have.
+  pub crash_recovered : (code : ℕ) (init : List ℕ) (s : State) (scripts : List (List (Call State Op Query Reply))) (ts : List ℕ) (images : List (List (List ℕ)))
+      → (r : Recovers (created_heads code init scripts) (steps_of b (created_core s code init scripts) ts) images)
+      → state_recovered b (heads_of (steps_of b (created_core s code init scripts) ts).threads) images ≡ Ok (recovered_with r.logs r.nodes)
+  crash_recovered code init s scripts ts images r =
+      let c = created_core s code init scripts in
+      ap (λ heads. state_recovered b heads images) (made_heads code init s scripts ts)
+      ∙ images_recover (created_heads code init scripts) (steps_of b c ts) images (steps_operations b c ts tt) r
+
+  pub left_recovered : (code : ℕ) (init : List ℕ) (s : State) (scripts : List (List (Call State Op Query Reply))) (ts : List ℕ) (images : List (List (List ℕ))) → IsWithinLimits code scripts
       → AreImages (steps_of b (created_core s code init scripts) ts).threads images → (r : Recovers (created_heads code init scripts) (steps_of b (created_core s code init scripts) ts) images)
-      → state_recovered b code init images ≡ Ok (recovered_with r.logs r.nodes)
-  crash_recovered code init s scripts ts images l a r =
+      → state_recovered b (expected_heads code init images) images ≡ Ok (recovered_with r.logs r.nodes)
+  left_recovered code init s scripts ts images l a r =
       let count = length scripts in
       let c = created_core s code init scripts in
       let k = steps_consistent b count c ts (created_consistent s code init scripts l) in
-      let heads = steps_heads b c ts ∙ first_heads (created_heads code init scripts) scripts (length-heads_from count code init 0 count) in
-      core_recovers count code init (steps_of b c ts) images k (steps_operations b c ts tt) heads a r
+      ap (λ heads. state_recovered b heads images) (heads_are count code init (steps_of b c ts) images k (made_heads code init s scripts ts) a)
+      ∙ images_recover (created_heads code init scripts) (steps_of b c ts) images (steps_operations b c ts tt) r

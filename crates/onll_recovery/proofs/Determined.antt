@@ -20,7 +20,7 @@ use Rattle.onll_merge.specs.declared.counts.LogCounts.{LogCounts}
 use Rattle.onll_merge.specs.Recovered.{Recovered}
 use Rattle.onll_recovery.specs.RecoverJob.{content_line, log_lines, recovered_line, lines_with}
 use Rattle.onll_recovery.specs.ReplayJob.{begun_lines, flagged_lines, crash_line, fenced_lines, replay_report}
-use Rattle.onll_recovery.specs.RecoverJob.{HeldData, RecoverData, held_line, held_lines, recover_data_lines, HeldReads, RecoverReads, held_with, held_of, found_data, recover_data}
+use Rattle.onll_recovery.specs.RecoverJob.{HeldData, RecoverData, held_line, held_lines, recover_data_lines, HeldReads, RecoverReads, held_with, held_of, data_with, recover_data}
 use Rattle.onll_recovery.specs.ReplayJob.{LogData, RunData, thread_lines, counted_lines, run_data_lines, EachReads, LogReads, RunReads, counts_of, replay_data}
 use Rattle.onll_recovery.proofs.ReplaySteps.{crash_in_words}
 use Rattle.onll_recovery.proofs.RecoverSteps.{recovered_in_words}
@@ -287,12 +287,12 @@ module _ {State Op Query Reply : Type 0} where
 
   -- ---- what is printed says this and nothing else
   pub recover_says : (b : Behaviour State Op Query Reply) (w : Wording State Op Query Reply) (s state : State) (r : Recovered) (text : List ℕ) → state ≡ state_after b s r.nodes
-      → text ≡ flat_map line_text (lines_with b w r state) → RecoverReads b w (found_data r state) → SaysOnly (recover_data_lines b w) (RecoverReads b w) text (recover_data b s r)
+      → text ≡ flat_map line_text (lines_with b w r state) → RecoverReads b w (data_with r state) → SaysOnly (recover_data_lines b w) (RecoverReads b w) text (recover_data b s r)
   recover_says b w s state r text after e h =
       let ending : List (List (List ℕ)) = recovered_line (length r.nodes) ∷ (node_lines b w 0 r.nodes ++ state_lines w (state_after b s r.nodes)) in
       says_only (recover_data_lines b w) (RecoverReads b w) (recover_determined b w) text (recover_data b s r)
       (e ∙ ap (λ (x : State). flat_map line_text (lines_with b w r x)) after ∙ ap (λ ls. flat_map line_text (ls ++ ending)) (logs-data 0 r.logs))
-      (subst (λ (x : State). RecoverReads b w (found_data r x)) after h)
+      (subst (λ (x : State). RecoverReads b w (data_with r x)) after h)
 
   pub replay_says : (b : Behaviour State Op Query Reply) (w : Wording State Op Query Reply) (c : CoreState State Op Query Reply) (keep : ℕ) (r : Recovered) (text : List ℕ) → text ≡ replay_report b w c keep r
       → RunReads b w (map script_of c.threads) (replay_data b c keep r) → SaysOnly (run_data_lines b w (map script_of c.threads)) (RunReads b w (map script_of c.threads)) text (replay_data b c keep r)

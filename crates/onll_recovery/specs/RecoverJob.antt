@@ -9,7 +9,7 @@ use Rattle.onll_model.specs.Trace.{state_after}
 use Rattle.onll_merge.specs.declared.fault.RecoverFault.{RecoverFault}
 use Rattle.onll_merge.specs.declared.fault.RecoverFault.TheVariants as merging
 use Rattle.onll_merge.specs.declared.counts.LogCounts.{LogCounts}
-use Rattle.onll_merge.specs.Recovered.{Recovered, state_recovered}
+use Rattle.onll_merge.specs.Recovered.{Recovered, expected_heads, state_recovered}
 use Rattle.onll_text.specs.Wording.{Wording}
 use Rattle.onll_text.specs.Lines.{log_line, node_lines, state_lines}
 use Rattle.onll_task.specs.declared.ending.Ending.TheVariants.{BadLog}
@@ -109,25 +109,25 @@ abbrev pub held_of : LogCounts → Option HeldData
 held_of log = held_with log.head log.entries log.lines
 
 -- what the report of a recovery says, with this state
-abbrev pub found_data : {State : Type 0} → Recovered → State → RecoverData State
-found_data r s = record { logs = map held_of r.logs; nodes = r.nodes; state = s }
+abbrev pub data_with : {State : Type 0} → Recovered → State → RecoverData State
+data_with r s = record { logs = map held_of r.logs; nodes = r.nodes; state = s }
 
 -- the same with the state after the trace
 abbrev pub recover_data : {State Op Query Reply : Type 0} → Behaviour State Op Query Reply → State → Recovered → RecoverData State
-recover_data b s r = found_data r (state_after b s r.nodes)
+recover_data b s r = data_with r (state_after b s r.nodes)
 
 -- ---- the work
--- what was found is reported: the report says that, and nothing else
-abbrev pub found_task : {State Op Query Reply : Type 0} → Behaviour State Op Query Reply → Wording State Op Query Reply
+-- what was recovered is reported: the report says that, and nothing else
+abbrev pub recovered_task : {State Op Query Reply : Type 0} → Behaviour State Op Query Reply → Wording State Op Query Reply
     → State → Result Recovered StateFault → Task
-found_task b w s (Ok r) =
+recovered_task b w s (Ok r) =
     report_task (recover_report b w s r) (λ text. SaysOnly (recover_data_lines b w) (RecoverReads b w) text (recover_data b s r))
-found_task b w s (Err fault) = say_task BadLog (fault_line fault)
+recovered_task b w s (Err fault) = say_task BadLog (fault_line fault)
 
 -- what these images give, over an object of this code whose initial state these bytes say
 abbrev pub images_task : {State Op Query Reply : Type 0} → Behaviour State Op Query Reply → Wording State Op Query Reply
     → ℕ → List ℕ → State → List (List (List ℕ)) → Task
-images_task b w code init s images = found_task b w s (state_recovered b code init images)
+images_task b w code init s images = recovered_task b w s (state_recovered b (expected_heads code init images) images)
 
 -- all images are read first
 abbrev pub logs_task : {State Op Query Reply : Type 0} → Behaviour State Op Query Reply → Wording State Op Query Reply

@@ -15,7 +15,7 @@ use Rattle.onll_core.specs.Step.{steps_of}
 use Rattle.onll_core.specs.Turns.{turns_of}
 use Rattle.onll_core.specs.Created.{created_core}
 use Rattle.onll_core.specs.Outcomes.{ends_of}
-use Rattle.onll_core.specs.Crash.{images_of}
+use Rattle.onll_core.specs.Crash.{heads_of, images_of}
 use Rattle.onll_text.specs.declared.schedule.Schedule.{Schedule}
 use Rattle.onll_text.specs.Wording.{Wording}
 use Rattle.onll_text.specs.Lines.{call_lines, trace_line, node_line, log_line, state_lines}
@@ -156,25 +156,25 @@ replay_data b c keep r = record {
 }
 
 -- ---- the work
--- the run of these scripts, its crash, and what was found are reported: the report says that, and nothing else
+-- the run of these scripts, its crash, and what was recovered are reported: the report says that, and nothing else
 abbrev pub run_task : {State Op Query Reply : Type 0} → Behaviour State Op Query Reply → Wording State Op Query Reply
     → List (List (Call State Op Query Reply)) → CoreState State Op Query Reply → ℕ → Result Recovered StateFault → Task
 run_task b w scripts c keep (Ok r) = report_task (replay_report b w c keep r)
     (λ text. SaysOnly (run_data_lines b w scripts) (RunReads b w scripts) text (replay_data b c keep r))
 run_task b w scripts c keep (Err fault) = say_task BadLog (fault_line fault)
 
--- a core of an object of this code, whose initial state these bytes say, crashes: its images are written, and then recovered
+-- a core crashes: its images are written, and then recovered as logs with its heads
 abbrev pub crash_task : {State Op Query Reply : Type 0} → Behaviour State Op Query Reply → Wording State Op Query Reply
-    → ℕ → List ℕ → List ℕ → List (List (Call State Op Query Reply)) → CoreState State Op Query Reply → ℕ → Task
-crash_task b w code init logs scripts c keep = after_stage (writing_stage logs (images_of keep c.threads))
-    (λ _. run_task b w scripts c keep (state_recovered b code init (images_of keep c.threads)))
+    → List ℕ → List (List (Call State Op Query Reply)) → CoreState State Op Query Reply → ℕ → Task
+crash_task b w logs scripts c keep = after_stage (writing_stage logs (images_of keep c.threads))
+    (λ _. run_task b w scripts c keep (state_recovered b (heads_of c.threads) (images_of keep c.threads)))
 
 -- the schedule of these scripts is read and played, and the core crashes
 abbrev pub schedule_task : {State Op Query Reply : Type 0} → Behaviour State Op Query Reply
     → Wording State Op Query Reply → ℕ → List ℕ → State → (schedule logs : List ℕ)
     → List (List (Call State Op Query Reply)) → Task
 schedule_task b w code init s schedule logs scripts = after_stage (text_stage schedule (schedule_of (length scripts)))
-    (λ (plan : Schedule). crash_task b w code init logs scripts (played b code init s scripts plan.turns) plan.keep)
+    (λ (plan : Schedule). crash_task b w logs scripts (played b code init s scripts plan.turns) plan.keep)
 
 -- scripts are read, one after the other
 abbrev pub scripts_stage : {State Op Query Reply : Type 0} → Wording State Op Query Reply → List (List ℕ)

@@ -6,7 +6,7 @@ ghost use Rattle.onll_recovery.specs.RecoverJob.{merging_line, fault_line};
 ghost use Rattle.onll_task.specs.Stop.{StopSays};
 
 use onll_merge::{RecoverFault, StateFault};
-use onll_task::{Answer, Ending, Stop};
+use onll_task::{Ending, Stop};
 use onll_text::{Piece, Report};
 use onll_words::NoMemory;
 use std::alloc::Global;
@@ -97,10 +97,10 @@ pub fn bad_logs(alloc: Global, fault: StateFault) -> Stop
 {
     let mut out = Report::new(alloc);
     match put_fault(fault, &mut out) {
-        Ok(()) => Stop::Says(Answer {
+        Ok(()) => Stop::Says {
             ending: Ending::BadLog,
             text: out.into_bytes(),
-        }),
+        },
         Err(NoMemory) => Stop::NoMemory,
     }
 }

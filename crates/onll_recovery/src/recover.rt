@@ -5,18 +5,19 @@ ghost use Rattle.onll_model.specs.Limits.{most_threads};
 ghost use Rattle.std.specs.List.{flat_map};
 ghost use Rattle.onll_words.specs.Texts.{line_text};
 ghost use Rattle.onll_model.specs.Recovered.{operations_front};
-ghost use Rattle.onll_merge.specs.Recovered.{recovered_in};
+ghost use Rattle.onll_merge.specs.Recovered.{recovered_in, state_recovered};
 ghost use Rattle.onll_text.specs.Bytes.{begins_line, with_lines};
 ghost use Rattle.onll_text.specs.Lines.{node_lines, state_lines};
 ghost use Rattle.onll_text.specs.Reports.{NodeReads, StateReads};
 ghost use Rattle.onll_task.specs.Images.{images_in};
 ghost use Rattle.onll_task.specs.Doing.{Does};
 ghost use Rattle.onll_outside.specs.Views.{StoreView};
-ghost use Rattle.onll_recovery.specs.RecoverJob.{HeldReads, RecoverReads, held_of, found_data, content_line, log_lines, recovered_line, lines_with, images_task, logs_task};
+ghost use Rattle.onll_recovery.specs.RecoverJob.{HeldReads, RecoverReads, held_of, data_with, content_line, log_lines, recovered_line, lines_with, recovered_task, images_task, logs_task};
 
 use crate::bad_logs::bad_logs;
 use crate::nodes::put_nodes;
-use onll_merge::{LogCounts, Recovery, StateFault, recover_state};
+use onll_log::LogHead;
+use onll_merge::{LogCounts, Recovery, StateFault, expected_heads, recover_state};
 use onll_model::Node;
 use onll_outside::Store;
 use onll_task::{Stop, read_images};
@@ -79,17 +80,35 @@ fn put_trace<O: Texted>(object: &O, nodes: &[Node], out: &mut Report) -> Result<
 }
 
 /// The report of what logs give, with the object after it. All that it says reads back.
-fn report<O: Texted>(alloc: Global, object: &O, found: &Recovery) -> Result<Vec<u8>, NoMemory>
-    requires { operations_front O.means found.now.nodes.items ≡ found.now.nodes.items }
-    ensures report { let lines = lines_with O.means O.wording (recovered_in found.now) object.now in
+fn report<O: Texted>(alloc: Global, object: &O, recovery: &Recovery) -> Result<Vec<u8>, NoMemory>
+    requires { operations_front O.means recovery.now.nodes.items ≡ recovery.now.nodes.items }
+    ensures report { let lines = lines_with O.means O.wording (recovered_in recovery.now) object.now in
         IfOk result (λ bytes. bytes.items ≡ flat_map line_text lines) }
-    ensures reads { OnOk result (RecoverReads O.means O.wording (found_data (recovered_in found.now) object.now)) }
+    ensures reads { OnOk result (RecoverReads O.means O.wording (data_with (recovered_in recovery.now) object.now)) }
 {
     let mut out = Report::new(alloc);
-    put_logs(&found.logs, &mut out)?;
-    put_count(found.nodes.len() as u64, &mut out)?;
-    put_trace(object, &found.nodes, &mut out)?;
+    put_logs(&recovery.logs, &mut out)?;
+    put_count(recovery.nodes.len() as u64, &mut out)?;
+    put_trace(object, &recovery.nodes, &mut out)?;
     Ok(out.into_bytes())
+}
+
+/// What is said of images over the object, as logs with these heads.
+fn recover_with<O: Texted>(
+    alloc: Global,
+    object: &mut O,
+    heads: &[LogHead],
+    images: &[Vec<Line>],
+) -> Result<Vec<u8>, Stop>
+    requires { length heads.now ≡ length images.now }
+    ensures { let task = recovered_task O.means O.wording object.old (state_recovered O.means heads.now (images_in images.now)) in
+        (store : StoreView) → Does [] store store task result }
+{
+    match recover_state(alloc, object, heads, images) {
+        Ok(recovery) => Ok(report(alloc, object, &recovery)?),
+        Err(StateFault::NoMemory) => Err(Stop::NoMemory),
+        Err(fault) => Err(bad_logs(alloc, fault)),
+    }
 }
 
 /// What is said of images, over the object from these bytes of an initial state.
@@ -103,11 +122,8 @@ fn recover_on<O: Texted>(
     ensures { let task = images_task O.means O.wording O.CODE init.now object.old (images_in images.now) in
         (store : StoreView) → Does [] store store task result }
 {
-    match recover_state(alloc, object, init, images) {
-        Ok(found) => Ok(report(alloc, object, &found)?),
-        Err(StateFault::NoMemory) => Err(Stop::NoMemory),
-        Err(fault) => Err(bad_logs(alloc, fault)),
-    }
+    let heads = expected_heads(alloc, O::CODE, init, images)?;
+    recover_with(alloc, object, &heads, images)
 }
 
 /// Recovers an object, whose initial state these bytes say, from the images of the logs of so many threads.

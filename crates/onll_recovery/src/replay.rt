@@ -9,6 +9,7 @@ ghost use Rattle.onll_model.specs.Calls.{updates_in};
 ghost use Rattle.onll_text.specs.Bytes.{begins_line, with_lines};
 ghost use Rattle.onll_text.specs.Lines.{call_lines};
 ghost use Rattle.onll_text.specs.Reports.{EndsRead, NodeReads, StateReads};
+ghost use Rattle.onll_core.specs.Crash.{heads_of};
 ghost use Rattle.onll_core.specs.Outcomes.{returned_end, current_ends, ends_of, script_of};
 ghost use Rattle.onll_text.specs.Schedule.{IsPlayable};
 ghost use Rattle.onll_merge.specs.Recovered.{recovered_in, state_recovered};
@@ -20,6 +21,7 @@ ghost use Rattle.onll_outside.specs.Views.{StoreView};
 use crate::bad_logs::bad_logs;
 use crate::recover::put_count;
 use onll_core::{Core, Current, Returned, report_law};
+use onll_log::LogHead;
 use onll_merge::{LogCounts, Recovery, StateFault, recover_state};
 use onll_model::{Call, CallEnd, Node};
 use onll_outside::Store;
@@ -155,46 +157,69 @@ fn put_fenced<O: Texted + Drop>(
 fn put_crashed<O: Texted + Drop>(
     core: &Core<O>,
     keep: u64,
-    found: &Recovery,
+    recovery: &Recovery,
     object: &O,
     out: &mut Report,
 ) -> Result<(), NoMemory>
-    requires threads { length found.now.logs.items ≡ length core.now.threads }
+    requires threads { length recovery.now.logs.items ≡ length core.now.threads }
     requires begins { begins_line out.old ≡ true }
-    ensures lines { let lines = crash_lines O.wording core.now keep (recovered_in found.now) object.now in
+    ensures lines { let lines = crash_lines O.wording core.now keep (recovered_in recovery.now) object.now in
         OnOk result (out.new ≡ with_lines out.old lines) }
-    ensures logs { OnOk result (All LogReads (counts_of found.now.logs.items core.now.threads)) }
-    ensures recovered { OnOk result (length found.now.nodes.items < 2 ^ 64) }
+    ensures logs { OnOk result (All LogReads (counts_of recovery.now.logs.items core.now.threads)) }
+    ensures recovered { OnOk result (length recovery.now.nodes.items < 2 ^ 64) }
     ensures state { OnOk result (StateReads O.wording object.now) }
 {
     put_crash(keep, out)?;
-    put_fenced(core, &found.logs, out)?;
-    put_count(found.nodes.len() as u64, out)?;
+    put_fenced(core, &recovery.logs, out)?;
+    put_count(recovery.nodes.len() as u64, out)?;
     out.state_lines(object)
 }
 
-/// The report of a core that crashed, of what was found then, and of the object after the nodes that were found. All that it
+/// The report of a core that crashed, of what was recovered then, and of the object after the nodes that were recovered. All that it
 /// says reads back.
 #[tactic(auto, using(onll_text::proofs::Appending::beginning))]
 fn report<O: Texted + Drop>(
     alloc: Global,
     core: &Core<O>,
     keep: u64,
-    found: &Recovery,
+    recovery: &Recovery,
     object: &O,
 ) -> Result<Vec<u8>, NoMemory>
     requires operations { AllByRecursion (λ n. IsSome (O.means.op_at n.row)) core.now.trace }
-    requires threads { length found.now.logs.items ≡ length core.now.threads }
-    requires state { object.now ≡ state_after O.means core.now.initial found.now.nodes.items }
-    ensures report { IfOk result (λ bytes. bytes.items ≡ replay_report O.means O.wording core.now keep (recovered_in found.now)) }
-    ensures reads { let said = replay_data O.means core.now keep (recovered_in found.now) in
+    requires threads { length recovery.now.logs.items ≡ length core.now.threads }
+    requires state { object.now ≡ state_after O.means core.now.initial recovery.now.nodes.items }
+    ensures report { IfOk result (λ bytes. bytes.items ≡ replay_report O.means O.wording core.now keep (recovered_in recovery.now)) }
+    ensures reads { let said = replay_data O.means core.now keep (recovered_in recovery.now) in
         OnOk result (RunReads O.means O.wording (map script_of core.now.threads) said) }
 {
     core.consistent();
     let mut out = Report::new(alloc);
     put_run(core, &mut out)?;
-    put_crashed(core, keep, found, object, &mut out)?;
+    put_crashed(core, keep, recovery, object, &mut out)?;
     Ok(out.into_bytes())
+}
+
+/// What is said of a core that crashed, from these images as logs with these heads.
+fn answer_from<O: Texted + Drop>(
+    alloc: Global,
+    core: &Core<O>,
+    keep: u64,
+    heads: &[LogHead],
+    images: &[Vec<Line>],
+) -> Result<Vec<u8>, Stop>
+    requires operations { AllByRecursion (λ n. IsSome (O.means.op_at n.row)) core.now.trace }
+    requires heads { length heads.now ≡ length images.now }
+    requires images { length images.now ≡ length core.now.threads }
+    ensures { let recovered = state_recovered O.means heads.now (images_in images.now) in
+        let task = run_task O.means O.wording (map script_of core.now.threads) core.now keep recovered in
+        (store : StoreView) → Does [] store store task result }
+{
+    let mut object = core.initial().copy(alloc)?;
+    match recover_state(alloc, &mut object, heads, images) {
+        Ok(recovery) => Ok(report(alloc, core, keep, &recovery, &object)?),
+        Err(StateFault::NoMemory) => Err(Stop::NoMemory),
+        Err(fault) => Err(bad_logs(alloc, fault)),
+    }
 }
 
 /// What is said of a core that crashed, whose images these are.
@@ -202,22 +227,16 @@ fn crash_answer<O: Texted + Drop>(
     alloc: Global,
     core: &Core<O>,
     keep: u64,
-    init: &[u8],
     images: &[Vec<Line>],
 ) -> Result<Vec<u8>, Stop>
     requires operations { AllByRecursion (λ n. IsSome (O.means.op_at n.row)) core.now.trace }
-    requires threads { (1 ≤ length images.now) × (length images.now ≤ most_threads) }
     requires images { length images.now ≡ length core.now.threads }
-    ensures { let found = state_recovered O.means O.CODE init.now (images_in images.now) in
-        let task = run_task O.means O.wording (map script_of core.now.threads) core.now keep found in
+    ensures { let recovered = state_recovered O.means (heads_of core.now.threads) (images_in images.now) in
+        let task = run_task O.means O.wording (map script_of core.now.threads) core.now keep recovered in
         (store : StoreView) → Does [] store store task result }
 {
-    let mut object = core.initial().copy(alloc)?;
-    match recover_state(alloc, &mut object, init, images) {
-        Ok(found) => Ok(report(alloc, core, keep, &found, &object)?),
-        Err(StateFault::NoMemory) => Err(Stop::NoMemory),
-        Err(fault) => Err(bad_logs(alloc, fault)),
-    }
+    let heads = core.heads(alloc)?;
+    answer_from(alloc, core, keep, &heads, images)
 }
 
 /// Crashes a core: writes the images that this number picks, and says the run and what they give.
@@ -225,19 +244,18 @@ fn crash<O: Texted + Drop, S: Store>(
     alloc: Global,
     core: &Core<O>,
     keep: u64,
-    init: &[u8],
     logs: &str,
     store: &mut S,
 ) -> Result<Vec<u8>, Stop>
     requires operations { AllByRecursion (λ n. IsSome (O.means.op_at n.row)) core.now.trace }
     requires threads { (1 ≤ length core.now.threads) × (length core.now.threads ≤ most_threads) }
     ensures { let scripts = map script_of core.now.threads in
-        let task = crash_task O.means O.wording O.CODE init.now logs.now scripts core.now keep in
+        let task = crash_task O.means O.wording logs.now scripts core.now keep in
         Does (image_names logs.now 0 (length core.now.threads)) (S.seen store.old) (S.seen store.new) task result }
 {
     let images = core.crash(alloc, keep)?;
     match write_images(alloc, logs, &images, store) {
-        Ok(()) => crash_answer(alloc, core, keep, init, &images),
+        Ok(()) => crash_answer(alloc, core, keep, &images),
         Err(stop) => Err(stop),
     }
 }
@@ -303,7 +321,7 @@ fn replay_scripts<O: Texted + Drop, S: Store>(
     match schedule_file(alloc, schedule, scripts.len() as u64, store) {
         Ok(plan) => {
             let core = played(alloc, object, init, scripts, &plan)?;
-            crash(alloc, &core, plan.keep, init, logs, store)
+            crash(alloc, &core, plan.keep, logs, store)
         }
         Err(stop) => Err(stop),
     }

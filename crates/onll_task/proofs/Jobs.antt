@@ -5,7 +5,6 @@ use Rattle.onll_outside.specs.Views.{StoreView, SameFiles, SameFaults, Rose, Hol
 use Rattle.onll_text.specs.Refusal.{Refusal}
 use Rattle.onll_task.specs.declared.ending.Ending.{Ending}
 use Rattle.onll_task.specs.declared.ending.Ending.TheVariants.{Done, Usage, Refused, BadLog, ReadFault, WriteFault}
-use Rattle.onll_task.specs.declared.answer.Answer.{Answer}
 use Rattle.onll_task.specs.declared.answer.Stop.{Stop}
 use Rattle.onll_task.specs.declared.answer.Stop.TheVariants as stops
 use Rattle.onll_task.specs.Stop.{StopSays}
@@ -91,12 +90,6 @@ cannot_from store mid after name Refused text same h = h
 cannot_from store mid after name BadLog text same h = h
 cannot_from store mid after name WriteFault text same h = h
 cannot_from store mid after name ReadFault text same h = record { rose = subst (λ n. Rose n after.faults) same.0 h.rose; last = h.last; line = h.line }
-
--- what is said of the stop is said of the answer
-pub stopped_says : (s : Stop) (r : Result Answer NoMemory) (P Q : Ending → List ℕ → Type 0) → ((e : Ending) (t : List ℕ) → P e t → Q e t)
-    → MatchResult r (λ answer. s ≡ stops.Says answer) (λ e. s ≡ stops.NoMemory) → StopSays s P → IfOk r (λ answer. Q answer.ending answer.text.items)
-stopped_says s (Ok answer) P Q f m h = f answer.ending answer.text.items (subst (λ z. StopSays z P) m h)
-stopped_says s (Err e) P Q f m h = tt
 
 -- a job that reads a text and goes on so never says the usage
 pub reading_whole_never : {A : Type 0} (name : List ℕ) (grammar : List ℕ → Result A Refusal) (next : List ℕ → A → Job) → ((bytes : List ℕ) (value : A) → Never Usage (next bytes value)) → Never Usage (reading_whole name grammar next)

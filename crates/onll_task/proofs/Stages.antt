@@ -62,13 +62,13 @@ image_before same h = record { bytes = h.bytes; held = λ tells. sym (same.file 
 
 -- ---- where a call stops
 StopsSo-on : (store mid after : StoreView) (job next : Job) (s : Stop) → GoesOn store mid job next → StopsSo mid after next s → StopsSo store after job s
-StopsSo-on store mid after job next (Says answer) on h = (h.0, on.ends after answer.ending answer.text.items h.1)
+StopsSo-on store mid after job next (Says ending text) on h = (h.0, on.ends after ending text.items h.1)
 StopsSo-on store mid after job next NoMemory on h = on.cut after h
 
 -- no file changed, and this is said; or memory could not be had
 says_stops : (store after : StoreView) (job : Job) (s : Stop) (P : Ending → List ℕ → Type 0) → FilesStay store after
     → ((ending : Ending) (text : List ℕ) → P ending text → (ending ≡ Done → ⊥) × JobEnds store after job ending text) → StopSays s P → StopsSo store after job s
-says_stops store after job (Says answer) P same f h = f answer.ending answer.text.items h
+says_stops store after job (Says ending text) P same f h = f ending text.items h
 says_stops store after job NoMemory P same f h = stay_cut store after job same
 
 refused_end : {A : Type 0} (store after : StoreView) (grammar : List ℕ → Result A Refusal) (name : List ℕ) (ending : Ending) (text : List ℕ) → Stops store after grammar name ending text → ending ≡ Done → ⊥
@@ -211,7 +211,7 @@ unwritten_end store after name ReadFault text h e = h
 unwritten_end store after name WriteFault text h e = cc e
 
 unwritten_stops : (store after : StoreView) (name bytes : List ℕ) (next : Job) (s : Stop) → StopSays s (CannotWrite store after name) → WriteStops store after name → StopsSo store after (Write name bytes next) s
-unwritten_stops store after name bytes next (Says answer) stop cut = (unwritten_end store after name answer.ending answer.text.items stop, inl stop)
+unwritten_stops store after name bytes next (Says ending text) stop cut = (unwritten_end store after name ending text.items stop, inl stop)
 unwritten_stops store after name bytes next NoMemory stop cut = inl cut
 
 -- all images were written

@@ -11,7 +11,7 @@ use Rattle.onll_task.specs.Reading.{IsCut, Reads, Stops}
 use Rattle.onll_task.specs.Stop.{StopSays}
 
 pub StopSays-weaker : (s : Stop) (P Q : Ending → List ℕ → Type 0) → ((e : Ending) (t : List ℕ) → P e t → Q e t) → StopSays s P → StopSays s Q
-StopSays-weaker (Says answer) P Q f h = f answer.ending answer.text.items h
+StopSays-weaker (Says ending text) P Q f h = f ending text.items h
 StopSays-weaker NoMemory P Q f h = tt
 
 -- what was read of the file is accepted

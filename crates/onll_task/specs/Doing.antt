@@ -86,7 +86,7 @@ each_stage stage xs = record { job = each_job stage xs; known = AreKnown stage x
 -- A job stops so: what is said in place of a report is an end of the job, and no good one; where memory could not be had the job
 -- was cut.
 abbrev pub StopsSo : StoreView → StoreView → Job → Stop → Type 0
-StopsSo store after job (Says answer) = (answer.ending ≡ Done → ⊥) × JobEnds store after job answer.ending answer.text.items
+StopsSo store after job (Says ending text) = (ending ≡ Done → ⊥) × JobEnds store after job ending text.items
 StopsSo store after job NoMemory = JobCut store after job
 
 -- A function did this task: what it gives is the report of the job that is done, which says so of the files, also as they were

@@ -7,16 +7,6 @@ use Rattle.onll_task.specs.declared.ending.Exit.{Exit}
 use Rattle.onll_task.specs.declared.ending.Exit.TheVariants.{Said, SinkFault, NoMemory}
 use Rattle.onll_text.specs.Refusal.{Refusal, reason_text}
 
--- the whole usage text, with the commands to come
-abbrev pub usage_text : List ℕ
-usage_text =
-    codes "usage: onll fold INIT SCRIPT\n"
-    ++ codes "       onll show IMAGE\n"
-    ++ codes "       onll recover INIT LOGS T\n"
-    ++ codes "       onll replay INIT SCHEDULE LOGS SCRIPT..\n"
-    ++ codes "       onll run INIT LOGS SCRIPT..\n"
-    ++ codes "       onll make T N SEED\n"
-
 -- the line of a refused text
 abbrev pub refusal_text : List ℕ → Refusal → List ℕ
 refusal_text name refusal =

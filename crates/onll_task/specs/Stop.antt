@@ -7,5 +7,5 @@ use Rattle.onll_task.specs.declared.answer.Stop.TheVariants.{Says, NoMemory}
 
 -- what is said where a call stops, if anything, has this fact
 abbrev pub StopSays : Stop → (Ending → List ℕ → Type 0) → Type 0
-StopSays (Says answer) P = P answer.ending answer.text.items
+StopSays (Says ending text) P = P ending text.items
 StopSays NoMemory P = Unit {0}

@@ -2,7 +2,7 @@
 
 ghost use Rattle.std.specs.Prelude.{◌≡◌, IfOk};
 ghost use Rattle.onll_text.specs.Refusal.{refused};
-ghost use Rattle.onll_task.specs.Printed.{usage_text, refusal_text, read_fault_text, write_fault_text};
+ghost use Rattle.onll_task.specs.Printed.{refusal_text, read_fault_text, write_fault_text};
 ghost use Rattle.onll_task.specs.Stop.{StopSays};
 ghost use Rattle.onll_task.specs.declared.answer.Stop.TheVariants.{NoMemory};
 
@@ -12,26 +12,11 @@ use onll_text::Reason;
 use onll_words::NoMemory;
 use std::alloc::{AllocError, AllocFailed, Global};
 
-/// The usage text, with the commands to come.
-const USAGE: &[u8] = b"usage: onll fold INIT SCRIPT\n       \
-      onll show IMAGE\n       \
-      onll recover INIT LOGS T\n       \
-      onll replay INIT SCHEDULE LOGS SCRIPT..\n       \
-      onll run INIT LOGS SCRIPT..\n       \
-      onll make T N SEED\n";
-
-/// A text to be put in place of a report, and how the call ends then.
-#[derive(Drop)]
-pub struct Answer {
-    pub ending: Ending,
-    pub text: Vec<u8>,
-}
-
 /// Why a command gives no report, or a file no value.
 #[derive(Drop)]
 pub enum Stop {
-    /// This is to be said.
-    Says(Answer),
+    /// This text is to be put, and the call ends so.
+    Says { ending: Ending, text: Vec<u8> },
     NoMemory,
 }
 
@@ -65,16 +50,9 @@ impl Stop {
         ensures { StopSays result (λ end said. (end ≡ ending) × (said ≡ text.now)) }
     {
         match Vec::from_slice(alloc, text) {
-            Ok(text) => Stop::Says(Answer { ending, text }),
+            Ok(text) => Stop::Says { ending, text },
             Err(_) => Stop::NoMemory,
         }
-    }
-
-    /// The usage text.
-    pub fn usage(alloc: Global) -> Stop
-        ensures { StopSays result (λ end said. (end ≡ Ending.Usage) × (said ≡ usage_text)) }
-    {
-        Stop::says(alloc, Ending::Usage, USAGE)
     }
 
     /// The line of a refused text.
@@ -82,10 +60,10 @@ impl Stop {
         ensures { StopSays result (λ end said. (end ≡ Ending.Refused) × (said ≡ refusal_text name.now (refused line reason))) }
     {
         match refusal_text(alloc, name, line, reason) {
-            Ok(text) => Stop::Says(Answer {
+            Ok(text) => Stop::Says {
                 ending: Ending::Refused,
                 text,
-            }),
+            },
             Err(_) => Stop::NoMemory,
         }
     }
@@ -95,10 +73,10 @@ impl Stop {
         ensures { StopSays result (λ end said. (end ≡ Ending.ReadFault) × (said ≡ read_fault_text name.now)) }
     {
         match read_fault_text(alloc, name) {
-            Ok(text) => Stop::Says(Answer {
+            Ok(text) => Stop::Says {
                 ending: Ending::ReadFault,
                 text,
-            }),
+            },
             Err(_) => Stop::NoMemory,
         }
     }
@@ -108,10 +86,10 @@ impl Stop {
         ensures { StopSays result (λ end said. (end ≡ Ending.WriteFault) × (said ≡ write_fault_text name.now)) }
     {
         match write_fault_text(alloc, name) {
-            Ok(text) => Stop::Says(Answer {
+            Ok(text) => Stop::Says {
                 ending: Ending::WriteFault,
                 text,
-            }),
+            },
             Err(_) => Stop::NoMemory,
         }
     }

@@ -8,7 +8,7 @@ mod images;
 mod texts;
 mod used_lines;
 
-pub use answer::{Answer, Stop};
+pub use answer::Stop;
 pub use ending::{Ending, Exit};
 pub use images::{read_images, write_images};
 pub use texts::{InitText, image_file, init_file, schedule_file, script_file, write_file};

@@ -19,4 +19,4 @@ returns-in-Ok-clause-determined g c =
 pub returns-in-Err-Says-clause-says : goal.returns-in-Err-Says-clause-says
 returns-in-Err-Says-clause-says g c =
     put_says (seen_by (map string_bytes c.args.words.now) (g.S.Store.seen c.args.store.now) (g.S.Store.seen c.answer_to.new.store) (g.K.Sink.held c.args.out.now) (g.K.Sink.held c.put-in-Err-Says.new.out))
-    c.in-Err-Says.answer.ending c.in-Err-Says.answer.text.items c.put-in-Err-Says.result (rw c.in-Err-Says.field-0-is at c.in-Err-Says.ensures.stops).1 (rw c.deref-in-Err-Says.ensures.value at c.put-in-Err-Says.ensures)
+    c.in-Err-Says.ending c.in-Err-Says.text.items c.put-in-Err-Says.result (rw c.in-Err-Says.field-0-is at c.in-Err-Says.ensures.stops).1 (rw c.deref-in-Err-Says.ensures.value at c.put-in-Err-Says.ensures)

@@ -16,7 +16,7 @@ pub returns-in-Ok : goal.returns-in-Ok
 returns-in-Ok g c =
     let core = c.args.core.now in
     let images = c.in_ok-images.images.items in
-    crash_does g.O.Object.means g.O.Texted.wording g.O.Object.CODE c.args.init.now c.args.logs.now (map script_of core.threads) core c.args.keep images c.crash_answer.result
+    crash_does g.O.Object.means g.O.Texted.wording c.args.logs.now (map script_of core.threads) core c.args.keep images c.crash_answer.result
     c.in_ok-images.ensures.exact (sym (length-map images (λ (image : Vec Line Global). words_of image.items)) ∙ images_many core.threads (images_in images) c.in_ok-images.ensures.own)
     (rw c.deref.ensures.value at c.in-Ok.ensures) (rw c.deref-in-Ok.ensures.value at c.crash_answer.ensures)
 
@@ -24,6 +24,6 @@ pub returns : goal.returns
 returns g c =
     let core = c.args.core.now in
     let images = c.in_ok-images.images.items in
-    crash_stops g.O.Object.means g.O.Texted.wording g.O.Object.CODE c.args.init.now c.args.logs.now (map script_of core.threads) core c.args.keep images c.in-Err.stop
+    crash_stops g.O.Object.means g.O.Texted.wording c.args.logs.now (map script_of core.threads) core c.args.keep images c.in-Err.stop
     c.in_ok-images.ensures.exact (sym (length-map images (λ (image : Vec Line Global). words_of image.items)) ∙ images_many core.threads (images_in images) c.in_ok-images.ensures.own)
     (rw c.deref.ensures.value at c.in-Err.ensures)

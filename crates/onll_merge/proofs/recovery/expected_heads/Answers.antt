@@ -3,7 +3,7 @@ use Rattle.onll_log.specs.Head.{head_for}
 use Rattle.onll_log.specs.Grammar.{format_in}
 use Rattle.onll_pmem.specs.Pmem.{words_of}
 use Rattle.onll_merge.proofs.Decoding.{head_more}
-use Rattle.onll_merge.proofs.recovery.heads_for.Goals as goal
+use Rattle.onll_merge.proofs.recovery.expected_heads.Goals as goal
 
 pub loop-thread-preserved : goal.loop-thread-preserved
 loop-thread-preserved c =

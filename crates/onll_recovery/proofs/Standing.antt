@@ -7,7 +7,7 @@ use Rattle.onll_log.specs.declared.head.LogHead.{LogHead}
 use Rattle.onll_log.specs.Head.{head_for}
 use Rattle.onll_log.specs.Grammar.{Content, content_of, format_in}
 use Rattle.onll_merge.specs.declared.fault.ImagesFault.{ImagesFault}
-use Rattle.onll_merge.specs.Recovered.{content_before, contents_from, expected_heads, merged, with_operations, state_recovered}
+use Rattle.onll_merge.specs.Recovered.{content_before, contents_from, heads_for, expected_heads, merged, with_operations, state_recovered}
 use Rattle.onll_task.specs.Images.{StandsFor, StandFor}
 
 -- as many
@@ -36,13 +36,13 @@ first_log i (Some c) (Ok cs) h = (refl, tt)
 first_log i (Some c) (Err e) h = absurd h
 
 heads_stand : (code threads i : ℕ) (init : List ℕ) (lines images : List (List (List ℕ))) → StandFor lines images → AllLogs (contents_from i images)
-    → expected_heads code init threads i lines ≡ expected_heads code init threads i images
+    → heads_for code init threads i lines ≡ heads_for code init threads i images
 heads_stand code threads i init [] [] s h = refl
 heads_stand code threads i init [] (image ∷ images) s h = absurd s
 heads_stand code threads i init (l ∷ lines) [] s h = absurd s
 heads_stand code threads i init (l ∷ lines) (image ∷ images) s h =
     let f = first_log i (content_of image) (contents_from (i + 1) images) h in
-    ap (λ n. head_for n i threads code init ∷ expected_heads code init threads (i + 1) lines) (s.0.format f.0)
+    ap (λ n. head_for n i threads code init ∷ heads_for code init threads (i + 1) lines) (s.0.format f.0)
     ∙ ap (λ (hs : List LogHead). head_for (format_in image) i threads code init ∷ hs) (heads_stand code threads (i + 1) init lines images s.1 f.1)
 
 same_merged : (a b : List LogHead) (contents : Result (List Content) ImagesFault) → (AllLogs contents → a ≡ b) → merged a contents ≡ merged b contents
@@ -50,9 +50,9 @@ same_merged a b (Ok contents) same = ap (λ hs. merged hs (let c : Result (List 
 same_merged a b (Err fault) same = refl
 
 pub state_stands : {State Op Query Reply : Type 0} (b : Behaviour State Op Query Reply) (code : ℕ) (init : List ℕ) (lines images : List (List (List ℕ))) → StandFor lines images
-    → state_recovered b code init lines ≡ state_recovered b code init images
+    → state_recovered b (expected_heads code init lines) lines ≡ state_recovered b (expected_heads code init images) images
 state_stands b code init lines images s =
-    let all = expected_heads code init (length images) 0 images in
-    ap (λ n. with_operations b (merged (expected_heads code init n 0 lines) (contents_from 0 lines))) (stand_many lines images s)
-    ∙ (ap (λ cs. with_operations b (merged (expected_heads code init (length images) 0 lines) cs)) (contents_stand 0 lines images s)
-    ∙ ap (with_operations b) (same_merged (expected_heads code init (length images) 0 lines) all (contents_from 0 images) (heads_stand code (length images) 0 init lines images s)))
+    let all = heads_for code init (length images) 0 images in
+    ap (λ n. with_operations b (merged (heads_for code init n 0 lines) (contents_from 0 lines))) (stand_many lines images s)
+    ∙ (ap (λ cs. with_operations b (merged (heads_for code init (length images) 0 lines) cs)) (contents_stand 0 lines images s)
+    ∙ ap (with_operations b) (same_merged (heads_for code init (length images) 0 lines) all (contents_from 0 images) (heads_stand code (length images) 0 init lines images s)))

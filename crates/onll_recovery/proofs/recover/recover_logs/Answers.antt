@@ -1,7 +1,7 @@
 use Rattle.std.proofs.Common.{ℕ, List, [], sym, subst}
 use Rattle.onll_task.specs.Doing.{Does}
 use Rattle.onll_task.specs.Images.{images_in}
-use Rattle.onll_recovery.specs.RecoverJob.{images_task, found_task}
+use Rattle.onll_recovery.specs.RecoverJob.{images_task, recovered_task}
 use Rattle.onll_task.proofs.Stages.{read_does, stop_does, by_given, by_begins, by_stops}
 use Rattle.onll_recovery.proofs.Standing.{state_stands}
 use Rattle.onll_recovery.proofs.recover.recover_logs.Goals as goal
@@ -17,7 +17,7 @@ returns-in-Ok g c =
     let given = by_given c.in-Ok.ensures.begins in
     let same = state_stands b code init (images_in c.in-Ok.images.items) given.value given.fits in
     read_does (images_task b w code init s) (by_begins c.in-Ok.ensures.begins)
-    (subst (λ found. Does [] mid mid (found_task b w s found) c.recover_on.result) same (rw (sym c.deref.ensures.value) (c.recover_on.ensures mid)))
+    (subst (λ recovered. Does [] mid mid (recovered_task b w s recovered) c.recover_on.result) same (rw (sym c.deref.ensures.value) (c.recover_on.ensures mid)))
 
 pub returns-in-Err : goal.returns-in-Err
 returns-in-Err g c =

@@ -135,7 +135,8 @@ fn put_entries(cursor: &mut LogCursor<'_>, out: &mut Report) -> Result<(), NoMem
 /// How many entries there are, and how many lines are used.
 fn put_counts(entries: u64, lines: u64, out: &mut Report) -> Result<(), NoMemory>
     requires { begins_line out.old ≡ true }
-    ensures { OnOk result (out.new ≡ out.old ++ line_text (count_words entries lines)) }
+    ensures line { OnOk result (out.new ≡ out.old ++ line_text (count_words entries lines)) }
+    ensures few { OnOk result (lines < 2 ^ 64) }
 {
     out.line(&[
         Piece::Text(b"entries"),

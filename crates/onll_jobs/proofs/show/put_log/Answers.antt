@@ -3,7 +3,7 @@ use Rattle.std.proofs.lemmas.Result.{on_ok_weaker}
 use Rattle.onll_log.specs.Grammar.{used_by}
 use Rattle.onll_recovery.proofs.FoldSteps.{begins_after}
 use Rattle.onll_jobs.specs.ShowJob.{head_line}
-use Rattle.onll_jobs.proofs.ShowWords.{log_parts}
+use Rattle.onll_jobs.proofs.ShowWords.{log_parts, log_reads}
 use Rattle.onll_jobs.proofs.show.put_log.Goals as goal
 
 pub put_entries-requires-clause-begins : goal.put_entries-requires-clause-begins
@@ -16,4 +16,10 @@ returns-clause-lines c =
     on_ok_weaker c.put_counts.result
     (λ d. log_parts c.args.head content.head content.entries (used_by content) c.passed.result c.used.result c.args.out.now c.put_head.new.out c.put_entries.new.out c.put_counts.new.out
     c.requires.head c.in_ok-put_head.ensures.line c.in_ok-put_entries.ensures.lines (c.passed.ensures.count ∙ c.in_ok-put_entries.ensures.passed) (c.used.ensures ∙ c.in_ok-put_entries.ensures.used) d)
-    c.put_counts.ensures
+    c.put_counts.ensures.line
+
+pub returns-clause-reads : goal.returns-clause-reads
+returns-clause-reads c =
+    on_ok_weaker c.put_counts.result
+    (λ d. log_reads c.args.head c.args.cursor.content c.used.result c.requires.head c.requires.object c.in_ok-put_head.ensures.reads c.in_ok-put_entries.ensures.reads (c.used.ensures ∙ c.in_ok-put_entries.ensures.used) d)
+    c.put_counts.ensures.few

@@ -42,14 +42,12 @@ use Rattle.onll_runner.specs.RunEnds.{EndSays, HasEnded}
 use Rattle.onll_runner.specs.RunJob.{run_plan, lines_for, said_task, calls_task}
 use Rattle.onll_runner.proofs.Determined.{run_says}
 use Rattle.onll_runner.proofs.Ending.{but_stay}
+use Rattle.onll_runner.proofs.Handing.{same_after}
 use Rattle.onll_runner.proofs.Keeping.{risen_all}
 
 -- ---- from the store before
 same_then : (names : List (List ℕ)) (old mid new : StoreView) → SameBut names old mid → SameBut names mid new → SameBut names old new
 same_then names old mid new first then_ = record { tells = then_.tells ∙ first.tells; file = λ other differs. then_.file other differs ∙ first.file other differs }
-
-same_files : (names : List (List ℕ)) (old mid new : StoreView) → SameBut names old mid → SameFiles mid new → SameBut names old new
-same_files names old mid new first same = record { tells = same.tells ∙ first.tells; file = λ other differs. same.file other ∙ first.file other differs }
 
 module _ {k : ObjectKind} (plan : RunPlan k) (left : RunLeft k) (old mid new : StoreView) (counts : SameCounts old mid) (files : SameBut (log_files plan) old mid) where
   kept_since : HasKept plan left mid new → HasKept plan left old new
@@ -246,7 +244,7 @@ module _ {Device : Type 0} (means : Device → DeviceView) where
         faults = hands.faults ∙ given_back fault_of mid.device_faults news low.1 ∙ ap (counted mid.device_faults) failed.faults ∙ ap (λ n. counted n 1) counts.1.0;
         fences = hands.fences ∙ given_back fences_in mid.device_fences news low.1 ∙ ap (counted mid.device_fences) failed.fences ∙ ap (λ n. counted n (thread + 1)) counts.1.1;
         files = blank_stays plan.logs 0 (length plan.run.scripts) old mid new blank same;
-        others = but_stay (same_files (log_files plan) old mid new files same);
+        others = but_stay (same_after (log_files plan) old mid new files same);
       }
 
 -- ---- the heads and the lines that were made
@@ -302,7 +300,7 @@ module _ {k : ObjectKind} {V Device : Type 0} (means : Device → DeviceView) (i
   failed_does olds news thread new s failed many blank same faults hands says =
       let fault = header_failed means (run_plan k init logs state (map items scripts)) heads olds news thread old mid new failed (many ∙ sym (length-map scripts items)) counts (names mid files)
       (subst (λ n. AreBlank logs 0 n old mid) (sym (length-map scripts items)) blank) same faults hands in
-      named new (Err s) (header_does threads stands (run_plan k init logs state (map items scripts)) old new thread s fault (same_files (log_files (run_plan k init logs state (map items scripts))) old mid new (names mid files) same) says)
+      named new (Err s) (header_does threads stands (run_plan k init logs state (map items scripts)) old new thread s fault (same_after (log_files (run_plan k init logs state (map items scripts))) old mid new (names mid files) same) says)
 
 -- a device could not be made
 pub not_made : {k : ObjectKind} {V A : Type 0} (items : V → List (Call k.State k.Op k.Query k.Reply)) (init logs : List ℕ) (state : k.State) (scripts : List V) (threads : RunPlan k → (RunLeft k → Job) → Job)

@@ -6,13 +6,13 @@ ghost use Rattle.std.specs.List.{AllByRecursion};
 ghost use Rattle.onll_words.specs.Texts.{line_text};
 ghost use Rattle.onll_pmem.specs.Pmem.{words_of};
 ghost use Rattle.onll_log.specs.Grammar.{content_of, used_by};
-ghost use Rattle.onll_log.specs.Decoded.{segment_in, segments_in, content_in};
+ghost use Rattle.onll_log.specs.Cursor.{entries_left, lines_passed, first_nodes};
 ghost use Rattle.onll_text.specs.Bytes.{begins_line, with_words, with_lines};
 ghost use Rattle.onll_outside.specs.Views.{StoreView};
 ghost use Rattle.onll_jobs.specs.ShowJob.{head_line, row_line, row_lines, entry_words, entry_lines, entries_lines, count_words, content_lines, show_report, RowReads, EntryReads, ShowReads, show_data, shown_task, show_work, IsPlaced};
 ghost use Rattle.onll_task.specs.Doing.{Does};
 
-use onll_log::{DecodeFault, Decoded, Entry, LogHead, decode};
+use onll_log::{EntryView, LogCursor, LogHead};
 use onll_model::Node;
 use onll_outside::Store;
 use onll_task::{Ending, Stop, image_file};
@@ -68,55 +68,66 @@ fn put_row(place: u64, node: Node, out: &mut Report) -> Result<(), NoMemory>
     out.end_line()
 }
 
-/// The lines of nodes, the first of them at the place above `below`.
-fn put_rows(below: u64, nodes: &[Node], out: &mut Report) -> Result<(), NoMemory>
+/// The lines of the nodes of the next entry, the first of them at the place above `below`.
+fn put_rows(
+    below: u64,
+    count: u64,
+    cursor: &LogCursor<'_>,
+    out: &mut Report,
+) -> Result<(), NoMemory>
     requires begins { begins_line out.old ≡ true }
-    requires places { below + length nodes.now < 2 ^ 64 }
-    ensures lines { OnOk result (out.new ≡ with_lines out.old (row_lines below nodes.now)) }
+    requires count { count ≡ length (first_nodes (entries_left cursor.now)) }
+    requires places { below + count < 2 ^ 64 }
+    ensures lines { OnOk result (out.new ≡ with_lines out.old (row_lines below (first_nodes (entries_left cursor.now)))) }
     ensures begins { OnOk result (begins_line out.new ≡ true) }
-    ensures reads { OnOk result (All RowReads nodes.now) }
+    ensures reads { OnOk result (All RowReads (first_nodes (entries_left cursor.now))) }
 {
-    let mut place = below;
-    for node in nodes {
-        place += 1;
-        put_row(place, *node, out)?;
+    for i in 0..count {
+        put_row(below + i + 1, cursor.node(i), out)?;
     }
     Ok(())
 }
 
-/// The lines of an entry.
-fn put_entry(number: u64, entry: &Entry, out: &mut Report) -> Result<(), NoMemory>
+/// The lines of the next entry, which the cursor shows so.
+fn put_entry(
+    number: u64,
+    entry: EntryView,
+    cursor: &LogCursor<'_>,
+    out: &mut Report,
+) -> Result<(), NoMemory>
     requires begins { begins_line out.old ≡ true }
-    requires placed { IsPlaced (segment_in entry.now) }
-    ensures lines { OnOk result (out.new ≡ with_lines out.old (entry_lines number (segment_in entry.now))) }
+    requires count { entry.count ≡ length (first_nodes (entries_left cursor.now)) }
+    requires placed { entry.count ≤ entry.place }
+    ensures lines { OnOk result (out.new ≡ with_lines out.old
+        (entry_lines number (record { place = entry.place; nodes = first_nodes (entries_left cursor.now) }))) }
     ensures begins { OnOk result (begins_line out.new ≡ true) }
-    ensures reads { OnOk result (EntryReads (segment_in entry.now)) }
+    ensures reads { OnOk result (EntryReads (record { place = entry.place; nodes = first_nodes (entries_left cursor.now) })) }
 {
-    let nodes = entry.nodes.as_slice();
-    let count = nodes.len() as u64;
     out.line(&[
         Piece::Text(b"entry"),
         Piece::Number(number),
         Piece::Text(b"place"),
         Piece::Number(entry.place),
         Piece::Text(b"count"),
-        Piece::Number(count),
+        Piece::Number(entry.count),
     ])?;
-    put_rows(entry.place - count, nodes, out)
+    put_rows(entry.place - entry.count, entry.count, cursor, out)
 }
 
-/// The lines of entries.
-fn put_entries(entries: &[Entry], out: &mut Report) -> Result<(), NoMemory>
+/// The lines of all entries, which the cursor goes past.
+fn put_entries(cursor: &mut LogCursor<'_>, out: &mut Report) -> Result<(), NoMemory>
     requires begins { begins_line out.old ≡ true }
-    requires placed { AllByRecursion IsPlaced (segments_in entries.now) }
-    ensures lines { OnOk result (out.new ≡ with_lines out.old (entries_lines 0 (segments_in entries.now))) }
+    requires first { cursor.old.passed ≡ 0 }
+    requires placed { AllByRecursion IsPlaced cursor.old.content.entries }
+    ensures lines { OnOk result (out.new ≡ with_lines out.old (entries_lines 0 cursor.old.content.entries)) }
     ensures begins { OnOk result (begins_line out.new ≡ true) }
-    ensures reads { OnOk result (All EntryReads (segments_in entries.now)) }
+    ensures reads { OnOk result (All EntryReads cursor.old.content.entries) }
+    ensures passed { OnOk result (cursor.new.passed ≡ length cursor.old.content.entries) }
+    ensures used { OnOk result (lines_passed cursor.new ≡ used_by cursor.old.content) }
 {
-    let mut number = 0;
-    for entry in entries {
-        number += 1;
-        put_entry(number, entry, out)?;
+    while let Some(entry) = cursor.peek() {
+        put_entry(cursor.passed() + 1, entry, cursor, out)?;
+        cursor.advance();
     }
     Ok(())
 }
@@ -124,7 +135,8 @@ fn put_entries(entries: &[Entry], out: &mut Report) -> Result<(), NoMemory>
 /// How many entries there are, and how many lines are used.
 fn put_counts(entries: u64, lines: u64, out: &mut Report) -> Result<(), NoMemory>
     requires { begins_line out.old ≡ true }
-    ensures { OnOk result (out.new ≡ out.old ++ line_text (count_words entries lines)) }
+    ensures line { OnOk result (out.new ≡ out.old ++ line_text (count_words entries lines)) }
+    ensures few { OnOk result (lines < 2 ^ 64) }
 {
     out.line(&[
         Piece::Text(b"entries"),
@@ -134,49 +146,48 @@ fn put_counts(entries: u64, lines: u64, out: &mut Report) -> Result<(), NoMemory
     ])
 }
 
-/// The lines of a log with a head.
-fn put_log(head: &LogHead, decoded: &Decoded, out: &mut Report) -> Result<(), NoMemory>
+/// The lines of a log with this head.
+fn put_log(head: LogHead, mut cursor: LogCursor<'_>, out: &mut Report) -> Result<(), NoMemory>
     requires begins { begins_line out.old ≡ true }
-    requires head { decoded.now.head ≡ Some head.now }
-    requires object { IfSome decoded.now.head (λ head. (1 ≤ head.object) × (head.object ≤ greatest_code)) }
-    requires placed { AllByRecursion IsPlaced (segments_in decoded.now.entries) }
-    requires used { used_by (content_in decoded.now) < 2 ^ 64 }
-    ensures lines { let content = content_in decoded.now in
+    requires first { cursor.passed ≡ 0 }
+    requires head { cursor.content.head ≡ Some head }
+    requires object { IfSome cursor.content.head (λ head. (1 ≤ head.object) × (head.object ≤ greatest_code)) }
+    requires placed { AllByRecursion IsPlaced cursor.content.entries }
+    ensures lines { let content = cursor.entry.content in
         OnOk result (out.new ≡ with_lines out.old (content_lines content.head content.entries (used_by content))) }
-    ensures reads { OnOk result (ShowReads (show_data (content_in decoded.now))) }
+    ensures reads { OnOk result (ShowReads (show_data cursor.entry.content)) }
 {
-    let entries = decoded.entries.as_slice();
     put_head(head.thread, head.threads, head.object, out)?;
-    put_entries(entries, out)?;
-    put_counts(entries.len() as u64, decoded.used(), out)
+    put_entries(&mut cursor, out)?;
+    put_counts(cursor.passed(), cursor.used(), out)
 }
 
 /// The lines of what an image holds.
-fn put_content(decoded: &Decoded, out: &mut Report) -> Result<(), NoMemory>
+fn put_content(cursor: LogCursor<'_>, out: &mut Report) -> Result<(), NoMemory>
     requires begins { begins_line out.old ≡ true }
-    requires object { IfSome decoded.now.head (λ head. (1 ≤ head.object) × (head.object ≤ greatest_code)) }
-    requires placed { AllByRecursion IsPlaced (segments_in decoded.now.entries) }
-    requires used { used_by (content_in decoded.now) < 2 ^ 64 }
-    ensures lines { let content = content_in decoded.now in
+    requires first { cursor.passed ≡ 0 }
+    requires object { IfSome cursor.content.head (λ head. (1 ≤ head.object) × (head.object ≤ greatest_code)) }
+    requires placed { AllByRecursion IsPlaced cursor.content.entries }
+    ensures lines { let content = cursor.entry.content in
         OnOk result (out.new ≡ with_lines out.old (content_lines content.head content.entries (used_by content))) }
-    ensures reads { OnOk result (ShowReads (show_data (content_in decoded.now))) }
+    ensures reads { OnOk result (ShowReads (show_data cursor.entry.content)) }
 {
-    match &decoded.head {
+    match cursor.head() {
         None => out.line(&[Piece::Text(b"empty")]),
-        Some(head) => put_log(head, decoded, out),
+        Some(head) => put_log(head, cursor, out),
     }
 }
 
 /// The report of what an image holds. All that it says reads back.
-fn report(alloc: Global, decoded: &Decoded) -> Result<Vec<u8>, NoMemory>
-    requires object { IfSome decoded.now.head (λ head. (1 ≤ head.object) × (head.object ≤ greatest_code)) }
-    requires placed { AllByRecursion IsPlaced (segments_in decoded.now.entries) }
-    requires used { used_by (content_in decoded.now) < 2 ^ 64 }
-    ensures report { IfOk result (λ bytes. bytes.items ≡ show_report (content_in decoded.now)) }
-    ensures reads { OnOk result (ShowReads (show_data (content_in decoded.now))) }
+fn report(alloc: Global, cursor: LogCursor<'_>) -> Result<Vec<u8>, NoMemory>
+    requires first { cursor.passed ≡ 0 }
+    requires object { IfSome cursor.content.head (λ head. (1 ≤ head.object) × (head.object ≤ greatest_code)) }
+    requires placed { AllByRecursion IsPlaced cursor.content.entries }
+    ensures report { IfOk result (λ bytes. bytes.items ≡ show_report cursor.entry.content) }
+    ensures reads { OnOk result (ShowReads (show_data cursor.entry.content)) }
 {
     let mut out = Report::new(alloc);
-    put_content(decoded, &mut out)?;
+    put_content(cursor, &mut out)?;
     Ok(out.into_bytes())
 }
 
@@ -184,10 +195,9 @@ fn report(alloc: Global, decoded: &Decoded) -> Result<Vec<u8>, NoMemory>
 fn shown(alloc: Global, lines: &[Line]) -> Result<Vec<u8>, Stop>
     ensures { (store : StoreView) → Does [] store store (shown_task (content_of (words_of lines.now))) result }
 {
-    match decode(alloc, lines) {
-        Ok(decoded) => Ok(report(alloc, &decoded)?),
-        Err(DecodeFault::NotLog) => Err(Stop::says(alloc, Ending::BadLog, NOT_A_LOG)),
-        Err(DecodeFault::NoMemory) => Err(Stop::NoMemory),
+    match LogCursor::open(lines) {
+        Some(cursor) => Ok(report(alloc, cursor)?),
+        None => Err(Stop::says(alloc, Ending::BadLog, NOT_A_LOG)),
     }
 }
 

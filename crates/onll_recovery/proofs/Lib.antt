@@ -5,3 +5,4 @@ pub mod PrintedReads
 pub mod RecoverSteps
 pub mod ReplaySteps
 pub mod Replays
+pub mod Standing

@@ -1,15 +1,18 @@
 -- Reading the images of threads, one after the other.
 
-use Rattle.std.proofs.Common.{Vec, Global, ℕ, zero, suc, List, [], ◌∷◌, ◌++◌, ◌≡◌, ◌+◌, ◌-◌, ◌<◌, ap, ◌∙◌, arith}
+use Rattle.std.proofs.Common.{Vec, Global, ℕ, zero, suc, List, [], ◌∷◌, ◌++◌, ◌≡◌, ◌+◌, ◌-◌, ◌<◌, ap, sym, refl, subst, ◌∙◌, arith, Ok, Err}
 use Rattle.std.proofs.lemmas.List.{map-append}
 use Rattle.onll_words.specs.declared.line.Line.{Line}
 use Rattle.onll_pmem.specs.Pmem.{words_of}
 use Rattle.onll_log.specs.ImageFile.{image_lines}
 use Rattle.onll_task.specs.declared.ending.Ending.TheVariants.{Usage}
 use Rattle.onll_task.specs.Job.{Job, Never}
+use Rattle.onll_outside.specs.Views.{StoreView}
+use Rattle.onll_task.specs.declared.answer.Stop.{Stop}
 use Rattle.onll_task.specs.ImageNames.{image_name, image_names}
-use Rattle.onll_task.specs.Images.{images_in}
-use Rattle.onll_task.specs.Doing.{lines_stage, each_job}
+use Rattle.onll_task.specs.Images.{StandsFor, StandFor, images_in}
+use Rattle.onll_task.specs.Doing.{BeginsBy, lines_stage, each_job, each_stage}
+use Rattle.onll_task.proofs.Stages.{ReadSo, none_read, value_next, value_stops, values_read, by_given, by_begins, by_stops, begins_by, stops_by}
 
 -- the name of one thread before those of the rest
 pub names_more : (logs : List ℕ) (i threads : ℕ) → i < threads → image_names logs i (threads - i) ≡ image_name logs i ∷ image_names logs (i + 1) (threads - (i + 1))
@@ -28,3 +31,45 @@ pub reading_images_never : (logs : List ℕ) (threads i : ℕ) (next : List (Lis
 reading_images_never logs zero i next f = f []
 reading_images_never logs (suc threads) i next f =
     λ bytes. reading_images_never logs threads (suc i) (λ images. next (image_lines bytes ∷ images)) (λ images. f (image_lines bytes ∷ images))
+
+-- ---- lines that stand for the images that were read
+-- one image more, and lines that stand for it
+standing_more : (lines images : List (List (List ℕ))) (l image : List (List ℕ)) → StandFor lines images → StandsFor l image → StandFor (lines ++ l ∷ []) (images ++ image ∷ [])
+standing_more [] [] l image h k = (k, tt)
+standing_more [] (i ∷ images) l image h k = absurd h
+standing_more (x ∷ lines) [] l image h k = absurd h
+standing_more (x ∷ lines) (i ∷ images) l image h k = (h.0, standing_more lines images l image h.1 k)
+
+-- images were read, for which these lines stand
+pub record ReadStanding (all left : List (List ℕ)) (store mid : StoreView) (lines : List (List (List ℕ))) : Type 0 where
+  pub images : List (List (List ℕ))
+  pub stand : StandFor lines images
+  pub so : ReadSo lines_stage all left store mid images
+
+pub none_standing : (all : List (List ℕ)) (store : StoreView) (lines : List (List (List ℕ))) → lines ≡ [] → ReadStanding all all store store lines
+none_standing all store lines e =
+    let none : List (List (List ℕ)) = [] in
+    subst (ReadStanding all all store store) (sym e) (record { images = none; stand = tt; so = none_read lines_stage all store none refl })
+
+pub standing_next : {all before left : List (List ℕ)} {name : List ℕ} {store mid new : StoreView} {lines more : List (List (List ℕ))} {l : Vec Line Global}
+    → ReadStanding all before store mid lines → before ≡ name ∷ left
+    → BeginsBy [] mid new (lines_stage name) (λ (l : Vec Line Global) image. StandsFor (words_of l.items) image) (Ok l)
+    → more ≡ lines ++ words_of l.items ∷ [] → ReadStanding all left store new more
+standing_next {all} {left = left} {store = store} {new = new} {lines} {more} {l} r split b e =
+    let image = (by_given b).value in
+    subst (ReadStanding all left store new) (sym e) (record {
+      images = r.images ++ image ∷ [];
+      stand = standing_more lines r.images (words_of l.items) image r.stand (by_given b).fits;
+      so = value_next r.so split (by_begins b) refl;
+    })
+
+pub standing_stops : {all before left : List (List ℕ)} {name : List ℕ} {store mid new : StoreView} {lines : List (List (List ℕ))} {s : Stop} {W : Type 0} {Fits : W → List (List (List ℕ)) → Type 0}
+    → ReadStanding all before store mid lines → before ≡ name ∷ left
+    → BeginsBy [] mid new (lines_stage name) (λ (l : Vec Line Global) image. StandsFor (words_of l.items) image) (Err s)
+    → BeginsBy [] store new (each_stage lines_stage all) Fits (Err s)
+standing_stops {W = W} r split b =
+    stops_by (value_stops {V = List (List ℕ)} {value = λ x. x} {W = W} {made = λ w. r.images} r.so split (by_stops b))
+
+pub standing_read : {all left : List (List ℕ)} {store new : StoreView} (lines : Vec (Vec Line Global) Global) → ReadStanding all left store new (images_in lines.items) → left ≡ []
+    → BeginsBy [] store new (each_stage lines_stage all) (λ (ls : Vec (Vec Line Global) Global) images. StandFor (images_in ls.items) images) (Ok lines)
+standing_read lines r none = begins_by lines r.images r.stand (values_read {value = λ (u : Unit {0}). r.images} tt r.so none)

@@ -1,13 +1,8 @@
 use Rattle.std.proofs.Common.{ℕ, List, ◌≡◌, inl, inr, Result, Ok, Err, sym, ◌∙◌, subst}
-use Rattle.std.specs.Result.{IfOk, MatchResult}
-use Rattle.onll_words.specs.declared.NoMemory.{NoMemory}
 use Rattle.onll_outside.specs.Views.{StoreView, SameFiles, SameFaults, Rose, Holds}
 use Rattle.onll_text.specs.Refusal.{Refusal}
 use Rattle.onll_task.specs.declared.ending.Ending.{Ending}
 use Rattle.onll_task.specs.declared.ending.Ending.TheVariants.{Done, Usage, Refused, BadLog, ReadFault, WriteFault, Faulty}
-use Rattle.onll_task.specs.declared.answer.Stop.{Stop}
-use Rattle.onll_task.specs.declared.answer.Stop.TheVariants as stops
-use Rattle.onll_task.specs.Stop.{StopSays}
 use Rattle.onll_task.specs.Reading.{IsTold, CannotRead}
 use Rattle.onll_text.specs.Kinds.{ObjectKind}
 use Rattle.onll_task.specs.Running.{RunPlan, RunStops}

@@ -4,4 +4,5 @@ pub mod Jobs
 pub mod Onwards
 pub mod Runs
 pub mod Stages
+pub mod Staying
 pub mod Stops

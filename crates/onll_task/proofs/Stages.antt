@@ -12,7 +12,7 @@ use Rattle.onll_task.specs.declared.ending.Ending.{Ending}
 use Rattle.onll_task.specs.declared.ending.Ending.TheVariants.{Done, Usage, Refused, BadLog, ReadFault, WriteFault, Faulty}
 use Rattle.onll_task.specs.declared.answer.Stop.{Stop}
 use Rattle.onll_task.specs.declared.answer.Stop.TheVariants.{Says, NoMemory}
-use Rattle.onll_task.specs.Doing.{Task, Stage, after_stage, report_task, say_task, text_stage, whole_stage, lines_stage, each_job, AreKnown, each_stage, StopsSo, Does, Begins}
+use Rattle.onll_task.specs.Doing.{Task, Stage, after_stage, report_task, say_task, text_stage, whole_stage, lines_stage, each_job, AreKnown, each_stage, StopsSo, Does, Begins, GoesBy, BeginsBy}
 use Rattle.onll_task.specs.Job.{Job, Say, Read, Write, JobEnds, GoesOn, reading, reading_whole}
 use Rattle.onll_task.specs.Reading.{Reads, ReadsWhole, HoldsImage, CannotRead, Stops}
 use Rattle.onll_task.specs.ImageNames.{image_name, image_names}
@@ -298,3 +298,32 @@ values_read {A} {X} {V} {stage} {all} {left} {store} {new} {value} v so none = r
   stops = tt;
   files = so.same;
 }
+
+-- ---- where what is given only stands for the value
+abbrev pub by_given : {V X : Type 0} {names : List (List ℕ)} {store after : StoreView} {stage : Stage X} {Fits : V → X → Type 0} {v : V}
+    → BeginsBy names store after stage Fits (Ok v) → GoesBy store after stage (Fits v)
+by_given b = b.goes
+
+-- it is done with that value
+pub by_begins : {V X : Type 0} {names : List (List ℕ)} {store after : StoreView} {stage : Stage X} {Fits : V → X → Type 0} {v : V}
+    (b : BeginsBy names store after stage Fits (Ok v)) → Begins {V = V} names store after stage (λ _. (by_given b).value) (Ok v)
+by_begins b = record { goes = b.goes.goes; gives = b.goes.gives; stops = tt; files = b.files }
+
+pub by_stops : {V W X : Type 0} {names : List (List ℕ)} {store after : StoreView} {stage : Stage X} {Fits : V → X → Type 0} {value : W → X} {s : Stop}
+    → BeginsBy names store after stage Fits (Err s) → Begins names store after stage value (Err s)
+by_stops b = record { goes = tt; gives = tt; stops = b.stops; files = b.files }
+
+pub begins_by : {V W X : Type 0} {names : List (List ℕ)} {store after : StoreView} {stage : Stage X} {Fits : V → X → Type 0} {w : W} (v : V) (x : X)
+    → Fits v x → Begins {V = W} names store after stage (λ _. x) (Ok w) → BeginsBy names store after stage Fits (Ok v)
+begins_by v x fits b = record { goes = record { value = x; fits = fits; goes = b.goes; gives = b.gives }; stops = tt; files = b.files }
+
+pub stops_by : {V W X : Type 0} {names : List (List ℕ)} {store after : StoreView} {stage : Stage X} {Fits : V → X → Type 0} {value : W → X} {s : Stop}
+    → Begins names store after stage value (Err s) → BeginsBy names store after stage Fits (Err s)
+stops_by b = record { goes = tt; stops = b.stops; files = b.files }
+
+-- memory could not be had
+pub none_by : {V X : Type 0} {store after : StoreView} {stage : Stage X} {Fits : V → X → Type 0} {r : Result V Stop} → IsErrAnd r (λ stop. stop ≡ NoMemory) → SameBut [] store after → BeginsBy [] store after stage Fits r
+none_by {store = store} {after} {stage} {Fits} {r} h same =
+    let p = err_from_is_err_and r h in
+    let stops : (next : _) → StopsSo store after (stage.job next) p.0 = λ next. subst (StopsSo store after (stage.job next)) (sym p.2) (stay_cut store after (stage.job next) (none_stays same)) in
+    subst (BeginsBy [] store after stage Fits) (sym p.1) (record { goes = tt; stops = stops; files = same })

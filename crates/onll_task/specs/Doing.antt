@@ -106,3 +106,18 @@ pub record Begins {V X : Type 0} (names : List (List ℕ)) (store after : StoreV
   pub gives : IfOk result (λ v. (before : StoreView) → FilesStay before store → stage.known before (value v))
   pub stops : IfErr result (λ stop. (next : X → Job) → StopsSo store after (stage.job next) stop)
   pub files : SameBut names store after
+
+-- With some value that fits what the function gives each job goes on, and it is the value by the files, also as they were before
+-- calls that changed none.
+pub record GoesBy {X : Type 0} (store after : StoreView) (stage : Stage X) (Fits : X → Type 0) : Type 0 where
+  pub value : X
+  pub fits : Fits value
+  pub goes : (next : X → Job) → GoesOn store after (stage.job next) (next value)
+  pub gives : (before : StoreView) → FilesStay before store → stage.known before value
+
+-- A function did this stage, and what it gives only stands for the value; else each job stopped so. No files but these changed.
+pub record BeginsBy {V X : Type 0} (names : List (List ℕ)) (store after : StoreView) (stage : Stage X)
+    (Fits : V → X → Type 0) (result : Result V Stop) : Type 0 where
+  pub goes : IfOk result (λ v. GoesBy store after stage (Fits v))
+  pub stops : IfErr result (λ stop. (next : X → Job) → StopsSo store after (stage.job next) stop)
+  pub files : SameBut names store after

@@ -1,12 +1,14 @@
 -- The images of the logs of one run: one file for each thread.
 
 use Rattle.std.specs.List.{flat_map}
-use Rattle.std.specs.Prelude.{ℕ, suc, List, [], ◌∷◌, map}
+use Rattle.std.specs.Prelude.{ℕ, suc, ◌≡◌, ◌≤◌, List, [], ◌∷◌, ◌++◌, length, map, max, Option, Some, None, IsSome}
 use Rattle.std.specs.declared.vec.Vec.{Vec}
 use Rattle.std.specs.declared.alloc.Global.{Global}
 use Rattle.onll_words.specs.declared.line.Line.{Line}
 use Rattle.onll_words.specs.Lines.{bytes_of_words}
+use Rattle.onll_pmem.specs.Device.{zero_lines}
 use Rattle.onll_pmem.specs.Pmem.{words_of}
+use Rattle.onll_log.specs.Grammar.{Content, content_of, used_by, format_in}
 use Rattle.onll_task.specs.ImageNames.{image_name, image_names}
 use Rattle.onll_task.specs.Job.{Job, Write}
 use Rattle.onll_task.specs.Doing.{Stage, lines_stage, each_stage}
@@ -14,6 +16,30 @@ use Rattle.onll_task.specs.Doing.{Stage, lines_stage, each_stage}
 -- the lines of images, as words
 abbrev pub images_in : List (Vec Line Global) → List (List (List ℕ))
 images_in images = map (λ image. words_of image.items) images
+
+-- ---- what stays of an image
+-- how many lines decide what an image holds: those of its head and its entries, one where it is all zero, none where it is no log
+abbrev pub used_in : Option Content → ℕ
+used_in None = 0
+used_in (Some content) = max 1 (used_by content)
+
+-- these lines hold as a log what the image holds, are read by its format, and are no more than decide it
+pub record StandsFor (lines image : List (List ℕ)) : Type 0 where
+  pub content : content_of lines ≡ content_of image
+  pub format : IsSome (content_of image) → format_in lines ≡ format_in image
+  pub few : length lines ≤ used_in (content_of image)
+
+-- the same of each image, in order
+abbrev pub StandFor : List (List (List ℕ)) → List (List (List ℕ)) → Type 0
+StandFor [] [] = Unit {0}
+StandFor (lines ∷ more) (image ∷ images) = StandsFor lines image × StandFor more images
+StandFor more images = ⊥
+
+-- lines of zeros follow these lines to the image's end, none where there is no line
+pub record IsFrontOf (lines image : List (List ℕ)) : Type 0 where
+  pub zeros : ℕ
+  pub whole : image ≡ lines ++ zero_lines zeros
+  pub empty : lines ≡ [] → zeros ≡ 0
 
 -- ---- reading
 -- the images of the logs of this many threads are read

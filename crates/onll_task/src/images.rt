@@ -4,10 +4,10 @@ ghost use Rattle.std.specs.Prelude.{◌≡◌, [], length, string_bytes, IfOk, I
 ghost use Rattle.onll_outside.specs.Views.{SameOthers};
 ghost use Rattle.onll_pmem.specs.Pmem.{words_of};
 ghost use Rattle.onll_task.specs.ImageNames.{image_name, image_names};
-ghost use Rattle.onll_task.specs.Images.{images_in, image_bytes, images_stage, writing_stage};
+ghost use Rattle.onll_task.specs.Images.{StandsFor, StandFor, images_in, image_bytes, images_stage, writing_stage};
 ghost use Rattle.onll_task.specs.Writing.{HasWritten, CannotWrite, WriteStops};
 ghost use Rattle.onll_task.specs.Stop.{StopSays};
-ghost use Rattle.onll_task.specs.Doing.{Begins, lines_stage};
+ghost use Rattle.onll_task.specs.Doing.{Begins, BeginsBy, lines_stage};
 
 use crate::answer::Stop;
 use crate::texts::{image_file, write_file};
@@ -28,7 +28,7 @@ pub fn image_name(alloc: Global, logs: &str, thread: u64) -> Result<String, Allo
     Ok(name)
 }
 
-/// The image of a thread's log, or what is said in its place.
+/// The lines that decide what the image of a thread's log holds, or what is said in their place.
 fn read_image<S: Store>(
     alloc: Global,
     logs: &str,
@@ -36,13 +36,14 @@ fn read_image<S: Store>(
     store: &mut S,
 ) -> Result<Vec<Line>, Stop>
     ensures { let stage = lines_stage (image_name logs.now thread) in
-        Begins [] (S.seen store.old) (S.seen store.new) stage (λ image. words_of image.items) result }
+        BeginsBy [] (S.seen store.old) (S.seen store.new) stage (λ lines image. StandsFor (words_of lines.items) image) result }
 {
     let name = image_name(alloc, logs, thread)?;
     image_file(alloc, &name, store)
 }
 
-/// The images of the logs of so many threads, or what is said in their place.
+/// The lines that decide what the images of the logs of so many threads hold, or what is said in their place. No more of an image
+/// stays when the next is read.
 pub fn read_images<S: Store>(
     alloc: Global,
     logs: &str,
@@ -50,7 +51,7 @@ pub fn read_images<S: Store>(
     store: &mut S,
 ) -> Result<Vec<Vec<Line>>, Stop>
     ensures begins { let stage = images_stage logs.now threads in
-        Begins [] (S.seen store.old) (S.seen store.new) stage (λ images. images_in images.items) result }
+        BeginsBy [] (S.seen store.old) (S.seen store.new) stage (λ lines images. StandFor (images_in lines.items) images) result }
     ensures count { IfOk result (λ images. length images.items ≡ threads) }
 {
     let mut images = Vec::new(alloc);

@@ -6,6 +6,7 @@ mod answer;
 mod ending;
 mod images;
 mod texts;
+mod used_lines;
 
 pub use answer::Stop;
 pub use ending::{Ending, Exit};

@@ -11,10 +11,12 @@ ghost use Rattle.onll_task.specs.Reading.{IsCut, CannotRead};
 ghost use Rattle.onll_task.specs.Stop.{StopSays};
 ghost use Rattle.onll_task.specs.Writing.{SameCounts, HasWritten, CannotWrite, WriteStops};
 ghost use Rattle.onll_text.specs.Schedule.{schedule_of, IsPlayable};
-ghost use Rattle.onll_task.specs.Doing.{Begins, text_stage, whole_stage, lines_stage};
+ghost use Rattle.onll_task.specs.Doing.{Begins, BeginsBy, text_stage, whole_stage, lines_stage};
+ghost use Rattle.onll_task.specs.Images.{StandsFor};
 
 use crate::answer::Stop;
-use onll_log::{LONGEST_IMAGE, image_lines};
+use crate::used_lines::used_lines;
+use onll_log::LONGEST_IMAGE;
 use onll_model::Call;
 use onll_outside::{OutsideFault, Store};
 use onll_text::{
@@ -96,16 +98,16 @@ pub fn script_file<O: Texted, S: Store>(
     }
 }
 
-/// The lines of a log's image that a file holds, or what is said in their place.
+/// The lines that decide what a file holds as the image of a log, or what is said in their place.
 pub fn image_file<S: Store>(alloc: Global, name: &str, store: &mut S) -> Result<Vec<Line>, Stop>
     ensures { let stage = lines_stage name.now in
-        Begins [] (S.seen store.old) (S.seen store.new) stage (λ lines. words_of lines.items) result }
+        BeginsBy [] (S.seen store.old) (S.seen store.new) stage (λ lines image. StandsFor (words_of lines.items) image) result }
 {
     let bytes = match read_bytes(alloc, name, LONGEST_IMAGE as u64, store) {
         Ok(bytes) => bytes,
         Err(stop) => return Err(stop),
     };
-    Ok(image_lines(alloc, &bytes)?)
+    Ok(used_lines(alloc, &bytes)?)
 }
 
 /// The schedule that a file holds for so many threads, or what is said in its place.

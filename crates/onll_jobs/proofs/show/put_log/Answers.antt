@@ -1,17 +1,25 @@
-use Rattle.std.proofs.Common.{◌++◌, ◌∙◌, ap, length}
+use Rattle.std.proofs.Common.{◌∙◌}
 use Rattle.std.proofs.lemmas.Result.{on_ok_weaker}
-use Rattle.onll_words.specs.Texts.{line_text}
 use Rattle.onll_log.specs.Grammar.{used_by}
-use Rattle.onll_log.specs.Decoded.{segments_in, content_in}
-use Rattle.onll_text.specs.Bytes.{with_lines}
-use Rattle.onll_jobs.specs.ShowJob.{entries_lines, count_words}
-use Rattle.onll_jobs.proofs.ShowWords.{log_parts}
+use Rattle.onll_recovery.proofs.FoldSteps.{begins_after}
+use Rattle.onll_jobs.specs.ShowJob.{head_line}
+use Rattle.onll_jobs.proofs.ShowWords.{log_parts, log_reads}
 use Rattle.onll_jobs.proofs.show.put_log.Goals as goal
+
+pub put_entries-requires-clause-begins : goal.put_entries-requires-clause-begins
+put_entries-requires-clause-begins c =
+    begins_after c.args.out.now c.put_head.new.out (head_line c.args.head.thread c.args.head.threads c.args.head.object) c.in_ok-put_head.ensures.line
 
 pub returns-clause-lines : goal.returns-clause-lines
 returns-clause-lines c =
-    let entries = c.args.decoded.now.entries in
+    let content = c.args.cursor.content in
     on_ok_weaker c.put_counts.result
-    (λ d. log_parts c.args.head.now c.args.decoded.now.head entries (used_by (content_in c.args.decoded.now)) (length c.as_slice-entries.result.now) c.args.out.now c.put_head.new.out c.put_entries.new.out c.put_counts.new.out
-    c.requires.head c.in_ok-put_head.ensures.line (c.in_ok-put_entries.ensures.lines ∙ ap (λ es. with_lines c.put_head.new.out (entries_lines 0 (segments_in es))) c.as_slice-entries.ensures) (ap length c.as_slice-entries.ensures) (d ∙ ap (λ u. c.put_entries.new.out ++ line_text (count_words (length c.as_slice-entries.result.now) u)) c.used.ensures))
-    c.put_counts.ensures
+    (λ d. log_parts c.args.head content.head content.entries (used_by content) c.passed.result c.used.result c.args.out.now c.put_head.new.out c.put_entries.new.out c.put_counts.new.out
+    c.requires.head c.in_ok-put_head.ensures.line c.in_ok-put_entries.ensures.lines (c.passed.ensures.count ∙ c.in_ok-put_entries.ensures.passed) (c.used.ensures ∙ c.in_ok-put_entries.ensures.used) d)
+    c.put_counts.ensures.line
+
+pub returns-clause-reads : goal.returns-clause-reads
+returns-clause-reads c =
+    on_ok_weaker c.put_counts.result
+    (λ d. log_reads c.args.head c.args.cursor.content c.used.result c.requires.head c.requires.object c.in_ok-put_head.ensures.reads c.in_ok-put_entries.ensures.reads (c.used.ensures ∙ c.in_ok-put_entries.ensures.used) d)
+    c.put_counts.ensures.few

@@ -1,15 +1,16 @@
 use Rattle.std.proofs.Common.{◌≡◌, ◌+◌, drop, true}
 use Rattle.std.specs.List.{All}
+use Rattle.onll_log.specs.Cursor.{entries_left, first_nodes}
 use Rattle.onll_text.specs.Bytes.{begins_line, with_lines}
 use Rattle.onll_jobs.specs.ShowJob.{row_lines, RowReads}
 use Rattle.onll_jobs.proofs.show.put_rows.Given as goal
 
 -- the nodes that are left make the lines that all make
-abbrev pub invariant-loop-node : goal.invariant-loop-node
-invariant-loop-node l =
+abbrev pub invariant-loop-i : goal.invariant-loop-i
+invariant-loop-i l =
+    let nodes = first_nodes (entries_left l.cursor) in
     record {
-      lines : with_lines l.out (row_lines l.place (drop l.node-index l.nodes)) ≡ with_lines l.fn.out (row_lines l.fn.below l.nodes);
+      lines : with_lines l.out (row_lines (l.below + l.i) (drop l.i nodes)) ≡ with_lines l.fn.out (row_lines l.below nodes);
       begins : begins_line l.out ≡ true;
-      reads : All RowReads (drop l.node-index l.nodes) → All RowReads l.nodes;
-      place : l.place ≡ l.fn.below + l.node-index;
+      reads : All RowReads (drop l.i nodes) → All RowReads nodes;
     }

@@ -1,0 +1,115 @@
+//! What stays of an image that was read: the lines that decide what it holds as a log.
+
+ghost use Rattle.std.specs.Prelude.{◌≡◌, ℕ, List, ◌+◌, ◌-◌, ◌<◌, ◌≤◌, ◌^◌, ◌++◌, ◌∷◌, [], take, OnOk, IfOk};
+ghost use Rattle.onll_pmem.specs.Device.{zero_lines};
+ghost use Rattle.onll_pmem.specs.Pmem.{words_of};
+ghost use Rattle.onll_log.specs.Grammar.{content_of, used_by};
+ghost use Rattle.onll_log.specs.ImageFile.{longest_image, image_lines, whole_lines};
+ghost use Rattle.onll_task.specs.Images.{used_in, StandsFor, IsFrontOf};
+
+use onll_log::{LONGEST_IMAGE, LogCursor};
+use onll_words::{Line, NoMemory, line_of_bytes};
+use std::alloc::Global;
+
+/// A line of zeros.
+const ZEROS: Line = Line { w: [0; 8] };
+
+/// Adds so many lines of zeros.
+fn add_zeros(lines: &mut Vec<Line>, count: usize) -> Result<(), NoMemory>
+    ensures { OnOk result (words_of lines.new.items ≡ words_of lines.old.items ++ zero_lines count) }
+{
+    for _ in 0..count {
+        lines.push(ZEROS)?;
+    }
+    Ok(())
+}
+
+/// Adds a line to lines after which this many of zeros wait, and tells how many wait then.
+fn add_line(lines: &mut Vec<Line>, waiting: usize, line: Line) -> Result<usize, NoMemory>
+    requires { waiting < 2 ^ 64 - 1 }
+    ensures lines { IfOk result (λ left. words_of lines.new.items ++ zero_lines left
+        ≡ (words_of lines.old.items ++ zero_lines waiting) ++ line.w ∷ []) }
+    ensures few { IfOk result (λ left. left ≤ waiting + 1) }
+{
+    if line == ZEROS {
+        return Ok(waiting + 1);
+    }
+    add_zeros(lines, waiting)?;
+    lines.push(line)?;
+    Ok(0)
+}
+
+/// Adds one of the lines of zeros that wait, where they follow no line.
+fn add_first(lines: &mut Vec<Line>, waiting: usize) -> Result<(), NoMemory>
+    ensures { (image : List (List ℕ)) → image ≡ words_of lines.old.items ++ zero_lines waiting
+        → OnOk result (IsFrontOf (words_of lines.new.items) image) }
+{
+    if lines.as_slice().is_empty() && waiting > 0 {
+        lines.push(ZEROS)?;
+    }
+    Ok(())
+}
+
+/// The lines of bytes without those of zeros at their end, of which one stays where there is no other line.
+fn front_lines(alloc: Global, bytes: &[u8]) -> Result<Vec<Line>, NoMemory>
+    ensures { IfOk result (λ lines. IsFrontOf (words_of lines.items) (whole_lines bytes.now)) }
+{
+    let (chunks, _) = bytes.as_chunks::<64>();
+    let mut lines = Vec::new(alloc);
+    let mut waiting = 0;
+    for chunk in chunks {
+        waiting = add_line(&mut lines, waiting, line_of_bytes(*chunk))?;
+    }
+    add_first(&mut lines, waiting)?;
+    Ok(lines)
+}
+
+/// How many lines the head and the entries of an image take.
+fn used_to_end(mut cursor: LogCursor<'_>) -> u64
+    requires { cursor.passed ≡ 0 }
+    ensures { result ≡ used_by cursor.entry.content }
+{
+    while let Some(_) = cursor.peek() {
+        cursor.advance();
+    }
+    cursor.used()
+}
+
+/// How many lines of an image decide what it holds as a log.
+fn used_of(lines: &[Line]) -> usize
+    ensures { result ≡ used_in (content_of (words_of lines.now)) }
+{
+    match LogCursor::open(lines) {
+        Some(cursor) => used_to_end(cursor).max(1) as usize,
+        None => 0,
+    }
+}
+
+/// Lets go of the lines of an image that decide nothing.
+pub fn cut_to_used(lines: &mut Vec<Line>)
+    ensures { StandsFor (words_of lines.new.items) (words_of lines.old.items) }
+{
+    let used = used_of(lines);
+    lines.truncate(used);
+    lines.shrink_to_fit();
+}
+
+/// The bytes of an image's file that are read.
+fn read_part(bytes: &[u8]) -> &[u8]
+    ensures { result.now ≡ take longest_image bytes.now }
+{
+    if bytes.len() > LONGEST_IMAGE {
+        &bytes[..LONGEST_IMAGE]
+    } else {
+        bytes
+    }
+}
+
+/// The lines that decide what an image's file holds as a log.
+pub fn used_lines(alloc: Global, bytes: &[u8]) -> Result<Vec<Line>, NoMemory>
+    ensures { IfOk result (λ lines. StandsFor (words_of lines.items) (image_lines bytes.now)) }
+{
+    let mut lines = front_lines(alloc, read_part(bytes))?;
+    cut_to_used(&mut lines);
+    Ok(lines)
+}

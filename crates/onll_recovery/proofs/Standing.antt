@@ -8,7 +8,7 @@ use Rattle.onll_log.specs.Head.{head_for}
 use Rattle.onll_log.specs.Grammar.{Content, content_of, format_in}
 use Rattle.onll_merge.specs.declared.fault.ImagesFault.{ImagesFault}
 use Rattle.onll_merge.specs.Recovered.{content_before, contents_from, heads_for, expected_heads, merged, with_operations, state_recovered}
-use Rattle.onll_task.specs.Images.{StandsFor, StandFor}
+use Rattle.onll_task.specs.Images.{StandFor}
 
 -- as many
 stand_many : (lines images : List (List (List ℕ))) → StandFor lines images → length lines ≡ length images

@@ -1,11 +1,11 @@
-use Rattle.std.proofs.Common.{◌≡◌, ℕ, ◌+◌, List, [], ◌∷◌, ◌++◌, length, Some, ⊎_elim, ◌⊎◌, subst, sym, ◌∙◌}
+use Rattle.std.proofs.Common.{◌≡◌, ℕ, ◌+◌, ◌<◌, List, [], ◌∷◌, ◌++◌, length, Some, ⊎_elim, ◌⊎◌, subst, sym, ◌∙◌}
 use Rattle.std.specs.List.{AllByRecursion, slice_get}
 use Rattle.onll_model.specs.Object.{Behaviour}
-use Rattle.onll_model.proofs.Lists.{at_snoc, all_left, all_right}
+use Rattle.onll_model.proofs.Lists.{at_snoc, all_left, all_right, inside}
 use Rattle.onll_pmem.specs.Pmem.{DeviceView}
 use Rattle.onll_log.specs.Log.{LogState}
 use Rattle.onll_shared.specs.Passes.{OnllView, PassView, IsTied}
-use Rattle.onll_shared.specs.Starts.{IsLogOf, HasBegun}
+use Rattle.onll_shared.specs.Starts.{AreLogs, IsLogOf, HasBegun}
 
 -- one log more
 pub made_more : {Device : Type 0} (count n : ℕ) (logs new : List (LogState Device)) (log : LogState Device) → ((t : ℕ) (l : LogState Device) → slice_get logs t ≡ Some l → IsLogOf count t l) → length logs ≡ n → IsLogOf count n log → new ≡ logs ++ log ∷ []
@@ -23,3 +23,8 @@ tied_last b means onll passes front p a e = (all_right (IsTied b means onll) fro
 pub tied_front : {State Op Query Reply Device : Type 0} (b : Behaviour State Op Query Reply) (means : Device → DeviceView) (onll : OnllView State) (passes front : List (PassView State Device)) (p : PassView State Device)
     → AllByRecursion (IsTied b means onll) passes → passes ≡ front ++ p ∷ [] → AllByRecursion (IsTied b means onll) front
 tied_front b means onll passes front p a e = all_left (IsTied b means onll) front (p ∷ []) (subst (AllByRecursion (IsTied b means onll)) e a)
+
+-- each log is that of its thread
+pub all_logs : {Device : Type 0} (logs : List (LogState Device)) → ((t : ℕ) (log : LogState Device) → t < length logs → slice_get logs t ≡ Some log → IsLogOf (length logs) t log)
+    → AreLogs logs
+all_logs logs each t log e = each t log (inside logs t log e) e

@@ -39,6 +39,17 @@ impl CountGate {
     pub fn arrivals(&self, point: Point) -> u64 {
         self.counter(point).load(Ordering::SeqCst)
     }
+
+    /// How often threads came to each point, in the order of the points.
+    pub fn all(&self) -> [u64; 5] {
+        [
+            self.arrivals(Point::Begin),
+            self.arrivals(Point::Ordered),
+            self.arrivals(Point::Walked),
+            self.arrivals(Point::Fenced),
+            self.arrivals(Point::Answered),
+        ]
+    }
 }
 
 impl Gate for CountGate {

@@ -1,15 +1,20 @@
 //! Four threads at once on each kind of object.
-use crate::{CountGate, Left, Work, four_threads, recovered};
+use crate::check::must;
+use crate::count_gate::CountGate;
+use crate::recovery::recovered;
+use crate::threads::{Left, Work, four_threads};
 use onll_bank::{Bank, BankOp, BankQuery, BankReply};
 use onll_lease::{Lease, LeaseOp, LeaseQuery};
+use onll_log::ThreadLog;
 use onll_map::{Map, MapOp, MapQuery};
 use onll_model::{Node, Object, fold_nodes};
-use onll_outside::{FreeGate, Gate, Point};
+use onll_outside::{FreeGate, Gate};
+use onll_pmem::MemPmem;
 use onll_queue::{Queue, QueueOp, QueueQuery, QueueReply};
+use onll_shared::Closed;
 use onll_trace::Ended;
 use onll_words::Short;
 use std::alloc::Global;
-use std::process::Abort;
 use std::sync::Wait;
 use std::test::Fail;
 use std::thread::Threads;
@@ -27,29 +32,47 @@ fn are_all(nodes: &[Node], trace: &[Ended]) -> bool {
             .all(|(node, end)| *node == end.node && end.flag)
 }
 
+/// Asserts that each log has one entry, made with one fence, for each update of its thread.
+fn check_logs(logs: &[ThreadLog<MemPmem>]) -> Result<(), Fail> {
+    for log in logs {
+        must(
+            log.fences() == 1000 && log.entries() == 1000,
+            "other entries or fences",
+        )?;
+    }
+    Ok(())
+}
+
+/// What the fold of the nodes that the logs recover to answers; they are the trace's.
+fn folded<O: Object + Drop>(
+    alloc: Global,
+    mut object: O,
+    closed: &Closed<MemPmem>,
+    query: O::Query,
+) -> Result<O::Reply, Fail> {
+    let nodes = recovered(alloc, closed, 0).ok_or("no nodes")?;
+    must(are_all(&nodes, &closed.trace), "not the trace")?;
+    must(fold_nodes(&mut object, &nodes).is_ok(), "no fold")?;
+    Ok(object.ask(query))
+}
+
 /// What four threads leave of an object: each update has one fence, and the logs recover the trace. Gives what the object
 /// answered at last, and what the fold of the recovered nodes answers.
-fn left_by_four<R: Abort + Threads + Wait + Sync, O: Object + Drop + Send + Sync, G: Gate + Sync>(
+fn left_by_four<R: Threads + Wait + Sync, O: Object + Drop + Send + Sync, G: Gate + Sync>(
     rt: &R,
     alloc: Global,
     object: O,
     gate: &G,
     work: &Work<O>,
 ) -> Result<(O::Reply, O::Reply), Fail> {
-    let mut fold = object.copy(alloc)?;
+    let fold = object.copy(alloc)?;
     let Some(Left { answer, closed }) = four_threads(rt, alloc, object, gate, work) else {
-        panic!(rt; "no memory")
+        return Err("no memory".into());
     };
-    assert_eq!(rt; answer.place, 4000);
-    for log in closed.logs.iter() {
-        assert_eq!(rt; (log.fences(), log.entries()), (1000, 1000));
-    }
-    let Some(nodes) = recovered(alloc, &closed, 0) else {
-        panic!(rt; "no nodes")
-    };
-    assert!(rt; are_all(&nodes, &closed.trace));
-    assert!(rt; fold_nodes(&mut fold, &nodes).is_ok());
-    Ok((answer.reply, fold.ask(work.query)))
+    must(answer.place == 4000, "another place")?;
+    check_logs(&closed.logs)?;
+    let folded = folded(alloc, fold, &closed, work.query)?;
+    Ok((answer.reply, folded))
 }
 
 #[test]
@@ -61,18 +84,13 @@ fn four_threads_on_a_bank(rt: HostRuntime) -> Result<(), Fail> {
     };
     let bank = Bank::make(rt.alloc(), 2)?;
     let (answer, folded) = left_by_four(&rt, rt.alloc(), bank, &FreeGate, &work)?;
-    assert_eq!(rt;
-        (answer, folded),
-        (BankReply::Amount(2000), BankReply::Amount(2000))
-    );
-    Ok(())
+    let amount = BankReply::Amount(2000);
+    must(answer == amount && folded == amount, "another amount")
 }
 
 #[test]
 fn four_threads_on_a_map(rt: HostRuntime) -> Result<(), Fail> {
-    let Some(key) = Short::read(b"key") else {
-        panic!(rt; "no text")
-    };
+    let key = Short::read(b"key").ok_or("no text")?;
     let work = Work {
         even: MapOp::Put { k: key, v: key },
         odd: MapOp::Del { k: key },
@@ -80,8 +98,7 @@ fn four_threads_on_a_map(rt: HostRuntime) -> Result<(), Fail> {
     };
     let map = Map::make(rt.alloc(), 2)?;
     let (answer, folded) = left_by_four(&rt, rt.alloc(), map, &FreeGate, &work)?;
-    assert_eq!(rt; answer, folded);
-    Ok(())
+    must(answer == folded, "another answer")
 }
 
 #[test]
@@ -93,11 +110,8 @@ fn four_threads_on_a_queue(rt: HostRuntime) -> Result<(), Fail> {
     };
     let queue = Queue::make(rt.alloc(), 4)?;
     let (answer, folded) = left_by_four(&rt, rt.alloc(), queue, &FreeGate, &work)?;
-    assert_eq!(rt;
-        (answer, folded),
-        (QueueReply::Length(0), QueueReply::Length(0))
-    );
-    Ok(())
+    let empty = QueueReply::Length(0);
+    must(answer == empty && folded == empty, "another length")
 }
 
 #[test]
@@ -119,8 +133,7 @@ fn four_threads_on_leases(rt: HostRuntime) -> Result<(), Fail> {
     };
     let leases = Lease::make(rt.alloc(), 2)?;
     let (answer, folded) = left_by_four(&rt, rt.alloc(), leases, &FreeGate, &work)?;
-    assert_eq!(rt; answer, folded);
-    Ok(())
+    must(answer == folded, "another answer")
 }
 
 /// Each point that an update passes after it is ordered was reached once by each, and the first at least once by each.
@@ -134,15 +147,10 @@ fn arrivals_of_four_threads(rt: HostRuntime) -> Result<(), Fail> {
     let gate = CountGate::new();
     let bank = Bank::make(rt.alloc(), 2)?;
     let (answer, folded) = left_by_four(&rt, rt.alloc(), bank, &gate, &work)?;
-    assert_eq!(rt; answer, folded);
-    for point in [
-        Point::Ordered,
-        Point::Walked,
-        Point::Fenced,
-        Point::Answered,
-    ] {
-        assert_eq!(rt; gate.arrivals(point), 4000);
-    }
-    assert!(rt; gate.arrivals(Point::Begin) >= 4000);
-    Ok(())
+    must(answer == folded, "another answer")?;
+    let [begin, ordered, walked, fenced, answered] = gate.all();
+    must(
+        [ordered, walked, fenced, answered] == [4000; 4] && begin >= 4000,
+        "other points",
+    )
 }

@@ -11,17 +11,18 @@ use onll_pmem::MemPmem;
 use onll_shared::{Onll, Pass};
 use std::alloc::Global;
 
-/// A log of one thread that holds the first node alone, in one entry.
-fn log_with<O: Object>(alloc: Global, node: Node) -> Option<ThreadLog<MemPmem>>
+/// A log of one thread that holds its first node alone, in one entry at this place.
+pub fn log_with<O: Object>(alloc: Global, place: u64, node: Node) -> Option<ThreadLog<MemPmem>>
+    requires place { (1 ≤ place) × (place ≤ 2) }
     requires node { (node.thread ≡ 0) × (node.number ≡ 1) }
     ensures log { IfSome result (λ log. IsLogOf 1 0 log) }
-    ensures entries { IfSome result (λ log. log.entries ≡ record { place = 1; nodes = node ∷ [] } ∷ []) }
+    ensures entries { IfSome result (λ log. log.entries ≡ record { place = place; nodes = node ∷ [] } ∷ []) }
 {
     let device = MemPmem::new(alloc, 100, Vec::new(alloc)).ok()?;
     let Ok(mut log) = ThreadLog::make(device, LogHead::new(0, 1, O::CODE, INIT)) else {
         return None;
     };
-    let Ok(()) = log.append(1, &[node]) else {
+    let Ok(()) = log.append(place, &[node]) else {
         return None;
     };
     Some(log)
@@ -47,7 +48,7 @@ pub fn resume_one<O: Object + Drop>(
         place: 1,
         count: 1,
     };
-    let log = log_with::<O>(alloc, node)?;
+    let log = log_with::<O>(alloc, 1, node)?;
     let Ok(logs) = vec![in alloc; log] else {
         return None;
     };

@@ -7,7 +7,7 @@ ghost use Rattle.onll_pmem.specs.Memory.{memory_view};
 ghost use Rattle.onll_shared.specs.Passes.{IsTied};
 ghost use Rattle.std.proofs.Props.{props};
 
-use crate::{INIT, open_two};
+use crate::fixture::{INIT, open_two};
 use onll_bank::{Bank, BankOp, BankQuery, BankReply};
 use onll_locked::{Locked, LockedEnd};
 use onll_log::{LogHead, ThreadLog};

@@ -1,6 +1,6 @@
 use Rattle.std.proofs.Common.{ℕ, List, [], ◌∷◌, length, drop, arith, rules, ap, sym, subst, ◌≡◌, ◌+◌, ◌<◌, ◌≤◌, ◌∙◌}
 use Rattle.std.proofs.lemmas.List.Elements.{All-cons}
-use Rattle.std.proofs.lemmas.List.{length-drop}
+use Rattle.std.proofs.lemmas.List.{length-drop, append-nil}
 use Rattle.std.specs.List.{All, AllByRecursion}
 use Rattle.onll_model.specs.declared.node.Node.{Node}
 use Rattle.onll_model.specs.Segment.{Segment}
@@ -73,7 +73,8 @@ pub returns-clause-lines : goal.returns-clause-lines
 returns-clause-lines c =
     let cur = c.loop-entry.cursor in
     let none = not_viewed (lines_passed cur) (entries_left cur) (sym c.in_default.is ∙ c.peek.ensures) in
-    ap (λ (ss : List Segment). with_lines c.loop-entry.out (entries_lines cur.passed ss)) (sym none) ∙ c.loop-entry.invariant.lines
+    sym (append-nil c.loop-entry.out)
+    ∙ (ap (λ (ss : List Segment). with_lines c.loop-entry.out (entries_lines cur.passed ss)) (sym none) ∙ c.loop-entry.invariant.lines)
 
 pub returns-clause-reads : goal.returns-clause-reads
 returns-clause-reads c =

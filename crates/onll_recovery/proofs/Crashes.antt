@@ -48,16 +48,16 @@ head_is true zeros l ls log head e h = same_some (head_of l) head (ap (λ (c : C
 head_is false true l ls log head e h = some_not_none head (sym h ∙ sym (ap (λ (c : Content). c.head) (same_some (record { head = None; entries = [] }) log e)))
 head_is false false l ls log head e h = some_not_none log (sym e)
 
-format_is : (image : List (List ℕ)) (log : Content) (head : LogHead) → content_of image ≡ Some log → log.head ≡ Some head → head.format ≡ 2 → format_in image ≡ 2
+pub format_is : (image : List (List ℕ)) (log : Content) (head : LogHead) → content_of image ≡ Some log → log.head ≡ Some head → head.format ≡ 2 → format_in image ≡ 2
 format_is [] log head e h f = some_not_none log (sym e)
 format_is (l ∷ ls) log head e h f =
     let same = head_is (is_head l) (are_zero_lines (l ∷ ls)) l ls log head e h in
     two (word l 1) (ap (λ (x : LogHead). x.format) same ∙ f)
 
-abbrev HaveFormat2 : List LogHead → Type 0
+abbrev pub HaveFormat2 : List LogHead → Type 0
 HaveFormat2 heads = AllByRecursion (λ (head : LogHead). head.format ≡ 2) heads
 
-abbrev AreFormat2 : List (List (List ℕ)) → Type 0
+abbrev pub AreFormat2 : List (List (List ℕ)) → Type 0
 AreFormat2 images = AllByRecursion (λ (image : List (List ℕ)). format_in image ≡ 2) images
 
 formats_are : (ths : List Thread) (heads : List LogHead) (logs : List Content) (images : List (List (List ℕ))) → AreLogsOf ths heads logs → map content_of images ≡ map Some logs → HaveFormat2 heads → AreFormat2 images
@@ -71,12 +71,12 @@ formats_are (th ∷ ths) (head ∷ heads) (log ∷ logs) (image ∷ images) left
     let rest : map content_of images ≡ map Some logs = (cc) in
     (format_is image log head here left.0.head_kept f.0, formats_are ths heads logs images left.1 rest f.1)
 
-heads_have_format : (count code : ℕ) (init : List ℕ) (t n : ℕ) → HaveFormat2 (heads_from count code init t n)
+pub heads_have_format : (count code : ℕ) (init : List ℕ) (t n : ℕ) → HaveFormat2 (heads_from count code init t n)
 heads_have_format count code init t zero = tt
 heads_have_format count code init t (suc n) = (refl, heads_have_format count code init (suc t) n)
 
 -- ---- the heads
-heads_expected : (count code : ℕ) (init : List ℕ) (i : ℕ) (images : List (List (List ℕ))) → AreFormat2 images → heads_for code init count i images ≡ heads_from count code init i (length images)
+pub heads_expected : (count code : ℕ) (init : List ℕ) (i : ℕ) (images : List (List (List ℕ))) → AreFormat2 images → heads_for code init count i images ≡ heads_from count code init i (length images)
 heads_expected count code init i [] f = refl
 heads_expected count code init i (image ∷ images) f =
     let next : i + 1 ≡ suc i = omega arith in
@@ -108,7 +108,7 @@ module _ {State Op Query Reply : Type 0} (b : Behaviour State Op Query Reply) wh
   front_is [] h = refl
   front_is (n ∷ nodes) h = where_is (b.op_at n.row) (n ∷ operations_front b nodes) h.0 ∙ ap (λ (l : List Node). n ∷ l) (front_is nodes h.1)
 
-  take_operations : (k : ℕ) (nodes : List Node) → AllOperations b nodes → AllOperations b (take k nodes)
+  pub take_operations : (k : ℕ) (nodes : List Node) → AllOperations b nodes → AllOperations b (take k nodes)
   take_operations zero nodes h = tt
   take_operations (suc k) [] h = tt
   take_operations (suc k) (n ∷ nodes) h = (h.0, take_operations k nodes h.1)

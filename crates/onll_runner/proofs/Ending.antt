@@ -1,12 +1,15 @@
 -- What a run left is kept, and its report is said.
 
-use Rattle.std.proofs.Common.{Vec, Global, ℕ, suc, true, false, List, [], ◌∷◌, ◌≡◌, ◌≤◌, ◌+◌, length, map, Result, Ok, Err, is_some, inr, refl, sym, ap, ◌∙◌, subst, arith}
+use Rattle.std.proofs.Common.{Vec, Global, ℕ, suc, true, false, List, [], ◌∷◌, ◌≡◌, ◌≤◌, ◌+◌, ◌*◌, length, map, Result, Ok, Err, is_some, inr, refl, sym, ap, ◌∙◌, subst, arith}
+use Rattle.std.specs.List.{All, AllByRecursion}
 use Rattle.std.specs.Result.{IsErrAnd}
 use Rattle.std.proofs.lemmas.List.{length-map}
+use Rattle.std.proofs.lemmas.List.Elements.{All-head, All-tail}
 use Rattle.std.proofs.lemmas.Result.{err_from_is_err_and}
 use Rattle.onll_model.specs.declared.call.CallEnd.{CallEnd}
 use Rattle.onll_pmem.specs.Laws.{SameLaw}
 use Rattle.onll_pmem.specs.Pmem.{DeviceView}
+use Rattle.onll_log.specs.ImageFile.{longest_image}
 use Rattle.onll_log.specs.Log.{LogState}
 use Rattle.onll_outside.specs.Views.{StoreView, SameFaults, counted}
 use Rattle.onll_outside.specs.declared.store.FaultKind.TheVariants as kinds
@@ -19,6 +22,7 @@ use Rattle.onll_task.specs.declared.ending.Ending.{Ending}
 use Rattle.onll_task.specs.declared.ending.Ending.TheVariants.{Done, Usage, Refused, BadLog, ReadFault, WriteFault, Faulty}
 use Rattle.onll_task.specs.declared.answer.Stop.{Stop}
 use Rattle.onll_task.specs.declared.answer.Stop.TheVariants.{Says, NoMemory}
+use Rattle.onll_task.specs.FileLines.{IsWholeLine, FitFile}
 use Rattle.onll_task.specs.ImageNames.{image_names}
 use Rattle.onll_task.specs.Running.{RunPlan, RunLeft, HasKept, HoldsLogs, DeviceFault, broken_threads, fences_of, log_files}
 use Rattle.onll_task.specs.Stop.{StopSays}
@@ -30,6 +34,15 @@ use Rattle.onll_runner.proofs.Keeping.{risen_all, kept_logs, kept_many, faults_s
 
 pub but_stay : {names : List (List ℕ)} {old new : StoreView} → SameBut names old new → AllButStay names old new
 but_stay same = record { tells = same.tells; file = λ on other differs. same.file other differs }
+
+-- the lines of devices are read back from their files
+fit_logs : {Device : Type 0} (means : Device → DeviceView) (logs : List (LogState Device)) → All (λ (log : LogState Device). AllByRecursion IsWholeLine (means log.device).read) logs
+    → All (λ (log : LogState Device). 64 * length (means log.device).read ≤ longest_image) logs → AllByRecursion (λ (log : LogLeft). FitFile log.read) (map (log_left means) logs)
+fit_logs means [] whole small = tt
+fit_logs {Device} means (log ∷ logs) whole small =
+    let Whole : LogState Device → Type 0 = λ (log : LogState Device). AllByRecursion IsWholeLine (means log.device).read in
+    let Small : LogState Device → Type 0 = λ (log : LogState Device). 64 * length (means log.device).read ≤ longest_image in
+    (record { each = All-head Whole log logs whole; few = All-head Small log logs small }, fit_logs means logs (All-tail Whole log logs whole) (All-tail Small log logs small))
 
 module _ {State Op Query Reply Device : Type 0} (means : Device → DeviceView) where
   hands_faults : (ends : List (List (CallEnd State Op Query Reply))) (olds : List Device) (logs : List (LogState Device)) (store after : StoreView) → 1 ≤ length logs → ran.AreKept means ends olds logs
@@ -45,7 +58,8 @@ module _ {State Op Query Reply Device : Type 0} (means : Device → DeviceView) 
       hands.fences ∙ risen_all fences_in store.device_fences (means log.device) (map means (map device_of logs)) ∙ ap (counted store.device_fences) (fences_sum means ends olds (log ∷ logs) all)
 
 module _ {k : ObjectKind} {Device : Type 0} (same : SameLaw) (means : Device → DeviceView) (plan : RunPlan k) (left : RunLeft k) (olds : List Device) (logs : List (LogState Device)) (store after : StoreView)
-    (logs_are : left.logs ≡ map (log_left means) logs) (some : 1 ≤ length plan.run.scripts) (many : length left.ends ≡ length plan.run.scripts) (all : ran.AreKept means left.ends olds logs) where
+    (logs_are : left.logs ≡ map (log_left means) logs) (some : 1 ≤ length plan.run.scripts) (many : length left.ends ≡ length plan.run.scripts) (all : ran.AreKept means left.ends olds logs)
+    (whole : All (λ (log : LogState Device). AllByRecursion IsWholeLine (means log.device).read) logs) (small : All (λ (log : LogState Device). 64 * length (means log.device).read ≤ longest_image) logs) where
   -- devices that were kept hold what a run left
   pub has_kept : (after.tells ≡ true → (d : Device) → is_some (means d).told ≡ true) → AreKept plan.logs 0 (map means (map device_of logs)) after → SameFaults store after
       → HandsEach (map means (map device_of logs)) store after → SameBut (image_names plan.logs 0 (length logs)) store after → HasKept plan left store after
@@ -58,6 +72,7 @@ module _ {k : ObjectKind} {Device : Type 0} (same : SameLaw) (means : Device →
         fences = hands_fences means left.ends olds logs store after there all hands
             ∙ ap (λ (ls : List LogLeft). counted store.device_fences (fences_of ls + length logs)) (sym logs_are) ∙ ap (λ n. counted store.device_fences (fences_of left.logs + n)) long;
         files = subst (λ ls. HoldsLogs after plan.logs 0 ls left.ends) (sym logs_are) (kept_logs same means after plan.logs 0 left.ends olds logs tells all kept);
+        fit = subst (AllByRecursion (λ (log : LogLeft). FitFile log.read)) (sym logs_are) (fit_logs means logs whole small);
         others = but_stay (subst (λ n. SameBut (image_names plan.logs 0 n) store after) long others);
       }
 

@@ -1,5 +1,6 @@
 pub mod Determined
 pub mod Ending
+pub mod FaultLines
 pub mod Handing
 pub mod Keeping
 pub mod LegalRows
@@ -7,3 +8,4 @@ pub mod NewHeads
 pub mod ReportSteps
 pub mod RunRecovers
 pub mod RunSteps
+pub mod WholeLines

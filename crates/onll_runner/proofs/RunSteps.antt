@@ -4,7 +4,7 @@ use Rattle.std.proofs.Common.{Vec, Global, ℕ, zero, suc, true, List, [], ◌�
 use Rattle.std.specs.List.{AllByRecursion, All}
 use Rattle.std.proofs.lemmas.List.{length-map, length-reverse, length-replicate}
 use Rattle.std.proofs.lemmas.Nat.{mul-le}
-use Rattle.std.proofs.lemmas.List.Elements.{All-nil, All-cons, All-head, All-tail}
+use Rattle.std.proofs.lemmas.List.Elements.{All-nil, All-cons, All-head, All-tail, All-from_recursion, recursion_from_All}
 use Rattle.std.proofs.lemmas.List.Sums.{sum_by-cons}
 use Rattle.std.proofs.lemmas.List.Sorted.{sum_by-IsPermutation, IsPermutation-reverse}
 use Rattle.onll_model.specs.Limits.{most_threads, most_updates}
@@ -14,12 +14,14 @@ use Rattle.onll_model.specs.Calls.{updates_in}
 use Rattle.onll_pmem.specs.Device.{zero_lines}
 use Rattle.onll_pmem.specs.Pmem.{DeviceView}
 use Rattle.onll_log.specs.declared.head.LogHead.{LogHead}
+use Rattle.onll_log.specs.ImageFile.{longest_image}
+use Rattle.onll_log.specs.Log.{LogState}
 use Rattle.onll_core.specs.Created.{created_heads, heads_from}
 use Rattle.onll_outside.specs.Views.{StoreView, SameFiles, SameFaults, Rose, IsFresh, AreZeros, counted}
 use Rattle.onll_outside.specs.declared.store.FaultKind.TheVariants as kinds
 use Rattle.onll_run.specs.Left.{Plan, HasRun}
 use Rattle.onll_run.specs.Making as making
-use Rattle.onll_run.specs.Ran.{CanRun, AreRoomy, IsRoomyFor, anew}
+use Rattle.onll_run.specs.Ran.{CanRun, AreRoomy, IsRoomyFor, AreKept, anew}
 use Rattle.onll_text.specs.Kinds.{ObjectKind}
 use Rattle.onll_words.specs.Texts.{line_text}
 use Rattle.onll_task.specs.declared.ending.Ending.{Ending}
@@ -56,6 +58,7 @@ module _ {k : ObjectKind} (plan : RunPlan k) (left : RunLeft k) (old mid new : S
     faults = h.faults ∙ ap (λ n. counted n (broken_threads left.ends)) counts.1.0;
     fences = h.fences ∙ ap (λ n. counted n (fences_of left.logs + length plan.run.scripts)) counts.1.1;
     files = h.files;
+    fit = h.fit;
     others = record {
       tells = h.others.tells ∙ files.tells;
       file = λ on other differs. h.others.file (files.tells ∙ on) other differs ∙ files.file other differs;
@@ -138,21 +141,26 @@ module _ {State Op Query Reply : Type 0} where
 
   -- no device has too many lines
   few_lines : (threads : ℕ) (scripts : List (List (Call State Op Query Reply))) → threads ≤ most_threads → AllByRecursion (λ (s : List (Call State Op Query Reply)). updates_in s ≤ most_updates) scripts
-      → All (λ n. n ≤ 1000000) (map (λ (s : List (Call State Op Query Reply)). 1 + (threads + 1) * updates_in s) scripts)
-  few_lines threads [] few u = All-nil (λ n. n ≤ 1000000)
+      → All (λ n. 64 * n ≤ longest_image) (map (λ (s : List (Call State Op Query Reply)). 1 + (threads + 1) * updates_in s) scripts)
+  few_lines threads [] few u = All-nil (λ n. 64 * n ≤ longest_image)
   few_lines threads (s ∷ scripts) few u =
       let one : threads + 1 ≤ 17 = omega (arith, few) in
       let most : updates_in s ≤ 4096 = u.0 in
       let all = mul-le (threads + 1) (updates_in s) 17 4096 one most in
-      let here : 1 + (threads + 1) * updates_in s ≤ 1000000 = omega (arith, all) in
-      All-cons (λ n. n ≤ 1000000) (1 + (threads + 1) * updates_in s) (map (λ (x : List (Call State Op Query Reply)). 1 + (threads + 1) * updates_in x) scripts) here (few_lines threads scripts few u.1)
+      let here : 64 * (1 + (threads + 1) * updates_in s) ≤ longest_image = omega (arith, all) in
+      All-cons (λ n. 64 * n ≤ longest_image) (1 + (threads + 1) * updates_in s) (map (λ (x : List (Call State Op Query Reply)). 1 + (threads + 1) * updates_in x) scripts) here (few_lines threads scripts few u.1)
+
+  -- no more than are read of its file
+  lines_read : {V : Type 0} (items : V → List (Call State Op Query Reply)) (scripts : List V) (lines : List ℕ) → length scripts ≤ most_threads → All (λ (s : V). updates_in (items s) ≤ most_updates) scripts
+      → lines ≡ lines_for (map items scripts) → All (λ n. 64 * n ≤ longest_image) lines
+  lines_read items scripts lines few u is =
+      let many = length-map scripts items in
+      let low : length (map items scripts) ≤ most_threads = omega (arith, many, few) in
+      subst (All (λ n. 64 * n ≤ longest_image)) (sym is) (few_lines (length (map items scripts)) (map items scripts) low (all_updates items scripts u))
 
   pub lines_few : {V : Type 0} (items : V → List (Call State Op Query Reply)) (scripts : List V) (lines : List ℕ) → length scripts ≤ most_threads → All (λ (s : V). updates_in (items s) ≤ most_updates) scripts
       → lines ≡ lines_for (map items scripts) → All (λ n. n ≤ 1000000) lines
-  lines_few items scripts lines few u is =
-      let many = length-map scripts items in
-      let low : length (map items scripts) ≤ most_threads = omega (arith, many, few) in
-      subst (All (λ n. n ≤ 1000000)) (sym is) (few_lines (length (map items scripts)) (map items scripts) low (all_updates items scripts u))
+  lines_few items scripts lines few u is = λ i d low. let small = lines_read items scripts lines few u is i d low in omega (arith, small)
 
   module _ {Device : Type 0} (means : Device → DeviceView) where
     is_roomy : (threads : ℕ) (script : List (Call State Op Query Reply)) (d : Device) → updates_in script ≤ most_updates → IsFresh (zero_lines (1 + (threads + 1) * updates_in script)) (means d) → IsRoomyFor means threads script d
@@ -185,6 +193,31 @@ module _ {State Op Query Reply : Type 0} where
           heads_are = subst (λ n. making.AreHeads n 0 heads) (sym same) heads_are;
           devices_are = roomy (length (map items scripts)) (map items scripts) devices (all_updates items scripts u) (subst (λ l. AreNew means l devices) is new);
         }
+
+    -- the devices that are handed back have as many lines as the new ones
+    small_each : (ends : List (List (CallEnd State Op Query Reply))) (lines : List ℕ) (devices : List Device) (logs : List (LogState Device)) → AllByRecursion (λ n. 64 * n ≤ longest_image) lines → AreNew means lines devices
+        → AreKept means ends devices logs → AllByRecursion (λ (log : LogState Device). 64 * length (means log.device).read ≤ longest_image) logs
+    small_each [] [] [] [] small new kept = tt
+    small_each (es ∷ ends) (n ∷ lines) (d ∷ devices) (log ∷ logs) small new kept =
+        let long : length (means d).read ≡ n = ap length new.0.read ∙ length-replicate n _ in
+        let same = kept.0.lines in
+        let here = small.0 in
+        (omega (arith, long, same, here), small_each ends lines devices logs small.1 new.1 kept.1)
+    small_each [] [] (d ∷ devices) logs small new kept = absurd new
+    small_each [] (n ∷ lines) [] logs small new kept = absurd new
+    small_each [] (n ∷ lines) (d ∷ devices) logs small new kept = absurd kept
+    small_each [] [] [] (log ∷ logs) small new kept = absurd kept
+    small_each (es ∷ ends) [] [] logs small new kept = absurd kept
+    small_each (es ∷ ends) [] (d ∷ devices) logs small new kept = absurd new
+    small_each (es ∷ ends) (n ∷ lines) [] logs small new kept = absurd new
+    small_each (es ∷ ends) (n ∷ lines) (d ∷ devices) [] small new kept = absurd kept
+
+    pub small_logs : {V : Type 0} (items : V → List (Call State Op Query Reply)) (scripts : List V) (ends : List (List (CallEnd State Op Query Reply))) (lines : List ℕ) (devices : List Device) (logs : List (LogState Device))
+        → length scripts ≤ most_threads → All (λ (s : V). updates_in (items s) ≤ most_updates) scripts → lines ≡ lines_for (map items scripts) → AreNew means lines devices → AreKept means ends devices logs
+        → All (λ (log : LogState Device). 64 * length (means log.device).read ≤ longest_image) logs
+    small_logs items scripts ends lines devices logs few u is new kept =
+        All-from_recursion (λ (log : LogState Device). 64 * length (means log.device).read ≤ longest_image) logs
+        (small_each ends lines devices logs (recursion_from_All (λ n. 64 * n ≤ longest_image) lines (lines_read items scripts lines few u is)) new kept)
 
 -- ---- a header whose fence failed
 blank_stays : (logs : List ℕ) (t n : ℕ) (old mid new : StoreView) → AreBlank logs t n old mid → SameFiles mid new → AllByRecursion (StaysOrZeros old new) (image_names logs t n)

@@ -17,6 +17,7 @@ ghost use Rattle.onll_text.specs.Lines.{call_lines, trace_line, state_lines};
 ghost use Rattle.onll_text.specs.Reports.{EndsRead, NodeReads, StateReads};
 ghost use Rattle.onll_recovery.specs.RecoverJob.{recovered_line};
 ghost use Rattle.onll_recovery.specs.ReplayJob.{LogReads, EachReads, thread_lines, flagged_lines, counted_lines};
+ghost use Rattle.onll_task.specs.FileLines.{IsWholeLine};
 ghost use Rattle.onll_runner.specs.RunReport.{faults_at, fault_lines, log_data, run_data, run_report, RunReads};
 
 use onll_log::{LogHead, ThreadLog};
@@ -142,15 +143,41 @@ fn put_faults<O: Object>(threads: &[DoneScript<O>], out: &mut Report) -> Result<
     Ok(())
 }
 
+/// A line has eight words of 64 bits.
+fn whole_line(line: Line)
+    ensures { IsWholeLine line.w }
+{
+}
+
+/// Each line has eight words of 64 bits.
+fn whole_lines(lines: &[Line])
+    ensures { All (λ line. IsWholeLine line.w) lines.now }
+{
+    for line in lines {
+        whole_line(*line);
+    }
+}
+
+/// The lines of a log's device, as read.
+fn image_of<P: Pmem>(alloc: Global, log: &ThreadLog<P>) -> Result<Vec<Line>, NoMemory>
+    ensures lines { IfOk result (λ image. words_of image.items ≡ (P.means log.now.device).read) }
+    ensures whole { OnOk result (AllByRecursion IsWholeLine (P.means log.now.device).read) }
+{
+    let image = lines_of(alloc, log.device())?;
+    whole_lines(&image);
+    Ok(image)
+}
+
 /// The lines of each log's device, as read.
 fn images_of<P: Pmem>(alloc: Global, logs: &[ThreadLog<P>]) -> Result<Vec<Vec<Line>>, NoMemory>
     ensures lines { IfOk result (λ images. map (λ image. words_of image.items) images.items
         ≡ map (λ log. (P.means log.device).read) logs.now) }
     ensures count { IfOk result (λ images. length images.items ≡ length logs.now) }
+    ensures whole { OnOk result (All (λ log. AllByRecursion IsWholeLine (P.means log.device).read) logs.now) }
 {
     let mut images = Vec::new(alloc);
     for log in logs {
-        images.push(lines_of(alloc, log.device())?)?;
+        images.push(image_of(alloc, log)?)?;
     }
     Ok(images)
 }
@@ -177,6 +204,7 @@ fn recover_run<O: Object, P: Pmem>(
         ≡ map log_counts (map content_in (map (log_left P.means) ran.now.logs.items))) }
     ensures nodes { IfOk result (λ r. r.nodes.items ≡ map node_in ran.now.trace.items) }
     ensures state { IfOk result (λ _. object.new ≡ state_after O.means object.old (map node_in ran.now.trace.items)) }
+    ensures whole { OnOk result (All (λ log. AllByRecursion IsWholeLine (P.means log.device).read) ran.now.logs.items) }
 {
     let images = images_of(alloc, &ran.logs)?;
     match recover_state(alloc, object, heads, &images) {
@@ -226,7 +254,7 @@ fn put_end<O: Texted, P: Pmem>(
 }
 
 /// The report of scripts that were run on an object in this state, which is after the trace then. All that it says reads back. What
-/// it says of the logs, and how many nodes are recovered, comes from the recovery of the devices' lines as read.
+/// it says of the logs, and how many nodes are recovered, comes from the recovery of the devices' lines as read, which are whole.
 pub(crate) fn run_report<O: Texted, P: Pmem>(
     alloc: Global,
     object: &mut O,
@@ -238,6 +266,7 @@ pub(crate) fn run_report<O: Texted, P: Pmem>(
         ≡ run_report O.means O.wording object.old (map script_in ran.now.threads.items) (left_in P.means ran.now)) }
     ensures reads { OnOk result (RunReads O.means O.wording (map script_in ran.now.threads.items)
         (run_data O.means object.old (left_in P.means ran.now))) }
+    ensures whole { OnOk result (All (λ log. AllByRecursion IsWholeLine (P.means log.device).read) ran.now.logs.items) }
 {
     let recovery = recover_run(alloc, object, heads, ran)?;
     let mut out = Report::new(alloc);

@@ -1,9 +1,10 @@
 //! The command `run`: a script on each thread, over devices that are kept as logs.
 
-ghost use Rattle.std.specs.Prelude.{◌≡◌, ◌≤◌, List, length, map, string_bytes, IfOk, All, is_some};
+ghost use Rattle.std.specs.Prelude.{◌≡◌, ◌≤◌, ◌*◌, List, length, map, string_bytes, IfOk, All, is_some};
 ghost use Rattle.std.specs.List.{list_any};
 ghost use Rattle.onll_model.specs.Limits.{most_threads, most_updates, greatest_code};
 ghost use Rattle.onll_model.specs.Calls.{updates_in};
+ghost use Rattle.onll_log.specs.ImageFile.{longest_image};
 ghost use Rattle.onll_core.specs.Created.{created_heads, heads_from};
 ghost use Rattle.onll_run.specs.Making.{AreHeads, device_of};
 ghost use Rattle.onll_run.specs.Left.{HasRun};
@@ -105,6 +106,7 @@ fn end_run<O: Texted + Drop, S: Store>(
     requires few { length ran.threads.items ≤ most_threads }
     requires run { HasRun O.means (anew object heads.now (map script_in ran.threads.items)) (left_in S.Dev.means ran) }
     requires kept { (devices : List S.Dev) × AreKept S.Dev.means (map ends_in ran.threads.items) devices ran.logs.items }
+    requires small { All (λ log. 64 * length (S.Dev.means log.device).read ≤ longest_image) ran.logs.items }
     ensures { let k = kind_by O.means O.wording O.CODE in
         let plan : RunPlan k = record { logs = logs.now; run = anew object heads.now (map script_in ran.threads.items) } in
         HasEnded plan (left_in S.Dev.means ran) (S.seen store.old) (S.seen store.new) result }

@@ -10,10 +10,10 @@ use Rattle.onll_task.specs.Writing.{FilesStay, SameCounts, CannotWrite, written}
 use Rattle.onll_task.specs.Job.{Job, Say, Read, Write, Threads, JobEnds, Decides, Never, on_value, reading, reading_whole}
 
 -- a told file holds its bytes alone
-held_bytes : (store : StoreView) (name bytes found : List ℕ) → IsTold store name bytes → Holds store name found → found ≡ bytes
+pub held_bytes : (store : StoreView) (name bytes found : List ℕ) → IsTold store name bytes → Holds store name found → found ≡ bytes
 held_bytes store name bytes found told held = let e = held told.tells in let f = told.file in cc
 
-cannot : (store after : StoreView) (name : List ℕ) (ending : Ending) (text : List ℕ) → CannotRead store after name ending text → Rose store.faults after.faults
+pub cannot : (store after : StoreView) (name : List ℕ) (ending : Ending) (text : List ℕ) → CannotRead store after name ending text → Rose store.faults after.faults
 cannot store after name Done text h = absurd h
 cannot store after name Usage text h = absurd h
 cannot store after name Refused text h = absurd h

@@ -1,4 +1,5 @@
 pub mod Cuts
+pub mod FileLines
 pub mod ImageFiles
 pub mod Jobs
 pub mod Onwards

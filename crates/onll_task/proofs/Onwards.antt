@@ -61,6 +61,7 @@ kept_from plan left store mid kept files counts h = record {
   faults = h.faults ∙ ap (λ n. counted n (broken_threads left.ends)) counts.1.0;
   fences = h.fences ∙ ap (λ n. counted n (fences_of left.logs + length plan.run.scripts)) counts.1.1;
   files = h.files;
+  fit = h.fit;
   others = but_more (log_files plan) store mid kept files h.others;
 }
 

@@ -12,6 +12,7 @@ use Rattle.onll_run.specs.Left.{Plan, Left, LogLeft, fenced_in, HasRun}
 use Rattle.onll_text.specs.Kinds.{ObjectKind}
 use Rattle.onll_task.specs.declared.ending.Ending.{Ending}
 use Rattle.onll_task.specs.declared.ending.Ending.TheVariants.{WriteFault, Faulty}
+use Rattle.onll_task.specs.FileLines.{FitFile}
 use Rattle.onll_task.specs.ImageNames.{image_name, image_names}
 use Rattle.onll_task.specs.Printed.{write_fault_text, fault_line}
 use Rattle.onll_task.specs.Writing.{AllButStay}
@@ -54,12 +55,13 @@ HoldsLogs store logs t (log ∷ rest) (ends ∷ more) =
 HoldsLogs store logs t rest ends = ⊥
 
 -- The store has kept what a run left: no call of it failed, its counts of devices rose by the threads whose fence failed and by
--- the fences, one for each header among them, and each log's file holds its log.
+-- the fences, one for each header among them, and each log's file holds its log, whose lines are read back from it.
 pub record HasKept {k : ObjectKind} (plan : RunPlan k) (left : RunLeft k) (store kept : StoreView) : Type 0 where
   pub calls : SameFaults store kept
   pub faults : kept.device_faults ≡ counted store.device_faults (broken_threads left.ends)
   pub fences : kept.device_fences ≡ counted store.device_fences (fences_of left.logs + length plan.run.scripts)
   pub files : HoldsLogs kept plan.logs 0 left.logs left.ends
+  pub fit : AllByRecursion (λ (log : LogLeft). FitFile log.read) left.logs
   pub others : AllButStay (log_files plan) store kept
 
 -- ---- how it may stop

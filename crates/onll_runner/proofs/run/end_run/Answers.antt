@@ -29,7 +29,7 @@ returns-in-Ok g c =
     let some = c.requires.some in
     ended_broken _ _ (g.S.Store.seen c.args.store.now) (g.S.Store.seen c.keep_devices.new.store) c.in_ok-report.report
     (kept_by c.image_laws.ensures.same means _ _ c.requires.kept.0 c.args.ran.logs.items (g.S.Store.seen c.args.store.now) (g.S.Store.seen c.keep_devices.new.store) refl (omega (arith, scripts, some)) (ends ∙ sym scripts) c.requires.kept.1
-    c.in_ok-devices.devices.items c.in_ok-devices.ensures (λ on d. c.told_law.ensures d ∙ g.met.S.Store.devices_tell c.keep_devices.new.store on) c.in-Ok.ensures.kept c.in-Ok.ensures.faults c.in-Ok.ensures.devices c.keep_devices.ensures.others)
+    c.in_ok-report.ensures.whole c.requires.small c.in_ok-devices.devices.items c.in_ok-devices.ensures (λ on d. c.told_law.ensures d ∙ g.met.S.Store.devices_tell c.keep_devices.new.store on) c.in-Ok.ensures.kept c.in-Ok.ensures.faults c.in-Ok.ensures.devices c.keep_devices.ensures.others)
     (some_broken means (map ends_in c.args.ran.threads.items) c.requires.kept.0 c.args.ran.logs.items c.requires.kept.1 (ap (list_any (λ (log : LogState _). log.broken)) (sym c.deref.ensures.value) ∙ sym c.is_broken-broken.ensures ∙ c.if-broken.true))
     c.in_ok-report.ensures.report
     (others_many means (map ends_in c.args.ran.threads.items) c.requires.kept.0 c.args.ran.logs.items c.args.ran.threads.items c.in_ok-devices.devices.items c.args.logs.now (g.S.Store.seen c.args.store.now) (g.S.Store.seen c.keep_devices.new.store)
@@ -43,7 +43,7 @@ returns-in-Ok-2 g c =
     let some = c.requires.some in
     ended_whole _ _ (g.S.Store.seen c.args.store.now) (g.S.Store.seen c.keep_devices.new.store) c.in_ok-report.report
     (kept_by c.image_laws.ensures.same means _ _ c.requires.kept.0 c.args.ran.logs.items (g.S.Store.seen c.args.store.now) (g.S.Store.seen c.keep_devices.new.store) refl (omega (arith, scripts, some)) (ends ∙ sym scripts) c.requires.kept.1
-    c.in_ok-devices.devices.items c.in_ok-devices.ensures (λ on d. c.told_law.ensures d ∙ g.met.S.Store.devices_tell c.keep_devices.new.store on) c.in-Ok.ensures.kept c.in-Ok.ensures.faults c.in-Ok.ensures.devices c.keep_devices.ensures.others)
+    c.in_ok-report.ensures.whole c.requires.small c.in_ok-devices.devices.items c.in_ok-devices.ensures (λ on d. c.told_law.ensures d ∙ g.met.S.Store.devices_tell c.keep_devices.new.store on) c.in-Ok.ensures.kept c.in-Ok.ensures.faults c.in-Ok.ensures.devices c.keep_devices.ensures.others)
     (none_broken means (map ends_in c.args.ran.threads.items) c.requires.kept.0 c.args.ran.logs.items c.requires.kept.1 (ap (list_any (λ (log : LogState _). log.broken)) (sym c.deref.ensures.value) ∙ sym c.is_broken-broken.ensures ∙ c.if-broken.false))
     c.in_ok-report.ensures.report c.in_ok-report.ensures.reads
     (others_many means (map ends_in c.args.ran.threads.items) c.requires.kept.0 c.args.ran.logs.items c.args.ran.threads.items c.in_ok-devices.devices.items c.args.logs.now (g.S.Store.seen c.args.store.now) (g.S.Store.seen c.keep_devices.new.store)

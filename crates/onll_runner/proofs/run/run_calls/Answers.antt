@@ -1,6 +1,6 @@
 use Rattle.std.proofs.Common.{rules, ℕ, ◌≡◌, ◌≤◌, length, map, refl, sym, ap, ◌∙◌, subst, arith}
 use Rattle.onll_run.specs.Making.{AreHeads}
-use Rattle.onll_run.specs.Ran.{script_in, left_in}
+use Rattle.onll_run.specs.Ran.{script_in, ends_in, left_in}
 use Rattle.onll_task.specs.ImageNames.{image_names}
 use Rattle.onll_task.specs.Stop.{StopSays}
 use Rattle.onll_task.specs.Writing.{SameBut}
@@ -8,7 +8,7 @@ use Rattle.onll_text.specs.Kinds.{kind_by}
 use Rattle.onll_outside.specs.declared.store.FaultKind.TheVariants as kinds
 use Rattle.onll_runner.specs.Devices.{AreBlank, ThreadFails}
 use Rattle.onll_runner.specs.RunJob.{lines_for}
-use Rattle.onll_runner.proofs.RunSteps.{lines_few, lines_many, made_heads, done_many, can_run, ran_does, none_does, failed_does, not_made}
+use Rattle.onll_runner.proofs.RunSteps.{lines_few, lines_many, small_logs, made_heads, done_many, can_run, ran_does, none_does, failed_does, not_made}
 use Rattle.onll_runner.proofs.run.run_calls.Goals as goal
 
 pub make_devices-requires-after_bounds : goal.make_devices-requires-after_bounds
@@ -40,6 +40,12 @@ end_run-requires-clause-few g c κs within =
     let many = done_many (λ script. script.items) c.args.scripts.items script_in c.in-Ok-run_scripts.ran.threads.items c.in-Ok-run_scripts.ensures.scripts in
     let few = c.requires.few.1 in
     omega (arith, many, few)
+
+pub end_run-requires-clause-small : goal.end_run-requires-clause-small
+end_run-requires-clause-small g c κs within =
+    let lines = c.deref-2.ensures.value ∙ c.in_ok-lines.ensures.lines ∙ ap (λ l. lines_for (map (λ script. script.items) l)) c.deref.ensures.value in
+    small_logs g.S.Dev.Pmem.means (λ script. script.items) c.args.scripts.items (map ends_in c.in-Ok-run_scripts.ran.threads.items) c.deref-2.result.now c.in-Ok.devices.items c.in-Ok-run_scripts.ran.logs.items c.requires.few.1
+    c.requires.updates lines c.in-Ok.ensures.made c.in-Ok-run_scripts.ensures.kept
 
 pub returns-in-Ok-run_scripts : goal.returns-in-Ok-run_scripts
 returns-in-Ok-run_scripts g c = λ threads stands.

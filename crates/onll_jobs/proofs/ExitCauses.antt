@@ -30,7 +30,7 @@ use Rattle.onll_jobs.specs.Over.{OverForm, FoldOver, RecoverOver, over_task, obj
 use Rattle.onll_task.proofs.Onwards.{ends_cut}
 use Rattle.onll_task.proofs.Jobs.{TellsFault, nothing_failed, decided, never_says, reading_never, reading_whole_never}
 use Rattle.onll_task.proofs.ImageFiles.{reading_images_never}
-use Rattle.onll_jobs.proofs.OnKind.{each_kind}
+use Rattle.onll_text.proofs.EachKind.{each_kind}
 use Rattle.onll_jobs.proofs.ReplayEnds.{replay_not_usage}
 use Rattle.onll_jobs.proofs.RunEnds.{run_not_usage}
 
@@ -125,7 +125,7 @@ form_not_usage w (Recover init logs threads) e h =
     not_usage w (Recover init logs threads) e
     (over_never init (RecoverOver logs threads)
     (λ kind bytes s. let k = kind_at kind in
-    reading_images_never logs threads 0 (λ images. (images_task k.means k.wording k.code bytes s images).job)
+    reading_images_never logs threads 0 (λ images. (images_task k bytes s images).job)
     (λ images. recovered_never k.means k.wording s (state_recovered k.means (expected_heads k.code bytes images) images)))) h
 form_not_usage w (Replay init schedule logs scripts) e h = replay_not_usage w init schedule logs scripts e h
 form_not_usage w (Run init logs scripts) e h = run_not_usage w init logs scripts e h

@@ -9,4 +9,4 @@ pub mod RecoverCrashes
 mod FormsDetermined
 mod ShowDetermined
 mod Kept
-pub mod OnKind
+mod Dispatched

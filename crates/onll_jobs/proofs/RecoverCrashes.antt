@@ -11,7 +11,7 @@ use Rattle.onll_text.specs.declared.any_object.AnyObject.{AnyObject}
 use Rattle.onll_text.specs.Refusal.{Refusal}
 use Rattle.onll_text.specs.Wording.{Wording}
 use Rattle.onll_text.specs.Init.{init_of}
-use Rattle.onll_text.specs.Kinds.{kind_at}
+use Rattle.onll_text.specs.Kinds.{ObjectKind, kind_at}
 use Rattle.onll_outside.specs.Views.{StoreView}
 use Rattle.onll_task.specs.declared.ending.Ending.{Ending}
 use Rattle.onll_task.specs.declared.ending.Ending.TheVariants.{Done}
@@ -25,13 +25,13 @@ use Rattle.onll_jobs.specs.Seen.{Seen}
 use Rattle.onll_jobs.specs.Command.{form_of, Recover}
 use Rattle.onll_task.specs.Printed.{exit_status}
 use Rattle.onll_jobs.specs.Says.{job_of, ExitSays, NoneRose, SaysThis}
-use Rattle.onll_recovery.specs.RecoverJob.{recover_report, recovered_task, images_task}
+use Rattle.onll_recovery.specs.RecoverJob.{recover_report, recovered_task, images_task, logs_task}
 use Rattle.onll_merge.specs.Recovered.{Recovered, recovered_with, expected_heads, state_recovered}
 use Rattle.onll_jobs.specs.Durable.{TellImages, IsLeft, RecoversLeft, RecoversCrashes}
 use Rattle.onll_jobs.specs.Over.{RecoverOver, over_task, object_task, over_work}
 use Rattle.onll_task.specs.Doing.{Task}
 use Rattle.onll_recovery.proofs.Crashes.{left_recovered}
-use Rattle.onll_jobs.proofs.OnKind.{kind_goes}
+use Rattle.onll_text.proofs.EachKind.{kind_goes}
 use Rattle.onll_jobs.proofs.ExitCauses.{decided_exactly}
 
 -- What a crash left in told files is recovered.
@@ -64,28 +64,29 @@ module _ (seen : Seen) (x : Exit) (says : ExitSays seen x) (init logs bytes : Li
       (bytes, (told, subst (λ (r : Result AnyObject Refusal). Decides seen.store (on r) Done text) (sym accepted) d)) in
       decided_exactly seen x Done text (subst (λ f. Decides seen.store (job_of f) Done text) (sym form) job) none says
 
-  left_recovers : {State Op Query Reply : Type 0} (b : Behaviour State Op Query Reply) (w : Wording State Op Query Reply) (code : ℕ) (s : State)
-      → ((text : List ℕ) → Decides seen.store (each_job lines_stage (image_names logs 0 threads) (λ images. (images_task b w code bytes s images).job)) Done text → SaysThis seen (exit_status x) Done text)
-      → (left : IsLeft b code bytes s seen.store logs threads) → RecoversLeft b w code bytes s seen (exit_status x) logs threads left
-  left_recovers b w code s say left =
-      let first = created_core s code bytes left.scripts in
+  left_recovers : (k : ObjectKind) (s : k.State)
+      → ((text : List ℕ) → Decides seen.store (logs_task k bytes logs threads s).job Done text → SaysThis seen (exit_status x) Done text)
+      → (left : IsLeft k bytes s seen.store logs threads) → RecoversLeft k bytes s seen (exit_status x) logs threads left
+  left_recovers k s say left =
+      let b = k.means in
+      let w = k.wording in
+      let first = created_core s k.code bytes left.scripts in
       let core = steps_of b first left.steps in
-      let crash = (always_durable b code bytes s left.scripts left.within left.steps).crash left.images left.left in
+      let crash = (always_durable b k.code bytes s left.scripts left.within left.steps).crash left.images left.left in
       let r : Recovered = recovered_with crash.recovers.logs crash.recovers.nodes in
-      let recovered = recovered_decides b w seen.store s (state_recovered b (expected_heads code bytes left.images) left.images) r (left_recovered b code bytes s left.scripts left.steps left.images left.within left.left crash.recovers) in
-      let many : length left.images ≡ threads = images_many core.threads left.images left.left ∙ ((steps_stay b first left.steps).all_threads ∙ (created_threads s code bytes left.scripts ∙ left.many)) in
+      let recovered = recovered_decides b w seen.store s (state_recovered b (expected_heads k.code bytes left.images) left.images) r (left_recovered b k.code bytes s left.scripts left.steps left.images left.within left.left crash.recovers) in
+      let many : length left.images ≡ threads = images_many core.threads left.images left.left ∙ ((steps_stay b first left.steps).all_threads ∙ (created_threads s k.code bytes left.scripts ∙ left.many)) in
       record {
         crash = crash;
-        says = say (recover_report b w s r) (subst (λ (n : ℕ). Decides seen.store (each_job lines_stage (image_names logs 0 n) (λ images. (images_task b w code bytes s images).job)) Done (recover_report b w s r)) many
-            (decides_images seen.store logs 0 left.images (λ images. (images_task b w code bytes s images).job) Done (recover_report b w s r) left.files recovered));
+        says = say (recover_report b w s r) (subst (λ (n : ℕ). Decides seen.store (each_job lines_stage (image_names logs 0 n) (λ images. (images_task k bytes s images).job)) Done (recover_report b w s r)) many
+            (decides_images seen.store logs 0 left.images (λ images. (images_task k bytes s images).job) Done (recover_report b w s r) left.files recovered));
       }
 
 pub recovers_crashes : (seen : Seen) (x : Exit) → ExitSays seen x → RecoversCrashes seen (exit_status x)
 recovers_crashes seen x says init logs bytes threads object form told accepted none =
     kind_goes {A = Task} (λ kind s. over_task (RecoverOver logs threads) (kind_at kind) (Threads kind) bytes s)
     (λ task. (text : List ℕ) → Decides seen.store task.job Done text → SaysThis seen (exit_status x) Done text)
-    (λ k s. (left : IsLeft k.means k.code bytes s seen.store logs threads)
-    → RecoversLeft k.means k.wording k.code bytes s seen (exit_status x) logs threads left)
+    (λ k s. (left : IsLeft k bytes s seen.store logs threads) → RecoversLeft k bytes s seen (exit_status x) logs threads left)
     (λ says. says)
-    (λ kind s known say left. left_recovers seen x says init logs bytes threads object form told accepted none (kind_at kind).means (kind_at kind).wording (kind_at kind).code s say left)
+    (λ kind s known say left. left_recovers seen x says init logs bytes threads object form told accepted none (kind_at kind) s say left)
     object (object_says seen x says init logs bytes threads object form told accepted none)

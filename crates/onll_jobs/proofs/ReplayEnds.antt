@@ -1,5 +1,4 @@
 use Rattle.std.proofs.Common.{ℕ, suc, List, [], ◌∷◌, ◌≡◌, ◌≤◌, inl, inr, length, Some, Result, Ok, refl, sym, ap, subst}
-use Rattle.onll_model.specs.Limits.{greatest_code}
 use Rattle.std.specs.List.{AllByRecursion}
 use Rattle.onll_model.specs.declared.call.Call.{Call}
 use Rattle.onll_model.specs.Object.{Behaviour}
@@ -16,7 +15,7 @@ use Rattle.onll_text.specs.declared.any_object.AnyObject.{AnyObject}
 use Rattle.onll_text.specs.declared.schedule.Schedule.{Schedule}
 use Rattle.onll_text.specs.Wording.{Wording}
 use Rattle.onll_text.specs.Init.{init_of}
-use Rattle.onll_text.specs.Kinds.{kind_at}
+use Rattle.onll_text.specs.Kinds.{ObjectKind, kind_at}
 use Rattle.onll_text.specs.Schedule.{schedule_of}
 use Rattle.onll_text.proofs.FewCalls.{few_calls}
 use Rattle.onll_outside.specs.Views.{StoreView}
@@ -38,7 +37,7 @@ use Rattle.onll_jobs.specs.Over.{ReplayOver, over_task, object_task, over_work}
 use Rattle.onll_task.specs.Doing.{Task}
 use Rattle.onll_recovery.proofs.Crashes.{crash_recovered}
 use Rattle.onll_jobs.proofs.SaidEnds.{IsSaid, can_write, whole_ends, scripts_end}
-use Rattle.onll_jobs.proofs.OnKind.{kind_goes}
+use Rattle.onll_text.proofs.EachKind.{IsKnown, kind_goes}
 use Rattle.onll_jobs.proofs.Forms.{few-scripts}
 
 -- How a replay ends where each file is read and written and no text is refused: it is done, and its run is durable.
@@ -70,51 +69,53 @@ module _ (after : StoreView) (ending : Ending) (text : List ℕ) (said : IsSaid 
     few_updates (name ∷ names) [] h = absurd h
     few_updates (name ∷ names) (script ∷ scripts) h = ((few_calls w h.0.bytes script h.0.accepted).0, few_updates names scripts h.1)
 
-    -- ---- what was replayed
-    module _ (code : ℕ) (is : (1 ≤ code) × (code ≤ greatest_code)) (init : List ℕ) (s : State) (schedule logs : List ℕ) (names : List (List ℕ)) (few : length names ≤ 16) where
-      -- what a crash says of a core that was played
-      crash_ends : (scripts : List (List (Call State Op Query Reply))) (c : CoreState State Op Query Reply) (keep : ℕ) (store' : StoreView) (recovered : Result Recovered StateFault) (r : Recovered) → recovered ≡ Ok r → JobEnds store' after (run_task b w scripts c keep recovered).job ending text
-          → (ending ≡ Done) × (text ≡ replay_report b w c keep r) × FilesStay store' after × SameCounts store' after
-      crash_ends scripts c keep store' recovered r e h = subst (λ (x : Result Recovered StateFault). JobEnds store' after (run_task b w scripts c keep x).job ending text) e h
+    -- what a crash says of a core that was played
+    crash_ends : (scripts : List (List (Call State Op Query Reply))) (c : CoreState State Op Query Reply) (keep : ℕ) (recovered : Result Recovered StateFault) (r : Recovered) → recovered ≡ Ok r → JobEnds store after (run_task b w scripts c keep recovered).job ending text
+        → (ending ≡ Done) × (text ≡ replay_report b w c keep r) × FilesStay store after × SameCounts store after
+    crash_ends scripts c keep recovered r e h = subst (λ (x : Result Recovered StateFault). JobEnds store after (run_task b w scripts c keep x).job ending text) e h
 
-      on_ends : JobEnds store after (scripts_task b w code init schedule logs names s).job ending text → (ending ≡ Done) × HasReplayed b w code init s store after schedule logs names text
-      on_ends h =
-          let read = scripts_end after ending text said w store names (λ scripts. (schedule_task b w code init s schedule logs scripts).job) h in
-          let scripts = read.scripts in
-          let count = length scripts in
-          let planned = whole_ends after ending text said store schedule (schedule_of count) (λ bytes (plan : Schedule). (crash_task b w logs scripts (played b code init s scripts plan.turns) plan.keep).job) read.ends in
-          let plan = planned.value in
-          let core = played b code init s scripts plan.turns in
-          let images = images_of plan.keep core.threads in
-          let recovered = state_recovered b (heads_of core.threads) images in
-          let within : IsWithinLimits code scripts = record { code = is; few = subst (λ (n : ℕ). n ≤ 16) (sym (many_scripts names scripts read.read)) few; updates = few_updates names scripts read.read } in
-          let durable = always_durable b code init s scripts within in
-          let left = picked_images count core plan.keep (steps_consistent b count (created_core s code init scripts) (turns_of plan.turns) (created_consistent s code init scripts within)) in
-          let crash = (durable (turns_of plan.turns)).crash images left in
-          let is_recovered = crash_recovered b code init s scripts (turns_of plan.turns) images crash.recovers in
-          let end = crash_ends scripts core plan.keep (with_images store logs 0 images) recovered (recovered_with crash.recovers.logs crash.recovers.nodes) is_recovered (images_end store logs 0 images (run_task b w scripts core plan.keep recovered).job planned.ends) in (
-            end.0,
-            record {
-              scripts = scripts;
-              plan = plan;
-              read = read.read;
-              planned = record { bytes = planned.bytes; held = planned.read.held; accepted = planned.read.accepted };
-              durable = durable;
-              core = core;
-              run = refl;
-              crash = crash;
-              printed = end.1;
-              files = end.2;
-            },
-          )
+  -- ---- what was replayed
+  on_ends : (k : ObjectKind) → IsKnown k → (store : StoreView) (init : List ℕ) (s : k.State) (schedule logs : List ℕ) (names : List (List ℕ)) → length names ≤ 16
+      → JobEnds store after (scripts_task k init schedule logs names s).job ending text → (ending ≡ Done) × HasReplayed k init s store after schedule logs names text
+  on_ends k is store init s schedule logs names few h =
+      let b = k.means in
+      let w = k.wording in
+      let read = scripts_end after ending text said w store names (λ scripts. (schedule_task k init s schedule logs scripts).job) h in
+      let scripts = read.scripts in
+      let count = length scripts in
+      let planned = whole_ends after ending text said store schedule (schedule_of count) (λ bytes (plan : Schedule). (crash_task b w logs scripts (played b k.code init s scripts plan.turns) plan.keep).job) read.ends in
+      let plan = planned.value in
+      let core = played b k.code init s scripts plan.turns in
+      let images = images_of plan.keep core.threads in
+      let recovered = state_recovered b (heads_of core.threads) images in
+      let within : IsWithinLimits k.code scripts = record { code = is; few = subst (λ (n : ℕ). n ≤ 16) (sym (many_scripts b w store names scripts read.read)) few; updates = few_updates b w store names scripts read.read } in
+      let durable = always_durable b k.code init s scripts within in
+      let left = picked_images count core plan.keep (steps_consistent b count (created_core s k.code init scripts) (turns_of plan.turns) (created_consistent s k.code init scripts within)) in
+      let crash = (durable (turns_of plan.turns)).crash images left in
+      let is_recovered = crash_recovered b k.code init s scripts (turns_of plan.turns) images crash.recovers in
+      let end = crash_ends b w (with_images store logs 0 images) scripts core plan.keep recovered (recovered_with crash.recovers.logs crash.recovers.nodes) is_recovered (images_end store logs 0 images (run_task b w scripts core plan.keep recovered).job planned.ends) in (
+        end.0,
+        record {
+          scripts = scripts;
+          plan = plan;
+          read = read.read;
+          planned = record { bytes = planned.bytes; held = planned.read.held; accepted = planned.read.accepted };
+          durable = durable;
+          core = core;
+          run = refl;
+          crash = crash;
+          printed = end.1;
+          files = end.2;
+        },
+      )
 
   any_ends : (store : StoreView) (init schedule logs : List ℕ) (names : List (List ℕ)) (object : AnyObject) → length names ≤ 16
       → JobEnds store after (object_task (ReplayOver schedule logs names) init object).job ending text
       → (ending ≡ Done) × HasReplayedAny init store after schedule logs names text object
   any_ends store init schedule logs names object few h =
       kind_goes {A = Task} (λ kind s. over_task (ReplayOver schedule logs names) (kind_at kind) (Threads kind) init s) (λ task. JobEnds store after task.job ending text)
-      (λ k s. HasReplayed k.means k.wording k.code init s store after schedule logs names text) (λ says. (ending ≡ Done) × says)
-      (λ kind s known h. on_ends (kind_at kind).means (kind_at kind).wording store (kind_at kind).code known init s schedule logs names few h) object h
+      (λ k s. HasReplayed k init s store after schedule logs names text) (λ says. (ending ≡ Done) × says)
+      (λ kind s known h. on_ends (kind_at kind) known store init s schedule logs names few h) object h
 
   job_ends : (store : StoreView) (init schedule logs : List ℕ) (names : List (List ℕ)) → length names ≤ 16
       → JobEnds store after (over_work init (ReplayOver schedule logs names)).task.job ending text → ReplayEnds store after init schedule logs names ending text

@@ -24,7 +24,7 @@ use Rattle.onll_jobs.specs.Seen.{Seen}
 use Rattle.onll_jobs.specs.Over.{RunOver, over_task, object_task}
 use Rattle.onll_jobs.specs.RunPromises.{HasReported, HasNoHeader, RanWhole, RanBroken, RunPut}
 use Rattle.onll_jobs.specs.Says.{job_of, PutWhole}
-use Rattle.onll_jobs.proofs.OnKind.{each_kind, kind_goes}
+use Rattle.onll_text.proofs.EachKind.{each_kind, kind_goes}
 use Rattle.onll_jobs.proofs.SaidEnds.{IsSaid, WholeEnds, whole_ends, scripts_end}
 
 -- ---- what is kept stays kept where no file changes

@@ -2,7 +2,6 @@
 
 use Rattle.std.specs.Prelude.{ℕ, suc, ◌≡◌, List, [], ◌∷◌, length, Some, Ok}
 use Rattle.onll_model.specs.declared.call.Call.{Call}
-use Rattle.onll_model.specs.Object.{Behaviour}
 use Rattle.onll_log.specs.ImageFile.{image_lines}
 use Rattle.onll_core.specs.Core.{CoreState}
 use Rattle.onll_core.specs.Step.{steps_of}
@@ -11,10 +10,9 @@ use Rattle.onll_core.specs.Crash.{AreImages, images_of, RecoversAll}
 use Rattle.onll_core.specs.Durable.{AlwaysDurable}
 use Rattle.onll_text.specs.declared.any_object.AnyObject.{AnyObject}
 use Rattle.onll_text.specs.declared.schedule.Schedule.{Schedule}
-use Rattle.onll_text.specs.Wording.{Wording}
 use Rattle.onll_text.specs.Init.{init_of}
 use Rattle.onll_text.specs.Schedule.{schedule_of}
-use Rattle.onll_text.specs.Kinds.{on_object}
+use Rattle.onll_text.specs.Kinds.{ObjectKind, on_object}
 use Rattle.onll_outside.specs.Views.{StoreView, Puts}
 use Rattle.onll_task.specs.declared.ending.Ending.TheVariants.{Done}
 use Rattle.onll_jobs.specs.Seen.{Seen}
@@ -37,25 +35,24 @@ with_images store logs i (image ∷ images) = with_images (written store (image_
 -- This text is the report of a run of the scripts that the files hold, by the schedule that a file holds. Every run of these
 -- scripts, by any schedule, is durable at each step; and what is printed of this one is its calls and its trace, and the front
 -- of that trace which the images of its crash recover to. They are in the files of the logs.
-pub record HasReplayed {State Op Query Reply : Type 0} (b : Behaviour State Op Query Reply)
-    (w : Wording State Op Query Reply) (code : ℕ) (init : List ℕ) (s : State)
-    (store after : StoreView) (schedule logs : List ℕ) (names : List (List ℕ)) (text : List ℕ) : Type 0 where
-  pub scripts : List (List (Call State Op Query Reply))
+pub record HasReplayed (k : ObjectKind) (init : List ℕ) (s : k.State) (store after : StoreView) (schedule logs : List ℕ)
+    (names : List (List ℕ)) (text : List ℕ) : Type 0 where
+  pub scripts : List (List (Call k.State k.Op k.Query k.Reply))
   pub plan : Schedule
-  pub read : ReadScripts w store names scripts
+  pub read : ReadScripts k.wording store names scripts
   pub planned : Reads store (schedule_of (length scripts)) schedule plan
-  pub durable : AlwaysDurable b code init s scripts
-  pub core : CoreState State Op Query Reply
-  pub run : core ≡ played b code init s scripts plan.turns
-  pub crash : RecoversAll b (created_heads code init scripts) core (images_of plan.keep core.threads)
-  pub printed : text ≡ replay_report b w core plan.keep (recovered_with crash.recovers.logs crash.recovers.nodes)
+  pub durable : AlwaysDurable k.means k.code init s scripts
+  pub core : CoreState k.State k.Op k.Query k.Reply
+  pub run : core ≡ played k.means k.code init s scripts plan.turns
+  pub crash : RecoversAll k.means (created_heads k.code init scripts) core (images_of plan.keep core.threads)
+  pub printed : text ≡ replay_report k.means k.wording core plan.keep (recovered_with crash.recovers.logs crash.recovers.nodes)
   pub files : FilesStay (with_images store logs 0 (images_of plan.keep core.threads)) after
 
 -- the same for an object of any kind
 abbrev pub HasReplayedAny : (init : List ℕ) → (store after : StoreView) → (schedule logs : List ℕ)
     → List (List ℕ) → List ℕ → AnyObject → Type 0
 HasReplayedAny init store after schedule logs names text object =
-    on_object (λ k s. HasReplayed k.means k.wording k.code init s store after schedule logs names text) object
+    on_object (λ k s. HasReplayed k init s store after schedule logs names text) object
 
 -- a replay over the initial state that a file holds, whose report was put
 pub record ReplayPut (seen : Seen) (init schedule logs : List ℕ) (names : List (List ℕ)) : Type 0 where
@@ -85,32 +82,27 @@ TellImages store logs i (image ∷ images) = TellsImage store (image_name logs i
 
 -- A crash left the files of the logs: some scripts within the limits were run, by any steps of their threads, and each file
 -- holds any of the images that the thread's device may have.
-pub record IsLeft {State Op Query Reply : Type 0} (b : Behaviour State Op Query Reply) (code : ℕ) (init : List ℕ)
-    (s : State) (store : StoreView) (logs : List ℕ) (threads : ℕ) : Type 0 where
-  pub scripts : List (List (Call State Op Query Reply))
-  pub within : IsWithinLimits code scripts
+pub record IsLeft (k : ObjectKind) (init : List ℕ) (s : k.State) (store : StoreView) (logs : List ℕ) (threads : ℕ) : Type 0 where
+  pub scripts : List (List (Call k.State k.Op k.Query k.Reply))
+  pub within : IsWithinLimits k.code scripts
   pub many : length scripts ≡ threads
   pub steps : List ℕ
   pub images : List (List (List ℕ))
-  pub left : AreImages (steps_of b (created_core s code init scripts) steps).threads images
+  pub left : AreImages (steps_of k.means (created_core s k.code init scripts) steps).threads images
   pub files : TellImages store logs 0 images
 
 -- What is printed is the front of that run's trace which holds every returned update and all that returned reads saw, and the
 -- state after it; or memory could not be had.
-pub record RecoversLeft {State Op Query Reply : Type 0} (b : Behaviour State Op Query Reply)
-    (w : Wording State Op Query Reply) (code : ℕ) (init : List ℕ) (s : State)
-    (seen : Seen) (status : ℕ) (logs : List ℕ) (threads : ℕ) (left : IsLeft b code init s seen.store logs threads) : Type 0 where
-  pub crash : RecoversAll b (created_heads code init left.scripts)
-      (steps_of b (created_core s code init left.scripts) left.steps) left.images
-  pub says : SaysThis seen status Done (recover_report b w s (recovered_with crash.recovers.logs crash.recovers.nodes))
+pub record RecoversLeft (k : ObjectKind) (init : List ℕ) (s : k.State) (seen : Seen) (status : ℕ) (logs : List ℕ) (threads : ℕ)
+    (left : IsLeft k init s seen.store logs threads) : Type 0 where
+  pub crash : RecoversAll k.means (created_heads k.code init left.scripts)
+      (steps_of k.means (created_core s k.code init left.scripts) left.steps) left.images
+  pub says : SaysThis seen status Done (recover_report k.means k.wording s (recovered_with crash.recovers.logs crash.recovers.nodes))
 
 -- the same for an object of any kind
 abbrev pub RecoversLeftAny : (init : List ℕ) → Seen → (status : ℕ) → (logs : List ℕ) → (threads : ℕ) → AnyObject → Type 0
 RecoversLeftAny init seen status logs threads object =
-    on_object
-    (λ k s. (left : IsLeft k.means k.code init s seen.store logs threads)
-    → RecoversLeft k.means k.wording k.code init s seen status logs threads left)
-    object
+    on_object (λ k s. (left : IsLeft k init s seen.store logs threads) → RecoversLeft k init s seen status logs threads left) object
 
 -- a recovery over the initial state that a file tells, where no call of the store or of the sink failed
 abbrev pub RecoversCrashes : Seen → ℕ → Type 0

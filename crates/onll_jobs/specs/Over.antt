@@ -1,18 +1,19 @@
 -- What the commands over an object do, of whatever kind it is, once its initial state is read.
 
-use Rattle.std.specs.Prelude.{ℕ, List, [], ◌≤◌, length, map, string_bytes}
+use Rattle.std.specs.Prelude.{ℕ, List, [], ◌≤◌, Result, length, map, string_bytes}
+use Rattle.std.specs.declared.vec.Vec.{Vec}
+use Rattle.onll_outside.specs.Views.{StoreView}
 use Rattle.onll_model.specs.Limits.{most_threads}
 use Rattle.onll_text.specs.Init.{init_of}
-use Rattle.onll_text.specs.declared.any_object.Kind.{Kind}
-use Rattle.onll_text.specs.declared.any_object.Kind.TheVariants as kinds
 use Rattle.onll_text.specs.declared.any_object.AnyObject.{AnyObject}
-use Rattle.onll_text.specs.declared.any_object.AnyObject.TheVariants as objects
-use Rattle.onll_text.specs.Kinds.{ObjectKind, kind_at}
+use Rattle.onll_text.specs.Kinds.{ObjectKind, kind_at, on_kind}
 use Rattle.onll_jobs.specs.declared.objects.Over.{Over}
 use Rattle.onll_jobs.specs.declared.objects.Over.TheVariants as overs
-use Rattle.onll_task.specs.Doing.{Task, Work, after_stage, whole_stage}
+use Rattle.onll_task.specs.declared.answer.Stop.{Stop}
+use Rattle.onll_task.specs.Doing.{Task, Work, Does, after_stage, whole_stage}
 use Rattle.onll_task.specs.Job.{Job, Threads}
 use Rattle.onll_task.specs.Running.{RunPlan, RunLeft}
+use Rattle.onll_task.specs.Standing.{StandsForRuns}
 use Rattle.onll_jobs.specs.FoldJob.{script_task}
 use Rattle.onll_task.specs.ImageNames.{image_names}
 use Rattle.onll_recovery.specs.RecoverJob.{logs_task}
@@ -44,16 +45,9 @@ IsOver (overs.Run logs scripts) = (1 ≤ length scripts.now) × (length scripts.
 -- the task over a state of this kind, which these bytes say; a part of its job that runs scripts on threads is made so
 abbrev pub over_task : OverForm → (k : ObjectKind) → (RunPlan k → (RunLeft k → Job) → Job) → List ℕ → k.State → Task
 over_task (FoldOver script) k threads init s = script_task k.means k.wording s script
-over_task (RecoverOver logs count) k threads init s = logs_task k.means k.wording k.code init logs count s
-over_task (ReplayOver schedule logs names) k threads init s = scripts_task k.means k.wording k.code init schedule logs names s
+over_task (RecoverOver logs count) k threads init s = logs_task k init logs count s
+over_task (ReplayOver schedule logs names) k threads init s = scripts_task k init schedule logs names s
 over_task (RunOver logs names) k threads init s = run_task k threads init logs names s
-
--- what is said of a kind by its name and of a state of it, of an object of any kind
-abbrev pub on_kind {ℓ} : {A : Type ℓ} → ((kind : Kind) → (kind_at kind).State → A) → AnyObject → A
-on_kind say (objects.Bank s) = say kinds.Bank s
-on_kind say (objects.Map s) = say kinds.Map s
-on_kind say (objects.Queue s) = say kinds.Queue s
-on_kind say (objects.Lease s) = say kinds.Lease s
 
 -- the task over an object, whose initial state these bytes say
 abbrev pub object_task : OverForm → List ℕ → AnyObject → Task
@@ -65,6 +59,12 @@ over_writes (FoldOver script) = []
 over_writes (RecoverOver logs threads) = []
 over_writes (ReplayOver schedule logs names) = image_names logs 0 (length names)
 over_writes (RunOver logs names) = image_names logs 0 (length names)
+
+-- What a function does over a state of a kind, which these bytes say: the task, whatever stands for the runs of that kind in it.
+pub record DoesOver {A : Type 0} (over : OverForm) (k : ObjectKind) (store after : StoreView) (init : List ℕ) (s : k.State)
+    (result : Result (Vec ℕ A) Stop) : Type 0 where
+  pub by : (threads : RunPlan k → (RunLeft k → Job) → Job) → StandsForRuns k threads
+      → Does (over_writes over) store after (over_task over k threads init s) result
 
 -- the initial state is read first
 abbrev pub over_work : (init : List ℕ) → OverForm → Work

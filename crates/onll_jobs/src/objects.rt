@@ -1,9 +1,8 @@
 //! The commands over an object: one dispatch over the kinds of object, for all of them.
 
-ghost use Rattle.onll_text.specs.Kinds.{kind_by};
+ghost use Rattle.onll_text.specs.Kinds.{kind_by, on_object};
 ghost use Rattle.onll_task.specs.Doing.{Does};
-ghost use Rattle.onll_task.specs.Standing.{StandsForRuns};
-ghost use Rattle.onll_jobs.specs.Over.{over_in, IsOver, object_task, over_task, over_writes, over_work};
+ghost use Rattle.onll_jobs.specs.Over.{over_in, IsOver, DoesOver, over_work};
 
 use crate::fold;
 use onll_outside::{Gate, Store};
@@ -47,10 +46,8 @@ fn over_one<R: Threads + Wait + Sync, O: Texted + Drop + Send + Sync, S: Store, 
     store: &mut S,
 ) -> Result<Vec<u8>, Stop>
     requires { IsOver over }
-    ensures { let form = over_in over.entry in
-        let k = kind_by O.means O.wording O.CODE in
-        (threads : _) → StandsForRuns k threads
-        → Does (over_writes form) (S.seen store.old) (S.seen store.new) (over_task form k threads init.now object) result }
+    ensures { let k = kind_by O.means O.wording O.CODE in
+        DoesOver (over_in over.entry) k (S.seen store.old) (S.seen store.new) init.now object result }
 {
     match over {
         Over::Fold { script } => fold::fold_object(alloc, &mut object, script, store),
@@ -80,7 +77,7 @@ fn over_any<R: Threads + Wait + Sync, S: Store, G: Gate + Sync>(
 ) -> Result<Vec<u8>, Stop>
     requires { IsOver over }
     ensures { let form = over_in over.entry in
-        Does (over_writes form) (S.seen store.old) (S.seen store.new) (object_task form init.now object) result }
+        on_object (λ k s. DoesOver form k (S.seen store.old) (S.seen store.new) init.now s result) object }
 {
     match object {
         AnyObject::Bank(bank) => over_one(rt, alloc, bank, init, over, gate, store),

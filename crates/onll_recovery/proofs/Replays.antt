@@ -18,6 +18,7 @@ use Rattle.onll_core.specs.Outcomes.{script_of}
 use Rattle.onll_core.proofs.Crashed.{steps_scripts}
 use Rattle.onll_core.proofs.Operations.{steps_operations}
 use Rattle.onll_merge.specs.Recovered.{state_recovered}
+use Rattle.onll_text.specs.Kinds.{kind_by}
 use Rattle.onll_text.specs.Wording.{Wording}
 use Rattle.onll_text.specs.declared.schedule.Schedule.{Schedule}
 use Rattle.onll_text.specs.Schedule.{schedule_of}
@@ -75,7 +76,7 @@ module _ {State Op Query Reply : Type 0} (b : Behaviour State Op Query Reply) (w
   pub schedule_does : {A : Type 0} (code : ℕ) (init : List ℕ) (s : State) (schedule : List ℕ) (scripts : List (List (Call State Op Query Reply))) (n : ℕ) (plan : Schedule) (c : CoreState State Op Query Reply) {store mid after : StoreView} (r : Result (Vec ℕ A) Stop)
       → Begins [] store mid (text_stage schedule (schedule_of (length scripts))) (λ (p : Schedule). p) (Ok plan) → c ≡ played b code init s scripts plan.turns → length c.threads ≡ n
       → Does (image_names logs 0 (length c.threads)) mid after (crash_task b w logs (map script_of c.threads) c plan.keep) r
-      → Does (image_names logs 0 n) store after (schedule_task b w code init s schedule logs scripts) r
+      → Does (image_names logs 0 n) store after (schedule_task (kind_by b w code) init s schedule logs scripts) r
   schedule_does code init s schedule scripts n plan c {store} {mid} {after} r first e many says =
       let run : CoreState State Op Query Reply = played b code init s scripts plan.turns in
       let by : List (List (Call State Op Query Reply)) → CoreState State Op Query Reply → Type 0 =

@@ -10,6 +10,7 @@ use Rattle.onll_merge.specs.declared.fault.RecoverFault.{RecoverFault}
 use Rattle.onll_merge.specs.declared.fault.RecoverFault.TheVariants as merging
 use Rattle.onll_merge.specs.declared.counts.LogCounts.{LogCounts}
 use Rattle.onll_merge.specs.Recovered.{Recovered, expected_heads, state_recovered}
+use Rattle.onll_text.specs.Kinds.{ObjectKind}
 use Rattle.onll_text.specs.Wording.{Wording}
 use Rattle.onll_text.specs.Lines.{log_line, node_lines, state_lines}
 use Rattle.onll_task.specs.declared.ending.Ending.TheVariants.{BadLog}
@@ -124,12 +125,10 @@ recovered_task b w s (Ok r) =
     report_task (recover_report b w s r) (λ text. SaysOnly (recover_data_lines b w) (RecoverReads b w) text (recover_data b s r))
 recovered_task b w s (Err fault) = say_task BadLog (fault_line fault)
 
--- what these images give, over an object of this code whose initial state these bytes say
-abbrev pub images_task : {State Op Query Reply : Type 0} → Behaviour State Op Query Reply → Wording State Op Query Reply
-    → ℕ → List ℕ → State → List (List (List ℕ)) → Task
-images_task b w code init s images = recovered_task b w s (state_recovered b (expected_heads code init images) images)
+-- what these images give, over an object of this kind whose initial state these bytes say
+abbrev pub images_task : (k : ObjectKind) → List ℕ → k.State → List (List (List ℕ)) → Task
+images_task k init s images = recovered_task k.means k.wording s (state_recovered k.means (expected_heads k.code init images) images)
 
 -- all images are read first
-abbrev pub logs_task : {State Op Query Reply : Type 0} → Behaviour State Op Query Reply → Wording State Op Query Reply
-    → ℕ → List ℕ → (logs : List ℕ) → (threads : ℕ) → State → Task
-logs_task b w code init logs threads s = after_stage (images_stage logs threads) (images_task b w code init s)
+abbrev pub logs_task : (k : ObjectKind) → (init logs : List ℕ) → (threads : ℕ) → k.State → Task
+logs_task k init logs threads s = after_stage (images_stage logs threads) (images_task k init s)

@@ -17,6 +17,7 @@ use Rattle.onll_core.specs.Created.{created_core}
 use Rattle.onll_core.specs.Outcomes.{ends_of}
 use Rattle.onll_core.specs.Crash.{heads_of, images_of}
 use Rattle.onll_text.specs.declared.schedule.Schedule.{Schedule}
+use Rattle.onll_text.specs.Kinds.{ObjectKind}
 use Rattle.onll_text.specs.Wording.{Wording}
 use Rattle.onll_text.specs.Lines.{call_lines, trace_line, node_line, log_line, state_lines}
 use Rattle.onll_text.specs.Script.{script_of}
@@ -170,11 +171,10 @@ crash_task b w logs scripts c keep = after_stage (writing_stage logs (images_of 
     (λ _. run_task b w scripts c keep (state_recovered b (heads_of c.threads) (images_of keep c.threads)))
 
 -- the schedule of these scripts is read and played, and the core crashes
-abbrev pub schedule_task : {State Op Query Reply : Type 0} → Behaviour State Op Query Reply
-    → Wording State Op Query Reply → ℕ → List ℕ → State → (schedule logs : List ℕ)
-    → List (List (Call State Op Query Reply)) → Task
-schedule_task b w code init s schedule logs scripts = after_stage (text_stage schedule (schedule_of (length scripts)))
-    (λ (plan : Schedule). crash_task b w logs scripts (played b code init s scripts plan.turns) plan.keep)
+abbrev pub schedule_task : (k : ObjectKind) → List ℕ → k.State → (schedule logs : List ℕ)
+    → List (List (Call k.State k.Op k.Query k.Reply)) → Task
+schedule_task k init s schedule logs scripts = after_stage (text_stage schedule (schedule_of (length scripts)))
+    (λ (plan : Schedule). crash_task k.means k.wording logs scripts (played k.means k.code init s scripts plan.turns) plan.keep)
 
 -- scripts are read, one after the other
 abbrev pub scripts_stage : {State Op Query Reply : Type 0} → Wording State Op Query Reply → List (List ℕ)
@@ -186,6 +186,5 @@ abbrev pub ReadScripts : {State Op Query Reply : Type 0} → Wording State Op Qu
     → List (List (Call State Op Query Reply)) → Type 0
 ReadScripts w store names scripts = (scripts_stage w names).known store scripts
 
-abbrev pub scripts_task : {State Op Query Reply : Type 0} → Behaviour State Op Query Reply → Wording State Op Query Reply
-    → ℕ → List ℕ → (schedule logs : List ℕ) → List (List ℕ) → State → Task
-scripts_task b w code init schedule logs names s = after_stage (scripts_stage w names) (schedule_task b w code init s schedule logs)
+abbrev pub scripts_task : (k : ObjectKind) → (init schedule logs : List ℕ) → List (List ℕ) → k.State → Task
+scripts_task k init schedule logs names s = after_stage (scripts_stage k.wording names) (schedule_task k init s schedule logs)

@@ -12,6 +12,7 @@ ghost use Rattle.onll_text.specs.Reports.{NodeReads, StateReads};
 ghost use Rattle.onll_task.specs.Images.{images_in};
 ghost use Rattle.onll_task.specs.Doing.{Does};
 ghost use Rattle.onll_outside.specs.Views.{StoreView};
+ghost use Rattle.onll_text.specs.Kinds.{kind_by};
 ghost use Rattle.onll_recovery.specs.RecoverJob.{HeldReads, RecoverReads, held_of, data_with, content_line, log_lines, recovered_line, lines_with, recovered_task, images_task, logs_task};
 
 use crate::bad_logs::bad_logs;
@@ -119,7 +120,7 @@ fn recover_on<O: Texted>(
     images: &[Vec<Line>],
 ) -> Result<Vec<u8>, Stop>
     requires { (1 ≤ length images.now) × (length images.now ≤ most_threads) }
-    ensures { let task = images_task O.means O.wording O.CODE init.now object.old (images_in images.now) in
+    ensures { let task = images_task (kind_by O.means O.wording O.CODE) init.now object.old (images_in images.now) in
         (store : StoreView) → Does [] store store task result }
 {
     let heads = expected_heads(alloc, O::CODE, init, images)?;
@@ -136,7 +137,7 @@ pub fn recover_logs<O: Texted, S: Store>(
     store: &mut S,
 ) -> Result<Vec<u8>, Stop>
     requires { (1 ≤ threads) × (threads ≤ most_threads) }
-    ensures { let task = logs_task O.means O.wording O.CODE init.now logs.now threads object.old in
+    ensures { let task = logs_task (kind_by O.means O.wording O.CODE) init.now logs.now threads object.old in
         Does [] (S.seen store.old) (S.seen store.new) task result }
 {
     match read_images(alloc, logs, threads, store) {

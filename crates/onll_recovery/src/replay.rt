@@ -15,6 +15,7 @@ ghost use Rattle.onll_text.specs.Schedule.{IsPlayable};
 ghost use Rattle.onll_merge.specs.Recovered.{recovered_in, state_recovered};
 ghost use Rattle.onll_task.specs.ImageNames.{image_names};
 ghost use Rattle.onll_task.specs.Images.{images_in};
+ghost use Rattle.onll_text.specs.Kinds.{kind_by};
 ghost use Rattle.onll_recovery.specs.ReplayJob.{begun_lines, flagged_lines, crash_line, fenced_lines, run_lines, crash_lines, replay_report, EachReads, LogReads, RunReads, counts_of, replay_data, run_task, crash_task, played, schedule_task, scripts_stage, scripts_task};
 ghost use Rattle.onll_task.specs.Doing.{Does, Begins};
 ghost use Rattle.onll_outside.specs.Views.{StoreView};
@@ -316,7 +317,7 @@ fn replay_scripts<O: Texted + Drop, S: Store>(
     requires few { (1 ≤ length scripts.items) × (length scripts.items ≤ most_threads) }
     requires updates { All (λ script. updates_in script.items ≤ most_updates) scripts.items }
     ensures { let calls = map (λ script. script.items) scripts.items in
-        let task = schedule_task O.means O.wording O.CODE init.now object schedule.now logs.now calls in
+        let task = schedule_task (kind_by O.means O.wording O.CODE) init.now object schedule.now logs.now calls in
         Does (image_names logs.now 0 (length scripts.items)) (S.seen store.old) (S.seen store.new) task result }
 {
     match schedule_file(alloc, schedule, scripts.len() as u64, store) {
@@ -340,7 +341,7 @@ pub fn replay_on<O: Texted + Drop, S: Store>(
 ) -> Result<Vec<u8>, Stop>
     requires { (1 ≤ length scripts.now) × (length scripts.now ≤ most_threads) }
     ensures { let names = map string_bytes scripts.now in
-        let task = scripts_task O.means O.wording O.CODE init.now schedule.now logs.now names object in
+        let task = scripts_task (kind_by O.means O.wording O.CODE) init.now schedule.now logs.now names object in
         Does (image_names logs.now 0 (length scripts.now)) (S.seen store.old) (S.seen store.new) task result }
 {
     match script_files::<O, S>(alloc, scripts, store) {

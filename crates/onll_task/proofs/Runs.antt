@@ -3,17 +3,22 @@
 use Rattle.std.proofs.Common.{Vec, ℕ, List, ◌≡◌, Ok, Err, inl, inr, sym, subst}
 use Rattle.onll_outside.specs.Views.{StoreView}
 use Rattle.onll_run.specs.Left.{HasRun}
-use Rattle.onll_text.specs.Kinds.{ObjectKind}
+use Rattle.onll_text.specs.declared.any_object.Kind.{Kind}
+use Rattle.onll_text.specs.Kinds.{ObjectKind, kind_at}
 use Rattle.onll_task.specs.declared.ending.Ending.{Ending}
 use Rattle.onll_task.specs.declared.ending.Ending.TheVariants.{Done, Faulty}
 use Rattle.onll_task.specs.declared.answer.Stop.{Stop}
 use Rattle.onll_task.specs.declared.answer.Stop.TheVariants.{Says, NoMemory}
-use Rattle.onll_task.specs.Job.{Job, JobEnds}
+use Rattle.onll_task.specs.Job.{Job, Threads, JobEnds}
 use Rattle.onll_task.specs.Doing.{Task, after_stage, Does}
 use Rattle.onll_task.specs.Running.{RunPlan, RunLeft, HasKept, RunStops, log_files}
 use Rattle.onll_task.specs.Standing.{StandsForRuns, threads_stage}
 use Rattle.onll_task.specs.Stop.{StopSays}
 use Rattle.onll_task.specs.Writing.{AllButStay, SameBut}
+
+-- a job's node of a kind stands for the runs of that kind
+pub stands_at : (kind : Kind) → StandsForRuns (kind_at kind) (Threads kind)
+stands_at kind = record { ends = λ plan next store after ending text h. h; cut = λ plan next store after h. h }
 
 module _ {k : ObjectKind} (threads : RunPlan k → (RunLeft k → Job) → Job) (stands : StandsForRuns k threads) (plan : RunPlan k)
     (next : RunLeft k → Task) where

@@ -8,47 +8,39 @@ use Rattle.std.proofs.lemmas.Bool.Decides.{nat_tests}
 use Rattle.std.proofs.Math.Bool.{or-true}
 use Rattle.onll_words.specs.Texts.{IsWord, is_empty, is_word_byte}
 use Rattle.onll_text.specs.declared.any_object.Kind.{Kind}
-use Rattle.onll_text.specs.declared.any_object.Kind.TheVariants as kinds
 use Rattle.onll_text.specs.declared.any_object.AnyObject.{AnyObject}
-use Rattle.onll_text.specs.declared.any_object.AnyObject.TheVariants as objects
 use Rattle.onll_text.specs.Init.{named_kinds}
-use Rattle.onll_text.specs.Kinds.{ObjectKind, kind_at, on_object, name_in, object_name}
+use Rattle.onll_text.specs.Kinds.{ObjectKind, kind_at, on_kind, on_object, name_in, object_name}
 
 -- ---- each kind
 -- the code of this kind is that of a kind of the list
 abbrev pub IsKnown : ObjectKind → Type 0
 IsKnown k = (1 ≤ k.code) × (k.code ≤ length named_kinds)
 
--- An object is of one kind, whose code is known, and in one state of it: what is said of it, as one thing or as another, is said of these.
-pub by_kind {ℓ κ μ} : {A : Type κ} {B : Type μ} (P : AnyObject → Type ℓ)
-    → ((k : ObjectKind) (s : k.State) (object : AnyObject) → IsKnown k
-    → ((f : (k : ObjectKind) → k.State → A) → on_object f object ≡ f k s) → ((g : (k : ObjectKind) → k.State → B) → on_object g object ≡ g k s)
-    → P object)
-    → (object : AnyObject) → P object
-by_kind P step (objects.Bank s) = step (kind_at kinds.Bank) s (objects.Bank s) (omega arith, omega arith) (λ f. refl) (λ g. refl)
-by_kind P step (objects.Map s) = step (kind_at kinds.Map) s (objects.Map s) (omega arith, omega arith) (λ f. refl) (λ g. refl)
-by_kind P step (objects.Queue s) = step (kind_at kinds.Queue) s (objects.Queue s) (omega arith, omega arith) (λ f. refl) (λ g. refl)
-by_kind P step (objects.Lease s) = step (kind_at kinds.Lease) s (objects.Lease s) (omega arith, omega arith) (λ f. refl) (λ g. refl)
+-- the code of each kind is known
+pub known : (kind : Kind) → IsKnown (kind_at kind)
+known kind = grind arith
+
+-- an object's kind, by its name, and its state
+abbrev pub kind_and_state : AnyObject → (kind : Kind) × (kind_at kind).State
+kind_and_state object = on_kind (λ kind s. (kind, s)) object
+
+-- what is said of an object is said of its kind and its state
+pub by_kind {ℓ} : {A : Type ℓ} (f : (kind : Kind) → (kind_at kind).State → A) (object : AnyObject)
+    → on_kind f object ≡ f (kind_and_state object).0 (kind_and_state object).1
+by_kind f object = grind arith
 
 -- what holds of what is said of each kind holds of what is said of an object
-pub each_object {ℓ} : {A : Type ℓ} (f : (k : ObjectKind) → k.State → A) (P : A → Type 0)
-    → ((k : ObjectKind) (s : k.State) → IsKnown k → P (f k s)) → (object : AnyObject) → P (on_object f object)
-each_object {A = A} f P step object =
-    by_kind {A = A} {B = A} (λ o. P (on_object f o)) (λ k s o known said also. subst P (sym (said f)) (step k s known)) object
+pub each_kind {ℓ} : {A : Type ℓ} (f : (kind : Kind) → (kind_at kind).State → A) (P : A → Type 0)
+    → ((kind : Kind) (s : (kind_at kind).State) → P (f kind s)) → (object : AnyObject) → P (on_kind f object)
+each_kind f P step object = let held = kind_and_state object in subst P (sym (by_kind f object)) (step held.0 held.1)
 
 -- where one thing is said of it, another is
-pub each_goes {ℓ} : {A : Type ℓ} (f : (k : ObjectKind) → k.State → A) (P : A → Type 0) (Q : (k : ObjectKind) → k.State → Type 0) (R : Type 0 → Type 0)
-    → ((k : ObjectKind) (s : k.State) → IsKnown k → P (f k s) → R (Q k s)) → (object : AnyObject) → P (on_object f object) → R (on_object Q object)
-each_goes {A = A} f P Q R step object =
-    by_kind {A = A} {B = Type 0} (λ o. P (on_object f o) → R (on_object Q o))
-    (λ k s o known said also h. subst R (sym (also Q)) (step k s known (subst P (said f) h))) object
-
--- what is made of what is said of it
-pub of_object {ℓ κ} : {A : Type ℓ} {B : Type κ} (f : A → B) (g : (k : ObjectKind) → k.State → A) (object : AnyObject)
-    → f (on_object g object) ≡ on_object (λ k s. f (g k s)) object
-of_object {A = A} {B = B} f g object =
-    by_kind {A = A} {B = B} (λ o. f (on_object g o) ≡ on_object (λ k s. f (g k s)) o)
-    (λ k s o known said also. ap f (said g) ∙ sym (also (λ k s. f (g k s)))) object
+pub kind_goes {ℓ} : {A : Type ℓ} (f : (kind : Kind) → (kind_at kind).State → A) (P : A → Type 0) (Q : (k : ObjectKind) → k.State → Type 0) (R : Type 0 → Type 0)
+    → ((kind : Kind) (s : (kind_at kind).State) → IsKnown (kind_at kind) → P (f kind s) → R (Q (kind_at kind) s)) → (object : AnyObject) → P (on_kind f object) → R (on_object Q object)
+kind_goes f P Q R step object h =
+    let held = kind_and_state object in
+    subst R (sym (by_kind {A = Type 0} (λ kind s. Q (kind_at kind) s) object)) (step held.0 held.1 (known held.0) (subst P (by_kind f object) h))
 
 -- ---- their names
 -- one of these kinds has this name

@@ -58,9 +58,13 @@ kind_at kinds.Map = kind_by map_object map_wording 2
 kind_at kinds.Queue = kind_by queue queue_wording 3
 kind_at kinds.Lease = kind_by lease lease_wording 4
 
--- what is said of a kind and of a state of it, of an object of any kind
+-- what is said of a kind by its name and of a state of it, of an object of any kind
+abbrev pub on_kind {ℓ} : {A : Type ℓ} → ((kind : Kind) → (kind_at kind).State → A) → AnyObject → A
+on_kind say (objects.Bank s) = say kinds.Bank s
+on_kind say (objects.Map s) = say kinds.Map s
+on_kind say (objects.Queue s) = say kinds.Queue s
+on_kind say (objects.Lease s) = say kinds.Lease s
+
+-- the same by what the kind is
 abbrev pub on_object {ℓ} : {A : Type ℓ} → ((k : ObjectKind) → k.State → A) → AnyObject → A
-on_object say (objects.Bank s) = say (kind_at kinds.Bank) s
-on_object say (objects.Map s) = say (kind_at kinds.Map) s
-on_object say (objects.Queue s) = say (kind_at kinds.Queue) s
-on_object say (objects.Lease s) = say (kind_at kinds.Lease) s
+on_object say object = on_kind (λ kind s. say (kind_at kind) s) object

@@ -74,7 +74,9 @@ until_of (word ∷ args) = if bytes_eq word (codes "until") then one_number args
 -- the lease of the words `H token T until U`
 abbrev pub held_by_of : List (List ℕ) → Result LeaseReply Reason
 held_by_of (holder ∷ word ∷ token ∷ args) =
-    if bytes_eq word (codes "token") then (word_as_number holder >>= λ h. word_as_number token >>= λ t. until_of args >>= λ u. Ok (HeldBy h t u)) else Err UnknownWord
+    if bytes_eq word (codes "token")
+    then (word_as_number holder >>= λ h. word_as_number token >>= λ t. until_of args >>= λ u. Ok (HeldBy h t u))
+    else Err UnknownWord
 held_by_of _ = Err WrongCount
 
 -- the reply that words say

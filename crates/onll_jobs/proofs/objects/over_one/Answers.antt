@@ -3,13 +3,15 @@ use Rattle.std.proofs.lemmas.List.{length-map}
 use Rattle.onll_jobs.proofs.objects.over_one.Goals as goal
 
 pub returns-in-Fold : goal.returns-in-Fold
-returns-in-Fold g c = λ threads stands. rw c.in-Fold.is c.fold_object.ensures
+returns-in-Fold g c = record { by = λ threads stands. rw c.in-Fold.is c.fold_object.ensures }
 
 pub returns-in-Recover : goal.returns-in-Recover
-returns-in-Recover g c = λ threads stands. rw c.in-Recover.is c.recover_logs.ensures
+returns-in-Recover g c = record { by = λ threads stands. rw c.in-Recover.is c.recover_logs.ensures }
 
 pub returns-in-Replay : goal.returns-in-Replay
-returns-in-Replay g c = λ threads stands. rw (c.in-Replay.is, length-map c.in-Replay.scripts.now string_bytes) c.replay_on.ensures
+returns-in-Replay g c =
+    record { by = λ threads stands. rw (c.in-Replay.is, length-map c.in-Replay.scripts.now string_bytes) c.replay_on.ensures }
 
 pub returns-in-Run : goal.returns-in-Run
-returns-in-Run g c = λ threads stands. rw (c.in-Run.is, length-map c.in-Run.scripts.now string_bytes) (c.run_on.ensures threads stands)
+returns-in-Run g c =
+    record { by = λ threads stands. rw (c.in-Run.is, length-map c.in-Run.scripts.now string_bytes) (c.run_on.ensures threads stands) }

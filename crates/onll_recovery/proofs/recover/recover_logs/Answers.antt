@@ -1,4 +1,5 @@
 use Rattle.std.proofs.Common.{ℕ, List, [], sym, subst}
+use Rattle.onll_text.specs.Kinds.{kind_by}
 use Rattle.onll_task.specs.Doing.{Does}
 use Rattle.onll_task.specs.Images.{images_in}
 use Rattle.onll_recovery.specs.RecoverJob.{images_task, recovered_task}
@@ -8,18 +9,16 @@ use Rattle.onll_recovery.proofs.recover.recover_logs.Goals as goal
 
 pub returns-in-Ok : goal.returns-in-Ok
 returns-in-Ok g c =
-    let b = g.O.Object.means in
-    let w = g.O.Texted.wording in
-    let code = g.O.Object.CODE in
+    let k = kind_by g.O.Object.means g.O.Texted.wording g.O.Object.CODE in
     let init = c.args.init.now in
     let s = c.args.object.now in
     let mid = g.S.Store.seen c.read_images.new.store in
     let given = by_given c.in-Ok.ensures.begins in
-    let same = state_stands b code init (images_in c.in-Ok.images.items) given.value given.fits in
-    read_does (images_task b w code init s) (by_begins c.in-Ok.ensures.begins)
-    (subst (λ recovered. Does [] mid mid (recovered_task b w s recovered) c.recover_on.result) same (rw (sym c.deref.ensures.value) (c.recover_on.ensures mid)))
+    let same = state_stands k.means k.code init (images_in c.in-Ok.images.items) given.value given.fits in
+    read_does (images_task k init s) (by_begins c.in-Ok.ensures.begins)
+    (subst (λ recovered. Does [] mid mid (recovered_task k.means k.wording s recovered) c.recover_on.result) same (rw (sym c.deref.ensures.value) (c.recover_on.ensures mid)))
 
 pub returns-in-Err : goal.returns-in-Err
 returns-in-Err g c =
-    stop_does (images_task g.O.Object.means g.O.Texted.wording g.O.Object.CODE c.args.init.now c.args.object.now)
+    stop_does (images_task (kind_by g.O.Object.means g.O.Texted.wording g.O.Object.CODE) c.args.init.now c.args.object.now)
     (by_stops {value = λ (images : List (List (List ℕ))). images} c.in-Err.ensures.begins)

@@ -137,27 +137,32 @@ usage_put w (Some form) e h = absurd (form_not_usage w form e h)
 pub usage_of : (w : Seen) (x : Exit) → exit_status x ≡ 2 → ExitSays w x → (form_of w.words ≡ None) × Puts w.sink w.sink_after usage_text
 usage_of w x h s = usage_put w (form_of w.words) refl (said_of w x Usage (λ e. omega arith) h s)
 
-good_below : (n : ℕ) → (n ≡ 0) ⊎ (n ≡ 2) ⊎ (n ≡ 3) ⊎ (n ≡ 4) → n < 5
-good_below n (inl h) = omega arith
-good_below n (inr (inl h)) = omega arith
-good_below n (inr (inr (inl h))) = omega arith
-good_below n (inr (inr (inr h))) = omega arith
+-- the statuses that say that nothing failed
+abbrev IsSound : ℕ → Type 0
+IsSound n = (n ≡ 0) ⊎ (n ≡ 2) ⊎ (n ≡ 3) ⊎ (n ≡ 4) ⊎ (n ≡ 7)
 
-tells_none : (e : Ending) → status_of e < 5 → TellsFault e → ⊥
+sound_not : (n : ℕ) → IsSound n → (n ≡ 5 → ⊥) × (n ≡ 6 → ⊥) × (n ≡ 9 → ⊥)
+sound_not n (inl h) = (λ e. omega arith, λ e. omega arith, λ e. omega arith)
+sound_not n (inr (inl h)) = (λ e. omega arith, λ e. omega arith, λ e. omega arith)
+sound_not n (inr (inr (inl h))) = (λ e. omega arith, λ e. omega arith, λ e. omega arith)
+sound_not n (inr (inr (inr (inl h)))) = (λ e. omega arith, λ e. omega arith, λ e. omega arith)
+sound_not n (inr (inr (inr (inr h)))) = (λ e. omega arith, λ e. omega arith, λ e. omega arith)
+
+tells_none : (e : Ending) → IsSound (status_of e) → TellsFault e → ⊥
 tells_none Done h t = t
 tells_none Usage h t = t
 tells_none Refused h t = t
 tells_none BadLog h t = t
-tells_none ReadFault h t = omega arith
-tells_none WriteFault h t = omega arith
+tells_none ReadFault h t = (sound_not 5 h).0 refl
+tells_none WriteFault h t = (sound_not 6 h).1 refl
 tells_none Faulty h t = t
 
--- a good status says that nothing failed
-pub none_failed_of : (w : Seen) (x : Exit) (status : ℕ) → status ≡ exit_status x → (status ≡ 0) ⊎ (status ≡ 2) ⊎ (status ≡ 3) ⊎ (status ≡ 4) → ExitSays w x → NothingFailed w
+-- such a status says so
+pub none_failed_of : (w : Seen) (x : Exit) (status : ℕ) → status ≡ exit_status x → IsSound status → ExitSays w x → NothingFailed w
 none_failed_of w (Said e) status is good h =
-    record { store = nothing_failed w.store w.store_after (job_of (form_of w.words)) e h.text (tells_none e (subst (λ n. n < 5) is (good_below status good))) h.allowed; sink = h.count }
-none_failed_of w SinkFault status is good h = absurd (let below = good_below status good in omega (arith, is))
-none_failed_of w NoMemory status is good h = absurd (let below = good_below status good in omega (arith, is))
+    record { store = nothing_failed w.store w.store_after (job_of (form_of w.words)) e h.text (tells_none e (subst IsSound is good)) h.allowed; sink = h.count }
+none_failed_of w SinkFault status is good h = absurd ((sound_not status good).1 is)
+none_failed_of w NoMemory status is good h = absurd ((sound_not status good).2 is)
 
 -- the sink's count stays but where the status says that the sink failed
 pub count_of : (w : Seen) (x : Exit) → ExitSays w x → (exit_status x ≡ 6) ⊎ (w.sink_after.faults ≡ w.sink.faults)

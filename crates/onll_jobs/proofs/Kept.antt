@@ -12,10 +12,13 @@ use Rattle.onll_jobs.specs.RunPromises.{RunPromises}
 use Rattle.onll_jobs.specs.Seen.{Seen}
 use Rattle.onll_task.specs.Writing.{SameBut}
 use Rattle.onll_jobs.proofs.ExitCauses.{said_of, none_failed_of, usage_of, failed_of, no_memory_of, count_of, decided_exactly}
+use Rattle.onll_jobs.proofs.FaultyRuns.{faulty_run}
 use Rattle.onll_jobs.proofs.FormsDetermined.{exit_done}
 use Rattle.onll_jobs.proofs.ReplayEnds.{replay_not_bad, replay_durable}
 use Rattle.onll_jobs.proofs.RunEnds.{run_whole, run_broken, run_not_bad}
 use Rattle.onll_jobs.proofs.RecoverCrashes.{recovers_crashes}
+use Rattle.onll_jobs.proofs.RecoverRuns.{recovers_runs}
+use Rattle.onll_jobs.proofs.RunDone.{run_done}
 
 replay_kept : (seen : Seen) (x : Exit) → ExitSays seen x → ReplayPromises seen (exit_status x)
 replay_kept seen x says = record {
@@ -29,7 +32,9 @@ run_kept : (seen : Seen) (x : Exit) → ExitSays seen x → RunPromises seen (ex
 run_kept seen x says = record {
   whole = λ init logs names form e. run_whole seen init logs names form (said_of seen x Done (λ e. omega arith) e says);
   broken = λ init logs names form e. run_broken seen init logs names form (said_of seen x Faulty (λ e. omega arith) e says);
+  only = λ e. faulty_run seen (said_of seen x Faulty (λ e. omega arith) e says);
   recovers = λ init logs names form e. run_not_bad seen init logs names form (said_of seen x BadLog (λ e. omega arith) e says);
+  done = λ init logs names form tells none. run_done seen x init logs names form tells none says;
 }
 
 kept_of : (seen : Seen) (x : Exit) → ExitSays seen x → ExitDetermined seen x
@@ -52,6 +57,7 @@ kept_of seen x says determined files = record {
   recover = record { crashes = recovers_crashes seen x says };
   replay = replay_kept seen x says;
   run = run_kept seen x says;
+  recover_run = recovers_runs seen x says;
 }
 
 pub promises_kept : (seen : Seen) (x : Exit) (status : ℕ) → status ≡ exit_status x → ExitSays seen x → ExitDetermined seen x

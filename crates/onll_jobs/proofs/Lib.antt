@@ -5,7 +5,10 @@ pub mod Shown
 pub mod ReplayEnds
 pub mod RunEnds
 pub mod SaidEnds
+pub mod FaultyRuns
 pub mod RecoverCrashes
+pub mod RecoverRuns
+pub mod RunDone
 mod FormsDetermined
 mod ShowDetermined
 mod Kept

@@ -36,7 +36,7 @@ use Rattle.onll_jobs.proofs.ExitCauses.{decided_exactly}
 
 -- What a crash left in told files is recovered.
 
-decides_images : (store : StoreView) (logs : List ℕ) (i : ℕ) (images : List (List (List ℕ))) (next : List (List (List ℕ)) → Job) (ending : Ending) (text : List ℕ)
+pub decides_images : (store : StoreView) (logs : List ℕ) (i : ℕ) (images : List (List (List ℕ))) (next : List (List (List ℕ)) → Job) (ending : Ending) (text : List ℕ)
     → TellImages store logs i images → Decides store (next images) ending text → Decides store (each_job lines_stage (image_names logs i (length images)) next) ending text
 decides_images store logs i [] next ending text told d = d
 decides_images store logs i (image ∷ images) next ending text told d =
@@ -49,14 +49,14 @@ decides_images store logs i (image ∷ images) next ending text told d =
       ),
     )
 
-recovered_decides : {State Op Query Reply : Type 0} (b : Behaviour State Op Query Reply) (w : Wording State Op Query Reply) (store : StoreView) (s : State) (recovered : Result Recovered StateFault) (r : Recovered) → recovered ≡ Ok r
+pub recovered_decides : {State Op Query Reply : Type 0} (b : Behaviour State Op Query Reply) (w : Wording State Op Query Reply) (store : StoreView) (s : State) (recovered : Result Recovered StateFault) (r : Recovered) → recovered ≡ Ok r
     → Decides store (recovered_task b w s recovered).job Done (recover_report b w s r)
 recovered_decides b w store s recovered r e = subst (λ (x : Result Recovered StateFault). Decides store (recovered_task b w s x).job Done (recover_report b w s r)) (sym e) (refl, refl)
 
 -- the call says what the told files decide
 module _ (seen : Seen) (x : Exit) (says : ExitSays seen x) (init logs bytes : List ℕ) (threads : ℕ) (object : AnyObject)
     (form : form_of seen.words ≡ Some (Recover init logs threads)) (told : IsTold seen.store init bytes) (accepted : init_of bytes ≡ Ok object) (none : NoneRose seen) where
-  object_says : (text : List ℕ) → Decides seen.store (object_task (RecoverOver logs threads) bytes object).job Done text
+  pub object_says : (text : List ℕ) → Decides seen.store (object_task (RecoverOver logs threads) bytes object).job Done text
       → SaysThis seen (exit_status x) Done text
   object_says text d =
       let on : Result AnyObject Refusal → Job = λ r. on_value init (λ o. (object_task (RecoverOver logs threads) bytes o).job) r in

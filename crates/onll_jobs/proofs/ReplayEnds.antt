@@ -20,7 +20,7 @@ use Rattle.onll_text.specs.Schedule.{schedule_of}
 use Rattle.onll_text.proofs.FewCalls.{few_calls}
 use Rattle.onll_outside.specs.Views.{StoreView}
 use Rattle.onll_task.specs.declared.ending.Ending.{Ending}
-use Rattle.onll_task.specs.declared.ending.Ending.TheVariants.{Done, Usage, BadLog}
+use Rattle.onll_task.specs.declared.ending.Ending.TheVariants.{Done, Usage, BadLog, Faulty}
 use Rattle.onll_merge.specs.declared.fault.StateFault.{StateFault}
 use Rattle.onll_task.specs.Reading.{ReadsWhole}
 use Rattle.onll_task.specs.Writing.{FilesStay, SameCounts, written}
@@ -57,7 +57,7 @@ module _ (after : StoreView) (ending : Ending) (text : List ℕ) (said : IsSaid 
   images_end store logs i (image ∷ images) next (inr h) = images_end (written store (image_name logs i) (image_bytes image)) logs (suc i) images next h
 
   module _ {State Op Query Reply : Type 0} (b : Behaviour State Op Query Reply) (w : Wording State Op Query Reply) (store : StoreView) where
-    many_scripts : (names : List (List ℕ)) (scripts : List (List (Call State Op Query Reply))) → ReadScripts w store names scripts → length scripts ≡ length names
+    pub many_scripts : (names : List (List ℕ)) (scripts : List (List (Call State Op Query Reply))) → ReadScripts w store names scripts → length scripts ≡ length names
     many_scripts [] [] h = refl
     many_scripts [] (script ∷ scripts) h = absurd h
     many_scripts (name ∷ names) [] h = absurd h
@@ -130,12 +130,15 @@ module _ (seen : Seen) (init schedule logs : List ℕ) (names : List (List ℕ))
   replay_put ending said h = job_ends seen.store_after ending h.text said seen.store init schedule logs names (few-scripts seen.words init schedule logs names form)
       (subst (λ form. JobEnds seen.store seen.store_after (job_of form) ending h.text) form h.allowed)
 
-  -- a replay never says the usage, nor that a log is bad
+  -- a replay never says the usage, nor that a log is bad, nor that a fence failed
   pub replay_not_usage : PutWhole seen Usage → ⊥
   replay_not_usage h = let e = (replay_put Usage tt h).done in cc
 
   pub replay_not_bad : PutWhole seen BadLog → ⊥
   replay_not_bad h = let e = (replay_put BadLog tt h).done in cc
+
+  pub replay_not_faulty : PutWhole seen Faulty → ⊥
+  replay_not_faulty h = let e = (replay_put Faulty tt h).done in cc
 
   -- one that is done is durable
   pub replay_durable : PutWhole seen Done → ReplayPut seen init schedule logs names

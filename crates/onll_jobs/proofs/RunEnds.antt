@@ -1,6 +1,6 @@
 -- How a run ends where each file is read and no text is refused: what its threads did is kept and reported, or a header's fence failed.
 
-use Rattle.std.proofs.Common.{ℕ, zero, suc, List, [], ◌∷◌, ◌≡◌, ◌≤◌, ◌⊎◌, inl, inr, Option, Some, None, refl, sym, ◌∙◌, subst, arith}
+use Rattle.std.proofs.Common.{ℕ, zero, suc, List, [], ◌∷◌, ◌≡◌, ◌≤◌, ◌⊎◌, inl, inr, Option, Some, None, refl, sym, ap, ◌∙◌, subst, arith}
 use Rattle.onll_model.specs.declared.call.Call.{Call}
 use Rattle.onll_model.specs.declared.call.CallEnd.{CallEnd}
 use Rattle.onll_run.specs.Outcomes.{failed_in}
@@ -8,7 +8,7 @@ use Rattle.onll_run.specs.Left.{LogLeft}
 use Rattle.onll_text.specs.declared.any_object.Kind.{Kind}
 use Rattle.onll_text.specs.Init.{init_of}
 use Rattle.onll_text.specs.Kinds.{ObjectKind, kind_at}
-use Rattle.onll_outside.specs.Views.{StoreView}
+use Rattle.onll_outside.specs.Views.{StoreView, counted}
 use Rattle.onll_task.specs.declared.ending.Ending.{Ending}
 use Rattle.onll_task.specs.declared.ending.Ending.TheVariants.{Done, Usage, Refused, BadLog, ReadFault, WriteFault, Faulty}
 use Rattle.onll_task.specs.ImageNames.{image_name}
@@ -19,12 +19,14 @@ use Rattle.onll_task.specs.Job.{Threads, JobEnds}
 use Rattle.onll_recovery.specs.ReplayJob.{ReadScripts}
 use Rattle.onll_runner.specs.RunJob.{run_plan, run_task, calls_task, said_task}
 use Rattle.onll_runner.specs.RunReport.{run_report}
+use Rattle.onll_runner.proofs.FaultLines.{length-fault_lines}
 use Rattle.onll_jobs.specs.Command.{Run, form_of}
 use Rattle.onll_jobs.specs.Seen.{Seen}
 use Rattle.onll_jobs.specs.Over.{RunOver, over_task, object_task}
-use Rattle.onll_jobs.specs.RunPromises.{HasReported, HasNoHeader, RanWhole, RanBroken, RunPut}
+use Rattle.onll_jobs.specs.RunPromises.{fault_count, HasReported, HasNoHeader, RanWhole, RanBroken, RunPut}
 use Rattle.onll_jobs.specs.Says.{job_of, PutWhole}
 use Rattle.onll_text.proofs.EachKind.{each_kind, kind_goes}
+use Rattle.onll_jobs.proofs.ReplayEnds.{many_scripts}
 use Rattle.onll_jobs.proofs.SaidEnds.{IsSaid, WholeEnds, whole_ends, scripts_end}
 
 -- ---- what is kept stays kept where no file changes
@@ -48,6 +50,7 @@ kept_after plan left store kept after h stay same = record {
   faults = same.1.0 ∙ h.faults;
   fences = same.1.1 ∙ h.fences;
   files = logs_after kept after plan.logs 0 left.logs left.ends stay h.files;
+  fit = h.fit;
   others = record {
     tells = stay.tells ∙ h.others.tells;
     file = λ told name other. stay.file (h.others.tells ∙ told) name ∙ h.others.file told name other;
@@ -65,12 +68,12 @@ run_stops plan store after ReadFault text said h = absurd h
 run_stops plan store after WriteFault text said h = absurd said
 run_stops plan store after Faulty text said h = (refl, h)
 
--- the ending of a report, by how many threads have an update whose fence failed
-abbrev ended_by : ℕ → Ending
+-- the ending of a report, by how many fault lines it has
+abbrev pub ended_by : ℕ → Ending
 ended_by zero = Done
 ended_by (suc more) = Faulty
 
-said_ends : (k : ObjectKind) (plan : RunPlan k) (left : RunLeft k) (kept after : StoreView) (ending : Ending) (text : List ℕ) (broken : ℕ) → JobEnds kept after (said_task k plan left broken).job ending text
+pub said_ends : (k : ObjectKind) (plan : RunPlan k) (left : RunLeft k) (kept after : StoreView) (ending : Ending) (text : List ℕ) (broken : ℕ) → JobEnds kept after (said_task k plan left broken).job ending text
     → (ending ≡ ended_by broken) × (text ≡ run_report k.means k.wording plan.run.state plan.run.scripts left) × FilesStay kept after × SameCounts kept after
 said_ends k plan left kept after ending text zero h = h
 said_ends k plan left kept after ending text (suc more) h = h
@@ -86,7 +89,7 @@ some_broken (suc n) e = omega arith
 -- how a run of scripts ended: reported, or at a header
 abbrev RunEnded : (after : StoreView) (ending : Ending) (text : List ℕ) (k : ObjectKind) → List ℕ → k.State → StoreView → List ℕ → List (List ℕ) → Type 0
 RunEnded after ending text k init s store logs names =
-    HasReported k init s store after logs names text (λ broken. ending ≡ ended_by broken)
+    ((r : HasReported k init s store after logs names text) × (ending ≡ ended_by (fault_count r.left.ends)))
     ⊎ ((ending ≡ Faulty) × HasNoHeader k init s store after logs names text)
 
 module _ (after : StoreView) (ending : Ending) (text : List ℕ) (said : IsSaid ending) (kind : Kind) (init : List ℕ) (s : (kind_at kind).State) (store : StoreView) (logs : List ℕ)
@@ -100,15 +103,19 @@ module _ (after : StoreView) (ending : Ending) (text : List ℕ) (said : IsSaid 
   calls_end scripts read (inr ran) =
       let plan = run_plan (kind_at kind) init logs s scripts in
       let end = said_ends (kind_at kind) plan ran.0 ran.1 after ending text (broken_threads ran.0.ends) ran.4 in
-      inl (record {
+      let kept = kept_after plan ran.0 store ran.1 after ran.3 end.2 end.3 in
+      let lines = length-fault_lines 0 ran.0.ends in
+      let reported : HasReported (kind_at kind) init s store after logs names text = record {
         scripts = scripts;
+        many = many_scripts after ending text said (kind_at kind).means (kind_at kind).wording store names scripts read;
         read = read;
         left = ran.0;
         run = ran.2;
-        kept = kept_after plan ran.0 store ran.1 after ran.3 end.2 end.3;
+        kept = kept;
         printed = end.1;
-        broken = end.0;
-      })
+        rose = kept.faults ∙ ap (counted store.device_faults) (sym lines);
+      } in
+      inl (reported, end.0 ∙ ap ended_by (sym lines))
 
   run_ends : JobEnds store after (run_task (kind_at kind) (Threads kind) init logs names s).job ending text → RunEnded after ending text (kind_at kind) init s store logs names
   run_ends h =
@@ -117,27 +124,16 @@ module _ (after : StoreView) (ending : Ending) (text : List ℕ) (said : IsSaid 
       calls_end read.scripts read.read read.ends
 
 module _ (k : ObjectKind) (init : List ℕ) (s : k.State) (store after : StoreView) (logs : List ℕ) (names : List (List ℕ)) (text : List ℕ) where
-  reported_as : {P Q : ℕ → Type 0} → ((n : ℕ) → P n → Q n) → HasReported k init s store after logs names text P → HasReported k init s store after logs names text Q
-  reported_as f r = record {
-    scripts = r.scripts;
-    read = r.read;
-    left = r.left;
-    run = r.run;
-    kept = r.kept;
-    printed = r.printed;
-    broken = f (broken_threads r.left.ends) r.broken;
-  }
-
   whole_of : RunEnded after Done text k init s store logs names → RanWhole k init s store after logs names text
-  whole_of (inl r) = reported_as none_broken r
+  whole_of (inl r) = (r.0, none_broken (fault_count r.0.left.ends) r.1)
   whole_of (inr f) = absurd (let e = f.0 in cc)
 
   broken_of : RunEnded after Faulty text k init s store logs names → RanBroken k init s store after logs names text
-  broken_of (inl r) = inl (reported_as some_broken r)
+  broken_of (inl r) = inl (r.0, some_broken (fault_count r.0.left.ends) r.1)
   broken_of (inr f) = inr f.1
 
   never_of : (ending : Ending) → (ending ≡ Done → ⊥) → (ending ≡ Faulty → ⊥) → RunEnded after ending text k init s store logs names → ⊥
-  never_of ending done faulty (inl r) = by (broken_threads r.left.ends) r.broken
+  never_of ending done faulty (inl r) = by (fault_count r.0.left.ends) r.1
     where
       by : (n : ℕ) → ending ≡ ended_by n → ⊥
       by zero e = done e

@@ -9,6 +9,7 @@ use Rattle.onll_jobs.specs.Durable.{RecoverPromises, ReplayPromises}
 use Rattle.onll_task.specs.Job.{Decides}
 use Rattle.onll_jobs.specs.Says.{job_of, writes_of, Ended, IsDetermined, NoneRose, NothingFailed, OutOfMemory, PutWhole, SaysThis, SinkFailed}
 use Rattle.onll_jobs.specs.RunPromises.{RunPromises}
+use Rattle.onll_jobs.specs.RunRecovers.{RecoversRuns}
 use Rattle.onll_jobs.specs.Seen.{Seen}
 use Rattle.onll_task.specs.Writing.{SameBut}
 
@@ -24,8 +25,8 @@ pub record Promises (seen : Seen) (status : ℕ) : Type 0 where
   pub failed : status ≡ 6 → SinkFailed seen ⊎ PutWhole seen WriteFault
   pub faulty : status ≡ 7 → PutWhole seen Faulty
   pub no_memory : status ≡ 9 → OutOfMemory seen
-  -- A good ending says that nothing failed, also where no file is told.
-  pub nothing_failed : (status ≡ 0) ⊎ (status ≡ 2) ⊎ (status ≡ 3) ⊎ (status ≡ 4) → NothingFailed seen
+  -- A good ending says that nothing failed, also where no file is told; so does that of a run in which a fence failed.
+  pub nothing_failed : (status ≡ 0) ⊎ (status ≡ 2) ⊎ (status ≡ 3) ⊎ (status ≡ 4) ⊎ (status ≡ 7) → NothingFailed seen
   -- Where the sink fails, the status says so, whatever else was found.
   pub sink_count : (status ≡ 6) ⊎ (seen.sink_after.faults ≡ seen.sink.faults)
   -- When it comes: where no count of faults rose, the words and the bytes of the files decide, but for memory.
@@ -40,3 +41,5 @@ pub record Promises (seen : Seen) (status : ℕ) : Type 0 where
   pub recover : RecoverPromises seen status
   pub replay : ReplayPromises seen status
   pub run : RunPromises seen status
+  -- and `recover` of what `run` keeps
+  pub recover_run : RecoversRuns seen status

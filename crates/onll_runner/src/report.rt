@@ -146,8 +146,7 @@ fn put_faults<O: Object>(threads: &[DoneScript<O>], out: &mut Report) -> Result<
 /// A line has eight words of 64 bits.
 fn whole_line(line: Line)
     ensures { IsWholeLine line.w }
-{
-}
+{}
 
 /// Each line has eight words of 64 bits.
 fn whole_lines(lines: &[Line])

@@ -76,7 +76,7 @@ module _ (seen : Seen) (h : PutWhole seen Faulty) where
   of_run (Some (Recover init logs threads)) e =
       absurd (over_never seen.store seen.store_after h.text init (RecoverOver logs threads)
       (λ kind bytes s. let k = kind_at kind in
-      images_never seen.store seen.store_after h.text (image_names logs 0 threads) (λ images. (images_task k.means k.wording k.code bytes s images).job)
+      images_never seen.store seen.store_after h.text (image_names logs 0 threads) (λ images. (images_task k bytes s images).job)
       (λ images. recovered_never seen.store seen.store_after h.text k.means k.wording s (state_recovered k.means (expected_heads k.code bytes images) images))) (ends_so (Some (Recover init logs threads)) e))
   of_run (Some (Replay init schedule logs scripts)) e = absurd (replay_not_faulty seen init schedule logs scripts e h)
   of_run (Some (Run init logs names)) e = record { init = init; logs = logs; names = names; form = e }

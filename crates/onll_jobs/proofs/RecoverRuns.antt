@@ -182,7 +182,7 @@ same_nodes v x y g h = (cc)
 
 -- ---- the call
 module _ (seen : Seen) (x : Exit) (init logs : List ℕ) (threads : ℕ) (k : ObjectKind) (s : k.State)
-    (say : (text : List ℕ) → Decides seen.store (each_job lines_stage (image_names logs 0 threads) (λ images. (images_task k.means k.wording k.code init s images).job)) Done text → SaysThis seen (exit_status x) Done text)
+    (say : (text : List ℕ) → Decides seen.store (each_job lines_stage (image_names logs 0 threads) (λ images. (images_task k init s images).job)) Done text → SaysThis seen (exit_status x) Done text)
     (tells : seen.store.tells ≡ true) (left : IsLeftByRun k init s seen.store logs threads) where
   abbrev heads : List LogHead
   heads = created_heads k.code init left.reported.scripts
@@ -228,8 +228,8 @@ module _ (seen : Seen) (x : Exit) (init logs : List ℕ) (threads : ℕ) (k : Ob
         recovers = recovers;
         whole = whole;
         says = say (recover_report k.means k.wording s r)
-            (subst (λ (n : ℕ). Decides seen.store (each_job lines_stage (image_names logs 0 n) (λ images. (images_task k.means k.wording k.code init s images).job)) Done (recover_report k.means k.wording s r)) (images_many ∙ many)
-            (decides_images seen.store logs 0 files.images (λ images. (images_task k.means k.wording k.code init s images).job) Done (recover_report k.means k.wording s r) files.tell recovered));
+            (subst (λ (n : ℕ). Decides seen.store (each_job lines_stage (image_names logs 0 n) (λ images. (images_task k init s images).job)) Done (recover_report k.means k.wording s r)) (images_many ∙ many)
+            (decides_images seen.store logs 0 files.images (λ images. (images_task k init s images).job) Done (recover_report k.means k.wording s r) files.tell recovered));
       }
 
 pub recovers_runs : (seen : Seen) (x : Exit) → ExitSays seen x → RecoversRuns seen (exit_status x)

@@ -13,7 +13,7 @@ use Rattle.onll_text.specs.Init.{init_of}
 use Rattle.onll_text.specs.Kinds.{kind_at}
 use Rattle.onll_text.specs.Script.{script_of}
 use Rattle.onll_text.specs.Wording.{Wording}
-use Rattle.onll_task.specs.declared.ending.Ending.TheVariants.{Done, BadLog, Usage, Faulty}
+use Rattle.onll_task.specs.declared.ending.Ending.TheVariants.{Done, Faulty}
 use Rattle.onll_task.specs.Doing.{Task, lines_stage, each_job}
 use Rattle.onll_task.specs.ImageNames.{image_names}
 use Rattle.onll_task.specs.Job.{Job, Say, Threads, JobEnds}

@@ -1,6 +1,6 @@
 -- What a run kept in told files is recovered.
 
-use Rattle.std.proofs.Common.{ℕ, zero, suc, Bool, true, false, List, [], ◌∷◌, ◌≡◌, ◌==◌, ◌⊎◌, inl, inr, ⊎_elim, length, map, cond, eqb-true, Result, Ok, Option, Some, None, refl, sym, ap, ◌∙◌, subst, arith}
+use Rattle.std.proofs.Common.{ℕ, suc, true, false, List, [], ◌∷◌, ◌≡◌, ◌==◌, ⊎_elim, length, map, cond, eqb-true, Result, Ok, Option, Some, None, refl, sym, ap, ◌∙◌, subst, arith}
 use Rattle.std.specs.List.{AllByRecursion}
 use Rattle.std.proofs.lemmas.Bool.{cases_Bool}
 use Rattle.std.proofs.lemmas.List.Sums.{sum_by-cons}
@@ -21,9 +21,7 @@ use Rattle.onll_core.specs.Created.{heads_from, created_heads}
 use Rattle.onll_core.proofs.Created.{length-heads_from}
 use Rattle.onll_core.proofs.Operations.{AllOperations}
 use Rattle.onll_run.specs.Outcomes.{failed_in, fault_in}
-use Rattle.onll_run.specs.Left.{LogLeft, LogTells, LogsTell, HasRun, AreLeft, Recovers, content_in, fenced_in}
-use Rattle.onll_text.specs.declared.any_object.AnyObject.{AnyObject}
-use Rattle.onll_text.specs.Init.{init_of}
+use Rattle.onll_run.specs.Left.{LogLeft, LogsTell, AreLeft, Recovers, content_in, fenced_in}
 use Rattle.onll_text.specs.Kinds.{ObjectKind, kind_at}
 use Rattle.onll_outside.specs.Views.{StoreView, image_bytes}
 use Rattle.onll_task.specs.declared.ending.Ending.TheVariants.{Done}
@@ -33,7 +31,6 @@ use Rattle.onll_task.specs.FileLines.{FitFile}
 use Rattle.onll_task.specs.ImageNames.{image_name, image_names}
 use Rattle.onll_task.specs.Job.{Threads, Decides}
 use Rattle.onll_task.specs.Printed.{exit_status}
-use Rattle.onll_task.specs.Reading.{IsTold}
 use Rattle.onll_task.specs.Running.{HoldsLog, HoldsLogs, broken_threads}
 use Rattle.onll_task.proofs.FileLines.{image_lines-image_bytes, mixed_fit, fenced_fit}
 use Rattle.onll_recovery.specs.RecoverJob.{recover_report, images_task}
@@ -41,12 +38,11 @@ use Rattle.onll_recovery.proofs.Crashes.{HaveFormat2, AreFormat2, format_is, hea
 use Rattle.onll_runner.specs.RunJob.{run_plan}
 use Rattle.onll_runner.proofs.FaultLines.{length-fault_lines}
 use Rattle.onll_runner.proofs.RunRecovers.{run_told, run_operations}
-use Rattle.onll_jobs.specs.Command.{Recover, form_of}
 use Rattle.onll_jobs.specs.Durable.{TellsImage, TellImages}
 use Rattle.onll_jobs.specs.Over.{RecoverOver, over_task}
 use Rattle.onll_jobs.specs.RunPromises.{fault_count}
 use Rattle.onll_jobs.specs.RunRecovers.{IsLeftByRun, RecoversRun, RecoversRuns}
-use Rattle.onll_jobs.specs.Says.{ExitSays, NoneRose, SaysThis}
+use Rattle.onll_jobs.specs.Says.{ExitSays, SaysThis}
 use Rattle.onll_jobs.specs.Seen.{Seen}
 use Rattle.onll_text.proofs.EachKind.{kind_goes}
 use Rattle.onll_jobs.proofs.RecoverCrashes.{decides_images, recovered_decides, object_says}

@@ -1,10 +1,9 @@
 -- A run whose texts are told and accepted is run to its end where no call of the store failed.
 
-use Rattle.std.proofs.Common.{ℕ, zero, suc, List, [], ◌∷◌, ◌≡◌, ◌<◌, ◌≤◌, ◌^◌, ◌⊎◌, inl, inr, Some, Result, Ok, refl, sym, ap, ◌∙◌, subst, arith}
+use Rattle.std.proofs.Common.{ℕ, zero, suc, List, [], ◌∷◌, ◌≡◌, ◌<◌, ◌≤◌, ◌^◌, ◌⊎◌, inl, inr, Some, Result, Ok, refl, ap, ◌∙◌, subst, arith}
 use Rattle.std.specs.List.{AllByRecursion}
 use Rattle.onll_model.specs.declared.call.Call.{Call}
 use Rattle.onll_outside.specs.Views.{StoreView, Rose, counted}
-use Rattle.onll_text.specs.declared.any_object.AnyObject.{AnyObject}
 use Rattle.onll_text.specs.declared.any_object.Kind.{Kind}
 use Rattle.onll_text.specs.Refusal.{Refusal}
 use Rattle.onll_text.specs.Wording.{Wording}
@@ -19,12 +18,12 @@ use Rattle.onll_task.specs.Doing.{Task}
 use Rattle.onll_task.specs.Job.{Job, Threads, JobEnds, on_value, reading_whole}
 use Rattle.onll_task.specs.Printed.{status_of, exit_status}
 use Rattle.onll_task.specs.Reading.{IsTold}
-use Rattle.onll_task.specs.Running.{RunPlan, RunStops, broken_threads}
+use Rattle.onll_task.specs.Running.{RunStops, broken_threads}
 use Rattle.onll_task.proofs.Jobs.{held_bytes, cannot}
 use Rattle.onll_recovery.specs.ReplayJob.{scripts_stage}
 use Rattle.onll_runner.specs.RunJob.{run_plan, run_task, calls_task}
 use Rattle.onll_jobs.specs.Command.{Run, form_of}
-use Rattle.onll_jobs.specs.Over.{RunOver, over_task, object_task, over_work}
+use Rattle.onll_jobs.specs.Over.{RunOver, over_task, object_task}
 use Rattle.onll_jobs.specs.RunPromises.{TellsText, TellsTexts, IsRun}
 use Rattle.onll_jobs.specs.Says.{job_of, ExitSays, NoneRose}
 use Rattle.onll_jobs.specs.Seen.{Seen}

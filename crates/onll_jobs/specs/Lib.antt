@@ -9,3 +9,4 @@ pub mod ShowJob
 pub mod Durable
 pub mod Promises
 pub mod RunPromises
+pub mod MakeJob

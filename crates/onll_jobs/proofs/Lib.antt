@@ -10,3 +10,4 @@ mod FormsDetermined
 mod ShowDetermined
 mod Kept
 pub mod OnKind
+pub mod MakeEnds

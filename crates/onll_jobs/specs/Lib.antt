@@ -10,3 +10,4 @@ pub mod Durable
 pub mod Promises
 pub mod RunPromises
 pub mod MakeJob
+pub mod MakePromises

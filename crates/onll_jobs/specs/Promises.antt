@@ -9,6 +9,7 @@ use Rattle.onll_jobs.specs.Durable.{RecoverPromises, ReplayPromises}
 use Rattle.onll_task.specs.Job.{Decides}
 use Rattle.onll_jobs.specs.Says.{job_of, writes_of, Ended, IsDetermined, NoneRose, NothingFailed, OutOfMemory, PutWhole, SaysThis, SinkFailed}
 use Rattle.onll_jobs.specs.RunPromises.{RunPromises}
+use Rattle.onll_jobs.specs.MakePromises.{MakePromises}
 use Rattle.onll_jobs.specs.Seen.{Seen}
 use Rattle.onll_task.specs.Writing.{SameBut}
 
@@ -40,3 +41,4 @@ pub record Promises (seen : Seen) (status : ℕ) : Type 0 where
   pub recover : RecoverPromises seen status
   pub replay : ReplayPromises seen status
   pub run : RunPromises seen status
+  pub make : MakePromises seen status

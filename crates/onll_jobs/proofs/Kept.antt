@@ -9,6 +9,7 @@ use Rattle.onll_task.specs.Printed.{exit_status}
 use Rattle.onll_jobs.specs.Promises.{Promises}
 use Rattle.onll_jobs.specs.Says.{writes_of, ExitSays, ExitDetermined}
 use Rattle.onll_jobs.specs.RunPromises.{RunPromises}
+use Rattle.onll_jobs.specs.MakePromises.{MakePromises}
 use Rattle.onll_jobs.specs.Seen.{Seen}
 use Rattle.onll_task.specs.Writing.{SameBut}
 use Rattle.onll_jobs.proofs.ExitCauses.{said_of, none_failed_of, usage_of, failed_of, no_memory_of, count_of, decided_exactly}
@@ -19,6 +20,7 @@ use Rattle.onll_jobs.proofs.RunEnds.{run_whole, run_broken, run_not_bad}
 use Rattle.onll_jobs.proofs.RecoverCrashes.{recovers_crashes}
 use Rattle.onll_jobs.proofs.RecoverRuns.{recovers_runs}
 use Rattle.onll_jobs.proofs.RunDone.{run_done}
+use Rattle.onll_jobs.proofs.MakeEnds.{make_put, make_sink, make_answers}
 
 replay_kept : (seen : Seen) (x : Exit) → ExitSays seen x → ReplayPromises seen (exit_status x)
 replay_kept seen x says = record {
@@ -35,6 +37,13 @@ run_kept seen x says = record {
   only = λ e. faulty_run seen (said_of seen x Faulty (λ e. omega arith) e says);
   recovers = λ init logs names form e. run_not_bad seen init logs names form (said_of seen x BadLog (λ e. omega arith) e says);
   done = λ init logs names form tells none. run_done seen x init logs names form tells none says;
+}
+
+make_kept : (seen : Seen) (x : Exit) → ExitSays seen x → MakePromises seen (exit_status x)
+make_kept seen x says = record {
+  made = λ w form e. make_put seen w form (said_of seen x Done (λ e. omega arith) e says);
+  sink = λ w form e. make_sink seen w form x e says;
+  answers = λ w form. make_answers seen w form x says;
 }
 
 kept_of : (seen : Seen) (x : Exit) → ExitSays seen x → ExitDetermined seen x
@@ -58,6 +67,7 @@ kept_of seen x says determined files = record {
   replay = replay_kept seen x says;
   run = run_kept seen x says;
   recover_run = recovers_runs seen x says;
+  make = make_kept seen x says;
 }
 
 pub promises_kept : (seen : Seen) (x : Exit) (status : ℕ) → status ≡ exit_status x → ExitSays seen x → ExitDetermined seen x

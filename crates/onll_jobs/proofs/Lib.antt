@@ -13,3 +13,4 @@ mod FormsDetermined
 mod ShowDetermined
 mod Kept
 mod Dispatched
+pub mod MakeEnds

@@ -10,3 +10,5 @@ pub mod Durable
 pub mod Promises
 pub mod RunPromises
 pub mod RunRecovers
+pub mod MakeJob
+pub mod MakePromises

@@ -10,6 +10,7 @@ use Rattle.onll_task.specs.Job.{Decides}
 use Rattle.onll_jobs.specs.Says.{job_of, writes_of, Ended, IsDetermined, NoneRose, NothingFailed, OutOfMemory, PutWhole, SaysThis, SinkFailed}
 use Rattle.onll_jobs.specs.RunPromises.{RunPromises}
 use Rattle.onll_jobs.specs.RunRecovers.{RecoversRuns}
+use Rattle.onll_jobs.specs.MakePromises.{MakePromises}
 use Rattle.onll_jobs.specs.Seen.{Seen}
 use Rattle.onll_task.specs.Writing.{SameBut}
 
@@ -43,3 +44,4 @@ pub record Promises (seen : Seen) (status : ℕ) : Type 0 where
   pub run : RunPromises seen status
   -- and `recover` of what `run` keeps
   pub recover_run : RecoversRuns seen status
+  pub make : MakePromises seen status

@@ -7,12 +7,13 @@ use Rattle.onll_task.specs.declared.ending.Ending.TheVariants.{Done, Usage}
 use Rattle.onll_task.specs.declared.ending.Exit.{Exit}
 use Rattle.onll_task.specs.declared.ending.Exit.TheVariants.{Said, SinkFault, NoMemory}
 use Rattle.onll_jobs.specs.Seen.{Seen}
-use Rattle.onll_jobs.specs.Command.{Form, Fold, Show, Recover, Replay, Run, form_of, usage_text}
+use Rattle.onll_jobs.specs.Command.{Form, Fold, Show, Recover, Replay, Run, Make, form_of, usage_text}
 use Rattle.onll_task.specs.Printed.{status_of, exit_status}
 use Rattle.onll_task.specs.Job.{Job, JobEnds, JobCut}
 use Rattle.onll_task.specs.Doing.{Work, say_task}
 use Rattle.onll_jobs.specs.Over.{FoldOver, RecoverOver, ReplayOver, RunOver, over_work}
 use Rattle.onll_jobs.specs.ShowJob.{show_work}
+use Rattle.onll_jobs.specs.MakeJob.{make_work}
 
 -- what a call does by its words: those of no form get the usage text
 abbrev pub work_of : Option Form → Work
@@ -22,6 +23,7 @@ work_of (Some (Show image)) = show_work image
 work_of (Some (Recover init logs threads)) = over_work init (RecoverOver logs threads)
 work_of (Some (Replay init schedule logs scripts)) = over_work init (ReplayOver schedule logs scripts)
 work_of (Some (Run init logs scripts)) = over_work init (RunOver logs scripts)
+work_of (Some (Make workload)) = make_work workload
 
 -- its job, with all its endings
 abbrev pub job_of : Option Form → Job

@@ -1,15 +1,16 @@
 //! The words of the program, read as a command.
 
 ghost use Rattle.std.specs.Prelude.{◌≡◌, true, map, string_bytes, Some, None, MatchOption, IfSome};
-ghost use Rattle.onll_jobs.specs.Command.{fold_of, show_of, recover_of, replay_of, run_of, named_form, form_of, form_in, is_within, usage_text, IsCommand};
+ghost use Rattle.onll_jobs.specs.Command.{fold_of, show_of, recover_of, replay_of, run_of, make_of, named_form, form_of, form_in, is_within, usage_text, IsCommand};
 ghost use Rattle.onll_task.specs.Stop.{StopSays};
 
-use onll_model::MOST_THREADS;
+use onll_model::{MOST_THREADS, MOST_UPDATES};
 use onll_task::{Ending, Stop};
 use onll_words::whole_number;
+use onll_workload::Workload;
 use std::alloc::Global;
 
-/// The usage text, with the commands to come.
+/// The usage text.
 const USAGE: &[u8] = b"usage: onll fold INIT SCRIPT\n       \
       onll show IMAGE\n       \
       onll recover INIT LOGS T\n       \
@@ -49,6 +50,9 @@ pub(crate) enum Command<'a> {
         init: &'a str,
         logs: &'a str,
         scripts: &'a [String],
+    },
+    Make {
+        workload: Workload,
     },
 }
 
@@ -120,6 +124,23 @@ fn run<'a>(names: &'a [String]) -> Option<Command<'a>>
     }
 }
 
+/// A workload of so many threads and updates, and of this seed.
+fn make<'a>(names: &'a [String]) -> Option<Command<'a>>
+    ensures { let form = make_of (map string_bytes names.now) in
+        MatchOption result (form ≡ None) (λ command. form ≡ Some (form_in command)) }
+{
+    match names {
+        [threads, updates, seed] => Some(Command::Make {
+            workload: Workload {
+                threads: whole_number(threads.as_bytes())?,
+                updates: whole_number(updates.as_bytes())?,
+                seed: whole_number(seed.as_bytes())?,
+            },
+        }),
+        _ => None,
+    }
+}
+
 /// The command of a word with these names.
 fn named<'a>(command: &str, names: &'a [String]) -> Option<Command<'a>>
     ensures { let form = named_form command.now (map string_bytes names.now) in
@@ -135,6 +156,8 @@ fn named<'a>(command: &str, names: &'a [String]) -> Option<Command<'a>>
         replay(names)
     } else if command == "run" {
         run(names)
+    } else if command == "make" {
+        make(names)
     } else {
         None
     }
@@ -165,6 +188,12 @@ impl<'a> Command<'a> {
             Command::Recover { threads, .. } => 1 <= *threads && *threads <= MOST_THREADS,
             Command::Replay { scripts, .. } | Command::Run { scripts, .. } => {
                 !scripts.is_empty() && scripts.len() as u64 <= MOST_THREADS
+            }
+            Command::Make { workload } => {
+                1 <= workload.threads
+                    && workload.threads <= MOST_THREADS
+                    && 1 <= workload.updates
+                    && workload.updates <= MOST_UPDATES
             }
             _ => true,
         }

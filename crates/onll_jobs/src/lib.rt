@@ -3,6 +3,7 @@
 
 mod command;
 mod fold;
+mod make;
 mod objects;
 mod program;
 mod show;

@@ -11,7 +11,7 @@ ghost use Rattle.onll_task.specs.Doing.{Does};
 
 use crate::command::{Command, usage};
 use crate::objects::Over;
-use crate::{objects, show};
+use crate::{make, objects, show};
 use onll_outside::{Gate, OutsideFault, Sink, Store};
 use onll_task::{Ending, Exit, Stop};
 use std::alloc::Global;
@@ -69,6 +69,7 @@ fn command_answer<R: Threads + Wait + Sync, S: Store, G: Gate + Sync>(
             logs,
             scripts,
         } => objects::answer(rt, alloc, init, Over::Run { logs, scripts }, gate, store),
+        Command::Make { workload } => make::answer(rt, alloc, workload, gate),
     }
 }
 

@@ -5,4 +5,5 @@ mod devices;
 mod report;
 mod run;
 
-pub use run::run_on;
+pub use report::recover_run;
+pub use run::{new_heads, run_on};

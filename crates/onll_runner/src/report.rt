@@ -192,7 +192,7 @@ fn wants_memory(fault: StateFault) -> NoMemory
 }
 
 /// Recovers the object from the lines of a run's devices as read. They give the trace, and the object is after it.
-fn recover_run<O: Object, P: Pmem>(
+pub fn recover_run<O: Object, P: Pmem>(
     alloc: Global,
     object: &mut O,
     heads: &[LogHead],

@@ -34,7 +34,7 @@ use std::sync::Wait;
 use std::thread::Threads;
 
 /// The heads of the new logs of so many threads.
-fn new_heads(
+pub fn new_heads(
     alloc: Global,
     object: u64,
     init: &[u8],

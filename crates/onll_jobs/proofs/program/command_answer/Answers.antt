@@ -14,3 +14,6 @@ returns-in-Replay g c = rw c.in-Replay.is c.answer-in-Replay.ensures
 
 pub returns-in-Run : goal.returns-in-Run
 returns-in-Run g c = rw c.in-Run.is c.answer-in-Run.ensures
+
+pub returns-in-Make : goal.returns-in-Make
+returns-in-Make g c = rw c.in-Make.is (c.answer-in-Make.ensures (g.S.Store.seen c.args.store.now))

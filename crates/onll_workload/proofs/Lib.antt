@@ -1,0 +1,11 @@
+mod Placed
+mod Rows
+mod Scripts
+mod Runs
+mod Banks
+mod Begun
+mod Determined
+mod Sums
+mod Making
+mod Faults
+mod Summing

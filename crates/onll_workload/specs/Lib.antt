@@ -1,0 +1,3 @@
+pub mod Workload
+pub mod Faultless
+pub mod Made

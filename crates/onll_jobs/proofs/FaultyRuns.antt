@@ -18,7 +18,7 @@ use Rattle.onll_task.specs.Doing.{Task, lines_stage, each_job}
 use Rattle.onll_task.specs.ImageNames.{image_names}
 use Rattle.onll_task.specs.Job.{Job, Say, Threads, JobEnds}
 use Rattle.onll_recovery.specs.RecoverJob.{recovered_task, images_task}
-use Rattle.onll_jobs.specs.Command.{Form, Fold, Show, Recover, Replay, Run, form_of}
+use Rattle.onll_jobs.specs.Command.{Form, Fold, Show, Recover, Replay, Run, Make, form_of}
 use Rattle.onll_jobs.specs.Fold.{fold_report}
 use Rattle.onll_jobs.specs.FoldJob.{script_task}
 use Rattle.onll_jobs.specs.Over.{OverForm, FoldOver, RecoverOver, over_task, object_task, over_work}
@@ -80,6 +80,7 @@ module _ (seen : Seen) (h : PutWhole seen Faulty) where
       (λ images. recovered_never seen.store seen.store_after h.text k.means k.wording s (state_recovered k.means (expected_heads k.code bytes images) images))) (ends_so (Some (Recover init logs threads)) e))
   of_run (Some (Replay init schedule logs scripts)) e = absurd (replay_not_faulty seen init schedule logs scripts e h)
   of_run (Some (Run init logs names)) e = record { init = init; logs = logs; names = names; form = e }
+  of_run (Some (Make workload)) e = absurd (let same = (ends_so (Some (Make workload)) e).0 in cc)
 
   pub faulty_run : IsOfRun seen
   faulty_run = of_run (form_of seen.words) refl

@@ -12,8 +12,7 @@ use Rattle.onll_jobs.specs.RunPromises.{RunPromises}
 use Rattle.onll_jobs.specs.MakePromises.{MakePromises}
 use Rattle.onll_jobs.specs.Seen.{Seen}
 use Rattle.onll_task.specs.Writing.{SameBut}
-use Rattle.onll_jobs.proofs.ExitCauses.{said_of, none_failed_of, usage_of, failed_of, no_memory_of, count_of, decided_exactly}
-use Rattle.onll_jobs.proofs.FaultyRuns.{faulty_run}
+use Rattle.onll_jobs.proofs.ExitCauses.{faulty_run, said_of, none_failed_of, usage_of, failed_of, no_memory_of, count_of, decided_exactly}
 use Rattle.onll_jobs.proofs.FormsDetermined.{exit_done}
 use Rattle.onll_jobs.proofs.ReplayEnds.{replay_not_bad, replay_durable}
 use Rattle.onll_jobs.proofs.RunEnds.{run_whole, run_broken, run_not_bad}

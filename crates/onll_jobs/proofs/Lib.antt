@@ -5,7 +5,6 @@ pub mod Shown
 pub mod ReplayEnds
 pub mod RunEnds
 pub mod SaidEnds
-pub mod FaultyRuns
 pub mod RecoverCrashes
 pub mod RecoverRuns
 pub mod RunDone

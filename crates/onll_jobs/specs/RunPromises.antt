@@ -93,8 +93,8 @@ pub record IsOfRun (seen : Seen) : Type 0 where
   pub form : form_of seen.words ≡ Some (Run init logs names)
 
 -- What a run promises beside, for any store: what is printed is what its threads did, which the store keeps. Where a fence failed the
--- status says so, and that of no other call does. Its logs never fail to recover. Where its texts are accepted and no call of the store or of the sink failed, it is
--- run to its end.
+-- status says so, and that of no other call does. Its logs never fail to recover. Where its texts are accepted and no call of the store
+-- or of the sink failed, it is run to its end.
 pub record RunPromises (seen : Seen) (status : ℕ) : Type 0 where
   pub whole : (init logs : List ℕ) (names : List (List ℕ)) → form_of seen.words ≡ Some (Run init logs names)
       → status ≡ 0 → RunPut seen init logs names RanWhole

@@ -33,7 +33,17 @@ mod replays;
 #[cfg(test)]
 mod runs;
 #[cfg(test)]
+mod runs_faults;
+#[cfg(test)]
+mod runs_files;
+#[cfg(test)]
+mod runs_free;
+#[cfg(test)]
+mod runs_held;
+#[cfg(test)]
 mod shows;
+#[cfg(test)]
+mod watch_gate;
 #[cfg(test)]
 mod worked;
 #[cfg(test)]

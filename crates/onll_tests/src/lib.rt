@@ -21,6 +21,8 @@ mod large;
 #[cfg(test)]
 mod leases;
 #[cfg(test)]
+mod left_images;
+#[cfg(test)]
 mod limits;
 #[cfg(test)]
 mod maps;
@@ -28,6 +30,8 @@ mod maps;
 mod queues;
 #[cfg(test)]
 mod recovers;
+#[cfg(test)]
+mod refused_replays;
 #[cfg(test)]
 mod replays;
 #[cfg(test)]

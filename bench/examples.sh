@@ -58,6 +58,25 @@ status $status" ]; then
     fi
 }
 
+# What a report of a run says whatever the order of its threads was: the answers of updates and of `total` without their places,
+# how many nodes there are, and the state.
+common() {
+    sed -n -e '/ balance /d' -e 's/^\(call .*\) at [0-9]*$/\1/p' -e '/^trace /p' -e '/^recovered /p' -e '/^state$/,$p' "$1"
+}
+
+# The nodes of a report without their flags.
+nodes() {
+    sed -n -e 's/^\(node [0-9]* [0-9]* [0-9]*\) set /\1 /' -e '/^node /p' "$1"
+}
+
+# Names what differs where two texts do.
+same() {
+    if [ "$2" != "$3" ]; then
+        echo "$1: $2" >&2
+        failed=1
+    fi
+}
+
 folds transfer bank script
 folds payroll accounts payday
 folds directory names changes
@@ -72,6 +91,18 @@ compare crash/out.1
 prints crash/shown.0 show examples/crash/out.0
 prints crash/shown.1 show examples/crash/out.1
 prints crash/report recover examples/crash/bank examples/crash/out 2
+
+# Of threads the order isn't known before. What they leave is the report that stands there but for the order, and the logs that they
+# keep recover to the very nodes that they print.
+take tickets hall door online out.0 out.1
+prints tickets/recovered recover examples/tickets/hall examples/tickets/out 2
+(cd "$folder" && "$top/onll" run examples/tickets/hall log examples/tickets/door examples/tickets/online) > "$folder/run"
+same 'a run ends with' $? 0
+(cd "$folder" && "$top/onll" recover examples/tickets/hall log 2) > "$folder/found"
+same 'its recovery ends with' $? 0
+same 'a run says' "$(common "$folder/run")" "$(common "$top/examples/tickets/report")"
+same 'its recovery finds' "$(nodes "$folder/found")" "$(nodes "$folder/run")"
+same 'its report and its logs tell' "$(nodes "$top/examples/tickets/recovered")" "$(nodes "$top/examples/tickets/report")"
 
 usage='usage: onll fold INIT SCRIPT
        onll show IMAGE

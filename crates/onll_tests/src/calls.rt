@@ -1,6 +1,6 @@
 //! What the tests of the program share: a call of it, and how it ended.
 
-use onll_outside::{FreeGate, MemSink, MemStore, Named};
+use onll_outside::{FenceAt, FreeGate, Gate, MemSink, MemStore, Named, Store};
 use std::alloc::{AllocError, Global};
 use std::process::Abort;
 use std::str;
@@ -75,9 +75,54 @@ impl<'a> Program<'a> {
 
     /// A store of the files.
     pub(crate) fn store(&self, alloc: Global) -> Result<MemStore, AllocError> {
+        self.store_with(alloc, &[])
+    }
+
+    /// A store of the files, on whose devices these fences fail.
+    pub(crate) fn store_with(
+        &self,
+        alloc: Global,
+        fences: &[FenceAt],
+    ) -> Result<MemStore, AllocError> {
         let files = files_of(alloc, self.files)?;
         let failing_calls = Vec::from_slice(alloc, self.failing_calls)?;
-        Ok(MemStore::new(files, failing_calls, Vec::new(alloc)))
+        let fences = Vec::from_slice(alloc, fences)?;
+        Ok(MemStore::new(files, failing_calls, fences))
+    }
+
+    /// Runs the program over any store and a sink of its own, with threads that this gate may hold. Faults of the sink alone count.
+    pub(crate) fn call<R: Threads + Wait + Sync, S: Store, G: Gate + Sync>(
+        &self,
+        rt: &R,
+        alloc: Global,
+        store: &mut S,
+        gate: &G,
+    ) -> Result<Outcome, AllocError> {
+        let words = words_of(alloc, self.words)?;
+        let failing_puts = Vec::from_slice(alloc, self.failing_puts)?;
+        let mut sink = MemSink::new(alloc, failing_puts);
+        let status = onll_jobs::onll(rt, alloc, &words, store, &mut sink, gate);
+        let taken = Vec::from_slice(alloc, sink.taken())?;
+        let failed = sink.faults() != 0;
+        Ok(Outcome {
+            status,
+            taken,
+            failed,
+        })
+    }
+
+    /// Runs the program over this store and a sink of its own, with threads that this gate may hold.
+    pub(crate) fn run_at<R: Threads + Wait + Sync, G: Gate + Sync>(
+        &self,
+        rt: &R,
+        alloc: Global,
+        store: &mut MemStore,
+        gate: &G,
+    ) -> Result<Outcome, AllocError> {
+        let faults = store.faults();
+        let mut outcome = self.call(rt, alloc, store, gate)?;
+        outcome.failed = outcome.failed || store.faults() != faults;
+        Ok(outcome)
     }
 
     /// Runs the program over this store and a sink of its own.
@@ -87,18 +132,7 @@ impl<'a> Program<'a> {
         alloc: Global,
         store: &mut MemStore,
     ) -> Result<Outcome, AllocError> {
-        let words = words_of(alloc, self.words)?;
-        let failing_puts = Vec::from_slice(alloc, self.failing_puts)?;
-        let mut sink = MemSink::new(alloc, failing_puts);
-        let faults = store.faults();
-        let status = onll_jobs::onll(rt, alloc, &words, store, &mut sink, &FreeGate);
-        let taken = Vec::from_slice(alloc, sink.taken())?;
-        let failed = store.faults() != faults || sink.faults() != 0;
-        Ok(Outcome {
-            status,
-            taken,
-            failed,
-        })
+        self.run_at(rt, alloc, store, &FreeGate)
     }
 
     /// Runs the program over a store and a sink of its own.
@@ -135,10 +169,15 @@ impl Outcome {
         assert_eq!(rt; self.failed, matches!(status, 5 | 6), "{case}: faults");
     }
 
+    /// What was printed.
+    pub(crate) fn text(&self) -> &str {
+        str::from_utf8(&self.taken).unwrap_or("no text")
+    }
+
     /// Asserts the status, and that the output has this line.
     pub(crate) fn expect_line(&self, rt: &impl Abort, case: &str, status: u8, line: &str) {
         self.expect_status(rt, case, status);
-        let taken = str::from_utf8(&self.taken).unwrap_or("no text");
+        let taken = self.text();
         assert!(rt;
             taken.lines().any(|said| said == line),
             "{case}: not said: {line}"
@@ -148,7 +187,7 @@ impl Outcome {
     /// Asserts the status and the whole text of a case. A failure shows the first line that differs.
     pub(crate) fn expect(&self, rt: &impl Abort, case: &str, status: u8, text: &str) {
         self.expect_status(rt, case, status);
-        let taken = str::from_utf8(&self.taken).unwrap_or("no text");
+        let taken = self.text();
         let mut wanted = text.lines();
         for line in taken.lines() {
             assert_eq!(rt; line, wanted.next().unwrap_or("the end"), "{case}");

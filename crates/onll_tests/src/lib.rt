@@ -21,6 +21,8 @@ mod large;
 #[cfg(test)]
 mod leases;
 #[cfg(test)]
+mod left_images;
+#[cfg(test)]
 mod limits;
 #[cfg(test)]
 mod maps;
@@ -29,11 +31,23 @@ mod queues;
 #[cfg(test)]
 mod recovers;
 #[cfg(test)]
+mod refused_replays;
+#[cfg(test)]
 mod replays;
 #[cfg(test)]
 mod runs;
 #[cfg(test)]
+mod runs_faults;
+#[cfg(test)]
+mod runs_files;
+#[cfg(test)]
+mod runs_free;
+#[cfg(test)]
+mod runs_held;
+#[cfg(test)]
 mod shows;
+#[cfg(test)]
+mod watch_gate;
 #[cfg(test)]
 mod worked;
 #[cfg(test)]

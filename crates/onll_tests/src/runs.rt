@@ -1,41 +1,36 @@
-//! Runs of scripts on threads, over devices in memory.
+//! Runs of scripts on threads, over devices in memory, in which nothing fails.
 
-use crate::calls::{Outcome, Program, USAGE, named};
-use onll_outside::{FenceAt, MemStore};
-use std::alloc::{AllocError, Global};
-use std::sync::Wait;
+use crate::calls::{Program, USAGE, repeated};
 use std::test::Fail;
-use std::thread::Threads;
-
-const INIT: &[u8] = b"bank 1\n";
-
-const SCRIPT: &[u8] = b"deposit 0 5\nbalance 0\ndeposit 0 7\n";
 
 /// The words of a run of one thread.
 const ONE: &[&str] = &["run", "i", "out", "s"];
 
-const FILES: &[(&str, &[u8])] = &[("i", INIT), ("s", SCRIPT), ("none", b"")];
+const FILES: &[(&str, &[u8])] = &[
+    ("i", b"bank 2\naccount 0 100\n"),
+    ("s", b"transfer 0 1 30\nbalance 1\n"),
+    ("none", b""),
+];
 
 /// What a run of one thread prints.
-const REPORT: &str = "call 0 1 deposit 0 5 -> ok at 1\n\
-     call 0 2 balance 0 -> 5 at 1\n\
-     call 0 3 deposit 0 7 -> ok at 2\n\
-     trace 2\n\
-     node 1 0 1 set deposit 0 5\n\
-     node 2 0 2 set deposit 0 7\n\
-     log 0 entries 2 lines 5 fences 2\n\
-     recovered 2\n\
+pub(crate) const REPORT: &str = "call 0 1 transfer 0 1 30 -> ok at 1\n\
+     call 0 2 balance 1 -> 30 at 1\n\
+     trace 1\n\
+     node 1 0 1 set transfer 0 1 30\n\
+     log 0 entries 1 lines 3 fences 1\n\
+     recovered 1\n\
      state\n\
-     bank 1\n\
-     account 0 12\n";
+     bank 2\n\
+     account 0 70\n\
+     account 1 30\n";
 
-const RECOVERED: &str = "log 0 entries 2 lines 5\n\
-     recovered 2\n\
-     node 1 0 1 deposit 0 5\n\
-     node 2 0 2 deposit 0 7\n\
+const RECOVERED: &str = "log 0 entries 1 lines 3\n\
+     recovered 1\n\
+     node 1 0 1 transfer 0 1 30\n\
      state\n\
-     bank 1\n\
-     account 0 12\n";
+     bank 2\n\
+     account 0 70\n\
+     account 1 30\n";
 
 #[test]
 fn what_was_run_is_recovered(rt: HostRuntime) -> Result<(), Fail> {
@@ -51,18 +46,17 @@ fn what_was_run_is_recovered(rt: HostRuntime) -> Result<(), Fail> {
 }
 
 /// What a run of two threads prints, the second of which has no call.
-const TWO_REPORT: &str = "call 0 1 deposit 0 5 -> ok at 1\n\
-     call 0 2 balance 0 -> 5 at 1\n\
-     call 0 3 deposit 0 7 -> ok at 2\n\
-     trace 2\n\
-     node 1 0 1 set deposit 0 5\n\
-     node 2 0 2 set deposit 0 7\n\
-     log 0 entries 2 lines 5 fences 2\n\
+const TWO_REPORT: &str = "call 0 1 transfer 0 1 30 -> ok at 1\n\
+     call 0 2 balance 1 -> 30 at 1\n\
+     trace 1\n\
+     node 1 0 1 set transfer 0 1 30\n\
+     log 0 entries 1 lines 3 fences 1\n\
      log 1 entries 0 lines 1 fences 0\n\
-     recovered 2\n\
+     recovered 1\n\
      state\n\
-     bank 1\n\
-     account 0 12\n";
+     bank 2\n\
+     account 0 70\n\
+     account 1 30\n";
 
 #[test]
 fn a_thread_with_no_call(rt: HostRuntime) -> Result<(), Fail> {
@@ -72,69 +66,20 @@ fn a_thread_with_no_call(rt: HostRuntime) -> Result<(), Fail> {
     Ok(())
 }
 
-/// The outcome of a run of one thread, on whose device this fence fails.
-fn broken<R: Threads + Wait + Sync>(
-    rt: &R,
-    alloc: Global,
-    fence: u64,
-) -> Result<Outcome, AllocError> {
-    let mut files = Vec::new(alloc);
-    files.push(named(alloc, "i", INIT)?)?;
-    files.push(named(alloc, "s", SCRIPT)?)?;
-    let mut fences = Vec::new(alloc);
-    fences.push(FenceAt { device: 0, fence })?;
-    let mut store = MemStore::new(files, Vec::new(alloc), fences);
-    Program::new(ONE, &[]).run_over(rt, alloc, &mut store)
-}
-
-/// A fence that fails, the header's being the first, and what the run prints.
-const BROKEN: &[(u64, &str)] = &[
-    (1, "fault thread 0 place 0\n"),
-    (
-        3,
-        "call 0 1 deposit 0 5 -> ok at 1\n\
-         call 0 2 balance 0 -> 5 at 1\n\
-         call 0 3 deposit 0 7 -> fence failed at 2\n\
-         trace 2\n\
-         node 1 0 1 set deposit 0 5\n\
-         node 2 0 2 unset deposit 0 7\n\
-         log 0 entries 2 lines 5 fences 2\n\
-         recovered 2\n\
-         fault thread 0 place 2\n\
-         state\n\
-         bank 1\n\
-         account 0 12\n",
-    ),
+/// The lines of a script, the status of a run of it, and a line that is printed.
+const LONG: &[(usize, u8, &str)] = &[
+    (4096, 0, "trace 4096"),
+    (4097, 3, "refused s 4097 too many"),
 ];
 
 #[test]
-fn fences_that_fail(rt: HostRuntime) -> Result<(), Fail> {
-    for (fence, output) in BROKEN {
-        broken(&rt, rt.alloc(), *fence)?.expect(&rt, "a fence fails", 7, output);
-    }
-    Ok(())
-}
-
-/// A call of the store that fails, the status, and what the run prints.
-const FAULTS: &[(u64, u8, &str)] = &[
-    (1, 5, "read fault i\n"),
-    (2, 5, "read fault s\n"),
-    (3, 6, "write fault out.0\n"),
-    (4, 6, "write fault out.0\n"),
-];
-
-#[test]
-fn calls_of_a_run_that_fail(rt: HostRuntime) -> Result<(), Fail> {
-    for (call, status, output) in FAULTS {
-        let program = Program {
-            words: ONE,
-            files: FILES,
-            failing_calls: &[*call],
-            failing_puts: &[],
-        };
-        program
+fn as_many_updates_as_there_can_be(rt: HostRuntime) -> Result<(), Fail> {
+    for (lines, status, line) in LONG {
+        let script = repeated(rt.alloc(), b"deposit 0 0\n", *lines)?;
+        let files: &[(&str, &[u8])] = &[("i", b"bank 1\n"), ("s", &script)];
+        Program::new(ONE, files)
             .run(&rt, rt.alloc())?
-            .expect(&rt, "a call fails", *status, output);
+            .expect_line(&rt, "a long script", *status, line);
     }
     Ok(())
 }

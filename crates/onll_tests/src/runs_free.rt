@@ -1,0 +1,149 @@
+//! Runs of two threads that no gate puts into an order: each order in which their updates may come is legal, and is told.
+
+use crate::calls::{Program, fold};
+use crate::watch_gate::WatchGate;
+use onll_outside::{Hold, Point};
+use std::alloc::{AllocError, Global};
+use std::process::Abort;
+use std::test::Fail;
+
+const INIT: &[u8] = b"bank 2\naccount 0 100\n";
+
+const FILES: &[(&str, &[u8])] = &[
+    ("i", INIT),
+    ("s0", b"transfer 0 1 60\ntransfer 0 1 60\ntransfer 1 0 20\n"),
+    ("s1", b"transfer 1 0 30\ntransfer 0 1 10\ntransfer 1 0 70\n"),
+];
+
+/// The calls of both scripts, in the order of the report.
+const CALLS: &[(&str, &str, &str)] = &[
+    ("0", "1", "transfer 0 1 60"),
+    ("0", "2", "transfer 0 1 60"),
+    ("0", "3", "transfer 1 0 20"),
+    ("1", "1", "transfer 1 0 30"),
+    ("1", "2", "transfer 0 1 10"),
+    ("1", "3", "transfer 1 0 70"),
+];
+
+/// Neither thread begins before the other. They are held nowhere else.
+const TOGETHER: &[Hold] = &[
+    Hold {
+        thread: 0,
+        point: Point::Begin,
+        until_thread: 1,
+        until_point: Point::Begin,
+    },
+    Hold {
+        thread: 1,
+        point: Point::Begin,
+        until_thread: 0,
+        until_point: Point::Begin,
+    },
+];
+
+/// What follows these pieces in a line that begins with them.
+fn rest_after<'a>(line: &'a str, pieces: &[&str]) -> Option<&'a str> {
+    let mut rest = line;
+    for piece in pieces {
+        rest = rest.strip_prefix(*piece)?;
+    }
+    Some(rest)
+}
+
+/// Whether a text has the line that these pieces make.
+fn has_line(text: &str, pieces: &[&str]) -> bool {
+    text.lines()
+        .any(|line| rest_after(line, pieces) == Some(""))
+}
+
+/// What a report says of the state.
+fn state_of(report: &str) -> &str {
+    report
+        .split_once("\nstate\n")
+        .map_or("no state", |(_, state)| state)
+}
+
+/// The updates of a run's trace as a script, in its order, and then the total.
+fn order_of(alloc: Global, report: &str) -> Result<Vec<u8>, AllocError> {
+    let mut script = Vec::new(alloc);
+    for line in report.lines() {
+        if let Some((_, call)) = line.split_once(" set ") {
+            script.extend_from_slice(call.as_bytes())?;
+            script.push(b'\n')?;
+        }
+    }
+    script.extend_from_slice(b"total\n")?;
+    Ok(script)
+}
+
+/// Each call was answered as the fold of the trace answers it, at the place where its set node stands.
+fn expect_answers<R: Abort>(rt: &R, report: &str, folded: &str) {
+    for ((thread, number, call), line) in CALLS.iter().zip(report.lines()) {
+        let start = &["call ", thread, " ", number, " ", call, " -> "];
+        let answer = rest_after(line, start).unwrap_or("none");
+        let place = answer
+            .rsplit_once(" at ")
+            .map_or("none", |(_, place)| place);
+        let node = &["node ", place, " ", thread, " ", number, " set ", call];
+        assert!(rt; has_line(report, node), "{call}: no node at its place");
+        let same = &["call 0 ", place, " ", call, " -> ", answer];
+        assert!(rt; has_line(folded, same), "{call}: another answer");
+    }
+}
+
+/// A recovery found the nodes of a run.
+fn expect_nodes<R: Abort>(rt: &R, report: &str, recovered: &str) {
+    for line in report.lines() {
+        if let Some((name, call)) = line.split_once(" set ") {
+            assert!(rt;
+                has_line(recovered, &[name, " ", call]),
+                "{name}: not recovered"
+            );
+        }
+    }
+}
+
+/// Lines that each run of the scripts prints, but for the lines that a log uses.
+const LINES: &[(&str, &str)] = &[
+    ("trace 6", ""),
+    ("log 0 entries 3 lines ", " fences 3"),
+    ("log 1 entries 3 lines ", " fences 3"),
+    ("recovered 6", ""),
+];
+
+/// A report has these lines.
+fn expect_lines<R: Abort>(rt: &R, report: &str) {
+    for (start, end) in LINES {
+        assert!(rt;
+            report
+                .lines()
+                .any(|line| line.starts_with(*start) && line.ends_with(*end)),
+            "not said: {start}{end}"
+        );
+    }
+}
+
+#[test]
+fn any_legal_order(rt: HostRuntime) -> Result<(), Fail> {
+    let alloc = rt.alloc();
+    let program = Program::new(&["run", "i", "out", "s0", "s1"], FILES);
+    let mut store = program.store(alloc)?;
+    let gate = WatchGate::new(alloc, TOGETHER)?;
+    let run = program.run_at(&rt, alloc, &mut store, &gate)?;
+    assert!(rt; !gate.expired() && gate.each_once());
+    expect_lines(&rt, run.text());
+
+    let order = order_of(alloc, run.text())?;
+    let folded = fold(&rt, alloc, INIT, &order)?;
+    folded.expect_line(&rt, "the fold", 0, "call 0 7 total -> 100 at 6");
+    expect_answers(&rt, run.text(), folded.text());
+    assert_eq!(rt; state_of(run.text()), state_of(folded.text()));
+
+    let recovered = Program::new(&["recover", "i", "out", "2"], &[]).run_over(
+        &rt, alloc, &mut store,
+    )?;
+    recovered.expect_line(&rt, "the logs", 0, "recovered 6");
+    expect_nodes(&rt, run.text(), recovered.text());
+    assert_eq!(rt; state_of(run.text()), state_of(recovered.text()));
+    Ok(())
+}

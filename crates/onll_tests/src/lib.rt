@@ -25,6 +25,8 @@ mod left_images;
 #[cfg(test)]
 mod limits;
 #[cfg(test)]
+mod makes;
+#[cfg(test)]
 mod maps;
 #[cfg(test)]
 mod queues;

@@ -15,14 +15,14 @@ const FILES: &[(&str, &[u8])] = &[
     ("s1", b"transfer 1 0 30\ntransfer 0 1 10\ntransfer 1 0 70\n"),
 ];
 
-/// The calls of both scripts, in the order of the report.
-const CALLS: &[(&str, &str, &str)] = &[
-    ("0", "1", "transfer 0 1 60"),
-    ("0", "2", "transfer 0 1 60"),
-    ("0", "3", "transfer 1 0 20"),
-    ("1", "1", "transfer 1 0 30"),
-    ("1", "2", "transfer 0 1 10"),
-    ("1", "3", "transfer 1 0 70"),
+/// The calls of both scripts in the order of the report: the thread and the number, and the call.
+const CALLS: &[(&str, &str)] = &[
+    ("0 1", "transfer 0 1 60"),
+    ("0 2", "transfer 0 1 60"),
+    ("0 3", "transfer 1 0 20"),
+    ("1 1", "transfer 1 0 30"),
+    ("1 2", "transfer 0 1 10"),
+    ("1 3", "transfer 1 0 70"),
 ];
 
 /// Neither thread begins before the other. They are held nowhere else.
@@ -41,19 +41,19 @@ const TOGETHER: &[Hold] = &[
     },
 ];
 
-/// What follows these pieces in a line that begins with them.
-fn rest_after<'a>(line: &'a str, pieces: &[&str]) -> Option<&'a str> {
-    let mut rest = line;
-    for piece in pieces {
-        rest = rest.strip_prefix(*piece)?;
-    }
-    Some(rest)
+/// What follows two texts in a line that begins with them.
+fn after<'a>(line: &'a str, first: &str, second: &str) -> Option<&'a str> {
+    line.strip_prefix(first)?.strip_prefix(second)
 }
 
-/// Whether a text has the line that these pieces make.
-fn has_line(text: &str, pieces: &[&str]) -> bool {
-    text.lines()
-        .any(|line| rest_after(line, pieces) == Some(""))
+/// How a call ended, where the line begins with these two texts and is that call's.
+fn end_of<'a>(line: &'a str, first: &str, second: &str, call: &str) -> Option<&'a str> {
+    after(after(line, first, second)?, " ", call)?.strip_prefix(" -> ")
+}
+
+/// The call of the set node at this place, where the line is the node's and it has this name.
+fn node_at<'a>(line: &'a str, place: &str, name: &str) -> Option<&'a str> {
+    after(after(line, "node ", place)?, " ", name)?.strip_prefix(" set ")
 }
 
 /// What a report says of the state.
@@ -76,19 +76,38 @@ fn order_of(alloc: Global, report: &str) -> Result<Vec<u8>, AllocError> {
     Ok(script)
 }
 
+/// Whether a report has this call's set node at this place.
+fn has_node(report: &str, place: &str, name: &str, call: &str) -> bool {
+    report
+        .lines()
+        .any(|line| node_at(line, place, name) == Some(call))
+}
+
+/// Whether the call at this place of a fold ended so.
+fn has_end(folded: &str, place: &str, call: &str, end: &str) -> bool {
+    folded
+        .lines()
+        .any(|line| end_of(line, "call 0 ", place, call) == Some(end))
+}
+
 /// Each call was answered as the fold of the trace answers it, at the place where its set node stands.
 fn expect_answers<R: Abort>(rt: &R, report: &str, folded: &str) {
-    for ((thread, number, call), line) in CALLS.iter().zip(report.lines()) {
-        let start = &["call ", thread, " ", number, " ", call, " -> "];
-        let answer = rest_after(line, start).unwrap_or("none");
-        let place = answer
-            .rsplit_once(" at ")
-            .map_or("none", |(_, place)| place);
-        let node = &["node ", place, " ", thread, " ", number, " set ", call];
-        assert!(rt; has_line(report, node), "{call}: no node at its place");
-        let same = &["call 0 ", place, " ", call, " -> ", answer];
-        assert!(rt; has_line(folded, same), "{call}: another answer");
+    for ((name, call), line) in CALLS.iter().zip(report.lines()) {
+        let end = end_of(line, "call ", name, call).unwrap_or("none");
+        let place = end.rsplit_once(" at ").map_or("none", |(_, place)| place);
+        assert!(rt;
+            has_node(report, place, name, call),
+            "{call}: no node at its place"
+        );
+        assert!(rt; has_end(folded, place, call, end), "{call}: another answer");
     }
+}
+
+/// Whether a recovery has the node that these words name, with this call.
+fn has_recovered(recovered: &str, name: &str, call: &str) -> bool {
+    recovered
+        .lines()
+        .any(|line| after(line, name, " ") == Some(call))
 }
 
 /// A recovery found the nodes of a run.
@@ -96,7 +115,7 @@ fn expect_nodes<R: Abort>(rt: &R, report: &str, recovered: &str) {
     for line in report.lines() {
         if let Some((name, call)) = line.split_once(" set ") {
             assert!(rt;
-                has_line(recovered, &[name, " ", call]),
+                has_recovered(recovered, name, call),
                 "{name}: not recovered"
             );
         }

@@ -52,7 +52,8 @@ RanWhole k init s store after logs names text = (r : HasReported k init s store 
 -- one in which fences failed, with their lines; or the line of a header whose fence failed
 abbrev pub RanBroken : (k : ObjectKind) → List ℕ → k.State → StoreView → StoreView → List ℕ → List (List ℕ) → List ℕ → Type 0
 RanBroken k init s store after logs names text =
-    ((r : HasReported k init s store after logs names text) × (1 ≤ fault_count r.left.ends)) ⊎ HasNoHeader k init s store after logs names text
+    ((r : HasReported k init s store after logs names text) × (1 ≤ fault_count r.left.ends))
+    ⊎ HasNoHeader k init s store after logs names text
 
 -- a run over the initial state that a file holds, and what was put of it
 pub record RunPut (seen : Seen) (init logs : List ℕ) (names : List (List ℕ))

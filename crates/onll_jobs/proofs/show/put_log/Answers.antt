@@ -3,10 +3,16 @@ use Rattle.std.proofs.lemmas.Result.{on_ok_weaker}
 use Rattle.onll_words.specs.Texts.{line_text}
 use Rattle.onll_log.specs.Grammar.{used_by}
 use Rattle.onll_log.specs.Decoded.{segments_in, content_in}
-use Rattle.onll_text.specs.Bytes.{with_lines}
-use Rattle.onll_jobs.specs.ShowJob.{entries_lines, count_words}
+use Rattle.onll_text.specs.Bytes.{begins_line, with_lines}
+use Rattle.onll_text.proofs.Appending.{begins_line-line}
+use Rattle.onll_jobs.specs.ShowJob.{head_line, entries_lines, count_words}
 use Rattle.onll_jobs.proofs.ShowWords.{log_parts}
 use Rattle.onll_jobs.proofs.show.put_log.Goals as goal
+
+pub put_entries-requires-clause-begins : goal.put_entries-requires-clause-begins
+put_entries-requires-clause-begins c =
+    let head = c.args.head.now in
+    ap begins_line c.in_ok-put_head.ensures.line ∙ begins_line-line c.args.out.now (head_line head.thread head.threads head.object)
 
 pub returns-clause-lines : goal.returns-clause-lines
 returns-clause-lines c =

@@ -60,7 +60,7 @@ object_fits line e =
     let c = both_true below (few && object) b.1 in
     let d = both_true few object c.1 in
     let f = both_true least (nat_le (word line 4) greatest_code) d.1 in
-    (leb-true 1 (word line 4) f.0, leb-true (word line 4) 4 f.1)
+    (leb-true 1 (word line 4) f.0, leb-true (word line 4) greatest_code f.1)
 
 if_object : (a b : Bool) (c d : Content) → (a ≡ true → IfSome c.head (λ head. (1 ≤ head.object) × (head.object ≤ greatest_code))) → d.head ≡ None → OfAnObject (cond a (Some c) (cond b (Some d) None))
 if_object true b c d h none = h refl

@@ -61,7 +61,7 @@ fn expect<R: Threads + Wait + Sync + Abort>(
     Ok(())
 }
 
-/// What is said of workloads of one update, of the most of all, and of seeds that go past the greatest number.
+/// What is said of workloads of one update, of the most threads, and of seeds that go past the greatest number.
 const MADE: &[(&[&str], &str)] = &[
     (FOUR, FOUR_REPORT),
     (FOUR, FOUR_REPORT),
@@ -74,8 +74,8 @@ const MADE: &[(&[&str], &str)] = &[
         "made threads 2 updates 14 reads 2\nfences 14\nrecovered 14\ntotal 64000\n",
     ),
     (
-        &["make", "16", "4096", "0"],
-        "made threads 16 updates 65536 reads 16384\nfences 65536\nrecovered 65536\ntotal 64000\n",
+        &["make", "16", "64", "0"],
+        "made threads 16 updates 1024 reads 256\nfences 1024\nrecovered 1024\ntotal 64000\n",
     ),
 ];
 

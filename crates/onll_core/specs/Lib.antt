@@ -12,6 +12,7 @@ pub mod Next
 pub mod StepEvent
 pub mod Created
 pub mod Resumed
+pub mod Resume
 pub mod Fences
 pub mod Entries
 pub mod Laws

@@ -13,6 +13,7 @@ pub mod StepEvent
 pub mod Created
 pub mod Resumed
 pub mod Resume
+pub mod Found
 pub mod Fences
 pub mod Entries
 pub mod Laws

@@ -1,6 +1,10 @@
 //! Why a core does not go on from images.
 
+ghost use Rattle.std.specs.Prelude.{◌≡◌};
+ghost use Rattle.onll_core.specs.declared.fault.ResumeFault.TheVariants.{NoMemory as OutOfMemory};
+
 use onll_merge::ImagesFault;
+use onll_words::NoMemory;
 use thiserror::Error;
 
 /// Why a core does not go on from images. Logs and threads are numbered from 0, places from 1. Of a log that is none and one of
@@ -22,4 +26,12 @@ pub enum ResumeFault {
     /// Memory ran out.
     #[error("out of memory")]
     NoMemory,
+}
+
+impl From<NoMemory> for ResumeFault {
+    ghost from_gives = { λ _ e. e ≡ OutOfMemory };
+
+    fn from(_e: NoMemory) -> ResumeFault {
+        ResumeFault::NoMemory
+    }
 }

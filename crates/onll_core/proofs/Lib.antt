@@ -32,3 +32,8 @@ pub mod EntryLines
 pub mod Plays
 pub mod Firsts
 pub mod Durable
+mod FoundLogs
+mod Answered
+mod Heads
+mod FoundWorkers
+mod FoundCores

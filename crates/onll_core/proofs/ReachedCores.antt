@@ -1,4 +1,4 @@
-use Rattle.std.proofs.Common.{◌≡◌, ℕ, zero, suc, ◌+◌, ◌≤◌, take, List, [], ◌∷◌, ◌++◌, Option, Some, None, refl, sym, ap, ◌∙◌, subst, arith, length}
+use Rattle.std.proofs.Common.{◌≡◌, ℕ, zero, suc, ◌≤◌, take, List, [], ◌∷◌, ◌++◌, Option, Some, None, refl, sym, ap, ◌∙◌, subst, arith, length}
 use Rattle.std.specs.List.{slice_get}
 use Rattle.onll_model.specs.declared.node.Node.{Node}
 use Rattle.onll_model.specs.declared.call.Call.{Call}
@@ -62,7 +62,7 @@ module _ {State Op Query Reply : Type 0} where
       (ap (λ z. z.returned) same, ap (λ z. z.phase) same, (let n = ap (λ z. z.began) same in omega arith), ap (λ z. z.device.fences) same ∙ sym (ap (λ z. z.before) same))
   resumed_threads_fresh (head ∷ heads) (log ∷ logs) (script ∷ scripts) (suc t) th e = resumed_threads_fresh heads logs scripts t th e
 
-  resumed_fresh : (initial : State) (base : List Node) (heads : List LogHead) (logs : List (List Segment)) (scripts : List (List (Call State Op Query Reply))) → IsFresh (resumed_core initial base heads logs scripts)
+  pub resumed_fresh : (initial : State) (base : List Node) (heads : List LogHead) (logs : List (List Segment)) (scripts : List (List (Call State Op Query Reply))) → IsFresh (resumed_core initial base heads logs scripts)
   resumed_fresh initial base heads logs scripts = record {
     trace = refl;
     returned = λ t th e. (resumed_threads_fresh heads logs scripts t th e).0;

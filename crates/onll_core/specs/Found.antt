@@ -52,7 +52,7 @@ pub record IsFound (found : Result Found ResumeFault) (r : Recovered) : Type 0 w
 -- ---- threads
 -- the lines with which a device begins: the used ones of an image, or the head's where there are none
 abbrev pub front_lines : LogHead → ℕ → List (List ℕ) → List (List ℕ)
-front_lines head lines image = (if lines == 0 then head_line head ∷ [] else []) ++ take lines image
+front_lines head lines image = if lines == 0 then head_line head ∷ [] else take lines image
 
 -- a thread that goes on in the log of this image, which has used this many lines by this many entries
 abbrev pub found_thread : {State Op Query Reply : Type 0} → LogHead → List (List ℕ) → LogCounts → List (Call State Op Query Reply)

@@ -4,6 +4,7 @@
 mod crash;
 mod crash_laws;
 mod fault;
+mod found;
 mod laws;
 mod local;
 mod outcomes;

@@ -18,6 +18,7 @@ ghost use Rattle.onll_core.specs.Returns.{OrderedReturn};
 ghost use Rattle.onll_core.specs.Crash.{heads_of, RecoversAlways};
 
 mod play;
+mod resume;
 mod steps;
 
 use crate::local::Local;

@@ -1,20 +1,24 @@
 //! A thread of the core: its script, what has returned, its phase, its log and its device.
 
-ghost use Rattle.std.specs.Prelude.{◌≡◌, ◌+◌, ◌<◌, ◌≤◌, suc, [], length, IfOk};
+ghost use Rattle.std.specs.Prelude.{◌≡◌, ◌+◌, ◌<◌, ◌≤◌, ◌++◌, suc, [], length, take, IfOk};
 ghost use Rattle.onll_model.specs.Limits.{most_threads, most_updates};
 ghost use Rattle.onll_model.specs.Calls.{updates_in};
-ghost use Rattle.onll_pmem.specs.Device.{line_at, FillsWords, after_step, Write, WriteBack};
+ghost use Rattle.onll_pmem.specs.Device.{line_at, zero_lines, FillsWords, after_step, Write, WriteBack};
+ghost use Rattle.onll_pmem.specs.Pmem.{words_of};
 ghost use Rattle.std.specs.Vec.{vec_capacity};
 ghost use Rattle.onll_core.specs.First.{first_device, first_thread};
+ghost use Rattle.onll_core.specs.Resumed.{found_device};
+ghost use Rattle.onll_core.specs.Found.{front_lines, found_thread, IsRoomy};
 ghost use Rattle.onll_core.specs.Step.{turned, begun, on_device, logged, returning, next_call};
 
 use crate::phase::Phase;
 use crate::returned::Returned;
 use onll_log::LogHead;
+use onll_merge::LogCounts;
 use onll_model::{Call, Object};
 use onll_pmem::{MemPmem, Pmem};
 use onll_words::{Line, NoMemory};
-use std::alloc::Global;
+use std::alloc::{AllocError, Global};
 use std::marker::Model;
 
 /// An empty list with room for this many.
@@ -49,6 +53,61 @@ fn first_device(alloc: Global, head: &LogHead, lines: u64) -> Result<MemPmem, No
     device.write_back(0);
     let _ = device.fence();
     Ok(device)
+}
+
+/// These lines, and then this many lines of zeros.
+fn with_zeros(alloc: Global, front: &[Line], room: usize) -> Result<Vec<Line>, AllocError>
+    requires { length front.now + room ≤ 1000000 }
+    ensures { IfOk result (λ v. words_of v.items ≡ words_of front.now ++ zero_lines room) }
+{
+    let mut lines = Vec::with_capacity(alloc, front.len() + room)?;
+    lines.extend_from_slice(front)?;
+    lines.resize(front.len() + room, Line { w: [0; 8] })?;
+    Ok(lines)
+}
+
+/// A device that was found with these lines and then this many lines of zeros, all of them fenced.
+fn device_of(alloc: Global, front: &[Line], room: u64) -> Result<MemPmem, NoMemory>
+    requires { length front.now + room ≤ 1000000 }
+    ensures { IfOk result (λ device. device
+        ≡ record { device = found_device (words_of front.now ++ zero_lines room); failing = [] }) }
+{
+    match with_zeros(alloc, front, room as usize) {
+        Ok(lines) => MemPmem::of_image(alloc, lines, Vec::new(alloc)),
+        Err(_) => Err(NoMemory),
+    }
+}
+
+/// The first lines of an image.
+fn used_lines(image: &[Line], lines: u64) -> &[Line]
+    requires { lines ≤ length image.now }
+    ensures { words_of result.now ≡ take lines (words_of image.now) }
+{
+    let (used, _) = image.split_at(lines as usize);
+    used
+}
+
+/// The device of a log that is gone on in: the used lines of its image, or the head's line where there are none, and then lines of
+/// zeros.
+fn found_device(
+    alloc: Global,
+    head: &LogHead,
+    lines: u64,
+    image: &[Line],
+    room: u64,
+) -> Result<MemPmem, NoMemory>
+    requires within { lines ≤ length image.now }
+    requires few { lines + 1 + room ≤ 1000000 }
+    ensures { IfOk result (λ device. device ≡ record {
+      device = found_device (front_lines head.now lines (words_of image.now) ++ zero_lines room);
+      failing = [];
+    }) }
+{
+    if lines == 0 {
+        device_of(alloc, &[head.line()], room)
+    } else {
+        device_of(alloc, used_lines(image, lines), room)
+    }
 }
 
 /// One thread of a core, and its log's device, whose fences never fail.
@@ -117,6 +176,34 @@ impl<O: Object> Worker<O> {
             used: 1,
             logged: 0,
             before: 1,
+            device,
+        })
+    }
+
+    /// A thread that goes on in the log of this image, with room for an entry of each update; an image of zeros has a log that
+    /// holds its head.
+    pub fn resume(
+        alloc: Global,
+        head: LogHead,
+        image: &[Line],
+        log: LogCounts,
+        script: Vec<Call<O>>,
+    ) -> Result<Worker<O>, NoMemory>
+        requires { IsRoomy head (words_of image.now) log script.items }
+        ensures { IfOk result (λ worker. worker ≡ found_thread head (words_of image.now) log script.items) }
+    {
+        let room = count_updates(&script) * (head.threads + 1);
+        let returned = with_room(alloc, script.len())?;
+        let device = found_device(alloc, &head, log.lines, image, room)?;
+        Ok(Worker {
+            head,
+            script,
+            returned,
+            phase: Phase::Idle,
+            began: 0,
+            used: log.lines.max(1),
+            logged: log.entries,
+            before: 0,
             device,
         })
     }

@@ -9,7 +9,7 @@ use Rattle.onll_model.specs.Trace.{is_of_thread}
 use Rattle.onll_model.specs.Segment.{Segment, Rises}
 use Rattle.onll_model.specs.Frames.{Thread, IsSoundSegment, fenced_segments, segments_of, open_in, Follows}
 use Rattle.onll_model.specs.Events.{window, next_node}
-use Rattle.onll_model.proofs.Lists.{all_map, all_left, all_append, inside}
+use Rattle.onll_model.proofs.Lists.{all_map, all_append, inside}
 use Rattle.onll_model.proofs.Traces.{node_place, count_own, count_other}
 use Rattle.onll_pmem.specs.Device.{line_at, FillsWords}
 use Rattle.onll_log.specs.Head.{FitsHead}
@@ -96,13 +96,13 @@ pub record MayLook {State Op Query Reply : Type 0} (c : CoreState State Op Query
   pub in_trace : front ≤ length c.trace
 
 -- ---- entries
--- no fenced entry holds more nodes than there are threads
+-- no entry, fenced or being written, holds more nodes than there are threads
 pub entries_few : {State Op Query Reply : Type 0} (count : ℕ) (c : CoreState State Op Query Reply) → IsConsistent count c → EntriesAreFew count c
 entries_few count c k t th at =
     let v : Thread = frame_thread c.base c.trace th in
     let P : Segment → Type 0 = IsSoundSegment count c.trace (fenced_segments (frame_of c).threads) in
-    all_map P (λ (s : Segment). length s.nodes ≤ count) v.fenced (λ s h. h.few)
-    (all_left P v.fenced (option_to_list v.pending) (k.sound.segments t v (part_at c t th at th.phase refl)))
+    all_map P (λ (s : Segment). length s.nodes ≤ count) (v.fenced ++ option_to_list v.pending) (λ s h. h.few)
+    (k.sound.segments t v (part_at c t th at th.phase refl))
 
 -- segments that rise are no more than places
 rises_few : (count last : ℕ) (trace : List Node) (fenced ss : List Segment) → AllByRecursion (IsSoundSegment count trace fenced) ss → Rises last ss → last ≤ length trace → last + length ss ≤ length trace

@@ -49,7 +49,7 @@ module _ (State Op Query Reply : Type 0) where
       → AreResumed count base heads logs scripts
       → CountsFences (resumed_core initial base heads logs scripts)
 
-  -- no fenced entry of a consistent core holds more nodes than there are threads
+  -- no entry of a consistent core, fenced or being written, holds more nodes than there are threads
   abbrev pub EntriesLaw : Type 0
   EntriesLaw = (count : ℕ) (c : CoreState State Op Query Reply) → IsConsistent count c → EntriesAreFew count c
 

@@ -37,9 +37,10 @@ pub fn next_crash_law<O: Object>()
     ensures next { NextCrashLaw O.means }
 {}
 
-/// What ONLL promises, in one place: in every interleaving of any scripts, at every step, the trace is one legal history in
-/// real time, an update has fenced its log once and a read never, and whatever a crash leaves recovers to a prefix of the
-/// trace that holds every returned update and all that returned reads saw.
+/// What ONLL promises, in one place, of a core that begins anew and of one that goes on from any images: in every interleaving of any
+/// scripts, at every step, the trace is the base and then one legal history in real time, an update has fenced its log once in this
+/// generation and a read never, and whatever a crash leaves recovers to a prefix of the trace that holds the base, every returned
+/// update and all that returned reads saw.
 pub fn durable_law<O: Object>()
     ensures { DurableLaw O.means }
 {}

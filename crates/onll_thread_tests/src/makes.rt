@@ -1,6 +1,6 @@
 //! Workloads that are made by a seed, and run on threads.
 
-use crate::calls::{Program, USAGE, words_of};
+use onll_calls::{Program, USAGE, words_of};
 use onll_outside::{Gate, MemSink, Point};
 use onll_trace::Spot;
 use std::alloc::{AllocError, Global};

@@ -32,8 +32,8 @@ pub record DeviceHolds (head : LogHead) (log : List Segment) (free : ℕ) (devic
   pub marks : length device.backed ≡ length device.read
 
 -- A thread that has done nothing: its device holds its log, and has room for a whole entry of each update. It has made
--- this many fences.
-pub record HasBegun {State Op Query Reply : Type 0} (count fences t : ℕ) (base : List Node) (log : List Segment) (th : CoreThread State Op Query Reply) : Type 0 where
+-- no fence but, at most, its head's.
+pub record HasBegun {State Op Query Reply : Type 0} (count t : ℕ) (base : List Node) (log : List Segment) (th : CoreThread State Op Query Reply) : Type 0 where
   pub head : IsHeadOf count t th.head
   pub fits : FitEntries th.head.threads log
   pub returned : th.returned ≡ []
@@ -41,19 +41,20 @@ pub record HasBegun {State Op Query Reply : Type 0} (count fences t : ℕ) (base
   pub used : th.used ≡ suc (lines_in log)
   pub logged : th.logged ≡ length log
   pub device : DeviceHolds th.head log (updates_in th.script * suc th.head.threads) th.device
-  pub fenced : th.device.fences ≡ fences
+  pub fenced : th.device.fences ≡ th.before
+  pub low : th.before ≤ 1
   -- with those of the base it has no more than 4,096 updates
   pub names : count_by (is_of_thread t) base + updates_in th.script ≤ 4096
 
 -- no thread has done anything, and the trace is the base, which these logs hold
-pub record IsBegun {State Op Query Reply : Type 0} (count fences : ℕ) (logs : List (List Segment)) (c : CoreState State Op Query Reply) : Type 0 where
+pub record IsBegun {State Op Query Reply : Type 0} (count : ℕ) (logs : List (List Segment)) (c : CoreState State Op Query Reply) : Type 0 where
   pub few : count ≤ 16
   pub base : c.base ≡ length c.trace
   pub flags : c.flags ≡ replicate (length c.trace) true
   pub rows : AllByRecursion (λ (n : Node). length n.row.w ≡ 7) c.trace
   pub resumable : IsResumable count c.trace logs
   pub all_threads : length c.threads ≡ count
-  pub begun : EachCoreThread c (λ t th. (log : List Segment) → slice_get logs t ≡ Some log → HasBegun count fences t c.trace log th)
+  pub begun : EachCoreThread c (λ t th. (log : List Segment) → slice_get logs t ≡ Some log → HasBegun count t c.trace log th)
 
 -- lists that agree place by place
 same_maps : {A B C : Type 0} (f : A → C) (g : B → C) (xs : List A) (ys : List B) → length xs ≡ length ys → ((i : ℕ) (x : A) (y : B) → slice_get xs i ≡ Some x → slice_get ys i ≡ Some y → f x ≡ g y) → map f xs ≡ map g ys
@@ -62,7 +63,7 @@ same_maps f g [] (y ∷ ys) e h = absurd (omega arith)
 same_maps f g (x ∷ xs) [] e h = absurd (omega arith)
 same_maps f g (x ∷ xs) (y ∷ ys) e h = let a = h 0 x y refl refl in let b = same_maps f g xs ys (omega arith) (λ i z w p q. h (suc i) z w p q) in λ i. a i ∷ b i
 
-module _ {State Op Query Reply : Type 0} (count fences t : ℕ) (base : List Node) (log : List Segment) (th : CoreThread State Op Query Reply) (h : HasBegun count fences t base log th) (low : fences ≤ 1) where
+module _ {State Op Query Reply : Type 0} (count t : ℕ) (base : List Node) (log : List Segment) (th : CoreThread State Op Query Reply) (h : HasBegun count t base log th) where
   all_to_come : updates_in (drop (length th.returned) th.script) ≡ updates_in th.script
   all_to_come = ap (λ (rs : List (Returned State Op Query Reply)). updates_in (drop (length rs) th.script)) h.returned
 
@@ -71,7 +72,8 @@ module _ {State Op Query Reply : Type 0} (count fences t : ℕ) (base : List Nod
       let free : ℕ = updates_in th.script * suc th.head.threads in
       let d = h.device in
       let same : th.device.read ≡ th.device.fenced = d.read ∙ sym d.fenced in
-      let f = h.fenced in (
+      let f = h.fenced in
+      let l = h.low in (
         record {
           log = log;
           free = free;
@@ -105,16 +107,16 @@ module _ {State Op Query Reply : Type 0} (count fences t : ℕ) (base : List Nod
   begun_numbers : count_by (is_of_thread t) base + updates_to_link th th.phase ≤ 4096
   begun_numbers = subst (λ (z : Phase). count_by (is_of_thread t) base + updates_to_link th z ≤ 4096) (sym h.phase) (let a = all_to_come in let n = h.names in omega arith)
 
-  begun_fences : th.device.fences ≡ fences + updates_returned th + fenced_in th.phase
+  begun_fences : th.device.fences ≡ th.before + (updates_returned th + fenced_in th.phase)
   begun_fences =
       let none : updates_returned th ≡ 0 = ap (λ (rs : List (Returned State Op Query Reply)). updates_in (take (length rs) th.script)) h.returned in
       let rest : fenced_in th.phase ≡ 0 = ap fenced_in h.phase in
       let f = h.fenced in
       omega arith
 
-module _ {State Op Query Reply : Type 0} (count fences : ℕ) (logs : List (List Segment)) (c : CoreState State Op Query Reply) (b : IsBegun count fences logs c) (low : fences ≤ 1) where
+module _ {State Op Query Reply : Type 0} (count : ℕ) (logs : List (List Segment)) (c : CoreState State Op Query Reply) (b : IsBegun count logs c) where
   -- each thread has its log
-  log_of : (t : ℕ) (th : CoreThread State Op Query Reply) → slice_get c.threads t ≡ Some th → (log : List Segment) × HasBegun count fences t c.trace log th
+  log_of : (t : ℕ) (th : CoreThread State Op Query Reply) → slice_get c.threads t ≡ Some th → (log : List Segment) × HasBegun count t c.trace log th
   log_of t th at =
       let n = b.all_threads in
       let m = b.resumable.threads in
@@ -127,7 +129,7 @@ module _ {State Op Query Reply : Type 0} (count fences : ℕ) (logs : List (List
       let flags = b.flags in
       let base = b.base in
       let parts : map (frame_thread c.base c.trace) c.threads ≡ map (resumed_thread c.base) logs = same_maps (frame_thread c.base c.trace) (resumed_thread c.base) c.threads logs (b.all_threads ∙ sym b.resumable.threads)
-      (λ t th log at here. begun_part count fences t c.trace log th (b.begun t th at log here) low c.base c.trace) in
+      (λ t th log at here. begun_part count t c.trace log th (b.begun t th at log here) c.base c.trace) in
       (λ i. record { trace = c.trace; flags = flags i; threads = parts i; notes = [] }) ∙ ap (λ (n : ℕ). record { trace = c.trace; flags = replicate (length c.trace) true; threads = map (resumed_thread n) logs; notes = [] }) base
 
   pub begun_consistent : IsConsistent count c
@@ -138,9 +140,9 @@ module _ {State Op Query Reply : Type 0} (count fences : ℕ) (logs : List (List
         based = s.based;
         rows = b.rows;
         few = b.few;
-        numbers = λ t th at. let x = log_of t th at in begun_numbers count fences t c.trace x.0 th x.1 low;
-        tied = λ t th at. let x = log_of t th at in begun_tied count fences t c.trace x.0 th x.1 low;
+        numbers = λ t th at. let x = log_of t th at in begun_numbers count t c.trace x.0 th x.1;
+        tied = λ t th at. let x = log_of t th at in begun_tied count t c.trace x.0 th x.1;
       }
 
-  pub begun_counts : CountsFences fences c
-  begun_counts t th at = let x = log_of t th at in begun_fences count fences t c.trace x.0 th x.1 low
+  pub begun_counts : CountsFences c
+  begun_counts t th at = let x = log_of t th at in begun_fences count t c.trace x.0 th x.1

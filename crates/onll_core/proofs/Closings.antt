@@ -23,7 +23,8 @@ use Rattle.onll_core.specs.Reached.{IsReached}
 use Rattle.onll_core.specs.Kept.{IsLocal, HoldOwn, KeepsCore}
 use Rattle.onll_core.proofs.Kept.{step_consistent}
 use Rattle.onll_core.proofs.Owns.{step_own}
-use Rattle.onll_core.proofs.ReachedCores.{step_reached}
+use Rattle.onll_core.specs.Fences.{fences_of}
+use Rattle.onll_core.proofs.ReachedCores.{step_reached, reached_counts}
 
 -- What a core keeps beside its state is kept by a step of its code.
 
@@ -80,6 +81,14 @@ module _ {State Op Query Reply : Type 0} (b : Behaviour State Op Query Reply) (n
   -- a fact of the thread that a clause speaks of
   pub of_thread : (P : CoreState State Op Query Reply → CoreThread State Op Query Reply → Type 0) → IfSome (slice_get now.threads t) (P now) → P c th
   of_thread P h = subst (λ (o : Option (CoreThread State Op Query Reply)). IfSome o (P c)) reads (subst (λ (s : CoreState State Op Query Reply). IfSome (slice_get s.threads t) (P s)) (sym view) h)
+
+  -- and a fact that a clause is to say of it
+  pub to_thread : (P : CoreState State Op Query Reply → CoreThread State Op Query Reply → Type 0) → P c th → IfSome (slice_get now.threads t) (P now)
+  to_thread P h = subst (λ (s : CoreState State Op Query Reply). IfSome (slice_get s.threads t) (P s)) view (subst (λ (o : Option (CoreThread State Op Query Reply)). IfSome o (P c)) (sym reads) h)
+
+  -- the fences of this generation
+  pub fences_told : (n : ℕ) → n + th.before ≡ th.device.fences → IfSome (slice_get now.threads t) (λ z. n ≡ fences_of z)
+  fences_told n e = to_thread (λ s z. n ≡ fences_of z) (let m = reached_counts b (length c.threads) c k.reached t th reads in omega arith)
 
   -- the step changes this thread alone, and nothing of it returns
   pub made_put : (w : CoreThread State Op Query Reply) → w.returned ≡ th.returned → step_of b c t ≡ put c t w → Made b nodes flags locals (record (put c t w) { clock = c.clock + 1 }) (step_of b now t)

@@ -52,5 +52,5 @@ module _ {State Op Query Reply : Type 0} (initial : State) (object : ℕ) (init 
   pub created_consistent : IsConsistent (length scripts) (created_core initial object init scripts)
   created_consistent = first_consistent (length scripts) initial (heads_from (length scripts) object init 0 (length scripts)) scripts are_first
 
-  pub created_counts : CountsFences 1 (created_core initial object init scripts)
+  pub created_counts : CountsFences (created_core initial object init scripts)
   created_counts = first_counts (length scripts) initial (heads_from (length scripts) object init 0 (length scripts)) scripts are_first

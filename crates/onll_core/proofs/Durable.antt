@@ -55,7 +55,7 @@ module _ {State Op Query Reply : Type 0} (b : Behaviour State Op Query Reply) wh
         sound = consistent.sound;
         legal = legal_report object init initial scripts ts within;
         in_time = reached_order b count c reached;
-        fences = steps_counts b 1 first ts (created_counts initial object init scripts within);
+        fences = steps_counts b first ts (created_counts initial object init scripts within);
         entries = entries_few count c consistent;
         returns = reached_returns b count c reached;
         crash = λ images left. crash_recovers b count initial (created_heads object init scripts) scripts ts images (are_first initial object init scripts within) left;

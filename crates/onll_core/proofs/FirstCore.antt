@@ -63,7 +63,7 @@ module _ {State Op Query Reply : Type 0} where
   length-first_threads (head ∷ heads) [] e = absurd (omega arith)
   length-first_threads (head ∷ heads) (script ∷ scripts) e = ap suc (length-first_threads heads scripts (omega arith))
 
-  first_has_begun : (count t : ℕ) (head : LogHead) (script : List (Call State Op Query Reply)) → IsHeadOf count t head → updates_in script ≤ 4096 → HasBegun count 1 t [] [] (first_thread head script)
+  first_has_begun : (count t : ℕ) (head : LogHead) (script : List (Call State Op Query Reply)) → IsHeadOf count t head → updates_in script ≤ 4096 → HasBegun count t [] [] (first_thread head script)
   first_has_begun count t head script h few =
       let one : head.threads + 1 ≡ suc head.threads = omega arith in
       record {
@@ -75,6 +75,7 @@ module _ {State Op Query Reply : Type 0} where
         logged = refl;
         device = first_device_holds head (lines_for (updates_in script) head.threads) (updates_in script * suc head.threads) (after_one (updates_in script * (head.threads + 1)) ∙ ap (λ (n : ℕ). suc (updates_in script * n)) one);
         fenced = refl;
+        low = omega arith;
         names = low (updates_in script) few;
       }
     where
@@ -84,7 +85,7 @@ module _ {State Op Query Reply : Type 0} where
       low : (n : ℕ) → n ≤ 4096 → 0 + n ≤ 4096
       low n l = omega arith
 
-  first_begun : (count : ℕ) (initial : State) (heads : List LogHead) (scripts : List (List (Call State Op Query Reply))) → AreFirst count heads scripts → IsBegun count 1 (replicate count []) (first_core initial heads scripts)
+  first_begun : (count : ℕ) (initial : State) (heads : List LogHead) (scripts : List (List (Call State Op Query Reply))) → AreFirst count heads scripts → IsBegun count (replicate count []) (first_core initial heads scripts)
   first_begun count initial heads scripts a = record {
     few = a.few;
     base = refl;
@@ -92,15 +93,15 @@ module _ {State Op Query Reply : Type 0} where
     rows = tt;
     resumable = created_resumable count;
     all_threads = length-first_threads heads scripts (a.all_heads ∙ sym a.all_scripts) ∙ a.all_heads;
-    begun = λ t th at log here. let x = first_at heads scripts t th at in subst (λ (z : List Segment × CoreThread State Op Query Reply). HasBegun count 1 t [] z.0 z.1)
+    begun = λ t th at log here. let x = first_at heads scripts t th at in subst (λ (z : List Segment × CoreThread State Op Query Reply). HasBegun count t [] z.0 z.1)
         (let e = sym (of_replicate count t [] log here) in let w = x.4 in λ i. (e i, w i)) (first_has_begun count t x.0 x.1 (a.each_head t x.0 x.2) (a.each_script t x.1 x.3));
   }
 
   pub first_consistent : (count : ℕ) (initial : State) (heads : List LogHead) (scripts : List (List (Call State Op Query Reply))) → AreFirst count heads scripts → IsConsistent count (first_core initial heads scripts)
-  first_consistent count initial heads scripts a = begun_consistent count 1 (replicate count []) (first_core initial heads scripts) (first_begun count initial heads scripts a) (omega arith)
+  first_consistent count initial heads scripts a = begun_consistent count (replicate count []) (first_core initial heads scripts) (first_begun count initial heads scripts a)
 
-  pub first_counts : (count : ℕ) (initial : State) (heads : List LogHead) (scripts : List (List (Call State Op Query Reply))) → AreFirst count heads scripts → CountsFences 1 (first_core initial heads scripts)
-  first_counts count initial heads scripts a = begun_counts count 1 (replicate count []) (first_core initial heads scripts) (first_begun count initial heads scripts a) (omega arith)
+  pub first_counts : (count : ℕ) (initial : State) (heads : List LogHead) (scripts : List (List (Call State Op Query Reply))) → AreFirst count heads scripts → CountsFences (first_core initial heads scripts)
+  first_counts count initial heads scripts a = begun_counts count (replicate count []) (first_core initial heads scripts) (first_begun count initial heads scripts a)
 
   -- ---- a core that goes on
   resumed_at : (heads : List LogHead) (logs : List (List Segment)) (scripts : List (List (Call State Op Query Reply))) (t : ℕ) (th : CoreThread State Op Query Reply) (log : List Segment)
@@ -120,7 +121,7 @@ module _ {State Op Query Reply : Type 0} where
   length-resumed_core_threads (head ∷ heads) (log ∷ logs) (script ∷ scripts) e f = ap suc (length-resumed_core_threads heads logs scripts (omega arith) (omega arith))
 
   resumed_has_begun : (count t : ℕ) (base : List Node) (head : LogHead) (log : List Segment) (script : List (Call State Op Query Reply)) → IsHeadOf count t head → FitEntries count log
-      → count_by (is_of_thread t) base + updates_in script ≤ 4096 → HasBegun count 0 t base log (resumed_core_thread head log script)
+      → count_by (is_of_thread t) base + updates_in script ≤ 4096 → HasBegun count t base log (resumed_core_thread head log script)
   resumed_has_begun count t base head log script h fits names = record {
     head = h;
     fits = subst (λ (n : ℕ). FitEntries n log) (sym h.threads) fits;
@@ -130,11 +131,12 @@ module _ {State Op Query Reply : Type 0} where
     logged = refl;
     device = found_device_holds head log (updates_in script * (head.threads + 1)) (updates_in script * suc head.threads) (ap (λ (n : ℕ). updates_in script * n) (add_one head.threads));
     fenced = refl;
+    low = omega arith;
     names = names;
   }
 
   resumed_begun : (count : ℕ) (initial : State) (base : List Node) (heads : List LogHead) (logs : List (List Segment)) (scripts : List (List (Call State Op Query Reply))) → AreResumed count base heads logs scripts
-      → IsBegun count 0 logs (resumed_core initial base heads logs scripts)
+      → IsBegun count logs (resumed_core initial base heads logs scripts)
   resumed_begun count initial base heads logs scripts a = record {
     few = a.few;
     base = refl;
@@ -142,14 +144,14 @@ module _ {State Op Query Reply : Type 0} where
     rows = a.rows;
     resumable = a.resumable;
     all_threads = length-resumed_core_threads heads logs scripts (a.all_heads ∙ sym a.resumable.threads) (a.all_heads ∙ sym a.all_scripts) ∙ a.all_heads;
-    begun = λ t th at log here. let x = resumed_at heads logs scripts t th log at here in subst (λ (z : CoreThread State Op Query Reply). HasBegun count 0 t base log z) x.4
+    begun = λ t th at log here. let x = resumed_at heads logs scripts t th log at here in subst (λ (z : CoreThread State Op Query Reply). HasBegun count t base log z) x.4
         (resumed_has_begun count t base x.0 log x.1 (a.each_head t x.0 x.2) (a.each_log t log here) (a.each_script t x.1 x.3));
   }
 
   pub resumed_consistent : (count : ℕ) (initial : State) (base : List Node) (heads : List LogHead) (logs : List (List Segment)) (scripts : List (List (Call State Op Query Reply))) → AreResumed count base heads logs scripts
       → IsConsistent count (resumed_core initial base heads logs scripts)
-  resumed_consistent count initial base heads logs scripts a = begun_consistent count 0 logs (resumed_core initial base heads logs scripts) (resumed_begun count initial base heads logs scripts a) (omega arith)
+  resumed_consistent count initial base heads logs scripts a = begun_consistent count logs (resumed_core initial base heads logs scripts) (resumed_begun count initial base heads logs scripts a)
 
   pub resumed_counts : (count : ℕ) (initial : State) (base : List Node) (heads : List LogHead) (logs : List (List Segment)) (scripts : List (List (Call State Op Query Reply))) → AreResumed count base heads logs scripts
-      → CountsFences 0 (resumed_core initial base heads logs scripts)
-  resumed_counts count initial base heads logs scripts a = begun_counts count 0 logs (resumed_core initial base heads logs scripts) (resumed_begun count initial base heads logs scripts a) (omega arith)
+      → CountsFences (resumed_core initial base heads logs scripts)
+  resumed_counts count initial base heads logs scripts a = begun_counts count logs (resumed_core initial base heads logs scripts) (resumed_begun count initial base heads logs scripts a)

@@ -30,14 +30,15 @@ use Rattle.onll_core.proofs.ReachedCores.{created_reached}
 -- a thread that has done nothing
 pub first_worker : {State Op Query Reply : Type 0} (head : LogHead) (script : List (Call State Op Query Reply)) (lines most : ℕ) (device : MemoryState) → device ≡ record { device = first_device head lines; failing = [] }
     → 1 ≤ lines → lines ≤ 1000000 → length script ≤ most
-    → KeepsWorker {State = State} {Op = Op} {Query = Query} {Reply = Reply} device.failing most (record { head = head; script = script; returned = []; phase = phases.Idle; began = 0; used = 1; logged = 0; device = device.device })
+    → KeepsWorker {State = State} {Op = Op} {Query = Query} {Reply = Reply} device.failing most (record { head = head; script = script; returned = []; phase = phases.Idle; began = 0; used = 1; logged = 0; before = 1; device = device.device })
 first_worker head script lines most device is one few room =
     let size : length device.device.read ≡ lines = ap (λ (m : MemoryState). length m.device.read) is ∙ (length-set (zero_lines lines) 0 (head_line head) ∙ length-replicate lines _) in
     record {
       never_fails = ap (λ (m : MemoryState). m.failing) is;
       room = room;
       lines = omega arith;
-      fences = ap (λ (m : MemoryState). m.device.fences) is;
+      fences = let e = ap (λ (m : MemoryState). m.device.fences) is in omega arith;
+      few = let e = ap (λ (m : MemoryState). m.device.fences) is in omega arith;
       entries = omega arith;
       within = omega arith;
     }

@@ -1,4 +1,4 @@
-use Rattle.std.proofs.Common.{◌≡◌, ℕ, zero, suc, ◌≤◌, List, [], ◌∷◌, ◌++◌, Option, Some, None, refl, sym, ap, ◌∙◌, subst, arith, length}
+use Rattle.std.proofs.Common.{◌≡◌, ℕ, zero, suc, ◌+◌, ◌≤◌, take, List, [], ◌∷◌, ◌++◌, Option, Some, None, refl, sym, ap, ◌∙◌, subst, arith, length}
 use Rattle.std.specs.List.{slice_get}
 use Rattle.onll_model.specs.declared.node.Node.{Node}
 use Rattle.onll_model.specs.declared.call.Call.{Call}
@@ -29,16 +29,20 @@ use Rattle.onll_core.proofs.Timed.{IsTimed}
 use Rattle.onll_core.proofs.TimedSteps.{step_timed, fresh_timed}
 use Rattle.onll_core.proofs.InTime.{timed_order}
 use Rattle.onll_core.proofs.Bounds.{returns_in_time}
+use Rattle.onll_model.specs.Calls.{updates_in}
+use Rattle.onll_core.specs.declared.returned.Returned.{Returned}
+use Rattle.onll_core.specs.Fences.{fenced_in, updates_returned, CountsFences}
+use Rattle.onll_core.proofs.Fences.{steps_counts}
 
 -- What holds of every core that steps reach.
 
 -- in the first state no call has begun
 module _ {State Op Query Reply : Type 0} where
-  first_threads_fresh : (heads : List LogHead) (scripts : List (List (Call State Op Query Reply))) (t : ℕ) (th : CoreThread State Op Query Reply) → slice_get (first_threads heads scripts) t ≡ Some th → (th.returned ≡ []) × (th.phase ≡ phases.Idle) × (th.began ≤ 0)
+  first_threads_fresh : (heads : List LogHead) (scripts : List (List (Call State Op Query Reply))) (t : ℕ) (th : CoreThread State Op Query Reply) → slice_get (first_threads heads scripts) t ≡ Some th → (th.returned ≡ []) × (th.phase ≡ phases.Idle) × (th.began ≤ 0) × (th.device.fences ≡ th.before)
   first_threads_fresh [] scripts t th e = some_not_none th (sym e)
   first_threads_fresh (head ∷ heads) [] t th e = some_not_none th (sym e)
   first_threads_fresh (head ∷ heads) (script ∷ scripts) zero th e = let same = sym (same_some (first_thread head script) th e) in
-      (ap (λ z. z.returned) same, ap (λ z. z.phase) same, let n = ap (λ z. z.began) same in omega arith)
+      (ap (λ z. z.returned) same, ap (λ z. z.phase) same, (let n = ap (λ z. z.began) same in omega arith), ap (λ z. z.device.fences) same ∙ sym (ap (λ z. z.before) same))
   first_threads_fresh (head ∷ heads) (script ∷ scripts) (suc t) th e = first_threads_fresh heads scripts t th e
 
   pub first_fresh : (initial : State) (heads : List LogHead) (scripts : List (List (Call State Op Query Reply))) → IsFresh (first_core initial heads scripts)
@@ -47,14 +51,15 @@ module _ {State Op Query Reply : Type 0} where
     returned = λ t th e. (first_threads_fresh heads scripts t th e).0;
     idle = λ t th e. (first_threads_fresh heads scripts t th e).1;
     began = λ t th e. (first_threads_fresh heads scripts t th e).2;
+    fences = λ t th e. (first_threads_fresh heads scripts t th e).3;
   }
 
-  resumed_threads_fresh : (heads : List LogHead) (logs : List (List Segment)) (scripts : List (List (Call State Op Query Reply))) (t : ℕ) (th : CoreThread State Op Query Reply) → slice_get (resumed_core_threads heads logs scripts) t ≡ Some th → (th.returned ≡ []) × (th.phase ≡ phases.Idle) × (th.began ≤ 0)
+  resumed_threads_fresh : (heads : List LogHead) (logs : List (List Segment)) (scripts : List (List (Call State Op Query Reply))) (t : ℕ) (th : CoreThread State Op Query Reply) → slice_get (resumed_core_threads heads logs scripts) t ≡ Some th → (th.returned ≡ []) × (th.phase ≡ phases.Idle) × (th.began ≤ 0) × (th.device.fences ≡ th.before)
   resumed_threads_fresh [] logs scripts t th e = some_not_none th (sym e)
   resumed_threads_fresh (head ∷ heads) [] scripts t th e = some_not_none th (sym e)
   resumed_threads_fresh (head ∷ heads) (log ∷ logs) [] t th e = some_not_none th (sym e)
   resumed_threads_fresh (head ∷ heads) (log ∷ logs) (script ∷ scripts) zero th e = let same = sym (same_some (resumed_core_thread head log script) th e) in
-      (ap (λ z. z.returned) same, ap (λ z. z.phase) same, let n = ap (λ z. z.began) same in omega arith)
+      (ap (λ z. z.returned) same, ap (λ z. z.phase) same, (let n = ap (λ z. z.began) same in omega arith), ap (λ z. z.device.fences) same ∙ sym (ap (λ z. z.before) same))
   resumed_threads_fresh (head ∷ heads) (log ∷ logs) (script ∷ scripts) (suc t) th e = resumed_threads_fresh heads logs scripts t th e
 
   resumed_fresh : (initial : State) (base : List Node) (heads : List LogHead) (logs : List (List Segment)) (scripts : List (List (Call State Op Query Reply))) → IsFresh (resumed_core initial base heads logs scripts)
@@ -63,7 +68,15 @@ module _ {State Op Query Reply : Type 0} where
     returned = λ t th e. (resumed_threads_fresh heads logs scripts t th e).0;
     idle = λ t th e. (resumed_threads_fresh heads logs scripts t th e).1;
     began = λ t th e. (resumed_threads_fresh heads logs scripts t th e).2;
+    fences = λ t th e. (resumed_threads_fresh heads logs scripts t th e).3;
   }
+
+  fresh_counts : (c : CoreState State Op Query Reply) → IsFresh c → CountsFences c
+  fresh_counts c f t th at =
+      let none : updates_returned th ≡ 0 = ap (λ (rs : List (Returned State Op Query Reply)). updates_in (take (length rs) th.script)) (f.returned t th at) in
+      let rest : fenced_in th.phase ≡ 0 = ap fenced_in (f.idle t th at) in
+      let e = f.fences t th at in
+      omega arith
 
   ordered_update : (place : ℕ) (now : Current) (call : Option (Call State Op Query Reply)) → now ≡ currents.Ordered place → Suits now call → (op : Op) × (call ≡ Some (Update op))
   ordered_update place currents.Idle call e h = absurd (cc)
@@ -109,6 +122,9 @@ module _ {State Op Query Reply : Type 0} (b : Behaviour State Op Query Reply) wh
 
   pub reached_lawful : (count : ℕ) (c : CoreState State Op Query Reply) → IsReached b count c → AreLawful b c
   reached_lawful count c h = subst (AreLawful b) h.reached (steps_lawful count h.start h.steps h.consistent (fresh_lawful b h.start h.fresh))
+
+  pub reached_counts : (count : ℕ) (c : CoreState State Op Query Reply) → IsReached b count c → CountsFences c
+  reached_counts count c h = subst CountsFences h.reached (steps_counts b h.start h.steps (fresh_counts h.start h.fresh))
 
   pub reached_timed : (count : ℕ) (c : CoreState State Op Query Reply) → IsReached b count c → IsTimed c
   reached_timed count c h = subst IsTimed h.reached (steps_timed count h.start h.steps h.consistent (fresh_timed h.start h.fresh))

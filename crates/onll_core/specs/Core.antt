@@ -9,7 +9,8 @@ use Rattle.onll_core.specs.declared.returned.Returned.{Returned}
 -- The state of a step core, as plain data.
 
 -- one thread: the head of its log, its script, what has returned, what its next step does, the clock at the first step of
--- its running call, how many lines of its log are used by how many entries, and its device
+-- its running call, how many lines of its log are used by how many entries, how many fences its device had made when this
+-- generation began, and its device
 pub record CoreThread (State Op Query Reply : Type 0) : Type 0 where
   pub head : LogHead
   pub script : List (Call State Op Query Reply)
@@ -18,6 +19,7 @@ pub record CoreThread (State Op Query Reply : Type 0) : Type 0 where
   pub began : ℕ
   pub used : ℕ
   pub logged : ℕ
+  pub before : ℕ
   pub device : DeviceState
 
 -- the object's initial state, the length of the base of recovered nodes with which the trace begins, the trace, the flag

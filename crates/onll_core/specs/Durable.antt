@@ -26,7 +26,7 @@ pub record IsDurable {State Op Query Reply : Type 0} (b : Behaviour State Op Que
   pub legal : IsLegal b initial [] scripts c.trace (map ends_of c.threads)
   pub in_time : AreInTime c
   -- each update fenced its log once, and a read none; no entry holds more nodes than there are threads
-  pub fences : CountsFences 1 c
+  pub fences : CountsFences c
   pub entries : EntriesAreFew (length scripts) c
   pub returns : OrderedReturn b (length scripts) c
   -- whatever a crash leaves of each device, the logs recover to a prefix of the trace that holds every returned update and all

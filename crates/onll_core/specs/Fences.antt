@@ -23,7 +23,11 @@ fenced_in (phases.Ask f d) = 0
 abbrev pub updates_returned : {State Op Query Reply : Type 0} → CoreThread State Op Query Reply → ℕ
 updates_returned th = updates_in (take (length th.returned) th.script)
 
--- One fence for each returned update, and one where the running update has fenced; a read fences nothing. Each device had
--- made `before` fences at first, which are 1 where its head was written, and 0 where it was found.
-abbrev pub CountsFences : {State Op Query Reply : Type 0} → ℕ → CoreState State Op Query Reply → Type 0
-CountsFences before c = EachCoreThread c (λ t th. th.device.fences ≡ before + updates_returned th + fenced_in th.phase)
+-- the fences of this generation: one for each returned update, and one where the running update has fenced
+abbrev pub fences_of : {State Op Query Reply : Type 0} → CoreThread State Op Query Reply → ℕ
+fences_of th = updates_returned th + fenced_in th.phase
+
+-- A device has made these beside those that it had made before, the header's where it was begun and none where it was found; a
+-- read fences nothing.
+abbrev pub CountsFences : {State Op Query Reply : Type 0} → CoreState State Op Query Reply → Type 0
+CountsFences c = EachCoreThread c (λ t th. th.device.fences ≡ th.before + fences_of th)

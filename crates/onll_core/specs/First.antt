@@ -27,6 +27,7 @@ first_thread head script = record {
   began = 0;
   used = 1;
   logged = 0;
+  before = 1;
   device = first_device head (lines_for (updates_in script) head.threads);
 }
 

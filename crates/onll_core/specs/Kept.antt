@@ -22,7 +22,8 @@ pub record KeepsWorker {State Op Query Reply : Type 0} (failing : List ℕ) (mos
   pub never_fails : failing ≡ []
   pub room : length th.script ≤ most
   pub lines : length th.device.read ≤ 1000000
-  pub fences : th.device.fences ≡ th.logged + 1
+  pub fences : th.before ≤ th.device.fences
+  pub few : th.device.fences ≤ th.logged + 1
   pub entries : th.logged < th.used
   pub within : th.used ≤ length th.device.read
 

@@ -18,7 +18,7 @@ use Rattle.onll_core.specs.Stays.{Stays}
 -- Laws of the step core, whatever the object and whatever threads take steps.
 
 module _ (State Op Query Reply : Type 0) where
-  -- the first state of a core that begins anew is consistent, and has made one fence on each device
+  -- the first state of a core that begins anew is consistent, and its threads have made no fence but their heads'
   abbrev pub FirstLaw : Type 0
   FirstLaw = (count : ℕ) (initial : State) (heads : List LogHead) (scripts : List (List (Call State Op Query Reply)))
       → AreFirst count heads scripts → IsConsistent count (first_core initial heads scripts)
@@ -26,7 +26,7 @@ module _ (State Op Query Reply : Type 0) where
   abbrev pub FirstFencesLaw : Type 0
   FirstFencesLaw = (count : ℕ) (initial : State) (heads : List LogHead)
       (scripts : List (List (Call State Op Query Reply))) → AreFirst count heads scripts
-      → CountsFences 1 (first_core initial heads scripts)
+      → CountsFences (first_core initial heads scripts)
 
   -- such as the one that is made of scripts within the limits
   abbrev pub CreatedLaw : Type 0
@@ -35,7 +35,7 @@ module _ (State Op Query Reply : Type 0) where
 
   abbrev pub CreatedFencesLaw : Type 0
   CreatedFencesLaw = (initial : State) (object : ℕ) (init : List ℕ) (scripts : List (List (Call State Op Query Reply)))
-      → IsWithinLimits object scripts → CountsFences 1 (created_core initial object init scripts)
+      → IsWithinLimits object scripts → CountsFences (created_core initial object init scripts)
 
   -- so is that of a core that goes on, which has made none
   abbrev pub ResumedLaw : Type 0
@@ -47,7 +47,7 @@ module _ (State Op Query Reply : Type 0) where
   ResumedFencesLaw = (count : ℕ) (initial : State) (base : List Node) (heads : List LogHead)
       (logs : List (List Segment)) (scripts : List (List (Call State Op Query Reply)))
       → AreResumed count base heads logs scripts
-      → CountsFences 0 (resumed_core initial base heads logs scripts)
+      → CountsFences (resumed_core initial base heads logs scripts)
 
   -- no fenced entry of a consistent core holds more nodes than there are threads
   abbrev pub EntriesLaw : Type 0
@@ -68,8 +68,7 @@ module _ {State Op Query Reply : Type 0} (b : Behaviour State Op Query Reply) wh
 
   -- steps keep the count of fences
   abbrev pub FencesLaw : Type 0
-  FencesLaw = (before : ℕ) (c : CoreState State Op Query Reply) (ts : List ℕ) → CountsFences before c
-      → CountsFences before (steps_of b c ts)
+  FencesLaw = (c : CoreState State Op Query Reply) (ts : List ℕ) → CountsFences c → CountsFences (steps_of b c ts)
 
   -- steps leave the initial state, the base, heads and scripts; they add nodes, flags and returned calls, and take none back
   abbrev pub StaysLaw : Type 0

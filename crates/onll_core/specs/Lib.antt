@@ -12,6 +12,8 @@ pub mod Next
 pub mod StepEvent
 pub mod Created
 pub mod Resumed
+pub mod Resume
+pub mod Found
 pub mod Fences
 pub mod Entries
 pub mod Laws

@@ -32,6 +32,7 @@ resumed_core_thread head log script = record {
   began = 0;
   used = suc (lines_in log);
   logged = length log;
+  before = 0;
   device = found_device (log_lines head log ++ zero_lines (updates_in script * (head.threads + 1)));
 }
 

@@ -3,6 +3,7 @@
 
 mod crash;
 mod crash_laws;
+mod fault;
 mod laws;
 mod local;
 mod outcomes;
@@ -12,6 +13,7 @@ mod step_core;
 mod worker;
 
 pub use crash_laws::{crash_law, durable_law, image_law, next_crash_law, recovery_law};
+pub use fault::ResumeFault;
 pub use laws::{consistency_law, fence_law, stays_law, step_event_law};
 pub use outcomes::{order_law, reached_law, report_law, return_law};
 pub use phase::Phase;

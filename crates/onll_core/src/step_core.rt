@@ -10,6 +10,7 @@ ghost use Rattle.onll_core.specs.Consistent.{IsConsistent};
 ghost use Rattle.onll_core.specs.First.{first_threads};
 ghost use Rattle.onll_core.specs.Created.{heads_from, created_core};
 ghost use Rattle.onll_core.specs.Outcomes.{current_in, IsLegalCore};
+ghost use Rattle.onll_core.specs.Fences.{fences_of, CountsFences};
 ghost use Rattle.onll_core.specs.Reached.{IsReached};
 ghost use Rattle.onll_core.specs.CallTimes.{AreInTime};
 ghost use Rattle.onll_core.specs.Entries.{EntriesAreFew};
@@ -205,13 +206,13 @@ impl<O: Object + Drop> Core<O> {
         self.workers[thread as usize].device()
     }
 
-    /// How many fences a thread has made. The header's is not counted.
+    /// How many fences a thread has made in this generation. The header's is not counted.
     pub fn fences(&self, thread: u64) -> u64
         requires { thread < length self.now.threads }
-        ensures fences { IfSome (slice_get self.now.threads thread) (λ th. result + 1 ≡ th.device.fences) }
-        ensures logged { IfSome (slice_get self.now.threads thread) (λ th. result ≡ th.logged) }
+        ensures fences { IfSome (slice_get self.now.threads thread) (λ th. result ≡ fences_of th) }
+        ensures device { IfSome (slice_get self.now.threads thread) (λ th. result + th.before ≡ th.device.fences) }
     {
-        self.workers[thread as usize].logged()
+        self.workers[thread as usize].fences()
     }
 
     /// What a thread's next call is about.
@@ -261,11 +262,12 @@ impl<O: Object + Drop> Core<O> {
     }
 
     /// What every core promises of its calls: their outcomes and the trace are one legal history of the object, in an order
-    /// that agrees with the time at which they were made; no entry of a log holds more nodes than there are threads; an
-    /// ordered call returns; and whatever a crash leaves recovers to all that returned.
+    /// that agrees with the time at which they were made; an update has fenced its log once, and a read never; no entry of a log
+    /// holds more nodes than there are threads; an ordered call returns; and whatever a crash leaves recovers to all that returned.
     pub fn lawful(&self)
         ensures legal { IsLegalCore O.means self.now }
         ensures in_time { AreInTime self.now }
+        ensures fences { CountsFences self.now }
         ensures entries { EntriesAreFew (length self.now.threads) self.now }
         ensures returns { OrderedReturn O.means (length self.now.threads) self.now }
         ensures crash { RecoversAlways O.means (heads_of self.now.threads) self.now }

@@ -61,6 +61,7 @@ pub struct Worker<O: Object> {
     began: u64,
     used: u64,
     logged: u64,
+    before: u64,
     device: MemPmem,
 }
 
@@ -79,6 +80,7 @@ impl<O: Object> Model for Worker<O> {
       began = w.began;
       used = w.used;
       logged = w.logged;
+      before = w.before;
       device = w.device.device;
     } };
 
@@ -91,6 +93,7 @@ impl<O: Object> Model for Worker<O> {
           began = w.began;
           used = w.used;
           logged = w.logged;
+          before = w.before;
           device = w.device.device;
         }) };
 }
@@ -113,6 +116,7 @@ impl<O: Object> Worker<O> {
             began: 0,
             used: 1,
             logged: 0,
+            before: 1,
             device,
         })
     }
@@ -135,12 +139,18 @@ impl<O: Object> Worker<O> {
         self.began
     }
 
-    /// How many entries of its log are fenced. There was one fence more, the header's.
+    /// How many entries of its log are fenced.
     pub fn logged(&self) -> u64
-        ensures logged { result ≡ self.now.logged }
-        ensures fences { result + 1 ≡ self.now.device.fences }
+        ensures { result ≡ self.now.logged }
     {
         self.logged
+    }
+
+    /// How many fences it has made in this generation.
+    pub fn fences(&self) -> u64
+        ensures { result + self.now.before ≡ self.now.device.fences }
+    {
+        self.device.fences() - self.before
     }
 
     pub fn returned(&self) -> &[Returned<O>]

@@ -19,10 +19,10 @@ pub line_of_entry-requires-clause-fits : goal.line_of_entry-requires-clause-fits
 line_of_entry-requires-clause-fits g c = entry_fits g.O.Object.means _ _ c.self.inside.locals.items _ c.self.invariant c.args.self.now c.self.view_is c.args.thread c.index-worker.result.now c.requires.there c.index-worker.ensures c.args.place c.args.below c.args.line c.requires.next c.head.result c.head.ensures c.window-nodes.result.now (rw c.deref.ensures.value at c.window-nodes.ensures)
 
 pub line_of_entry-requires-clause-before : goal.line_of_entry-requires-clause-before
-line_of_entry-requires-clause-before g c = let h = entry_before g.O.Object.means _ _ c.self.inside.locals.items _ c.self.invariant c.args.self.now c.self.view_is c.args.thread c.index-worker.result.now c.requires.there c.index-worker.ensures c.args.place c.args.below c.args.line c.requires.next in let e = c.logged.ensures.logged in omega arith
+line_of_entry-requires-clause-before g c = let h = entry_before g.O.Object.means _ _ c.self.inside.locals.items _ c.self.invariant c.args.self.now c.self.view_is c.args.thread c.index-worker.result.now c.requires.there c.index-worker.ensures c.args.place c.args.below c.args.line c.requires.next in let e = c.logged.ensures in omega arith
 
 pub line_of_entry-requires-clause-line : goal.line_of_entry-requires-clause-line
 line_of_entry-requires-clause-line g c = entry_number g.O.Object.means _ _ c.self.inside.locals.items _ c.self.invariant c.args.self.now c.self.view_is c.args.thread c.index-worker.result.now c.requires.there c.index-worker.ensures c.args.place c.args.below c.args.line c.requires.next c.window-nodes.result.now (rw c.deref.ensures.value at c.window-nodes.ensures)
 
 pub returns : goal.returns
-returns g c = entry_told g.O.Object.means _ _ c.self.inside.locals.items _ c.self.invariant c.args.self.now c.self.view_is c.args.thread c.index-worker.result.now c.requires.there c.index-worker.ensures c.args.place c.args.below c.args.line c.requires.next c.line_of_entry.result.w c.head.result c.head.ensures c.logged.result c.logged.ensures.logged c.window-nodes.result.now (rw c.deref.ensures.value at c.window-nodes.ensures) c.line_of_entry.ensures
+returns g c = entry_told g.O.Object.means _ _ c.self.inside.locals.items _ c.self.invariant c.args.self.now c.self.view_is c.args.thread c.index-worker.result.now c.requires.there c.index-worker.ensures c.args.place c.args.below c.args.line c.requires.next c.line_of_entry.result.w c.head.result c.head.ensures c.logged.result c.logged.ensures c.window-nodes.result.now (rw c.deref.ensures.value at c.window-nodes.ensures) c.line_of_entry.ensures

@@ -87,6 +87,15 @@ fn four_lines_of_a_workload(rt: HostRuntime) -> Result<(), Fail> {
     Ok(())
 }
 
+/// The largest workload: sixteen threads of 4,096 updates each.
+#[test]
+fn the_largest_workload(rt: HostRuntime) -> Result<(), Fail> {
+    let text =
+        "made threads 16 updates 65536 reads 16384\nfences 65536\nrecovered 65536\ntotal 64000\n";
+    expect(&rt, rt.alloc(), &["make", "16", "4096", "0"], 0, text)?;
+    Ok(())
+}
+
 /// Words of no workload: too few or too many threads or updates, a seed that is no number, and a word too few or too many.
 const NONE: &[&[&str]] = &[
     &["make", "0", "4", "1"],

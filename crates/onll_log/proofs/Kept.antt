@@ -1,8 +1,9 @@
 -- A log over a device: what making it leaves, and what an append leaves.
-use Rattle.std.proofs.Common.{ℕ, zero, suc, ◌≡◌, ◌+◌, ◌-◌, ◌*◌, ◌^◌, ◌<◌, ◌≤◌, Bool, true, false, true≢false, List, [], ◌∷◌, ◌++◌, length, get_or, drop, sym, refl, ap, ◌∙◌, subst, arith, append-nil, length-append, Result, Ok, Err}
+use Rattle.std.proofs.Common.{ℕ, zero, suc, ◌≡◌, ◌+◌, ◌-◌, ◌*◌, ◌^◌, ◌<◌, ◌≤◌, Bool, true, false, true≢false, List, [], ◌∷◌, ◌++◌, length, get_or, take, drop, sym, refl, ap, ◌∙◌, subst, arith, append-nil, length-append, Result, Ok, Err}
 use Rattle.std.specs.Prelude.{OnOk, OnErr, Option, Some, is_err}
 use Rattle.std.specs.List.{All}
 use Rattle.std.proofs.lemmas.List.{length-map, length-replicate, get_or-append_right, get_or-replicate, take_at}
+use Rattle.std.proofs.Math.Seq.{take-append_seam}
 use Rattle.std.proofs.lemmas.List.Elements.{recursion_from_All}
 use Rattle.onll_model.specs.declared.node.Node.{Node}
 use Rattle.onll_model.specs.Segment.{Segment, last_place}
@@ -21,7 +22,7 @@ use Rattle.onll_log.specs.Torn.{IsLine, Holds, log_image}
 use Rattle.onll_log.specs.Log.{entries_read, free_of, but_last, placed_lines, Puts, HoldsLog, KeepsLog, EndsInZeros, IsClean, HasHeader, IsMade, Appends}
 use Rattle.onll_log.proofs.Lines.{AreLines-entry_lines}
 use Rattle.onll_log.proofs.Encoded.{entries_from-entries_lines, entries_from-zero_lines, length-entry_lines, length-log_lines, FitEntries-append}
-use Rattle.onll_log.proofs.Torn.{log_image-more}
+use Rattle.onll_log.proofs.Torn.{log_image-more, Holds-log_image}
 use Rattle.onll_log.proofs.Written.{IsWritten-Holds, log_image-Holds}
 use Rattle.onll_log.proofs.Placed.{placed_lines-zeros, FillsLines-zeros, line_at-placed, length-placed_lines}
 
@@ -32,6 +33,17 @@ entries_read-log_image head ss zeros f = entries_from-entries_lines head ss (zer
 
 pub length-log_image : (head : LogHead) (ss : List Segment) (zeros : ℕ) → length (log_image head ss zeros) ≡ 1 + lines_in ss + zeros
 length-log_image head ss zeros = omega (arith, length-append (log_lines head ss) (zero_lines zeros), length-log_lines head ss, length-replicate zeros zero_line)
+
+-- the used lines of a device that holds a log are the log's, and hold it
+pub used_of_log : (d : DeviceView) (head : LogHead) (ss : List Segment) (broken : Bool) → HoldsLog d head ss broken
+    → take (1 + lines_in ss) d.read ≡ log_lines head ss
+used_of_log d head ss broken h =
+    ap (take (1 + lines_in ss)) h.read
+    ∙ (ap (λ n. take n (log_lines head ss ++ zero_lines (free_of (length d.read) ss))) (sym (length-log_lines head ss))
+    ∙ take-append_seam (log_lines head ss) (zero_lines (free_of (length d.read) ss)))
+
+pub held_by_used : (head : LogHead) (ss : List Segment) → FitsHead head → FitEntries head.threads ss → Holds (log_lines head ss) head ss
+held_by_used head ss h f = ap content_of (sym (append-nil (log_lines head ss))) ∙ Holds-log_image head ss 0 h f
 
 -- after the last entry all is zero
 pub line_at-log_image : (head : LogHead) (ss : List Segment) (zeros line : ℕ) → 1 + lines_in ss ≤ line → line < 1 + lines_in ss + zeros → line_at (log_image head ss zeros) line ≡ zero_line

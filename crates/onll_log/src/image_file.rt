@@ -24,7 +24,7 @@ fn lines_of(alloc: Global, bytes: &[u8]) -> Result<Vec<Line>, NoMemory>
 }
 
 /// The bytes of an image's file that are read.
-fn read_part(bytes: &[u8]) -> &[u8]
+pub fn read_part(bytes: &[u8]) -> &[u8]
     ensures { result.now ≡ take longest_image bytes.now }
 {
     if bytes.len() > LONGEST_IMAGE {

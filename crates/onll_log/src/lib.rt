@@ -21,6 +21,6 @@ pub use decoded::{Decoded, Entries, Entry, Nodes};
 pub use entry::entry_head;
 pub use head::{LogHead, format_of};
 pub use image::{DecodeFault, decode};
-pub use image_file::{LONGEST_IMAGE, image_lines};
+pub use image_file::{LONGEST_IMAGE, image_lines, read_part};
 pub use laws::{cursor_law, encoded_laws, masks_law, remains_laws, torn_laws, written_laws};
 pub use log::{MakeFault, ThreadLog};

@@ -5,10 +5,10 @@ ghost use Rattle.onll_model.specs.Limits.{most_threads, most_updates};
 ghost use Rattle.std.specs.List.{All};
 ghost use Rattle.onll_model.specs.Segment.{Segment, last_place};
 ghost use Rattle.onll_pmem.specs.Device.{line_at, zero_line, zero_lines, FillsLines};
-ghost use Rattle.onll_pmem.specs.Pmem.{ToldBacked, ToldSettled};
+ghost use Rattle.onll_pmem.specs.Pmem.{words_of, ToldBacked, ToldSettled};
 ghost use Rattle.onll_log.specs.Head.{FitsHead};
 ghost use Rattle.onll_log.specs.Decoded.{segments_in, content_in};
-ghost use Rattle.onll_log.specs.Encoding.{node_lines, entry_lines, CanHold};
+ghost use Rattle.onll_log.specs.Encoding.{log_lines, node_lines, entry_lines, CanHold};
 ghost use Rattle.onll_log.specs.Grammar.{content_of, lines_in};
 ghost use Rattle.onll_log.specs.Torn.{log_image};
 ghost use Rattle.onll_log.specs.Log.{free_of, IsNewest, EndsInZeros, HoldsLog, Puts, IsDirty, IsClean, IsMade, IsPending, NotMade, Appends};
@@ -20,7 +20,8 @@ use crate::head::LogHead;
 use crate::image::is_zero;
 use onll_model::{Node, node_line};
 use onll_pmem::{FenceFailed, Pmem};
-use onll_words::Line;
+use onll_words::{Line, NoMemory};
+use std::alloc::Global;
 use std::marker::Model;
 
 /// The first line of a device that isn't zero.
@@ -34,6 +35,18 @@ fn first_dirty<P: Pmem>(device: &P) -> Option<u64>
         }
     }
     None
+}
+
+/// The first lines of a device, as read.
+fn first_lines<P: Pmem>(alloc: Global, device: &P, count: u64) -> Result<Vec<Line>, NoMemory>
+    requires { count ≤ length (P.means device.now).read }
+    ensures { IfOk result (λ lines. words_of lines.items ≡ take count (P.means device.now).read) }
+{
+    let mut lines = Vec::new(alloc);
+    for line in 0..count {
+        lines.push(device.read(line))?;
+    }
+    Ok(lines)
 }
 
 /// Writes a line that reads as zero, and hands it over to the next fence.
@@ -233,6 +246,16 @@ impl<P: Pmem> ThreadLog<P> {
         ensures { result ≡ free_of (length (P.means self.now.device).read) self.now.entries }
     {
         self.device.lines() - self.used
+    }
+
+    /// The lines of the log as read: its header's and those of its entries. Zeros stand behind them on the device.
+    pub fn used_lines(&self, alloc: Global) -> Result<Vec<Line>, NoMemory>
+        ensures lines { IfOk result (λ lines. words_of lines.items ≡ log_lines self.now.head self.now.entries) }
+        ensures content { IfOk result (λ lines. content_of (words_of lines.items)
+            ≡ Some (record { head = Some self.now.head; entries = self.now.entries })) }
+    {
+        let lines = first_lines(alloc, &self.device, self.used)?;
+        Ok(lines)
     }
 
     /// How many entries there are as read, a pending one among them.

@@ -5,39 +5,13 @@ ghost use Rattle.onll_pmem.specs.Device.{new_device, fenced_device, image_of, Is
 ghost use Rattle.onll_pmem.specs.Pmem.{words_of, EightWords};
 ghost use Rattle.onll_pmem.specs.Memory.{MemoryState, fails, faults_in_le, stepped, memory_view, EvenBut};
 
+use crate::front::Front;
 use crate::image::kept_lines;
 use crate::pmem::{FenceFailed, Pmem};
 use crate::waiting::Waiting;
 use onll_words::{Line, NoMemory};
 use std::alloc::{AllocError, Global};
 use std::marker::Model;
-
-fn zeros(alloc: Global, lines: usize) -> Result<Vec<Line>, AllocError>
-    ensures { IfOk result (λ v. words_of v.items ≡ zero_lines lines) }
-{
-    let zeros = vec![in alloc; Line { w: [0; 8] }; lines]?;
-    Ok(zeros)
-}
-
-/// The line of this number.
-fn line_of(lines: &[Line], line: usize) -> Line
-    requires { line < length lines.now }
-    ensures { result.w ≡ line_at (words_of lines.now) line }
-{
-    lines[line]
-}
-
-/// The same lines once more.
-fn copied(alloc: Global, lines: &[Line]) -> Result<Vec<Line>, AllocError>
-    ensures same { IfOk result (λ v. words_of v.items ≡ words_of lines.now) }
-    ensures eight { IfOk result (λ v. EightWords (words_of v.items)) }
-{
-    let mut copy = Vec::with_capacity(alloc, lines.len())?;
-    for i in 0..lines.len() {
-        copy.push(line_of(lines, i))?;
-    }
-    Ok(copy)
-}
 
 /// Whether the fence of this number fails.
 fn is_failing(failing: &[u64], number: u64) -> bool
@@ -47,19 +21,19 @@ fn is_failing(failing: &[u64], number: u64) -> bool
 }
 
 /// Makes the lines durable that are written back and wait.
-fn settle(fenced: &mut Vec<Line>, read: &[Line], backed: &[bool], waiting: &mut Waiting)
-    requires as_fenced { length fenced.old.items ≡ length read.now }
+fn settle(fenced: &mut Front, read: &Front, backed: &[bool], waiting: &mut Waiting)
+    requires as_fenced { length fenced.old ≡ length read.now }
     requires as_backed { length backed.now ≡ length read.now }
     requires as_marked { length waiting.old.marks ≡ length read.now }
-    requires even { EvenBut waiting.old.marks (words_of fenced.old.items) (words_of read.now) backed.now }
-    ensures settled { words_of fenced.new.items ≡ settled backed.now (words_of fenced.old.items) (words_of read.now) }
-    ensures even { EvenBut waiting.new.marks (words_of fenced.new.items) (words_of read.now) backed.now }
-    ensures lines { length fenced.new.items ≡ length read.now }
+    requires even { EvenBut waiting.old.marks fenced.old read.now backed.now }
+    ensures settled { fenced.new ≡ settled backed.now fenced.old read.now }
+    ensures even { EvenBut waiting.new.marks fenced.new read.now backed.now }
+    ensures lines { length fenced.new ≡ length read.now }
     ensures marks { length waiting.new.marks ≡ length read.now }
 {
     while let Some(line) = waiting.take() {
         if backed[line as usize] {
-            fenced[line as usize] = read[line as usize];
+            fenced.set(line as usize, read.line(line as usize));
         }
     }
 }
@@ -67,8 +41,8 @@ fn settle(fenced: &mut Vec<Line>, read: &[Line], backed: &[bool], waiting: &mut 
 /// A device in memory, whose fences fail as told beforehand.
 #[derive(Drop)]
 pub struct MemPmem {
-    fenced: Vec<Line>,
-    read: Vec<Line>,
+    fenced: Front,
+    read: Front,
     backed: Vec<bool>,
     waiting: Waiting,
     failing: Vec<u64>,
@@ -77,15 +51,13 @@ pub struct MemPmem {
 }
 
 impl Model for MemPmem {
-    ghost use Rattle.onll_pmem.specs.Pmem.{words_of};
     ghost use Rattle.onll_pmem.specs.Memory.{MemoryState, memory_of, Keeps};
 
     ghost Value = { MemoryState };
 
-    ghost view = { λ m. memory_of (words_of m.fenced.items) (words_of m.read.items) m.backed.items m.fences m.failing.items };
+    ghost view = { λ m. memory_of m.fenced m.read m.backed.items m.fences m.failing.items };
 
-    ghost invariant = { λ m. Keeps (memory_of (words_of m.fenced.items)
-        (words_of m.read.items) m.backed.items m.fences m.failing.items) m.waiting.marks m.faults };
+    ghost invariant = { λ m. Keeps (memory_of m.fenced m.read m.backed.items m.fences m.failing.items) m.waiting.marks m.faults };
 }
 
 impl MemPmem {
@@ -94,8 +66,8 @@ impl MemPmem {
         ensures { IfOk result (λ m. m ≡ record { device = new_device lines; failing = failing.items }) }
     {
         Ok(MemPmem {
-            fenced: zeros(alloc, lines)?,
-            read: zeros(alloc, lines)?,
+            fenced: Front::zeros(alloc, lines)?,
+            read: Front::zeros(alloc, lines)?,
             backed: vec![in alloc; false; lines]?,
             waiting: Waiting::new(alloc, lines)?,
             failing,
@@ -120,10 +92,11 @@ impl MemPmem {
         requires { length lines.items ≤ 1000000 }
         ensures { IfOk result (λ m. m ≡ record { device = fenced_device (words_of lines.items); failing = failing.items }) }
     {
-        let count = lines.len();
+        let read = Front::of_lines(lines);
+        let count = read.len();
         Ok(MemPmem {
-            fenced: copied(alloc, &lines)?,
-            read: lines,
+            fenced: read.copy(alloc)?,
+            read,
             backed: vec![in alloc; false; count]?,
             waiting: Waiting::new(alloc, count)?,
             failing,
@@ -160,7 +133,7 @@ impl Pmem for MemPmem {
     }
 
     fn read(&self, line: u64) -> Line {
-        line_of(&self.read, line as usize)
+        self.read.line(line as usize)
     }
 
     fn write(&mut self, line: u64, value: Line)
@@ -168,7 +141,7 @@ impl Pmem for MemPmem {
         requires fills { FillsWords (line_at self.old.device.read line) value.w }
         ensures { self.new ≡ stepped self.old (Write line value.w) }
     {
-        self.read[line as usize] = value;
+        self.read.set(line as usize, value);
         self.backed[line as usize] = false;
     }
 

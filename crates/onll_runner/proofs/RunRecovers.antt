@@ -1,12 +1,13 @@
 -- The lines of a run's devices as read recover to its trace.
 
-use Rattle.std.proofs.Common.{ℕ, suc, ◌≡◌, List, [], ◌∷◌, length, map, Some, IsSome, Result, Ok, Err, refl, ap, ◌∙◌, ◌⊎◌, ⊎_elim}
+use Rattle.std.proofs.Common.{Vec, Global, ℕ, suc, ◌≡◌, List, [], ◌∷◌, length, map, Some, IsSome, Result, Ok, Err, refl, ap, ◌∙◌, ◌⊎◌, ⊎_elim}
 use Rattle.std.specs.List.{AllByRecursion}
+use Rattle.onll_words.specs.declared.line.Line.{Line}
 use Rattle.onll_model.specs.declared.node.Node.{Node}
 use Rattle.onll_model.specs.declared.call.Call.{Call}
 use Rattle.onll_model.specs.declared.call.CallEnd.{CallEnd}
 use Rattle.onll_model.specs.Object.{Behaviour}
-use Rattle.onll_pmem.specs.Pmem.{DeviceView}
+use Rattle.onll_pmem.specs.Pmem.{DeviceView, words_of}
 use Rattle.onll_log.specs.declared.head.LogHead.{LogHead}
 use Rattle.onll_log.specs.Grammar.{Content, content_of}
 use Rattle.onll_log.specs.Log.{LogState}
@@ -23,9 +24,21 @@ use Rattle.onll_runner.proofs.LegalRows.{legal_operations}
 abbrev read_in : LogLeft → List (List ℕ)
 read_in log = log.read
 
-pub lines_read : {Device : Type 0} (means : Device → DeviceView) (logs : List (LogState Device)) → map (λ (log : LogState Device). (means log.device).read) logs ≡ map (λ (log : LogLeft). log.read) (map (log_left means) logs)
-lines_read means [] = refl
-lines_read means (log ∷ logs) = ap (λ ls. (means log.device).read ∷ ls) (lines_read means logs)
+-- images that hold what the logs hold, one for each
+pub held_in : {Device : Type 0} (means : Device → DeviceView) (images : List (Vec Line Global)) (logs : List (LogState Device))
+    → map (λ (image : Vec Line Global). content_of (words_of image.items)) images ≡ map (λ (log : LogState Device). Some (content_in (log_left means log))) logs
+    → map content_of (map (λ (image : Vec Line Global). words_of image.items) images) ≡ map Some (map content_in (map (log_left means) logs))
+held_in means images logs e = contents_map images ∙ (e ∙ logs_map logs)
+  where
+    contents_map : (images : List (Vec Line Global)) → map content_of (map (λ (image : Vec Line Global). words_of image.items) images)
+        ≡ map (λ (image : Vec Line Global). content_of (words_of image.items)) images
+    contents_map [] = refl
+    contents_map (image ∷ images) = ap (λ cs. content_of (words_of image.items) ∷ cs) (contents_map images)
+
+    logs_map : (logs : List (LogState _)) → map (λ (log : LogState _). Some (content_in (log_left means log))) logs
+        ≡ map Some (map content_in (map (log_left means) logs))
+    logs_map [] = refl
+    logs_map (log ∷ logs) = ap (λ cs. Some (content_in (log_left means log)) ∷ cs) (logs_map logs)
 
 same_ok : (v : Result Recovered StateFault) (x y : Recovered) → v ≡ Ok x → v ≡ Ok y → x ≡ y
 same_ok v x y g h = (cc)
@@ -60,17 +73,20 @@ module _ {State Op Query Reply : Type 0} (b : Behaviour State Op Query Reply) wh
     pub run_operations : AllByRecursion (λ (n : Node). IsSome (b.op_at n.row)) left.nodes
     run_operations = legal_operations b s scripts left.nodes left.ends run.legal
 
-    run_recovers : (images : List (List (List ℕ))) → images ≡ map read_in left.logs → state_recovered b heads images ≡ Ok (recovered_with (map content_in left.logs) left.nodes)
-    run_recovers images e =
-        ap (state_recovered b heads) e
-        ∙ recovered_is b (map read_in left.logs) heads (map content_in left.logs) left.nodes (their_contents 0 (map read_in left.logs) (map content_in left.logs) run_told.contents) run.merged run_operations
+    run_recovers : (images : List (List (List ℕ))) → map content_of images ≡ map Some (map content_in left.logs)
+        → state_recovered b heads images ≡ Ok (recovered_with (map content_in left.logs) left.nodes)
+    run_recovers images held =
+        recovered_is b images heads (map content_in left.logs) left.nodes (their_contents 0 images (map content_in left.logs) held) run.merged run_operations
 
     -- what recovery found is that
-    pub recovers_same : (images : List (List (List ℕ))) (r : Recovered) → images ≡ map (λ (log : LogLeft). log.read) left.logs → state_recovered b heads images ≡ Ok r → r ≡ recovered_with (map content_in left.logs) left.nodes
-    recovers_same images r e is = same_ok (state_recovered b heads images) r (recovered_with (map content_in left.logs) left.nodes) is (run_recovers images e)
+    pub recovers_same : (images : List (List (List ℕ))) (r : Recovered) → map content_of images ≡ map Some (map content_in left.logs)
+        → state_recovered b heads images ≡ Ok r → r ≡ recovered_with (map content_in left.logs) left.nodes
+    recovers_same images r held is = same_ok (state_recovered b heads images) r (recovered_with (map content_in left.logs) left.nodes) is (run_recovers images held)
 
     -- and it refuses for want of memory alone
-    pub refused_so : (images : List (List (List ℕ))) (fault : StateFault) → images ≡ map (λ (log : LogLeft). log.read) left.logs → (fault ≡ NoMemory) ⊎ (state_recovered b heads images ≡ Err fault) → fault ≡ NoMemory
-    refused_so images fault e h =
+    pub refused_so : (images : List (List (List ℕ))) (fault : StateFault) → map content_of images ≡ map Some (map content_in left.logs)
+        → (fault ≡ NoMemory) ⊎ (state_recovered b heads images ≡ Err fault) → fault ≡ NoMemory
+    refused_so images fault held h =
         ⊎_elim (λ (a : fault ≡ NoMemory). a)
-        (λ (is : state_recovered b heads images ≡ Err fault). absurd (ok_not_err (state_recovered b heads images) (recovered_with (map content_in left.logs) left.nodes) fault (run_recovers images e) is)) h
+        (λ (is : state_recovered b heads images ≡ Err fault). absurd (ok_not_err (state_recovered b heads images)
+        (recovered_with (map content_in left.logs) left.nodes) fault (run_recovers images held) is)) h

@@ -1,11 +1,12 @@
 //! The report of a run: what became of each call, the trace, the logs, the fences that failed, and the state after the trace.
 
-ghost use Rattle.std.specs.Prelude.{◌≡◌, ◌≤◌, ◌<◌, ◌^◌, ◌++◌, ◌∷◌, true, length, map, IfOk, OnOk, All, IsSome};
+ghost use Rattle.std.specs.Prelude.{◌≡◌, ◌≤◌, ◌<◌, ◌^◌, ◌++◌, ◌∷◌, true, length, map, IfOk, OnOk, All, IsSome, Some};
 ghost use Rattle.std.specs.List.{AllByRecursion};
 ghost use Rattle.onll_words.specs.Texts.{line_text};
 ghost use Rattle.onll_model.specs.Recovered.{operations_front};
 ghost use Rattle.onll_model.specs.Trace.{state_after};
 ghost use Rattle.onll_pmem.specs.Pmem.{words_of};
+ghost use Rattle.onll_log.specs.Grammar.{content_of};
 ghost use Rattle.onll_merge.specs.declared.fault.StateFault.TheVariants.{NoMemory as OutOfMemory};
 ghost use Rattle.onll_merge.specs.Recovered.{log_counts};
 ghost use Rattle.onll_run.specs.Outcomes.{failed_in};
@@ -26,7 +27,6 @@ use onll_model::{Call, CallEnd, Object};
 use onll_pmem::Pmem;
 use onll_recovery::put_count;
 use onll_run::{DoneScript, Ran};
-use onll_shared::lines_of;
 use onll_text::{Piece, Report, Texted};
 use onll_trace::Ended;
 use onll_words::{Line, NoMemory};
@@ -157,20 +157,21 @@ fn whole_lines(lines: &[Line])
     }
 }
 
-/// The lines of a log's device, as read.
+/// The lines that a log uses. They hold it as its device does, which has only zeros after them.
 fn image_of<P: Pmem>(alloc: Global, log: &ThreadLog<P>) -> Result<Vec<Line>, NoMemory>
-    ensures lines { IfOk result (λ image. words_of image.items ≡ (P.means log.now.device).read) }
+    ensures content { IfOk result (λ image. content_of (words_of image.items) ≡ Some (content_in (log_left P.means log.now))) }
     ensures whole { OnOk result (AllByRecursion IsWholeLine (P.means log.now.device).read) }
 {
-    let image = lines_of(alloc, log.device())?;
+    let _ = log.device();
+    let image = log.used_lines(alloc)?;
     whole_lines(&image);
     Ok(image)
 }
 
-/// The lines of each log's device, as read.
+/// The lines that each log uses.
 fn images_of<P: Pmem>(alloc: Global, logs: &[ThreadLog<P>]) -> Result<Vec<Vec<Line>>, NoMemory>
-    ensures lines { IfOk result (λ images. map (λ image. words_of image.items) images.items
-        ≡ map (λ log. (P.means log.device).read) logs.now) }
+    ensures contents { IfOk result (λ images. map (λ image. content_of (words_of image.items)) images.items
+        ≡ map (λ log. Some (content_in (log_left P.means log))) logs.now) }
     ensures count { IfOk result (λ images. length images.items ≡ length logs.now) }
     ensures whole { OnOk result (All (λ log. AllByRecursion IsWholeLine (P.means log.device).read) logs.now) }
 {

@@ -3,7 +3,6 @@
 ghost use Rattle.std.specs.Prelude.{◌≡◌, ◌≤◌, ◌++◌, ◌⊎◌, length, map, Err, IfOk, OnOk, MatchResult};
 ghost use Rattle.std.specs.List.{AllByRecursion};
 ghost use Rattle.onll_model.specs.Limits.{most_threads};
-ghost use Rattle.onll_pmem.specs.Pmem.{words_of};
 ghost use Rattle.onll_log.specs.Decoded.{segments_in, content_in};
 ghost use Rattle.onll_log.specs.Encoding.{FitEntries};
 ghost use Rattle.onll_merge.specs.Merge.{merge, contents_in};
@@ -15,7 +14,7 @@ use onll_log::{DecodeFault, Decoded, LogHead, ThreadLog, decode};
 use onll_merge::{RecoverFault, recover};
 use onll_model::{Mark, Node};
 use onll_pmem::Pmem;
-use onll_words::{Line, NoMemory};
+use onll_words::NoMemory;
 use std::alloc::Global;
 
 /// The nodes from which an object goes on, and a mark for each segment of them that a log holds.
@@ -25,23 +24,13 @@ pub struct Base {
     pub marks: Vec<Mark>,
 }
 
-/// The lines of a device, as read.
-pub fn lines_of<P: Pmem>(alloc: Global, device: &P) -> Result<Vec<Line>, NoMemory>
-    ensures { IfOk result (λ lines. words_of lines.items ≡ (P.means device.now).read) }
-{
-    let mut lines = Vec::new(alloc);
-    for line in 0..device.lines() {
-        lines.push(device.read(line))?;
-    }
-    Ok(lines)
-}
-
 // What a log reads as.
 fn decode_log<P: Pmem>(alloc: Global, log: &ThreadLog<P>) -> Result<Decoded, NoMemory>
     ensures content { IfOk result (λ decoded. content_in decoded ≡ content_held log.now) }
     ensures fit { FitEntries log.now.head.threads log.now.entries }
 {
-    let lines = lines_of(alloc, log.device())?;
+    let _ = log.device();
+    let lines = log.used_lines(alloc)?;
     match decode(alloc, &lines) {
         Ok(decoded) => Ok(decoded),
         Err(DecodeFault::NoMemory) => Err(NoMemory),

@@ -1,13 +1,13 @@
 //! What stays of an image that was read: the lines that decide what it holds as a log.
 
-ghost use Rattle.std.specs.Prelude.{◌≡◌, ℕ, List, ◌+◌, ◌-◌, ◌<◌, ◌≤◌, ◌^◌, ◌++◌, ◌∷◌, [], take, OnOk, IfOk};
+ghost use Rattle.std.specs.Prelude.{◌≡◌, ℕ, List, ◌+◌, ◌-◌, ◌<◌, ◌≤◌, ◌^◌, ◌++◌, ◌∷◌, [], OnOk, IfOk};
 ghost use Rattle.onll_pmem.specs.Device.{zero_lines};
 ghost use Rattle.onll_pmem.specs.Pmem.{words_of};
 ghost use Rattle.onll_log.specs.Grammar.{content_of, used_by};
-ghost use Rattle.onll_log.specs.ImageFile.{longest_image, image_lines, whole_lines};
+ghost use Rattle.onll_log.specs.ImageFile.{image_lines, whole_lines};
 ghost use Rattle.onll_task.specs.Images.{used_in, StandsFor, IsFrontOf};
 
-use onll_log::{LONGEST_IMAGE, LogCursor};
+use onll_log::{LogCursor, read_part};
 use onll_words::{Line, NoMemory, line_of_bytes};
 use std::alloc::Global;
 
@@ -92,17 +92,6 @@ pub fn cut_to_used(lines: &mut Vec<Line>)
     let used = used_of(lines);
     lines.truncate(used);
     lines.shrink_to_fit();
-}
-
-/// The bytes of an image's file that are read.
-fn read_part(bytes: &[u8]) -> &[u8]
-    ensures { result.now ≡ take longest_image bytes.now }
-{
-    if bytes.len() > LONGEST_IMAGE {
-        &bytes[..LONGEST_IMAGE]
-    } else {
-        bytes
-    }
 }
 
 /// The lines that decide what an image's file holds as a log.

@@ -1,6 +1,6 @@
 //! Calls of the program whose reads, writes or puts fail.
 
-use crate::calls::Program;
+use onll_calls::Program;
 use std::test::Fail;
 
 const FILES: &[(&str, &[u8])] = &[

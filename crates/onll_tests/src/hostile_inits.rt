@@ -1,6 +1,6 @@
 //! Initial states at the edge of their grammar and beyond it.
 
-use crate::calls::{Case, LONGEST, LongCase, fold};
+use onll_calls::{Case, LONGEST, LongCase, fold};
 use std::test::Fail;
 
 const REFUSED: &[Case<'static>] = &[

@@ -1,6 +1,6 @@
 //! The greatest scripts and the greatest bank.
 
-use crate::calls::{fold, repeated};
+use onll_calls::{fold, repeated};
 use std::alloc::{AllocError, Global};
 use std::fmt::Write;
 use std::test::Fail;

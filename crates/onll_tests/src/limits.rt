@@ -3,7 +3,7 @@
 ghost use Rattle.std.specs.Prelude.{refl};
 ghost use Rattle.onll_outside.specs.MemStore.{store_of};
 
-use crate::calls::{Program, words_of};
+use onll_calls::{Program, words_of};
 use onll_outside::{FreeGate, MemSink, MemStore, OutsideFault, Store};
 use onll_pmem::MemPmem;
 use onll_words::Line;

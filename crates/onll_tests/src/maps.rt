@@ -1,6 +1,6 @@
 //! Folds of ordered maps.
 
-use crate::calls::{Case, fold};
+use onll_calls::{Case, fold};
 use std::alloc::{AllocError, Global};
 use std::fmt::Write;
 use std::test::Fail;

@@ -1,10 +1,10 @@
 //! Images of logs that are shown.
 
-use crate::calls::{Program, repeated};
-use crate::images::{
+use onll_calls::images::{
     BOTH_AT_2, DEPOSIT_5, DEPOSIT_7, FULL, HEAD_1, Image, LEASE_HEAD, OLD_BOTH_AT_2, OLD_HEAD_1,
     ONE_AT_2, ONE_HEAD, ONE_MAP_HEAD, ONES, PUT, PUT_AT_1, QUEUE_HEAD, SECOND, SECOND_AT_2, ZERO,
 };
+use onll_calls::{Program, repeated};
 use std::test::Fail;
 
 /// An image, and how `show` of it ends.

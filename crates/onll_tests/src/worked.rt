@@ -1,6 +1,6 @@
 //! The worked cases of a bank, and words that are no command.
 
-use crate::calls::{Program, USAGE, fold};
+use onll_calls::{Program, USAGE, fold};
 use std::test::Fail;
 
 const TRANSFER_INIT: &[u8] = b"bank 2\naccount 0 100\n";

@@ -1,6 +1,6 @@
 //! Logs that a thread log or a replay wrote, shown and recovered by the program.
 
-use crate::calls::Program;
+use onll_calls::Program;
 use onll_log::{LogHead, ThreadLog, entry_head};
 use onll_model::{Node, node_line};
 use onll_pmem::MemPmem;

@@ -1,4 +1,4 @@
-use Rattle.std.proofs.Common.{◌-◌, ◌≤◌, ◌⊎◌}
+use Rattle.std.proofs.Common.{◌-◌, ◌≤◌}
 use Rattle.onll_pmem.proofs.file.write_waiting.Given as goal
 
 abbrev pub invariant-loop-at : goal.invariant-loop-at

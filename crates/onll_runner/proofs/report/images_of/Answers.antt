@@ -1,10 +1,13 @@
-use Rattle.std.proofs.Common.{Vec, Global, ℕ, List, ◌≡◌, ◌+◌, ◌∷◌, ◌++◌, [], take, length, get_or, subst, sym, ap, ◌∙◌, arith, length-append}
+use Rattle.std.proofs.Common.{Vec, Global, ℕ, List, ◌≡◌, ◌+◌, ◌∷◌, ◌++◌, [], take, length, get_or, Some, subst, sym, ap, ◌∙◌, arith, length-append}
 use Rattle.std.specs.List.{All, AllByRecursion}
 use Rattle.std.proofs.lemmas.List.{take_more}
 use Rattle.std.proofs.lemmas.List.Elements.{All-push}
 use Rattle.onll_words.specs.declared.line.Line.{Line}
 use Rattle.onll_pmem.specs.Pmem.{words_of}
+use Rattle.onll_log.specs.Grammar.{content_of}
 use Rattle.onll_log.specs.Log.{LogState}
+use Rattle.onll_run.specs.Left.{content_in}
+use Rattle.onll_run.specs.Ended.{log_left}
 use Rattle.onll_task.specs.FileLines.{IsWholeLine}
 use Rattle.onll_runner.proofs.WholeLines.{map_more}
 use Rattle.onll_runner.proofs.report.images_of.Goals as goal
@@ -19,8 +22,8 @@ loop-log-preserved g c =
     let image = c.in_ok-image_of.field-0 in
     let pushed : c.push.new.self.items ≡ c.loop-log.images.items ++ image ∷ [] = c.in_ok-push.ensures.items in
     record {
-      lines = map_more (λ (image : Vec Line Global). words_of image.items) (λ (log : LogState _). (means log.device).read) c.loop-log.images.items c.push.new.self.items image logs i log (omega arith)
-          (sym c.log-item.is) pushed c.in_ok-image_of.ensures.lines c.loop-log.invariant.lines;
+      contents = map_more (λ (image : Vec Line Global). content_of (words_of image.items)) (λ (log : LogState _). Some (content_in (log_left means log))) c.loop-log.images.items c.push.new.self.items image logs i log (omega arith)
+          (sym c.log-item.is) pushed c.in_ok-image_of.ensures.content c.loop-log.invariant.contents;
       count = ap length pushed ∙ length-append c.loop-log.images.items (image ∷ []) ∙ ap (λ n. n + 1) c.loop-log.invariant.count;
       whole = subst (All Whole) (sym (take_more logs i log (omega arith)))
           (All-push Whole (take i logs) (get_or logs i log) c.loop-log.invariant.whole (subst Whole c.log-item.is c.in_ok-image_of.ensures.whole));

@@ -1,14 +1,15 @@
-use Rattle.std.proofs.Common.{Vec, Global, List, ℕ, length, map, sym, ap, ◌≡◌, ◌∙◌}
+use Rattle.std.proofs.Common.{Vec, Global, List, ℕ, Some, length, map, sym, ap, ◌≡◌, ◌∙◌}
 use Rattle.std.proofs.lemmas.List.{length-map}
 use Rattle.onll_words.specs.declared.line.Line.{Line}
 use Rattle.onll_model.specs.Trace.{state_after}
 use Rattle.onll_pmem.specs.Pmem.{words_of}
+use Rattle.onll_log.specs.Grammar.{content_of}
 use Rattle.onll_log.specs.Log.{LogState}
 use Rattle.onll_merge.specs.Recovered.{Recovered, recovered_in}
-use Rattle.onll_run.specs.Left.{LogLeft}
+use Rattle.onll_run.specs.Left.{LogLeft, content_in}
 use Rattle.onll_run.specs.Ended.{log_left}
 use Rattle.onll_run.specs.Ran.{script_in, left_in}
-use Rattle.onll_runner.proofs.RunRecovers.{lines_read, run_told, recovers_same, refused_so}
+use Rattle.onll_runner.proofs.RunRecovers.{held_in, run_told, recovers_same, refused_so}
 use Rattle.onll_runner.proofs.report.recover_run.Goals as goal
 
 pub recover_state-requires-after_bounds : goal.recover_state-requires-after_bounds
@@ -23,7 +24,8 @@ wants_memory-requires g c =
     let m = g.P.Pmem.means in
     let ran = c.args.ran.now in
     let images = map (λ (image : Vec Line Global). words_of image.items) c.deref-2.result.now in
-    let same = ap (map (λ (image : Vec Line Global). words_of image.items)) c.deref-2.ensures.value ∙ c.in_ok-images.ensures.lines ∙ ap (map (λ (log : LogState _). (m log.device).read)) c.deref.ensures.value ∙ lines_read m ran.logs.items in
+    let same = held_in m c.deref-2.result.now ran.logs.items (ap (map (λ (image : Vec Line Global). content_of (words_of image.items))) c.deref-2.ensures.value
+    ∙ c.in_ok-images.ensures.contents ∙ ap (map (λ (log : LogState _). Some (content_in (log_left m log)))) c.deref.ensures.value) in
     refused_so g.O.Object.means c.args.object.now c.args.heads.now (map script_in ran.threads.items) (left_in m ran) c.requires images c.in-Err.fault same c.in-Err.ensures.recovered
 
 pub returns-in-Ok-clause-logs : goal.returns-in-Ok-clause-logs
@@ -31,7 +33,8 @@ returns-in-Ok-clause-logs g c =
     let m = g.P.Pmem.means in
     let ran = c.args.ran.now in
     let images = map (λ (image : Vec Line Global). words_of image.items) c.deref-2.result.now in
-    let same = ap (map (λ (image : Vec Line Global). words_of image.items)) c.deref-2.ensures.value ∙ c.in_ok-images.ensures.lines ∙ ap (map (λ (log : LogState _). (m log.device).read)) c.deref.ensures.value ∙ lines_read m ran.logs.items in
+    let same = held_in m c.deref-2.result.now ran.logs.items (ap (map (λ (image : Vec Line Global). content_of (words_of image.items))) c.deref-2.ensures.value
+    ∙ c.in_ok-images.ensures.contents ∙ ap (map (λ (log : LogState _). Some (content_in (log_left m log)))) c.deref.ensures.value) in
     ap (λ (r : Recovered). r.logs)
     (recovers_same g.O.Object.means c.args.object.now c.args.heads.now (map script_in ran.threads.items) (left_in m ran) c.requires images (recovered_in c.in-Ok.recovery) same c.in-Ok.ensures.recovered)
 
@@ -40,7 +43,8 @@ returns-in-Ok-clause-nodes g c =
     let m = g.P.Pmem.means in
     let ran = c.args.ran.now in
     let images = map (λ (image : Vec Line Global). words_of image.items) c.deref-2.result.now in
-    let same = ap (map (λ (image : Vec Line Global). words_of image.items)) c.deref-2.ensures.value ∙ c.in_ok-images.ensures.lines ∙ ap (map (λ (log : LogState _). (m log.device).read)) c.deref.ensures.value ∙ lines_read m ran.logs.items in
+    let same = held_in m c.deref-2.result.now ran.logs.items (ap (map (λ (image : Vec Line Global). content_of (words_of image.items))) c.deref-2.ensures.value
+    ∙ c.in_ok-images.ensures.contents ∙ ap (map (λ (log : LogState _). Some (content_in (log_left m log)))) c.deref.ensures.value) in
     ap (λ (r : Recovered). r.nodes)
     (recovers_same g.O.Object.means c.args.object.now c.args.heads.now (map script_in ran.threads.items) (left_in m ran) c.requires images (recovered_in c.in-Ok.recovery) same c.in-Ok.ensures.recovered)
 
@@ -50,6 +54,7 @@ returns-in-Ok-clause-state g c =
     let m = g.P.Pmem.means in
     let ran = c.args.ran.now in
     let images = map (λ (image : Vec Line Global). words_of image.items) c.deref-2.result.now in
-    let same = ap (map (λ (image : Vec Line Global). words_of image.items)) c.deref-2.ensures.value ∙ c.in_ok-images.ensures.lines ∙ ap (map (λ (log : LogState _). (m log.device).read)) c.deref.ensures.value ∙ lines_read m ran.logs.items in
+    let same = held_in m c.deref-2.result.now ran.logs.items (ap (map (λ (image : Vec Line Global). content_of (words_of image.items))) c.deref-2.ensures.value
+    ∙ c.in_ok-images.ensures.contents ∙ ap (map (λ (log : LogState _). Some (content_in (log_left m log)))) c.deref.ensures.value) in
     c.in-Ok.ensures.state ∙ ap (λ (r : Recovered). state_after b c.args.object.now r.nodes)
     (recovers_same b c.args.object.now c.args.heads.now (map script_in ran.threads.items) (left_in m ran) c.requires images (recovered_in c.in-Ok.recovery) same c.in-Ok.ensures.recovered)

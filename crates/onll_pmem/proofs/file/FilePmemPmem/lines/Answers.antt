@@ -1,4 +1,4 @@
-use Rattle.std.proofs.Common.{◌≡◌, List, ℕ, subst, ap}
+use Rattle.std.proofs.Common.{subst, ap}
 use Rattle.onll_pmem.specs.Pmem.{EightWords}
 use Rattle.onll_pmem.specs.File.{FileState}
 use Rattle.onll_pmem.proofs.Files.{EightWords-words_in_file}

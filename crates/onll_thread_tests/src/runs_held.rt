@@ -1,7 +1,7 @@
 //! Runs of two threads that a gate holds so that they overlap: were one thread run after the other, a hold would run out of turns.
 
-use crate::calls::Program;
 use crate::watch_gate::WatchGate;
+use onll_calls::Program;
 use onll_outside::{FenceAt, Hold, MemStore, Point};
 use std::alloc::Global;
 use std::process::Abort;

@@ -3,10 +3,10 @@
 use std::alloc::{AllocError, Global};
 
 /// A line that was never written.
-pub(crate) const ZERO: [u64; 8] = [0, 0, 0, 0, 0, 0, 0, 0];
+pub const ZERO: [u64; 8] = [0, 0, 0, 0, 0, 0, 0, 0];
 
 /// The head of thread 0 of 2, over `bank 2`.
-pub(crate) const HEAD_0: [u64; 8] = [
+pub const HEAD_0: [u64; 8] = [
     0x3147_4f4c_4c4c_4e4f,
     2,
     0,
@@ -18,7 +18,7 @@ pub(crate) const HEAD_0: [u64; 8] = [
 ];
 
 /// The head of thread 1 of 2, over `bank 2`.
-pub(crate) const HEAD_1: [u64; 8] = [
+pub const HEAD_1: [u64; 8] = [
     0x3147_4f4c_4c4c_4e4f,
     2,
     1,
@@ -30,7 +30,7 @@ pub(crate) const HEAD_1: [u64; 8] = [
 ];
 
 /// The same of thread 0 in format 1.
-pub(crate) const OLD_HEAD_0: [u64; 8] = [
+pub const OLD_HEAD_0: [u64; 8] = [
     0x3147_4f4c_4c4c_4e4f,
     1,
     0,
@@ -42,7 +42,7 @@ pub(crate) const OLD_HEAD_0: [u64; 8] = [
 ];
 
 /// The same of thread 1 in format 1.
-pub(crate) const OLD_HEAD_1: [u64; 8] = [
+pub const OLD_HEAD_1: [u64; 8] = [
     0x3147_4f4c_4c4c_4e4f,
     1,
     1,
@@ -54,19 +54,19 @@ pub(crate) const OLD_HEAD_1: [u64; 8] = [
 ];
 
 /// Update 1 of thread 0: `deposit 0 5`.
-pub(crate) const DEPOSIT_5: [u64; 8] = [1, 1, 0, 5, 0, 0, 0, 0];
+pub const DEPOSIT_5: [u64; 8] = [1, 1, 0, 5, 0, 0, 0, 0];
 
 /// The same with another amount.
-pub(crate) const DEPOSIT_4: [u64; 8] = [1, 1, 0, 4, 0, 0, 0, 0];
+pub const DEPOSIT_4: [u64; 8] = [1, 1, 0, 4, 0, 0, 0, 0];
 
 /// The same with no amount.
-pub(crate) const DEPOSIT_0: [u64; 8] = [1, 1, 0, 0, 0, 0, 0, 0];
+pub const DEPOSIT_0: [u64; 8] = [1, 1, 0, 0, 0, 0, 0, 0];
 
 /// Update 1 of thread 1: `deposit 1 7`.
-pub(crate) const DEPOSIT_7: [u64; 8] = [4097, 1, 1, 7, 0, 0, 0, 0];
+pub const DEPOSIT_7: [u64; 8] = [4097, 1, 1, 7, 0, 0, 0, 0];
 
 /// Thread 1 logs both updates, its own at place 2.
-pub(crate) const BOTH_AT_2: [u64; 8] = [
+pub const BOTH_AT_2: [u64; 8] = [
     0x3154_4e45_4c4c_4e4f,
     1,
     1,
@@ -78,7 +78,7 @@ pub(crate) const BOTH_AT_2: [u64; 8] = [
 ];
 
 /// The same in format 1.
-pub(crate) const OLD_BOTH_AT_2: [u64; 8] = [
+pub const OLD_BOTH_AT_2: [u64; 8] = [
     0x3154_4e45_4c4c_4e4f,
     1,
     1,
@@ -90,7 +90,7 @@ pub(crate) const OLD_BOTH_AT_2: [u64; 8] = [
 ];
 
 /// Thread 0 logs its update at place 1.
-pub(crate) const FIRST_AT_1: [u64; 8] = [
+pub const FIRST_AT_1: [u64; 8] = [
     0x3154_4e45_4c4c_4e4f,
     0,
     1,
@@ -102,7 +102,7 @@ pub(crate) const FIRST_AT_1: [u64; 8] = [
 ];
 
 /// The same in format 1.
-pub(crate) const OLD_FIRST_AT_1: [u64; 8] = [
+pub const OLD_FIRST_AT_1: [u64; 8] = [
     0x3154_4e45_4c4c_4e4f,
     0,
     1,
@@ -114,7 +114,7 @@ pub(crate) const OLD_FIRST_AT_1: [u64; 8] = [
 ];
 
 /// Thread 1 logs its own update at place 2.
-pub(crate) const OWN_AT_2: [u64; 8] = [
+pub const OWN_AT_2: [u64; 8] = [
     0x3154_4e45_4c4c_4e4f,
     1,
     1,
@@ -126,7 +126,7 @@ pub(crate) const OWN_AT_2: [u64; 8] = [
 ];
 
 /// The same in format 1.
-pub(crate) const OLD_OWN_AT_2: [u64; 8] = [
+pub const OLD_OWN_AT_2: [u64; 8] = [
     0x3154_4e45_4c4c_4e4f,
     1,
     1,
@@ -138,7 +138,7 @@ pub(crate) const OLD_OWN_AT_2: [u64; 8] = [
 ];
 
 /// Thread 1 logs its own update at place 1.
-pub(crate) const OWN_AT_1: [u64; 8] = [
+pub const OWN_AT_1: [u64; 8] = [
     0x3154_4e45_4c4c_4e4f,
     1,
     1,
@@ -150,7 +150,7 @@ pub(crate) const OWN_AT_1: [u64; 8] = [
 ];
 
 /// Thread 0 logs its update at place 3.
-pub(crate) const FIRST_AT_3: [u64; 8] = [
+pub const FIRST_AT_3: [u64; 8] = [
     0x3154_4e45_4c4c_4e4f,
     0,
     1,
@@ -162,7 +162,7 @@ pub(crate) const FIRST_AT_3: [u64; 8] = [
 ];
 
 /// The head of the only thread, over `bank 1`.
-pub(crate) const ONE_HEAD: [u64; 8] = [
+pub const ONE_HEAD: [u64; 8] = [
     0x3147_4f4c_4c4c_4e4f,
     2,
     0,
@@ -174,7 +174,7 @@ pub(crate) const ONE_HEAD: [u64; 8] = [
 ];
 
 /// Its first entry, at place 1.
-pub(crate) const ONE_AT_1: [u64; 8] = [
+pub const ONE_AT_1: [u64; 8] = [
     0x3154_4e45_4c4c_4e4f,
     0,
     1,
@@ -186,10 +186,10 @@ pub(crate) const ONE_AT_1: [u64; 8] = [
 ];
 
 /// A row that is no operation of a bank.
-pub(crate) const CODE_9: [u64; 8] = [1, 9, 0, 0, 0, 0, 0, 0];
+pub const CODE_9: [u64; 8] = [1, 9, 0, 0, 0, 0, 0, 0];
 
 /// The entry of that row, at place 1.
-pub(crate) const CODE_9_AT_1: [u64; 8] = [
+pub const CODE_9_AT_1: [u64; 8] = [
     0x3154_4e45_4c4c_4e4f,
     0,
     1,
@@ -201,10 +201,10 @@ pub(crate) const CODE_9_AT_1: [u64; 8] = [
 ];
 
 /// Update 2 of thread 0: `deposit 0 5`.
-pub(crate) const SECOND: [u64; 8] = [2, 1, 0, 5, 0, 0, 0, 0];
+pub const SECOND: [u64; 8] = [2, 1, 0, 5, 0, 0, 0, 0];
 
 /// An entry at place 2.
-pub(crate) const ONE_AT_2: [u64; 8] = [
+pub const ONE_AT_2: [u64; 8] = [
     0x3154_4e45_4c4c_4e4f,
     0,
     1,
@@ -216,7 +216,7 @@ pub(crate) const ONE_AT_2: [u64; 8] = [
 ];
 
 /// A second entry, also at place 2.
-pub(crate) const SECOND_AT_2: [u64; 8] = [
+pub const SECOND_AT_2: [u64; 8] = [
     0x3154_4e45_4c4c_4e4f,
     0,
     2,
@@ -228,7 +228,7 @@ pub(crate) const SECOND_AT_2: [u64; 8] = [
 ];
 
 /// A head that names a map.
-pub(crate) const MAP_HEAD: [u64; 8] = [
+pub const MAP_HEAD: [u64; 8] = [
     0x3147_4f4c_4c4c_4e4f,
     2,
     0,
@@ -240,7 +240,7 @@ pub(crate) const MAP_HEAD: [u64; 8] = [
 ];
 
 /// Its entry, at place 1.
-pub(crate) const MAP_AT_1: [u64; 8] = [
+pub const MAP_AT_1: [u64; 8] = [
     0x3154_4e45_4c4c_4e4f,
     0,
     1,
@@ -252,7 +252,7 @@ pub(crate) const MAP_AT_1: [u64; 8] = [
 ];
 
 /// The head of the only thread, over `queue 2`.
-pub(crate) const QUEUE_HEAD: [u64; 8] = [
+pub const QUEUE_HEAD: [u64; 8] = [
     0x3147_4f4c_4c4c_4e4f,
     2,
     0,
@@ -264,10 +264,10 @@ pub(crate) const QUEUE_HEAD: [u64; 8] = [
 ];
 
 /// Update 1: `push 9`.
-pub(crate) const PUSH_9: [u64; 8] = [1, 1, 9, 0, 0, 0, 0, 0];
+pub const PUSH_9: [u64; 8] = [1, 1, 9, 0, 0, 0, 0, 0];
 
 /// Its entry.
-pub(crate) const PUSH_AT_1: [u64; 8] = [
+pub const PUSH_AT_1: [u64; 8] = [
     0x3154_4e45_4c4c_4e4f,
     0,
     1,
@@ -279,7 +279,7 @@ pub(crate) const PUSH_AT_1: [u64; 8] = [
 ];
 
 /// The head of the only thread, over `lease 1`.
-pub(crate) const LEASE_HEAD: [u64; 8] = [
+pub const LEASE_HEAD: [u64; 8] = [
     0x3147_4f4c_4c4c_4e4f,
     2,
     0,
@@ -291,10 +291,10 @@ pub(crate) const LEASE_HEAD: [u64; 8] = [
 ];
 
 /// Update 1: `grant 0 7 10 5`.
-pub(crate) const GRANT: [u64; 8] = [1, 1, 0, 7, 10, 5, 0, 0];
+pub const GRANT: [u64; 8] = [1, 1, 0, 7, 10, 5, 0, 0];
 
 /// Its entry.
-pub(crate) const GRANT_AT_1: [u64; 8] = [
+pub const GRANT_AT_1: [u64; 8] = [
     0x3154_4e45_4c4c_4e4f,
     0,
     1,
@@ -306,7 +306,7 @@ pub(crate) const GRANT_AT_1: [u64; 8] = [
 ];
 
 /// The head of the only thread, over `map 1`.
-pub(crate) const ONE_MAP_HEAD: [u64; 8] = [
+pub const ONE_MAP_HEAD: [u64; 8] = [
     0x3147_4f4c_4c4c_4e4f,
     2,
     0,
@@ -318,7 +318,7 @@ pub(crate) const ONE_MAP_HEAD: [u64; 8] = [
 ];
 
 /// Update 1: `put a x`.
-pub(crate) const PUT: [u64; 8] = [
+pub const PUT: [u64; 8] = [
     1,
     1,
     0x6100_0000_0000_0000,
@@ -330,7 +330,7 @@ pub(crate) const PUT: [u64; 8] = [
 ];
 
 /// Its entry.
-pub(crate) const PUT_AT_1: [u64; 8] = [
+pub const PUT_AT_1: [u64; 8] = [
     0x3154_4e45_4c4c_4e4f,
     0,
     1,
@@ -342,7 +342,7 @@ pub(crate) const PUT_AT_1: [u64; 8] = [
 ];
 
 /// The head of the only thread in format 1, over `bank 1`.
-pub(crate) const OLD_ONE_HEAD: [u64; 8] = [
+pub const OLD_ONE_HEAD: [u64; 8] = [
     0x3147_4f4c_4c4c_4e4f,
     1,
     0,
@@ -354,7 +354,7 @@ pub(crate) const OLD_ONE_HEAD: [u64; 8] = [
 ];
 
 /// Its first entry, at place 1.
-pub(crate) const OLD_ONE_AT_1: [u64; 8] = [
+pub const OLD_ONE_AT_1: [u64; 8] = [
     0x3154_4e45_4c4c_4e4f,
     0,
     1,
@@ -366,7 +366,7 @@ pub(crate) const OLD_ONE_AT_1: [u64; 8] = [
 ];
 
 /// Bytes of 1.
-pub(crate) const ONES: [u64; 8] = [
+pub const ONES: [u64; 8] = [
     0x0101_0101_0101_0101,
     0x0101_0101_0101_0101,
     0x0101_0101_0101_0101,
@@ -378,7 +378,7 @@ pub(crate) const ONES: [u64; 8] = [
 ];
 
 /// Bytes of 255.
-pub(crate) const FULL: [u64; 8] = [
+pub const FULL: [u64; 8] = [
     0xffff_ffff_ffff_ffff,
     0xffff_ffff_ffff_ffff,
     0xffff_ffff_ffff_ffff,
@@ -390,7 +390,7 @@ pub(crate) const FULL: [u64; 8] = [
 ];
 
 /// Of a head of another magic.
-pub(crate) const MAGIC_HEAD: [u64; 8] = [
+pub const MAGIC_HEAD: [u64; 8] = [
     0x3147_4f4c_4c4c_4e50,
     1,
     0,
@@ -402,7 +402,7 @@ pub(crate) const MAGIC_HEAD: [u64; 8] = [
 ];
 
 /// Of a head of format 0.
-pub(crate) const FORMAT_0_HEAD: [u64; 8] = [
+pub const FORMAT_0_HEAD: [u64; 8] = [
     0x3147_4f4c_4c4c_4e4f,
     0,
     0,
@@ -414,7 +414,7 @@ pub(crate) const FORMAT_0_HEAD: [u64; 8] = [
 ];
 
 /// Of a head of format 9.
-pub(crate) const FORMAT_9_HEAD: [u64; 8] = [
+pub const FORMAT_9_HEAD: [u64; 8] = [
     0x3147_4f4c_4c4c_4e4f,
     9,
     0,
@@ -426,7 +426,7 @@ pub(crate) const FORMAT_9_HEAD: [u64; 8] = [
 ];
 
 /// Of a head of thread 1 of 1.
-pub(crate) const THREAD_1_OF_1_HEAD: [u64; 8] = [
+pub const THREAD_1_OF_1_HEAD: [u64; 8] = [
     0x3147_4f4c_4c4c_4e4f,
     1,
     1,
@@ -438,7 +438,7 @@ pub(crate) const THREAD_1_OF_1_HEAD: [u64; 8] = [
 ];
 
 /// Of a head of 17 threads.
-pub(crate) const THREADS_17_HEAD: [u64; 8] = [
+pub const THREADS_17_HEAD: [u64; 8] = [
     0x3147_4f4c_4c4c_4e4f,
     1,
     0,
@@ -450,7 +450,7 @@ pub(crate) const THREADS_17_HEAD: [u64; 8] = [
 ];
 
 /// Of a head of object 0.
-pub(crate) const OBJECT_0_HEAD: [u64; 8] = [
+pub const OBJECT_0_HEAD: [u64; 8] = [
     0x3147_4f4c_4c4c_4e4f,
     1,
     0,
@@ -462,7 +462,7 @@ pub(crate) const OBJECT_0_HEAD: [u64; 8] = [
 ];
 
 /// Of a head of object 5.
-pub(crate) const OBJECT_5_HEAD: [u64; 8] = [
+pub const OBJECT_5_HEAD: [u64; 8] = [
     0x3147_4f4c_4c4c_4e4f,
     1,
     0,
@@ -474,7 +474,7 @@ pub(crate) const OBJECT_5_HEAD: [u64; 8] = [
 ];
 
 /// Of a head of two threads.
-pub(crate) const THREADS_2_HEAD: [u64; 8] = [
+pub const THREADS_2_HEAD: [u64; 8] = [
     0x3147_4f4c_4c4c_4e4f,
     1,
     0,
@@ -486,7 +486,7 @@ pub(crate) const THREADS_2_HEAD: [u64; 8] = [
 ];
 
 /// Of an entry of another magic.
-pub(crate) const MAGIC_ENTRY: [u64; 8] = [
+pub const MAGIC_ENTRY: [u64; 8] = [
     0x3154_4e45_4c4c_4e50,
     0,
     1,
@@ -498,7 +498,7 @@ pub(crate) const MAGIC_ENTRY: [u64; 8] = [
 ];
 
 /// Of an entry of thread 1.
-pub(crate) const THREAD_1_ENTRY: [u64; 8] = [
+pub const THREAD_1_ENTRY: [u64; 8] = [
     0x3154_4e45_4c4c_4e4f,
     1,
     1,
@@ -510,7 +510,7 @@ pub(crate) const THREAD_1_ENTRY: [u64; 8] = [
 ];
 
 /// Of an entry of number 2.
-pub(crate) const NUMBER_2_ENTRY: [u64; 8] = [
+pub const NUMBER_2_ENTRY: [u64; 8] = [
     0x3154_4e45_4c4c_4e4f,
     0,
     2,
@@ -522,7 +522,7 @@ pub(crate) const NUMBER_2_ENTRY: [u64; 8] = [
 ];
 
 /// Of an entry of no operation.
-pub(crate) const COUNT_0_ENTRY: [u64; 8] = [
+pub const COUNT_0_ENTRY: [u64; 8] = [
     0x3154_4e45_4c4c_4e4f,
     0,
     1,
@@ -534,7 +534,7 @@ pub(crate) const COUNT_0_ENTRY: [u64; 8] = [
 ];
 
 /// Of an entry of more operations than threads.
-pub(crate) const COUNT_2_ENTRY: [u64; 8] = [
+pub const COUNT_2_ENTRY: [u64; 8] = [
     0x3154_4e45_4c4c_4e4f,
     0,
     1,
@@ -546,7 +546,7 @@ pub(crate) const COUNT_2_ENTRY: [u64; 8] = [
 ];
 
 /// Of an entry at place 0.
-pub(crate) const PLACE_0_ENTRY: [u64; 8] = [
+pub const PLACE_0_ENTRY: [u64; 8] = [
     0x3154_4e45_4c4c_4e4f,
     0,
     1,
@@ -558,7 +558,7 @@ pub(crate) const PLACE_0_ENTRY: [u64; 8] = [
 ];
 
 /// Of an entry at place 4097.
-pub(crate) const PLACE_4097_ENTRY: [u64; 8] = [
+pub const PLACE_4097_ENTRY: [u64; 8] = [
     0x3154_4e45_4c4c_4e4f,
     0,
     1,
@@ -570,7 +570,7 @@ pub(crate) const PLACE_4097_ENTRY: [u64; 8] = [
 ];
 
 /// Of a node of name 0.
-pub(crate) const NAME_0_OF: [u64; 8] = [
+pub const NAME_0_OF: [u64; 8] = [
     0x3154_4e45_4c4c_4e4f,
     0,
     1,
@@ -582,10 +582,10 @@ pub(crate) const NAME_0_OF: [u64; 8] = [
 ];
 
 /// Of a node of name 0.
-pub(crate) const NAME_0_LINE: [u64; 8] = [0, 1, 0, 5, 0, 0, 0, 0];
+pub const NAME_0_LINE: [u64; 8] = [0, 1, 0, 5, 0, 0, 0, 0];
 
 /// Of a node of name 4097.
-pub(crate) const NAME_4097_OF: [u64; 8] = [
+pub const NAME_4097_OF: [u64; 8] = [
     0x3154_4e45_4c4c_4e4f,
     0,
     1,
@@ -597,10 +597,10 @@ pub(crate) const NAME_4097_OF: [u64; 8] = [
 ];
 
 /// Of a node of name 4097.
-pub(crate) const NAME_4097_LINE: [u64; 8] = [4097, 1, 0, 5, 0, 0, 0, 0];
+pub const NAME_4097_LINE: [u64; 8] = [4097, 1, 0, 5, 0, 0, 0, 0];
 
 /// Of another digest.
-pub(crate) const OTHER_DIGEST: [u64; 8] = [
+pub const OTHER_DIGEST: [u64; 8] = [
     0x3154_4e45_4c4c_4e4f,
     0,
     1,
@@ -613,15 +613,15 @@ pub(crate) const OTHER_DIGEST: [u64; 8] = [
 
 /// A file of whole lines, of which the first `length` bytes are there.
 #[derive(Clone, Copy)]
-pub(crate) struct Image<'a> {
-    pub(crate) name: &'a str,
-    pub(crate) lines: &'a [[u64; 8]],
-    pub(crate) length: usize,
+pub struct Image<'a> {
+    pub name: &'a str,
+    pub lines: &'a [[u64; 8]],
+    pub length: usize,
 }
 
 impl Image<'_> {
     /// The bytes of the file.
-    pub(crate) fn bytes(&self, alloc: Global) -> Result<Vec<u8>, AllocError> {
+    pub fn bytes(&self, alloc: Global) -> Result<Vec<u8>, AllocError> {
         let mut bytes = Vec::new(alloc);
         for line in self.lines {
             for word in line {

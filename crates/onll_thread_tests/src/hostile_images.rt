@@ -1,14 +1,14 @@
 //! Images with one wrong bit, word or line, shown and recovered.
 
-use crate::calls::{Outcome, Program};
-use crate::images::{
+use crate::recovers::{Recovery, recover, store_of};
+use onll_calls::images::{
     COUNT_0_ENTRY, COUNT_2_ENTRY, DEPOSIT_5, FORMAT_0_HEAD, FORMAT_9_HEAD, FULL, Image,
     MAGIC_ENTRY, MAGIC_HEAD, NAME_0_LINE, NAME_0_OF, NAME_4097_LINE, NAME_4097_OF, NUMBER_2_ENTRY,
     OBJECT_0_HEAD, OBJECT_5_HEAD, OLD_ONE_AT_1, OLD_ONE_HEAD, ONE_AT_1, ONE_HEAD, OTHER_DIGEST,
     PLACE_0_ENTRY, PLACE_4097_ENTRY, SECOND, THREAD_1_ENTRY, THREAD_1_OF_1_HEAD, THREADS_2_HEAD,
     THREADS_17_HEAD,
 };
-use crate::recovers::{Recovery, recover, store_of};
+use onll_calls::{Outcome, Program};
 use std::alloc::{AllocError, Global};
 use std::sync::Wait;
 use std::test::Fail;

@@ -1,8 +1,8 @@
 //! The images that replays leave, and what is recovered from them.
 
-use crate::calls::Program;
-use crate::images::{BOTH_AT_2, DEPOSIT_5, DEPOSIT_7, HEAD_0, HEAD_1, Image, ZERO};
 use crate::replays::{HELPED, HELPED_FILES, SIXTEEN, SIXTEEN_FILES, TWO};
+use onll_calls::Program;
+use onll_calls::images::{BOTH_AT_2, DEPOSIT_5, DEPOSIT_7, HEAD_0, HEAD_1, Image, ZERO};
 use onll_outside::MemStore;
 use std::alloc::{AllocError, Global};
 use std::process::Abort;

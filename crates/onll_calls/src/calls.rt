@@ -8,10 +8,10 @@ use std::sync::Wait;
 use std::thread::Threads;
 
 /// The longest text that is read.
-pub(crate) const LONGEST: usize = 1_048_576;
+pub const LONGEST: usize = 1_048_576;
 
 /// What is said where the words are no command that is built.
-pub(crate) const USAGE: &str = "usage: onll fold INIT SCRIPT\n       \
+pub const USAGE: &str = "usage: onll fold INIT SCRIPT\n       \
      onll show IMAGE\n       \
      onll recover INIT LOGS T\n       \
      onll replay INIT SCHEDULE LOGS SCRIPT..\n       \
@@ -21,24 +21,24 @@ pub(crate) const USAGE: &str = "usage: onll fold INIT SCRIPT\n       \
 /// One call of the program: its words, the files that are there, and the numbers of the store's calls
 /// and of the sink's puts that fail.
 #[derive(Clone, Copy)]
-pub(crate) struct Program<'a> {
-    pub(crate) words: &'a [&'a str],
-    pub(crate) files: &'a [(&'a str, &'a [u8])],
-    pub(crate) failing_calls: &'a [u64],
-    pub(crate) failing_puts: &'a [u64],
+pub struct Program<'a> {
+    pub words: &'a [&'a str],
+    pub files: &'a [(&'a str, &'a [u8])],
+    pub failing_calls: &'a [u64],
+    pub failing_puts: &'a [u64],
 }
 
 /// How a call ended: its status, what the sink had taken then, and whether the store or the sink counted
 /// a fault.
 #[derive(Drop)]
-pub(crate) struct Outcome {
+pub struct Outcome {
     status: u8,
     taken: Vec<u8>,
     failed: bool,
 }
 
 /// Words of the program as it takes them.
-pub(crate) fn words_of(alloc: Global, texts: &[&str]) -> Result<Vec<String>, AllocError> {
+pub fn words_of(alloc: Global, texts: &[&str]) -> Result<Vec<String>, AllocError> {
     let mut words = Vec::new(alloc);
     for text in texts {
         words.push(String::from_str(alloc, text)?)?;
@@ -47,7 +47,7 @@ pub(crate) fn words_of(alloc: Global, texts: &[&str]) -> Result<Vec<String>, All
 }
 
 /// A file of this name.
-pub(crate) fn named(alloc: Global, name: &str, bytes: &[u8]) -> Result<Named, AllocError> {
+pub fn named(alloc: Global, name: &str, bytes: &[u8]) -> Result<Named, AllocError> {
     Ok(Named {
         name: String::from_str(alloc, name)?,
         bytes: Vec::from_slice(alloc, bytes)?,
@@ -64,7 +64,7 @@ fn files_of(alloc: Global, texts: &[(&str, &[u8])]) -> Result<Vec<Named>, AllocE
 
 impl<'a> Program<'a> {
     /// A call of which nothing fails.
-    pub(crate) fn new(words: &'a [&'a str], files: &'a [(&'a str, &'a [u8])]) -> Program<'a> {
+    pub fn new(words: &'a [&'a str], files: &'a [(&'a str, &'a [u8])]) -> Program<'a> {
         Program {
             words,
             files,
@@ -74,16 +74,12 @@ impl<'a> Program<'a> {
     }
 
     /// A store of the files.
-    pub(crate) fn store(&self, alloc: Global) -> Result<MemStore, AllocError> {
+    pub fn store(&self, alloc: Global) -> Result<MemStore, AllocError> {
         self.store_with(alloc, &[])
     }
 
     /// A store of the files, on whose devices these fences fail.
-    pub(crate) fn store_with(
-        &self,
-        alloc: Global,
-        fences: &[FenceAt],
-    ) -> Result<MemStore, AllocError> {
+    pub fn store_with(&self, alloc: Global, fences: &[FenceAt]) -> Result<MemStore, AllocError> {
         let files = files_of(alloc, self.files)?;
         let failing_calls = Vec::from_slice(alloc, self.failing_calls)?;
         let fences = Vec::from_slice(alloc, fences)?;
@@ -91,7 +87,7 @@ impl<'a> Program<'a> {
     }
 
     /// Runs the program over any store and a sink of its own, with threads that this gate may hold. Faults of the sink alone count.
-    pub(crate) fn call<R: Threads + Wait + Sync, S: Store, G: Gate + Sync>(
+    pub fn call<R: Threads + Wait + Sync, S: Store, G: Gate + Sync>(
         &self,
         rt: &R,
         alloc: Global,
@@ -112,7 +108,7 @@ impl<'a> Program<'a> {
     }
 
     /// Runs the program over this store and a sink of its own, with threads that this gate may hold.
-    pub(crate) fn run_at<R: Threads + Wait + Sync, G: Gate + Sync>(
+    pub fn run_at<R: Threads + Wait + Sync, G: Gate + Sync>(
         &self,
         rt: &R,
         alloc: Global,
@@ -126,7 +122,7 @@ impl<'a> Program<'a> {
     }
 
     /// Runs the program over this store and a sink of its own.
-    pub(crate) fn run_over<R: Threads + Wait + Sync>(
+    pub fn run_over<R: Threads + Wait + Sync>(
         &self,
         rt: &R,
         alloc: Global,
@@ -136,7 +132,7 @@ impl<'a> Program<'a> {
     }
 
     /// Runs the program over a store and a sink of its own.
-    pub(crate) fn run<R: Threads + Wait + Sync>(
+    pub fn run<R: Threads + Wait + Sync>(
         &self,
         rt: &R,
         alloc: Global,
@@ -147,7 +143,7 @@ impl<'a> Program<'a> {
 }
 
 /// Runs `fold i s` over these two files, where nothing fails.
-pub(crate) fn fold<R: Threads + Wait + Sync>(
+pub fn fold<R: Threads + Wait + Sync>(
     rt: &R,
     alloc: Global,
     init: &[u8],
@@ -170,12 +166,12 @@ impl Outcome {
     }
 
     /// What was printed.
-    pub(crate) fn text(&self) -> &str {
+    pub fn text(&self) -> &str {
         str::from_utf8(&self.taken).unwrap_or("no text")
     }
 
     /// Asserts the status, and that the output has this line.
-    pub(crate) fn expect_line(&self, rt: &impl Abort, case: &str, status: u8, line: &str) {
+    pub fn expect_line(&self, rt: &impl Abort, case: &str, status: u8, line: &str) {
         self.expect_status(rt, case, status);
         let taken = self.text();
         assert!(rt;
@@ -185,7 +181,7 @@ impl Outcome {
     }
 
     /// Asserts the status and the whole text of a case. A failure shows the first line that differs.
-    pub(crate) fn expect(&self, rt: &impl Abort, case: &str, status: u8, text: &str) {
+    pub fn expect(&self, rt: &impl Abort, case: &str, status: u8, text: &str) {
         self.expect_status(rt, case, status);
         let taken = self.text();
         let mut wanted = text.lines();
@@ -197,23 +193,23 @@ impl Outcome {
 }
 
 /// The name of a case, a text, and the whole output.
-pub(crate) type Case<'a> = (&'a str, &'a [u8], &'a str);
+pub type Case<'a> = (&'a str, &'a [u8], &'a str);
 
 /// A case whose text is long: a start, so many equal pieces, and an end.
 #[derive(Clone, Copy)]
-pub(crate) struct LongCase<'a> {
-    pub(crate) name: &'a str,
-    pub(crate) start: &'a [u8],
-    pub(crate) piece: &'a [u8],
-    pub(crate) count: usize,
-    pub(crate) end: &'a [u8],
-    pub(crate) status: u8,
-    pub(crate) output: &'a str,
+pub struct LongCase<'a> {
+    pub name: &'a str,
+    pub start: &'a [u8],
+    pub piece: &'a [u8],
+    pub count: usize,
+    pub end: &'a [u8],
+    pub status: u8,
+    pub output: &'a str,
 }
 
 impl LongCase<'_> {
     /// The text.
-    pub(crate) fn text(&self, alloc: Global) -> Result<Vec<u8>, AllocError> {
+    pub fn text(&self, alloc: Global) -> Result<Vec<u8>, AllocError> {
         let mut text = Vec::from_slice(alloc, self.start)?;
         for _ in 0..self.count {
             text.extend_from_slice(self.piece)?;
@@ -224,7 +220,7 @@ impl LongCase<'_> {
 }
 
 /// A text of so many equal pieces.
-pub(crate) fn repeated(alloc: Global, piece: &[u8], count: usize) -> Result<Vec<u8>, AllocError> {
+pub fn repeated(alloc: Global, piece: &[u8], count: usize) -> Result<Vec<u8>, AllocError> {
     let mut text = Vec::new(alloc);
     for _ in 0..count {
         text.extend_from_slice(piece)?;

@@ -1,7 +1,7 @@
 //! Runs of scripts on threads in which a fence or a call of the store fails.
 
-use crate::calls::Program;
 use crate::watch_gate::WatchGate;
+use onll_calls::Program;
 use onll_outside::{FenceAt, Hold, MemStore, Point};
 use std::alloc::Global;
 use std::process::Abort;

@@ -1,7 +1,7 @@
 //! Replays that are refused, and what is refused first.
 
-use crate::calls::{Program, USAGE};
 use crate::replays::{HELPED_FILES, ONE, Replay, TWO};
+use onll_calls::{Program, USAGE};
 use std::test::Fail;
 
 /// A schedule of two threads that is refused, and what is said of it.

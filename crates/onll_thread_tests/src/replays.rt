@@ -1,6 +1,6 @@
 //! Replays of schedules that crash.
 
-use crate::calls::Program;
+use onll_calls::Program;
 use std::alloc::{AllocError, Global};
 use std::process::Abort;
 use std::sync::Wait;

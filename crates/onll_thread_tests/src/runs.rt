@@ -1,6 +1,6 @@
 //! Runs of scripts on threads, over devices in memory, in which nothing fails.
 
-use crate::calls::{Program, USAGE, repeated};
+use onll_calls::{Program, USAGE, repeated};
 use std::test::Fail;
 
 /// The words of a run of one thread.

@@ -1,13 +1,13 @@
 //! Recoveries from the logs of one run, and from logs that are not.
 
-use crate::calls::{Outcome, Program, USAGE, named};
-use crate::images::{
+use onll_calls::images::{
     BOTH_AT_2, CODE_9, CODE_9_AT_1, DEPOSIT_0, DEPOSIT_4, DEPOSIT_5, DEPOSIT_7, FIRST_AT_1,
     FIRST_AT_3, GRANT, GRANT_AT_1, HEAD_0, HEAD_1, Image, LEASE_HEAD, MAP_AT_1, MAP_HEAD,
     OLD_BOTH_AT_2, OLD_FIRST_AT_1, OLD_HEAD_0, OLD_HEAD_1, OLD_OWN_AT_2, ONE_AT_1, ONE_AT_2,
     ONE_HEAD, ONE_MAP_HEAD, ONES, OWN_AT_1, OWN_AT_2, PUSH_9, PUSH_AT_1, PUT, PUT_AT_1, QUEUE_HEAD,
     SECOND, SECOND_AT_2, ZERO,
 };
+use onll_calls::{Outcome, Program, USAGE, named};
 use onll_outside::MemStore;
 use std::alloc::{AllocError, Global};
 use std::sync::Wait;

@@ -1,6 +1,6 @@
 //! Workloads that are made by a seed, and run on threads.
 
-use crate::calls::{Program, USAGE, words_of};
+use onll_calls::{Program, USAGE, words_of};
 use onll_outside::{Gate, MemSink, Point};
 use onll_trace::Spot;
 use std::alloc::{AllocError, Global};
@@ -84,6 +84,15 @@ fn four_lines_of_a_workload(rt: HostRuntime) -> Result<(), Fail> {
     for (words, text) in MADE {
         expect(&rt, rt.alloc(), words, 0, text)?;
     }
+    Ok(())
+}
+
+/// The largest workload: sixteen threads of 4,096 updates each.
+#[test]
+fn the_largest_workload(rt: HostRuntime) -> Result<(), Fail> {
+    let text =
+        "made threads 16 updates 65536 reads 16384\nfences 65536\nrecovered 65536\ntotal 64000\n";
+    expect(&rt, rt.alloc(), &["make", "16", "4096", "0"], 0, text)?;
     Ok(())
 }
 

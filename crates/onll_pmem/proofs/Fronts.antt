@@ -28,7 +28,7 @@ pub filled_view : (front : List (List ℕ)) (more count : ℕ) → length front 
     → front_view (front ++ zero_lines more) count ≡ front_view front count
 filled_view front more count within =
     let e : more + (count - length (front ++ zero_lines more)) ≡ count - length front
-          = omega (arith, length-append front (zero_lines more), length-replicate more zero_line) in
+    = omega (arith, length-append front (zero_lines more), length-replicate more zero_line) in
     append_assoc front (zero_lines more) (zero_lines (count - length (front ++ zero_lines more)))
     ∙ ap (λ (ls : List (List ℕ)). front ++ ls) (zero_lines-add more (count - length (front ++ zero_lines more)) ∙ ap zero_lines e)
 
@@ -49,7 +49,7 @@ pub set_filled : (front old : List (List ℕ)) (i count : ℕ) (value : List ℕ
     → front ≡ old ++ zero_lines (i + 1 - length old) → front_view (set front i value) count ≡ set (front_view old count) i value
 set_filled front old i count value behind within same =
     let long : length front ≡ i + 1 = ap length same ∙ (length-append old (zero_lines (i + 1 - length old))
-          ∙ omega (arith, length-replicate (i + 1 - length old) zero_line)) in
+    ∙ omega (arith, length-replicate (i + 1 - length old) zero_line)) in
     set_view front i count value (omega arith)
     ∙ ap (λ (ls : List (List ℕ)). set ls i value) (ap (λ (f : List (List ℕ)). front_view f count) same ∙ filled_view old (i + 1 - length old) count (omega arith))
 

@@ -89,4 +89,4 @@ module _ {State Op Query Reply : Type 0} (b : Behaviour State Op Query Reply) wh
     refused_so images fault held h =
         ⊎_elim (λ (a : fault ≡ NoMemory). a)
         (λ (is : state_recovered b heads images ≡ Err fault). absurd (ok_not_err (state_recovered b heads images)
-            (recovered_with (map content_in left.logs) left.nodes) fault (run_recovers images held) is)) h
+        (recovered_with (map content_in left.logs) left.nodes) fault (run_recovers images held) is)) h

@@ -25,7 +25,7 @@ wants_memory-requires g c =
     let ran = c.args.ran.now in
     let images = map (λ (image : Vec Line Global). words_of image.items) c.deref-2.result.now in
     let same = held_in m c.deref-2.result.now ran.logs.items (ap (map (λ (image : Vec Line Global). content_of (words_of image.items))) c.deref-2.ensures.value
-          ∙ c.in_ok-images.ensures.contents ∙ ap (map (λ (log : LogState _). Some (content_in (log_left m log)))) c.deref.ensures.value) in
+    ∙ c.in_ok-images.ensures.contents ∙ ap (map (λ (log : LogState _). Some (content_in (log_left m log)))) c.deref.ensures.value) in
     refused_so g.O.Object.means c.args.object.now c.args.heads.now (map script_in ran.threads.items) (left_in m ran) c.requires images c.in-Err.fault same c.in-Err.ensures.recovered
 
 pub returns-in-Ok-clause-logs : goal.returns-in-Ok-clause-logs
@@ -34,7 +34,7 @@ returns-in-Ok-clause-logs g c =
     let ran = c.args.ran.now in
     let images = map (λ (image : Vec Line Global). words_of image.items) c.deref-2.result.now in
     let same = held_in m c.deref-2.result.now ran.logs.items (ap (map (λ (image : Vec Line Global). content_of (words_of image.items))) c.deref-2.ensures.value
-          ∙ c.in_ok-images.ensures.contents ∙ ap (map (λ (log : LogState _). Some (content_in (log_left m log)))) c.deref.ensures.value) in
+    ∙ c.in_ok-images.ensures.contents ∙ ap (map (λ (log : LogState _). Some (content_in (log_left m log)))) c.deref.ensures.value) in
     ap (λ (r : Recovered). r.logs)
     (recovers_same g.O.Object.means c.args.object.now c.args.heads.now (map script_in ran.threads.items) (left_in m ran) c.requires images (recovered_in c.in-Ok.recovery) same c.in-Ok.ensures.recovered)
 
@@ -44,7 +44,7 @@ returns-in-Ok-clause-nodes g c =
     let ran = c.args.ran.now in
     let images = map (λ (image : Vec Line Global). words_of image.items) c.deref-2.result.now in
     let same = held_in m c.deref-2.result.now ran.logs.items (ap (map (λ (image : Vec Line Global). content_of (words_of image.items))) c.deref-2.ensures.value
-          ∙ c.in_ok-images.ensures.contents ∙ ap (map (λ (log : LogState _). Some (content_in (log_left m log)))) c.deref.ensures.value) in
+    ∙ c.in_ok-images.ensures.contents ∙ ap (map (λ (log : LogState _). Some (content_in (log_left m log)))) c.deref.ensures.value) in
     ap (λ (r : Recovered). r.nodes)
     (recovers_same g.O.Object.means c.args.object.now c.args.heads.now (map script_in ran.threads.items) (left_in m ran) c.requires images (recovered_in c.in-Ok.recovery) same c.in-Ok.ensures.recovered)
 
@@ -55,6 +55,6 @@ returns-in-Ok-clause-state g c =
     let ran = c.args.ran.now in
     let images = map (λ (image : Vec Line Global). words_of image.items) c.deref-2.result.now in
     let same = held_in m c.deref-2.result.now ran.logs.items (ap (map (λ (image : Vec Line Global). content_of (words_of image.items))) c.deref-2.ensures.value
-          ∙ c.in_ok-images.ensures.contents ∙ ap (map (λ (log : LogState _). Some (content_in (log_left m log)))) c.deref.ensures.value) in
+    ∙ c.in_ok-images.ensures.contents ∙ ap (map (λ (log : LogState _). Some (content_in (log_left m log)))) c.deref.ensures.value) in
     c.in-Ok.ensures.state ∙ ap (λ (r : Recovered). state_after b c.args.object.now r.nodes)
     (recovers_same b c.args.object.now c.args.heads.now (map script_in ran.threads.items) (left_in m ran) c.requires images (recovered_in c.in-Ok.recovery) same c.in-Ok.ensures.recovered)

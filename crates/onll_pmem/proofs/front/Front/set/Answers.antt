@@ -11,7 +11,7 @@ returns c =
     let within = (rw (← c.self.view_is) at c.requires) in
     let few = length-front_view (words_of c.self.inside.front.items) c.self.inside.count c.self.invariant.within in
     rw (← c.self.view_is) (elim c.if-len-line.branch [
-      then-len-line w ↦ rw w.self-inside-is (ap (λ ls. front_view ls c.self.inside.count) (words_of-set w.fill.new.front.items c.args.line c.args.value)
+      | then-len-line w ↦ rw w.self-inside-is (ap (λ ls. front_view ls c.self.inside.count) (words_of-set w.fill.new.front.items c.args.line c.args.value)
           ∙ set_filled (words_of w.fill.new.front.items) (words_of c.self.inside.front.items) c.args.line c.self.inside.count c.args.value.w
           (omega (arith, length-words_of c.self.inside.front.items, w.if-len-line.true, c.len.ensures)) (omega (arith, few, within))
           (rw (length-words_of c.self.inside.front.items) w.fill.ensures.words))

@@ -4,3 +4,4 @@ pub mod Object
 pub mod Sales
 pub mod Within
 pub mod SalesLaw
+pub mod Heads

@@ -1,0 +1,5 @@
+pub mod Placing
+pub mod Selling
+pub mod Heading
+pub mod Rows
+pub mod Recovering

@@ -1,0 +1,7 @@
+pub mod Stock
+pub mod Laws
+pub mod Object
+pub mod Sales
+pub mod Within
+pub mod SalesLaw
+pub mod Heads

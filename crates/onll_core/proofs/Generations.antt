@@ -129,11 +129,11 @@ module _ {State Op Query Reply : Type 0} (b : Behaviour State Op Query Reply) wh
 
     -- ---- generations
     -- how a generation starts
-    record Starts (count : ℕ) (older : List (Generation State Op Query Reply)) (g : Generation State Op Query Reply) (is : IsGeneration b code init initial count older g) : Type 0 where
+    pub record Starts (count : ℕ) (older : List (Generation State Op Query Reply)) (g : Generation State Op Query Reply) (is : IsGeneration b code init initial count older g) : Type 0 where
       pub starts : StartsSo b (created_heads code init g.scripts) initial g.scripts is.core
       pub rows : AllOperations b is.core.trace
 
-    generation_starts : (count : ℕ) (older : List (Generation State Op Query Reply)) (g : Generation State Op Query Reply) (is : IsGeneration b code init initial count older g) → AreGenerations b code init initial count older → Starts count older g is
+    pub generation_starts : (count : ℕ) (older : List (Generation State Op Query Reply)) (g : Generation State Op Query Reply) (is : IsGeneration b code init initial count older g) → AreGenerations b code init initial count older → Starts count older g is
     generation_starts count [] g is all =
         let e : created_core initial code init g.scripts ≡ is.core = (let same = is.begun in cc) in record {
           starts = begun_starts b code init initial g.scripts is.within is.core (inl e);

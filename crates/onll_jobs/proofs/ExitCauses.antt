@@ -15,7 +15,7 @@ use Rattle.onll_task.specs.declared.ending.Ending.TheVariants.{Done, Usage, Refu
 use Rattle.onll_task.specs.declared.ending.Exit.{Exit}
 use Rattle.onll_task.specs.declared.ending.Exit.TheVariants.{Said, SinkFault, NoMemory}
 use Rattle.onll_jobs.specs.Seen.{Seen}
-use Rattle.onll_jobs.specs.Command.{Form, Fold, Show, Recover, Replay, Run, Make, form_of, usage_text}
+use Rattle.onll_jobs.specs.Command.{Form, Fold, Show, Recover, Replay, Again, Run, Make, form_of, usage_text}
 use Rattle.onll_task.specs.Printed.{status_of, exit_status}
 use Rattle.onll_task.specs.Job.{Say, Threads, JobEnds, Never, Decides, Job}
 use Rattle.onll_log.specs.Grammar.{Content, content_of}
@@ -33,6 +33,7 @@ use Rattle.onll_task.proofs.Onwards.{ends_cut}
 use Rattle.onll_task.proofs.Jobs.{TellsFault, nothing_failed, decided, never_says, reading_never, reading_whole_never}
 use Rattle.onll_task.proofs.ImageFiles.{reading_images_never}
 use Rattle.onll_text.proofs.EachKind.{each_kind}
+use Rattle.onll_jobs.proofs.AgainEnds.{again_not_usage, again_not_faulty}
 use Rattle.onll_jobs.proofs.ReplayEnds.{replay_not_usage, replay_not_faulty}
 use Rattle.onll_jobs.proofs.RunEnds.{run_not_usage}
 use Rattle.onll_task.specs.ImageNames.{image_names}
@@ -132,6 +133,7 @@ form_not_usage w (Recover init logs threads) e h =
     reading_images_never logs threads 0 (λ images. (images_task k bytes s images).job)
     (λ images. recovered_never k.means k.wording s (state_recovered k.means (expected_heads k.code bytes images) images)))) h
 form_not_usage w (Replay init schedule logs scripts) e h = replay_not_usage w init schedule logs scripts e h
+form_not_usage w (Again init schedule logs scripts) e h = again_not_usage w init schedule logs scripts e h
 form_not_usage w (Run init logs scripts) e h = run_not_usage w init logs scripts e h
 form_not_usage w (Make workload) e h = not_usage w (Make workload) e (λ d. cc d) h
 
@@ -233,6 +235,7 @@ module _ (seen : Seen) (h : PutWhole seen Faulty) where
       images_not_faulty seen.store seen.store_after h.text (image_names logs 0 threads) (λ images. (images_task k bytes s images).job)
       (λ images. recovered_not_faulty seen.store seen.store_after h.text k.means k.wording s (state_recovered k.means (expected_heads k.code bytes images) images))) (ends_so (Some (Recover init logs threads)) e))
   of_run (Some (Replay init schedule logs scripts)) e = absurd (replay_not_faulty seen init schedule logs scripts e h)
+  of_run (Some (Again init schedule logs scripts)) e = absurd (again_not_faulty seen init schedule logs scripts e h)
   of_run (Some (Run init logs names)) e = record { init = init; logs = logs; names = names; form = e }
   of_run (Some (Make workload)) e = absurd (let same = (ends_so (Some (Make workload)) e).0 in cc)
 

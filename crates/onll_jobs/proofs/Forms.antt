@@ -2,9 +2,9 @@ use Rattle.std.proofs.Common.{ℕ, List, [], ◌∷◌, ◌≡◌, ◌≤◌, Bo
 use Rattle.std.proofs.lemmas.Bool.{leb-true}
 use Rattle.onll_model.proofs.Lists.{same_some, some_not_none}
 use Rattle.onll_log.proofs.Accepted.{both_true}
-use Rattle.onll_jobs.specs.Command.{Form, Replay, named_form, form_of, is_within, within_limits}
+use Rattle.onll_jobs.specs.Command.{Form, Replay, Again, named_form, form_of, is_within, within_limits}
 
--- The scripts of a replay.
+-- The scripts of a replay, anew or going on.
 
 -- a form of words is within the limits
 if_within : (q : Bool) (found form : Form) → is_within found ≡ q → cond q (Some found) None ≡ Some form → is_within form ≡ true
@@ -23,4 +23,10 @@ form_within (command ∷ names) form e = within (named_form command names) form 
 pub few-scripts : (words : List (List ℕ)) (init schedule logs : List ℕ) (scripts : List (List ℕ)) → form_of words ≡ Some (Replay init schedule logs scripts) → length scripts ≤ 16
 few-scripts words init schedule logs scripts e =
     let both = both_true (nat_le 1 (length scripts)) (nat_le (length scripts) 16) (form_within words (Replay init schedule logs scripts) e) in
+    leb-true (length scripts) 16 both.1
+
+-- so has one that goes on
+pub few-scripts-again : (words : List (List ℕ)) (init schedule logs : List ℕ) (scripts : List (List ℕ)) → form_of words ≡ Some (Again init schedule logs scripts) → length scripts ≤ 16
+few-scripts-again words init schedule logs scripts e =
+    let both = both_true (nat_le 1 (length scripts)) (nat_le (length scripts) 16) (form_within words (Again init schedule logs scripts) e) in
     leb-true (length scripts) 16 both.1

@@ -4,6 +4,7 @@ use Rattle.std.proofs.Common.{ℕ, ◌≡◌, arith, refl, subst, sym}
 use Rattle.onll_task.specs.declared.ending.Exit.{Exit}
 use Rattle.onll_task.specs.declared.ending.Ending.TheVariants.{Done, Refused, BadLog, ReadFault, Faulty}
 use Rattle.onll_jobs.specs.Command.{form_of}
+use Rattle.onll_jobs.specs.AgainPromises.{AgainPromises}
 use Rattle.onll_jobs.specs.Durable.{ReplayPromises}
 use Rattle.onll_task.specs.Printed.{exit_status}
 use Rattle.onll_jobs.specs.Promises.{Promises}
@@ -14,6 +15,8 @@ use Rattle.onll_jobs.specs.Seen.{Seen}
 use Rattle.onll_task.specs.Writing.{SameBut}
 use Rattle.onll_jobs.proofs.ExitCauses.{faulty_run, said_of, none_failed_of, usage_of, failed_of, no_memory_of, count_of, decided_exactly}
 use Rattle.onll_jobs.proofs.FormsDetermined.{exit_done}
+use Rattle.onll_jobs.proofs.AgainDurable.{again_durable, again_bad}
+use Rattle.onll_jobs.proofs.AgainDone.{goes_on_left, goes_on_run}
 use Rattle.onll_jobs.proofs.ReplayEnds.{replay_not_bad, replay_durable}
 use Rattle.onll_jobs.proofs.RunEnds.{run_whole, run_broken, run_not_bad}
 use Rattle.onll_jobs.proofs.RecoverCrashes.{recovers_crashes}
@@ -27,6 +30,14 @@ replay_kept seen x says = record {
       replay_durable seen init schedule logs names form (said_of seen x Done (λ e. omega arith) e says);
   recovers = λ init schedule logs names form e.
       replay_not_bad seen init schedule logs names form (said_of seen x BadLog (λ e. omega arith) e says);
+}
+
+again_kept : (seen : Seen) (x : Exit) → ExitSays seen x → AgainPromises seen (exit_status x)
+again_kept seen x says = record {
+  durable = λ init schedule logs names form e. again_durable seen init schedule logs names form (said_of seen x Done (λ e. omega arith) e says);
+  bad_logs = λ init schedule logs names form e. again_bad seen init schedule logs names form (said_of seen x BadLog (λ e. omega arith) e says);
+  left = goes_on_left seen x says;
+  run = goes_on_run seen x says;
 }
 
 run_kept : (seen : Seen) (x : Exit) → ExitSays seen x → RunPromises seen (exit_status x)
@@ -64,6 +75,7 @@ kept_of seen x says determined files = record {
   files = files;
   recover = record { crashes = recovers_crashes seen x says };
   replay = replay_kept seen x says;
+  again = again_kept seen x says;
   run = run_kept seen x says;
   recover_run = recovers_runs seen x says;
   make = make_kept seen x says;

@@ -3,6 +3,9 @@ mod Forms
 pub mod ShowWords
 pub mod Shown
 pub mod ReplayEnds
+pub mod AgainEnds
+pub mod AgainDurable
+pub mod AgainDone
 pub mod RunEnds
 pub mod SaidEnds
 pub mod RecoverCrashes

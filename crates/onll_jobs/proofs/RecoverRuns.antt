@@ -1,8 +1,7 @@
 -- What a run kept in told files is recovered.
 
-use Rattle.std.proofs.Common.{ℕ, suc, true, false, List, [], ◌∷◌, ◌≡◌, ◌==◌, ⊎_elim, length, map, cond, eqb-true, Result, Ok, Option, Some, None, refl, sym, ap, ◌∙◌, subst, arith}
+use Rattle.std.proofs.Common.{ℕ, suc, true, List, [], ◌∷◌, ◌≡◌, ⊎_elim, length, map, Result, Ok, Option, Some, None, refl, sym, ap, ◌∙◌, subst, arith}
 use Rattle.std.specs.List.{AllByRecursion}
-use Rattle.std.proofs.lemmas.Bool.{cases_Bool}
 use Rattle.std.proofs.lemmas.List.Sums.{sum_by-cons}
 use Rattle.onll_model.specs.declared.node.Node.{Node}
 use Rattle.onll_model.specs.declared.call.Call.{Call}
@@ -33,8 +32,10 @@ use Rattle.onll_task.specs.Job.{Threads, Decides}
 use Rattle.onll_task.specs.Printed.{exit_status}
 use Rattle.onll_task.specs.Running.{HoldsLog, HoldsLogs, broken_threads}
 use Rattle.onll_task.proofs.FileLines.{image_lines-image_bytes, mixed_fit, fenced_fit}
+use Rattle.onll_core.specs.Resume.{Found, found_in}
 use Rattle.onll_recovery.specs.RecoverJob.{recover_report, images_task}
-use Rattle.onll_recovery.proofs.Crashes.{HaveFormat2, AreFormat2, format_is, heads_have_format, heads_expected, take_operations, recovered_is}
+use Rattle.onll_recovery.proofs.Resumes.{found_is}
+use Rattle.onll_recovery.proofs.Crashes.{format_by, format_tested, HaveFormat2, AreFormat2, format_is, heads_have_format, heads_expected, take_operations, recovered_is}
 use Rattle.onll_runner.specs.RunJob.{run_plan}
 use Rattle.onll_runner.proofs.FaultLines.{length-fault_lines}
 use Rattle.onll_runner.proofs.RunRecovers.{run_told, run_operations}
@@ -48,17 +49,6 @@ use Rattle.onll_text.proofs.EachKind.{kind_goes}
 use Rattle.onll_jobs.proofs.RecoverCrashes.{decides_images, recovered_decides, object_says}
 
 -- ---- the format of an image
-abbrev format_by : ℕ → ℕ
-format_by n = cond (n == 2) 2 1
-
-one_not_two : (n : ℕ) → n ≡ 1 → n ≡ 2 → ⊥
-one_not_two n e f = omega (arith, e, f)
-
-format_tested : (n : ℕ) → format_by n ≡ 2 → n ≡ 2
-format_tested n e = ⊎_elim (λ (t : n == 2 ≡ true). eqb-true n 2 t)
-    (λ (f : n == 2 ≡ false). absurd (one_not_two (format_by n) (ap (λ b. cond {A = ℕ} b 2 1) f) e))
-    (cases_Bool (n == 2))
-
 word_of_format : (image : List (List ℕ)) → format_in image ≡ 2 → word_at image 0 1 ≡ 2
 word_of_format [] e = absurd (omega arith)
 word_of_format (line ∷ lines) e = format_tested (word line 1) e
@@ -176,10 +166,8 @@ same_lists (x ∷ xs) (y ∷ ys) e =
 same_nodes : (v : Result (List Node) RecoverFault) (x y : List Node) → v ≡ Ok x → v ≡ Ok y → x ≡ y
 same_nodes v x y g h = (cc)
 
--- ---- the call
-module _ (seen : Seen) (x : Exit) (init logs : List ℕ) (threads : ℕ) (k : ObjectKind) (s : k.State)
-    (say : (text : List ℕ) → Decides seen.store (each_job lines_stage (image_names logs 0 threads) (λ images. (images_task k init s images).job)) Done text → SaysThis seen (exit_status x) Done text)
-    (tells : seen.store.tells ≡ true) (left : IsLeftByRun k init s seen.store logs threads) where
+-- ---- what the files hold
+module _ (seen : Seen) (init logs : List ℕ) (threads : ℕ) (k : ObjectKind) (s : k.State) (tells : seen.store.tells ≡ true) (left : IsLeftByRun k init s seen.store logs threads) where
   abbrev heads : List LogHead
   heads = created_heads k.code init left.reported.scripts
 
@@ -200,10 +188,12 @@ module _ (seen : Seen) (x : Exit) (init logs : List ℕ) (threads : ℕ) (k : Ob
       let told = run_told k.means s heads left.reported.scripts left.reported.left left.reported.run in
       files.many ∙ sym told.many ∙ length-heads_from (length left.reported.scripts) k.code init 0 (length left.reported.scripts)
 
+  operations : AllOperations k.means recovers.nodes
+  operations = subst (AllOperations k.means) recovers.front (take_operations k.means (length recovers.nodes) left.reported.left.nodes (run_operations k.means s heads left.reported.scripts left.reported.left left.reported.run))
+
   is_recovered : state_recovered k.means (expected_heads k.code init files.images) files.images ≡ Ok (recovered_with recovers.logs recovers.nodes)
   is_recovered =
       let expected : expected_heads k.code init files.images ≡ heads = heads_expected (length files.images) k.code init 0 files.images files.formats ∙ ap (λ n. heads_from n k.code init 0 n) images_many in
-      let operations = subst (AllOperations k.means) recovers.front (take_operations k.means (length recovers.nodes) left.reported.left.nodes (run_operations k.means s heads left.reported.scripts left.reported.left left.reported.run)) in
       ap (λ hs. state_recovered k.means hs files.images) expected
       ∙ recovered_is k.means files.images heads recovers.logs recovers.nodes (their_contents 0 files.images recovers.logs recovers.contents) recovers.recovered operations
 
@@ -214,8 +204,32 @@ module _ (seen : Seen) (x : Exit) (init logs : List ℕ) (threads : ℕ) (k : Ob
       let contents = same_lists recovers.logs (map content_in left.reported.left.logs) (sym recovers.contents ∙ ap (map content_of) images ∙ told.contents) in
       (contents, same_nodes (merge heads recovers.logs) recovers.nodes left.reported.left.nodes recovers.recovered (ap (merge heads) contents ∙ left.reported.run.merged))
 
-  run_recovers : RecoversRun k init s seen (exit_status x) logs threads left
-  run_recovers =
+  -- images of that run's logs, from which as many scripts can go on
+  pub record RunImages : Type 0 where
+    pub images : List (List (List ℕ))
+    pub files : TellImages seen.store logs 0 images
+    pub many : length images ≡ threads
+    pub heads : List LogHead
+    pub heads_are : heads ≡ heads_from threads k.code init 0 threads
+    pub found : Found
+    pub gives : found_in k.means heads images ≡ Ok found
+
+  pub run_images : RunImages
+  run_images = record {
+    images = files.images;
+    files = files.tell;
+    many = images_many ∙ many;
+    heads = heads;
+    heads_are = ap (λ n. heads_from n k.code init 0 n) many;
+    found = record { logs = recovers.logs; nodes = recovers.nodes };
+    gives = found_is k.means heads files.images recovers.logs recovers.nodes recovers.contents files.formats recovers.recovered operations;
+  }
+
+  -- ---- the call
+  run_recovers : (x : Exit)
+      → ((text : List ℕ) → Decides seen.store (each_job lines_stage (image_names logs 0 threads) (λ images. (images_task k init s images).job)) Done text → SaysThis seen (exit_status x) Done text)
+      → RecoversRun k init s seen (exit_status x) logs threads left
+  run_recovers x say =
       let r : Recovered = recovered_with recovers.logs recovers.nodes in
       let recovered = recovered_decides k.means k.wording seen.store s (state_recovered k.means (expected_heads k.code init files.images) files.images) r is_recovered in
       record {
@@ -234,5 +248,5 @@ recovers_runs seen x says init logs bytes threads object form told accepted none
     (λ task. (text : List ℕ) → Decides seen.store task.job Done text → SaysThis seen (exit_status x) Done text)
     (λ k s. (left : IsLeftByRun k bytes s seen.store logs threads) → RecoversRun k bytes s seen (exit_status x) logs threads left)
     (λ says. says)
-    (λ kind s known say left. run_recovers seen x bytes logs threads (kind_at kind) s say told.tells left)
+    (λ kind s known say left. run_recovers seen bytes logs threads (kind_at kind) s told.tells left x say)
     object (object_says seen x says init logs bytes threads object form told accepted none)

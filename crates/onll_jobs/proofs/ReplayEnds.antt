@@ -1,4 +1,4 @@
-use Rattle.std.proofs.Common.{ℕ, suc, List, [], ◌∷◌, ◌≡◌, ◌≤◌, inl, inr, length, Some, Result, Ok, refl, sym, ap, subst}
+use Rattle.std.proofs.Common.{ℕ, suc, List, [], ◌∷◌, ◌≡◌, ◌≤◌, inl, inr, length, Option, Some, None, Result, Ok, refl, sym, ap, subst}
 use Rattle.std.specs.List.{AllByRecursion}
 use Rattle.onll_model.specs.declared.call.Call.{Call}
 use Rattle.onll_model.specs.Object.{Behaviour}
@@ -51,7 +51,7 @@ record ReplayEnds (store after : StoreView) (init schedule logs : List ℕ) (nam
   pub replayed : HasReplayedAny bytes store after schedule logs names text object
 
 module _ (after : StoreView) (ending : Ending) (text : List ℕ) (said : IsSaid ending) where
-  images_end : (store : StoreView) (logs : List ℕ) (i : ℕ) (images : List (List (List ℕ))) (next : Job) → JobEnds store after (writing_images logs i images next) ending text → JobEnds (with_images store logs i images) after next ending text
+  pub images_end : (store : StoreView) (logs : List ℕ) (i : ℕ) (images : List (List (List ℕ))) (next : Job) → JobEnds store after (writing_images logs i images next) ending text → JobEnds (with_images store logs i images) after next ending text
   images_end store logs i [] next h = h
   images_end store logs i (image ∷ images) next (inl h) = absurd (can_write store after (image_name logs i) ending text said h)
   images_end store logs i (image ∷ images) next (inr h) = images_end (written store (image_name logs i) (image_bytes image)) logs (suc i) images next h
@@ -63,16 +63,21 @@ module _ (after : StoreView) (ending : Ending) (text : List ℕ) (said : IsSaid 
     many_scripts (name ∷ names) [] h = absurd h
     many_scripts (name ∷ names) (script ∷ scripts) h = ap suc (many_scripts names scripts h.1)
 
-    few_updates : (names : List (List ℕ)) (scripts : List (List (Call State Op Query Reply))) → ReadScripts w store names scripts → AllByRecursion (λ (script : List (Call State Op Query Reply)). updates_in script ≤ 4096) scripts
+    pub few_updates : (names : List (List ℕ)) (scripts : List (List (Call State Op Query Reply))) → ReadScripts w store names scripts → AllByRecursion (λ (script : List (Call State Op Query Reply)). updates_in script ≤ 4096) scripts
     few_updates [] [] h = tt
     few_updates [] (script ∷ scripts) h = absurd h
     few_updates (name ∷ names) [] h = absurd h
     few_updates (name ∷ names) (script ∷ scripts) h = ((few_calls w h.0.bytes script h.0.accepted).0, few_updates names scripts h.1)
 
-    -- what a crash says of a core that was played
-    crash_ends : (scripts : List (List (Call State Op Query Reply))) (c : CoreState State Op Query Reply) (keep : ℕ) (recovered : Result Recovered StateFault) (r : Recovered) → recovered ≡ Ok r → JobEnds store after (run_task b w scripts c keep recovered).job ending text
-        → (ending ≡ Done) × (text ≡ replay_report b w c keep r) × FilesStay store after × SameCounts store after
-    crash_ends scripts c keep recovered r e h = subst (λ (x : Result Recovered StateFault). JobEnds store after (run_task b w scripts c keep x).job ending text) e h
+    -- what a crash says of a core whose images recover
+    pub crash_ends : (logs : List ℕ) (resumed : Option ℕ) (scripts : List (List (Call State Op Query Reply))) (c : CoreState State Op Query Reply) (keep : ℕ) (r : Recovered) → state_recovered b (heads_of c.threads) (images_of keep c.threads) ≡ Ok r
+        → JobEnds store after (crash_task b w logs resumed scripts c keep).job ending text
+        → (ending ≡ Done) × (text ≡ replay_report b w resumed c keep r)
+        × FilesStay (with_images store logs 0 (images_of keep c.threads)) after × SameCounts (with_images store logs 0 (images_of keep c.threads)) after
+    crash_ends logs resumed scripts c keep r e h =
+        let images = images_of keep c.threads in
+        subst (λ (x : Result Recovered StateFault). JobEnds (with_images store logs 0 images) after (run_task b w resumed scripts c keep x).job ending text) e
+        (images_end store logs 0 images (run_task b w resumed scripts c keep (state_recovered b (heads_of c.threads) images)).job h)
 
   -- ---- what was replayed
   on_ends : (k : ObjectKind) → IsKnown k → (store : StoreView) (init : List ℕ) (s : k.State) (schedule logs : List ℕ) (names : List (List ℕ)) → length names ≤ 16
@@ -83,17 +88,16 @@ module _ (after : StoreView) (ending : Ending) (text : List ℕ) (said : IsSaid 
       let read = scripts_end after ending text said w store names (λ scripts. (schedule_task k init s schedule logs scripts).job) h in
       let scripts = read.scripts in
       let count = length scripts in
-      let planned = whole_ends after ending text said store schedule (schedule_of count) (λ bytes (plan : Schedule). (crash_task b w logs scripts (played b k.code init s scripts plan.turns) plan.keep).job) read.ends in
+      let planned = whole_ends after ending text said store schedule (schedule_of count) (λ bytes (plan : Schedule). (crash_task b w logs None scripts (played b k.code init s scripts plan.turns) plan.keep).job) read.ends in
       let plan = planned.value in
       let core = played b k.code init s scripts plan.turns in
       let images = images_of plan.keep core.threads in
-      let recovered = state_recovered b (heads_of core.threads) images in
       let within : IsWithinLimits k.code scripts = record { code = is; few = subst (λ (n : ℕ). n ≤ 16) (sym (many_scripts b w store names scripts read.read)) few; updates = few_updates b w store names scripts read.read } in
-      let durable = always_durable b k.code init s scripts within in
+      let durable = always_durable b k.code init s scripts (created_core s k.code init scripts) within (inl refl) in
       let left = picked_images count core plan.keep (steps_consistent b count (created_core s k.code init scripts) (turns_of plan.turns) (created_consistent s k.code init scripts within)) in
       let crash = (durable (turns_of plan.turns)).crash images left in
       let is_recovered = crash_recovered b k.code init s scripts (turns_of plan.turns) images crash.recovers in
-      let end = crash_ends b w (with_images store logs 0 images) scripts core plan.keep recovered (recovered_with crash.recovers.logs crash.recovers.nodes) is_recovered (images_end store logs 0 images (run_task b w scripts core plan.keep recovered).job planned.ends) in (
+      let end = crash_ends b w store logs None scripts core plan.keep (recovered_with crash.recovers.logs crash.recovers.nodes) is_recovered planned.ends in (
         end.0,
         record {
           scripts = scripts;

@@ -16,6 +16,7 @@ pub data Form : Type 0 where
   Show : (image : List ℕ) → Form
   Recover : (init logs : List ℕ) (threads : ℕ) → Form
   Replay : (init schedule logs : List ℕ) (scripts : List (List ℕ)) → Form
+  Again : (init schedule logs : List ℕ) (scripts : List (List ℕ)) → Form
   Run : (init logs : List ℕ) (scripts : List (List ℕ)) → Form
   Make : (workload : Workload) → Form
 
@@ -37,6 +38,10 @@ abbrev pub replay_of : List (List ℕ) → Option Form
 replay_of (init ∷ schedule ∷ logs ∷ scripts) = Some (Replay init schedule logs scripts)
 replay_of names = None
 
+abbrev pub again_of : List (List ℕ) → Option Form
+again_of (init ∷ schedule ∷ logs ∷ scripts) = Some (Again init schedule logs scripts)
+again_of names = None
+
 abbrev pub run_of : List (List ℕ) → Option Form
 run_of (init ∷ logs ∷ scripts) = Some (Run init logs scripts)
 run_of names = None
@@ -57,16 +62,18 @@ named_form command names =
     else if bytes_eq command (codes "show") then show_of names
     else if bytes_eq command (codes "recover") then recover_of names
     else if bytes_eq command (codes "replay") then replay_of names
+    else if bytes_eq command (codes "again") then again_of names
     else if bytes_eq command (codes "run") then run_of names
     else if bytes_eq command (codes "make") then make_of names
     else None
 
 -- ---- the form of words
--- a recovery is from the logs of 1 to 16 threads, a replay and a run are of 1 to 16 scripts, and a workload is of as many threads and
--- of 1 to 4,096 updates of each
+-- a recovery is from the logs of 1 to 16 threads, a replay, one that goes on and a run are of 1 to 16 scripts, and a workload is of as
+-- many threads and of 1 to 4,096 updates of each
 abbrev pub is_within : Form → Bool
 is_within (Recover init logs threads) = nat_le 1 threads && nat_le threads most_threads
 is_within (Replay init schedule logs scripts) = nat_le 1 (length scripts) && nat_le (length scripts) most_threads
+is_within (Again init schedule logs scripts) = nat_le 1 (length scripts) && nat_le (length scripts) most_threads
 is_within (Run init logs scripts) = nat_le 1 (length scripts) && nat_le (length scripts) most_threads
 is_within (Make w) = nat_le 1 w.threads && (nat_le w.threads most_threads && (nat_le 1 w.updates && nat_le w.updates most_updates))
 is_within form = true
@@ -86,14 +93,16 @@ form_in (commands.Fold init script) = Fold init.now script.now
 form_in (commands.Show image) = Show image.now
 form_in (commands.Recover init logs threads) = Recover init.now logs.now threads
 form_in (commands.Replay init schedule logs scripts) = Replay init.now schedule.now logs.now (map string_bytes scripts.now)
+form_in (commands.Again init schedule logs scripts) = Again init.now schedule.now logs.now (map string_bytes scripts.now)
 form_in (commands.Run init logs scripts) = Run init.now logs.now (map string_bytes scripts.now)
 form_in (commands.Make workload) = Make workload
 
--- a recovery is from the logs of 1 to 16 threads, a replay and a run are of 1 to 16 scripts, and a workload is of as many threads and
--- of 1 to 4,096 updates of each
+-- a recovery is from the logs of 1 to 16 threads, a replay, one that goes on and a run are of 1 to 16 scripts, and a workload is of as
+-- many threads and of 1 to 4,096 updates of each
 abbrev pub IsCommand : Command → Type 0
 IsCommand (commands.Recover init logs threads) = (1 ≤ threads) × (threads ≤ most_threads)
 IsCommand (commands.Replay init schedule logs scripts) = (1 ≤ length scripts.now) × (length scripts.now ≤ most_threads)
+IsCommand (commands.Again init schedule logs scripts) = (1 ≤ length scripts.now) × (length scripts.now ≤ most_threads)
 IsCommand (commands.Run init logs scripts) = (1 ≤ length scripts.now) × (length scripts.now ≤ most_threads)
 IsCommand (commands.Make workload) = IsWorkload workload
 IsCommand command = Unit {0}
@@ -105,5 +114,6 @@ usage_text =
     ++ codes "       onll show IMAGE\n"
     ++ codes "       onll recover INIT LOGS T\n"
     ++ codes "       onll replay INIT SCHEDULE LOGS SCRIPT..\n"
+    ++ codes "       onll again INIT SCHEDULE LOGS SCRIPT..\n"
     ++ codes "       onll run INIT LOGS SCRIPT..\n"
     ++ codes "       onll make T N SEED\n"

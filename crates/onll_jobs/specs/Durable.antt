@@ -1,13 +1,13 @@
 -- What `replay` and `recover` say of crashes.
 
-use Rattle.std.specs.Prelude.{ℕ, suc, ◌≡◌, List, [], ◌∷◌, length, Some, Ok}
+use Rattle.std.specs.Prelude.{ℕ, suc, ◌≡◌, List, [], ◌∷◌, length, Some, None, Ok}
 use Rattle.onll_model.specs.declared.call.Call.{Call}
 use Rattle.onll_log.specs.ImageFile.{image_lines}
 use Rattle.onll_core.specs.Core.{CoreState}
-use Rattle.onll_core.specs.Step.{steps_of}
-use Rattle.onll_core.specs.Created.{created_heads, created_core, IsWithinLimits}
-use Rattle.onll_core.specs.Crash.{AreImages, images_of, RecoversAll}
+use Rattle.onll_core.specs.Created.{created_heads, created_core}
+use Rattle.onll_core.specs.Crash.{images_of, RecoversAll}
 use Rattle.onll_core.specs.Durable.{AlwaysDurable}
+use Rattle.onll_core.specs.Generations.{Generation, AreGenerations, LeavesAll}
 use Rattle.onll_text.specs.declared.any_object.AnyObject.{AnyObject}
 use Rattle.onll_text.specs.declared.schedule.Schedule.{Schedule}
 use Rattle.onll_text.specs.Init.{init_of}
@@ -41,11 +41,11 @@ pub record HasReplayed (k : ObjectKind) (init : List ℕ) (s : k.State) (store a
   pub plan : Schedule
   pub read : ReadScripts k.wording store names scripts
   pub planned : Reads store (schedule_of (length scripts)) schedule plan
-  pub durable : AlwaysDurable k.means k.code init s scripts
+  pub durable : AlwaysDurable k.means k.code init s scripts (created_core s k.code init scripts)
   pub core : CoreState k.State k.Op k.Query k.Reply
   pub run : core ≡ played k.means k.code init s scripts plan.turns
   pub crash : RecoversAll k.means (created_heads k.code init scripts) core (images_of plan.keep core.threads)
-  pub printed : text ≡ replay_report k.means k.wording core plan.keep (recovered_with crash.recovers.logs crash.recovers.nodes)
+  pub printed : text ≡ replay_report k.means k.wording None core plan.keep (recovered_with crash.recovers.logs crash.recovers.nodes)
   pub files : FilesStay (with_images store logs 0 (images_of plan.keep core.threads)) after
 
 -- the same for an object of any kind
@@ -80,24 +80,21 @@ abbrev pub TellImages : StoreView → List ℕ → ℕ → List (List (List ℕ)
 TellImages store logs i [] = Unit {0}
 TellImages store logs i (image ∷ images) = TellsImage store (image_name logs i) image × TellImages store logs (suc i) images
 
--- A crash left the files of the logs: some scripts within the limits were run, by any steps of their threads, and each file
--- holds any of the images that the thread's device may have.
+-- Crashes left the files of the logs: any number of generations ran some scripts within the limits, by any steps of their threads, each
+-- from what a crash left of the one before, and each file holds any of the images that the newest one's device may have.
 pub record IsLeft (k : ObjectKind) (init : List ℕ) (s : k.State) (store : StoreView) (logs : List ℕ) (threads : ℕ) : Type 0 where
-  pub scripts : List (List (Call k.State k.Op k.Query k.Reply))
-  pub within : IsWithinLimits k.code scripts
-  pub many : length scripts ≡ threads
-  pub steps : List ℕ
-  pub images : List (List (List ℕ))
-  pub left : AreImages (steps_of k.means (created_core s k.code init scripts) steps).threads images
-  pub files : TellImages store logs 0 images
+  pub last : Generation k.State k.Op k.Query k.Reply
+  pub older : List (Generation k.State k.Op k.Query k.Reply)
+  pub generations : AreGenerations k.means k.code init s threads (last ∷ older)
+  pub files : TellImages store logs 0 last.images
 
--- What is printed is the front of that run's trace which holds every returned update and all that returned reads saw, and the
--- state after it; or memory could not be had.
+-- What is printed is the front of the newest generation's trace which holds all that those before it recovered, every returned
+-- update and all that returned reads saw, and the state after it; or memory could not be had.
 pub record RecoversLeft (k : ObjectKind) (init : List ℕ) (s : k.State) (seen : Seen) (status : ℕ) (logs : List ℕ) (threads : ℕ)
     (left : IsLeft k init s seen.store logs threads) : Type 0 where
-  pub crash : RecoversAll k.means (created_heads k.code init left.scripts)
-      (steps_of k.means (created_core s k.code init left.scripts) left.steps) left.images
-  pub says : SaysThis seen status Done (recover_report k.means k.wording s (recovered_with crash.recovers.logs crash.recovers.nodes))
+  pub leaves : LeavesAll k.means k.code init s threads left.older left.last left.generations.0
+  pub says : SaysThis seen status Done (recover_report k.means k.wording s
+      (recovered_with leaves.all.recovers.logs leaves.all.recovers.nodes))
 
 -- the same for an object of any kind
 abbrev pub RecoversLeftAny : (init : List ℕ) → Seen → (status : ℕ) → (logs : List ℕ) → (threads : ℕ) → AnyObject → Type 0
@@ -110,8 +107,8 @@ RecoversCrashes seen status = (init logs bytes : List ℕ) (threads : ℕ) (obje
     → form_of seen.words ≡ Some (Recover init logs threads)
     → IsTold seen.store init bytes → init_of bytes ≡ Ok object → NoneRose seen → RecoversLeftAny bytes seen status logs threads object
 
--- What a recovery promises beside: from the files of the logs, whatever crash of whatever run left them, it prints that front, or
--- the status is 9.
+-- What a recovery promises beside: from the files of the logs, whatever crashes of whatever generations left them, it prints that
+-- front, or the status is 9.
 pub record RecoverPromises (seen : Seen) (status : ℕ) : Type 0 where
   pub crashes : RecoversCrashes seen status
 

@@ -8,6 +8,7 @@ pub mod Seen
 pub mod ShowJob
 pub mod Durable
 pub mod Promises
+pub mod AgainPromises
 pub mod RunPromises
 pub mod RunRecovers
 pub mod MakeJob

@@ -18,14 +18,16 @@ use Rattle.onll_jobs.specs.FoldJob.{script_task}
 use Rattle.onll_task.specs.ImageNames.{image_names}
 use Rattle.onll_recovery.specs.RecoverJob.{logs_task}
 use Rattle.onll_recovery.specs.ReplayJob.{scripts_task}
+use Rattle.onll_recovery.specs.AgainJob.{again_task}
 use Rattle.onll_runner.specs.RunJob.{run_task}
 
--- What is done over an object: a script is folded, the logs of so many threads are recovered, scripts are replayed, or
--- scripts are run on threads.
+-- What is done over an object: a script is folded, the logs of so many threads are recovered, scripts are replayed, anew or going on
+-- from the logs of an earlier generation, or scripts are run on threads.
 pub data OverForm : Type 0 where
   FoldOver : (script : List ℕ) → OverForm
   RecoverOver : (logs : List ℕ) (threads : ℕ) → OverForm
   ReplayOver : (schedule logs : List ℕ) (names : List (List ℕ)) → OverForm
+  AgainOver : (schedule logs : List ℕ) (names : List (List ℕ)) → OverForm
   RunOver : (logs : List ℕ) (names : List (List ℕ)) → OverForm
 
 -- what the code's words for it stand for
@@ -33,6 +35,7 @@ abbrev pub over_in : Over → OverForm
 over_in (overs.Fold script) = FoldOver script.now
 over_in (overs.Recover logs threads) = RecoverOver logs.now threads
 over_in (overs.Replay schedule logs scripts) = ReplayOver schedule.now logs.now (map string_bytes scripts.now)
+over_in (overs.Again schedule logs scripts) = AgainOver schedule.now logs.now (map string_bytes scripts.now)
 over_in (overs.Run logs scripts) = RunOver logs.now (map string_bytes scripts.now)
 
 -- there are 1 to 16 logs to be recovered, and 1 to 16 scripts to be replayed or run
@@ -40,6 +43,7 @@ abbrev pub IsOver : Over → Type 0
 IsOver (overs.Fold script) = Unit {0}
 IsOver (overs.Recover logs threads) = (1 ≤ threads) × (threads ≤ most_threads)
 IsOver (overs.Replay schedule logs scripts) = (1 ≤ length scripts.now) × (length scripts.now ≤ most_threads)
+IsOver (overs.Again schedule logs scripts) = (1 ≤ length scripts.now) × (length scripts.now ≤ most_threads)
 IsOver (overs.Run logs scripts) = (1 ≤ length scripts.now) × (length scripts.now ≤ most_threads)
 
 -- the task over a state of this kind, which these bytes say; a part of its job that runs scripts on threads is made so
@@ -47,6 +51,7 @@ abbrev pub over_task : OverForm → (k : ObjectKind) → (RunPlan k → (RunLeft
 over_task (FoldOver script) k threads init s = script_task k.means k.wording s script
 over_task (RecoverOver logs count) k threads init s = logs_task k init logs count s
 over_task (ReplayOver schedule logs names) k threads init s = scripts_task k init schedule logs names s
+over_task (AgainOver schedule logs names) k threads init s = again_task k init schedule logs names s
 over_task (RunOver logs names) k threads init s = run_task k threads init logs names s
 
 -- the task over an object, whose initial state these bytes say
@@ -58,6 +63,7 @@ abbrev pub over_writes : OverForm → List (List ℕ)
 over_writes (FoldOver script) = []
 over_writes (RecoverOver logs threads) = []
 over_writes (ReplayOver schedule logs names) = image_names logs 0 (length names)
+over_writes (AgainOver schedule logs names) = image_names logs 0 (length names)
 over_writes (RunOver logs names) = image_names logs 0 (length names)
 
 -- What a function does over a state of a kind, which these bytes say: the task, whatever stands for the runs of that kind in it.

@@ -4,6 +4,7 @@ use Rattle.std.specs.Prelude.{ℕ, List, ◌≡◌, ◌⊎◌, None}
 use Rattle.onll_outside.specs.Views.{Puts}
 use Rattle.onll_task.specs.declared.ending.Ending.{Ending}
 use Rattle.onll_task.specs.declared.ending.Ending.TheVariants.{Done, Refused, BadLog, ReadFault, WriteFault, Faulty}
+use Rattle.onll_jobs.specs.AgainPromises.{AgainPromises}
 use Rattle.onll_jobs.specs.Command.{form_of, usage_text}
 use Rattle.onll_jobs.specs.Durable.{RecoverPromises, ReplayPromises}
 use Rattle.onll_task.specs.Job.{Decides}
@@ -41,6 +42,7 @@ pub record Promises (seen : Seen) (status : ℕ) : Type 0 where
   -- What single commands promise beside.
   pub recover : RecoverPromises seen status
   pub replay : ReplayPromises seen status
+  pub again : AgainPromises seen status
   pub run : RunPromises seen status
   -- and `recover` of what `run` keeps
   pub recover_run : RecoversRuns seen status

@@ -7,11 +7,11 @@ use Rattle.onll_task.specs.declared.ending.Ending.TheVariants.{Done, Usage}
 use Rattle.onll_task.specs.declared.ending.Exit.{Exit}
 use Rattle.onll_task.specs.declared.ending.Exit.TheVariants.{Said, SinkFault, NoMemory}
 use Rattle.onll_jobs.specs.Seen.{Seen}
-use Rattle.onll_jobs.specs.Command.{Form, Fold, Show, Recover, Replay, Run, Make, form_of, usage_text}
+use Rattle.onll_jobs.specs.Command.{Form, Fold, Show, Recover, Replay, Again, Run, Make, form_of, usage_text}
 use Rattle.onll_task.specs.Printed.{status_of, exit_status}
 use Rattle.onll_task.specs.Job.{Job, JobEnds, JobCut}
 use Rattle.onll_task.specs.Doing.{Work, say_task}
-use Rattle.onll_jobs.specs.Over.{FoldOver, RecoverOver, ReplayOver, RunOver, over_work}
+use Rattle.onll_jobs.specs.Over.{FoldOver, RecoverOver, ReplayOver, AgainOver, RunOver, over_work}
 use Rattle.onll_jobs.specs.ShowJob.{show_work}
 use Rattle.onll_jobs.specs.MakeJob.{make_work}
 
@@ -22,6 +22,7 @@ work_of (Some (Fold init script)) = over_work init (FoldOver script)
 work_of (Some (Show image)) = show_work image
 work_of (Some (Recover init logs threads)) = over_work init (RecoverOver logs threads)
 work_of (Some (Replay init schedule logs scripts)) = over_work init (ReplayOver schedule logs scripts)
+work_of (Some (Again init schedule logs scripts)) = over_work init (AgainOver schedule logs scripts)
 work_of (Some (Run init logs scripts)) = over_work init (RunOver logs scripts)
 work_of (Some (Make workload)) = make_work workload
 

@@ -1,7 +1,7 @@
 //! The words of the program, read as a command.
 
 ghost use Rattle.std.specs.Prelude.{◌≡◌, true, map, string_bytes, Some, None, MatchOption, IfSome};
-ghost use Rattle.onll_jobs.specs.Command.{fold_of, show_of, recover_of, replay_of, run_of, make_of, named_form, form_of, form_in, is_within, usage_text, IsCommand};
+ghost use Rattle.onll_jobs.specs.Command.{fold_of, show_of, recover_of, replay_of, again_of, run_of, make_of, named_form, form_of, form_in, is_within, usage_text, IsCommand};
 ghost use Rattle.onll_task.specs.Stop.{StopSays};
 
 use onll_model::{MOST_THREADS, MOST_UPDATES};
@@ -15,6 +15,7 @@ const USAGE: &[u8] = b"usage: onll fold INIT SCRIPT\n       \
       onll show IMAGE\n       \
       onll recover INIT LOGS T\n       \
       onll replay INIT SCHEDULE LOGS SCRIPT..\n       \
+      onll again INIT SCHEDULE LOGS SCRIPT..\n       \
       onll run INIT LOGS SCRIPT..\n       \
       onll make T N SEED\n";
 
@@ -41,6 +42,12 @@ pub(crate) enum Command<'a> {
         threads: u64,
     },
     Replay {
+        init: &'a str,
+        schedule: &'a str,
+        logs: &'a str,
+        scripts: &'a [String],
+    },
+    Again {
         init: &'a str,
         schedule: &'a str,
         logs: &'a str,
@@ -109,6 +116,22 @@ fn replay<'a>(names: &'a [String]) -> Option<Command<'a>>
     }
 }
 
+/// The replay of scripts that goes on from the images of an earlier one.
+fn again<'a>(names: &'a [String]) -> Option<Command<'a>>
+    ensures { let form = again_of (map string_bytes names.now) in
+        MatchOption result (form ≡ None) (λ command. form ≡ Some (form_in command)) }
+{
+    match names {
+        [init, schedule, logs, scripts @ ..] => Some(Command::Again {
+            init,
+            schedule,
+            logs,
+            scripts,
+        }),
+        _ => None,
+    }
+}
+
 /// The run of scripts on threads.
 fn run<'a>(names: &'a [String]) -> Option<Command<'a>>
     ensures { let form = run_of (map string_bytes names.now) in
@@ -154,6 +177,8 @@ fn named<'a>(command: &str, names: &'a [String]) -> Option<Command<'a>>
         recover(names)
     } else if command == "replay" {
         replay(names)
+    } else if command == "again" {
+        again(names)
     } else if command == "run" {
         run(names)
     } else if command == "make" {
@@ -186,7 +211,9 @@ impl<'a> Command<'a> {
     {
         match self {
             Command::Recover { threads, .. } => 1 <= *threads && *threads <= MOST_THREADS,
-            Command::Replay { scripts, .. } | Command::Run { scripts, .. } => {
+            Command::Replay { scripts, .. }
+            | Command::Again { scripts, .. }
+            | Command::Run { scripts, .. } => {
                 !scripts.is_empty() && scripts.len() as u64 <= MOST_THREADS
             }
             Command::Make { workload } => {

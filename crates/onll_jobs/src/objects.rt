@@ -6,7 +6,7 @@ ghost use Rattle.onll_jobs.specs.Over.{over_in, IsOver, DoesOver, over_work};
 
 use crate::fold;
 use onll_outside::{Gate, Store};
-use onll_recovery::{recover_logs, replay_on};
+use onll_recovery::{again_on, recover_logs, replay_on};
 use onll_runner::run_on;
 use onll_task::{Stop, init_file};
 use onll_text::{AnyObject, Texted};
@@ -25,6 +25,11 @@ pub(crate) enum Over<'a> {
         threads: u64,
     },
     Replay {
+        schedule: &'a str,
+        logs: &'a str,
+        scripts: &'a [String],
+    },
+    Again {
         schedule: &'a str,
         logs: &'a str,
         scripts: &'a [String],
@@ -59,6 +64,11 @@ fn over_one<R: Threads + Wait + Sync, O: Texted + Drop + Send + Sync, S: Store, 
             logs,
             scripts,
         } => replay_on(alloc, object, init, schedule, logs, scripts, store),
+        Over::Again {
+            schedule,
+            logs,
+            scripts,
+        } => again_on(alloc, object, init, schedule, logs, scripts, store),
         Over::Run { logs, scripts } => {
             run_on(rt, alloc, object, init, logs, scripts, gate, store)
         }

@@ -64,6 +64,23 @@ fn command_answer<R: Threads + Wait + Sync, S: Store, G: Gate + Sync>(
             gate,
             store,
         ),
+        Command::Again {
+            init,
+            schedule,
+            logs,
+            scripts,
+        } => objects::answer(
+            rt,
+            alloc,
+            init,
+            Over::Again {
+                schedule,
+                logs,
+                scripts,
+            },
+            gate,
+            store,
+        ),
         Command::Run {
             init,
             logs,

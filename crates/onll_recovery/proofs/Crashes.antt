@@ -1,4 +1,5 @@
-use Rattle.std.proofs.Common.{ℕ, zero, suc, Bool, true, false, List, [], ◌∷◌, ◌≡◌, ◌+◌, ◌==◌, cond, length, map, take, Option, Some, None, IsSome, refl, ap, ◌∙◌, sym, subst, arith, Result, Ok, Err}
+use Rattle.std.proofs.Common.{ℕ, zero, suc, Bool, true, false, List, [], ◌∷◌, ◌≡◌, ◌+◌, ◌==◌, ⊎_elim, eqb-true, cond, length, map, take, Option, Some, None, IsSome, refl, ap, ◌∙◌, sym, subst, arith, Result, Ok, Err}
+use Rattle.std.proofs.lemmas.Bool.{cases_Bool}
 use Rattle.std.proofs.lemmas.Bool.Decides.{nat_tests}
 use Rattle.std.proofs.lemmas.List.{length-map}
 use Rattle.std.specs.List.{AllByRecursion}
@@ -16,11 +17,13 @@ use Rattle.onll_merge.specs.FrameLogs.{AreLogsOf}
 use Rattle.onll_core.specs.Core.{CoreThread, CoreState}
 use Rattle.onll_core.specs.CoreFrame.{frame_thread}
 use Rattle.onll_core.specs.Step.{steps_of}
-use Rattle.onll_core.specs.Created.{heads_from, created_heads, created_core, IsWithinLimits}
+use Rattle.onll_core.specs.Created.{heads_from, created_heads, created_core}
 use Rattle.onll_core.specs.Consistent.{IsConsistent}
 use Rattle.onll_core.specs.Crash.{AreImages, heads_of, Recovers}
-use Rattle.onll_core.proofs.Created.{length-heads_from, created_consistent}
-use Rattle.onll_core.proofs.Kept.{steps_consistent}
+use Rattle.onll_core.proofs.Created.{length-heads_from}
+use Rattle.onll_core.specs.Generations.{Generation, IsGeneration, AreGenerations, LeavesAll}
+use Rattle.onll_core.proofs.Generations.{generation_starts}
+use Rattle.onll_core.proofs.ReachedCores.{steps_reached, reached_consistent}
 use Rattle.onll_core.proofs.Images.{image_either}
 use Rattle.onll_core.proofs.Crashed.{images_many, are_held, steps_heads}
 use Rattle.onll_core.proofs.Recovered.{first_heads}
@@ -35,8 +38,11 @@ use Rattle.onll_merge.specs.Recovered.{Recovered, recovered_with, content_before
 
 -- ---- the format of an image
 -- a log's image is read by the format of its head
-abbrev format_by : ℕ → ℕ
+abbrev pub format_by : ℕ → ℕ
 format_by n = cond (n == 2) 2 1
+
+one_not_two : (n : ℕ) → n ≡ 1 → n ≡ 2 → ⊥
+one_not_two n e f = omega (arith, e, f)
 
 two : (n : ℕ) → n ≡ 2 → format_by n ≡ 2
 two n e = ap format_by e
@@ -53,6 +59,18 @@ format_is [] log head e h f = some_not_none log (sym e)
 format_is (l ∷ ls) log head e h f =
     let same = head_is (is_head l) (are_zero_lines (l ∷ ls)) l ls log head e h in
     two (word l 1) (ap (λ (x : LogHead). x.format) same ∙ f)
+
+-- the head of a log whose image is read by format 2 has that format
+pub format_tested : (n : ℕ) → format_by n ≡ 2 → n ≡ 2
+format_tested n e = ⊎_elim (λ (t : n == 2 ≡ true). eqb-true n 2 t)
+    (λ (f : n == 2 ≡ false). absurd (one_not_two (format_by n) (ap (λ b. cond {A = ℕ} b 2 1) f) e))
+    (cases_Bool (n == 2))
+
+pub head_format : (image : List (List ℕ)) (log : Content) (head : LogHead) → content_of image ≡ Some log → log.head ≡ Some head → format_in image ≡ 2 → head.format ≡ 2
+head_format [] log head e h f = absurd (omega (arith, f))
+head_format (l ∷ ls) log head e h f =
+    let same = head_is (is_head l) (are_zero_lines (l ∷ ls)) l ls log head e h in
+    sym (ap (λ (x : LogHead). x.format) same) ∙ format_tested (word l 1) f
 
 abbrev pub HaveFormat2 : List LogHead → Type 0
 HaveFormat2 heads = AllByRecursion (λ (head : LogHead). head.format ≡ 2) heads
@@ -85,7 +103,7 @@ heads_expected count code init i (image ∷ images) f =
     λ j. head_for (here j) i count code init ∷ rest j
 
 -- ---- the contents
-contents_are : (i : ℕ) (images : List (List (List ℕ))) (logs : List Content) → map content_of images ≡ map Some logs → contents_from i images ≡ Ok logs
+pub contents_are : (i : ℕ) (images : List (List (List ℕ))) (logs : List Content) → map content_of images ≡ map Some logs → contents_from i images ≡ Ok logs
 contents_are i [] [] e = refl
 contents_are i [] (log ∷ logs) e = absurd (cc)
 contents_are i (image ∷ images) [] e = absurd (cc)
@@ -104,7 +122,7 @@ equal : {A : Type 0} (n : ℕ) (x y : A) → cond (n == n) x y ≡ x
 equal {A} n x y = let e : (n == n) ≡ true = grind (arith, nat_tests) in ap (λ (t : Bool). cond t x y) e
 
 module _ {State Op Query Reply : Type 0} (b : Behaviour State Op Query Reply) where
-  front_is : (nodes : List Node) → AllOperations b nodes → operations_front b nodes ≡ nodes
+  pub front_is : (nodes : List Node) → AllOperations b nodes → operations_front b nodes ≡ nodes
   front_is [] h = refl
   front_is (n ∷ nodes) h = where_is (b.op_at n.row) (n ∷ operations_front b nodes) h.0 ∙ ap (λ (l : List Node). n ∷ l) (front_is nodes h.1)
 
@@ -127,29 +145,35 @@ module _ {State Op Query Reply : Type 0} (b : Behaviour State Op Query Reply) wh
       ∙ ap (λ (r : Result (List Node) RecoverFault). with_operations b (with_logs logs r)) m ∙ operations_are (recovered_with logs nodes) o
 
   -- images of a core recover to operations
-  images_recover : (heads : List LogHead) (c : CoreState State Op Query Reply) (images : List (List (List ℕ))) → AllOperations b c.trace → (r : Recovers heads c images)
+  pub images_recover : (heads : List LogHead) (c : CoreState State Op Query Reply) (images : List (List (List ℕ))) → AllOperations b c.trace → (r : Recovers heads c images)
       → state_recovered b heads images ≡ Ok (recovered_with r.logs r.nodes)
   images_recover heads c images rows r =
       recovered_is images heads r.logs r.nodes (contents_are 0 images r.logs r.contents) r.recovered
       (subst (AllOperations b) (sym r.front) (take_operations (top_of r.logs) c.trace rows))
 
-  -- the heads that images of a consistent core are expected to have are its own
+  -- images of a consistent core whose logs have such heads are read by format 2
+  pub images_formats : (count code : ℕ) (init : List ℕ) (c : CoreState State Op Query Reply) (images : List (List (List ℕ))) → IsConsistent count c
+      → heads_of c.threads ≡ heads_from count code init 0 count → AreImages c.threads images → AreFormat2 images
+  images_formats count code init c images k same a =
+      let held = are_held c.base c.trace c.threads images a (λ t th at image i. image_either count c k t th at image i) in
+      formats_are (map (frame_thread c.base c.trace) c.threads) (heads_of c.threads) held.logs images held.left held.contents (subst HaveFormat2 (sym same) (heads_have_format count code init 0 count))
+
+  -- the heads that they are expected to have are its own
   heads_are : (count code : ℕ) (init : List ℕ) (c : CoreState State Op Query Reply) (images : List (List (List ℕ))) → IsConsistent count c
       → heads_of c.threads ≡ heads_from count code init 0 count → AreImages c.threads images → expected_heads code init images ≡ heads_from count code init 0 count
   heads_are count code init c images k same a =
-      let held = are_held c.base c.trace c.threads images a (λ t th at image i. image_either count c k t th at image i) in
-      let formats = formats_are (map (frame_thread c.base c.trace) c.threads) (heads_of c.threads) held.logs images held.left held.contents (subst HaveFormat2 (sym same) (heads_have_format count code init 0 count)) in
+      let formats = images_formats count code init c images k same a in
       let many : length images ≡ count = images_many c.threads images a ∙ sym (length-map c.threads (λ (th : CoreThread State Op Query Reply). th.head)) ∙ ap length same ∙ length-heads_from count code init 0 count in
       heads_expected (length images) code init 0 images formats ∙ ap (λ (n : ℕ). heads_from n code init 0 n) many
 
   -- the heads of a core that was made of scripts, after any steps
-  made_heads : (code : ℕ) (init : List ℕ) (s : State) (scripts : List (List (Call State Op Query Reply))) (ts : List ℕ)
+  pub made_heads : (code : ℕ) (init : List ℕ) (s : State) (scripts : List (List (Call State Op Query Reply))) (ts : List ℕ)
       → heads_of (steps_of b (created_core s code init scripts) ts).threads ≡ created_heads code init scripts
   made_heads code init s scripts ts =
       steps_heads b (created_core s code init scripts) ts ∙ first_heads (created_heads code init scripts) scripts (length-heads_from (length scripts) code init 0 (length scripts))
 
-  -- A crash of a core that was made of scripts is recovered, after any steps, whatever it leaves of each device: with the core's own
-  -- heads, and with those that its images are expected to have.
+  -- A crash of a core that was made of scripts is recovered, after any steps, whatever it leaves of each device, with the core's own
+  -- heads.
   pub crash_recovered : (code : ℕ) (init : List ℕ) (s : State) (scripts : List (List (Call State Op Query Reply))) (ts : List ℕ) (images : List (List (List ℕ)))
       → (r : Recovers (created_heads code init scripts) (steps_of b (created_core s code init scripts) ts) images)
       → state_recovered b (heads_of (steps_of b (created_core s code init scripts) ts).threads) images ≡ Ok (recovered_with r.logs r.nodes)
@@ -158,12 +182,15 @@ module _ {State Op Query Reply : Type 0} (b : Behaviour State Op Query Reply) wh
       ap (λ heads. state_recovered b heads images) (made_heads code init s scripts ts)
       ∙ images_recover (created_heads code init scripts) (steps_of b c ts) images (steps_operations b c ts tt) r
 
-  pub left_recovered : (code : ℕ) (init : List ℕ) (s : State) (scripts : List (List (Call State Op Query Reply))) (ts : List ℕ) (images : List (List (List ℕ))) → IsWithinLimits code scripts
-      → AreImages (steps_of b (created_core s code init scripts) ts).threads images → (r : Recovers (created_heads code init scripts) (steps_of b (created_core s code init scripts) ts) images)
-      → state_recovered b (expected_heads code init images) images ≡ Ok (recovered_with r.logs r.nodes)
-  left_recovered code init s scripts ts images l a r =
-      let count = length scripts in
-      let c = created_core s code init scripts in
-      let k = steps_consistent b count c ts (created_consistent s code init scripts l) in
-      ap (λ heads. state_recovered b heads images) (heads_are count code init (steps_of b c ts) images k (made_heads code init s scripts ts) a)
-      ∙ images_recover (created_heads code init scripts) (steps_of b c ts) images (steps_operations b c ts tt) r
+  -- So is what a crash left of the newest of any number of generations, with the heads that its images are expected to have.
+  pub generation_recovered : (code : ℕ) (init : List ℕ) (s : State) (count : ℕ) (older : List (Generation State Op Query Reply)) (g : Generation State Op Query Reply) (is : IsGeneration b code init s count older g)
+      → AreGenerations b code init s count older → (leaves : LeavesAll b code init s count older g is)
+      → state_recovered b (expected_heads code init g.images) g.images ≡ Ok (recovered_with leaves.all.recovers.logs leaves.all.recovers.nodes)
+  generation_recovered code init s count older g is earlier leaves =
+      let starts = generation_starts b code init s count older g is earlier in
+      let n = length g.scripts in
+      let c = steps_of b is.core g.steps in
+      let k = reached_consistent b n c (steps_reached b n is.core g.steps starts.starts.reached) in
+      let same : heads_of c.threads ≡ heads_from n code init 0 n = steps_heads b is.core g.steps ∙ starts.starts.heads_are in
+      ap (λ heads. state_recovered b heads g.images) (heads_are n code init c g.images k same is.left ∙ ap (λ m. heads_from m code init 0 m) is.many)
+      ∙ images_recover (heads_from count code init 0 count) c g.images (steps_operations b is.core g.steps starts.rows) leaves.all.recovers

@@ -1,5 +1,6 @@
-use Rattle.std.proofs.Common.{false, ℕ, Bool, true, ◌≡◌, ◌≢◌, ◌+◌, ◌-◌, ◌<◌, ◌≤◌, ◌^◌, List, [], ◌∷◌, ◌++◌, Option, Some, None, codes, decimal, length, map, drop, refl, sym, ap, ◌∙◌, subst, arith, append_assoc}
+use Rattle.std.proofs.Common.{false, ℕ, Bool, true, ◌≡◌, ◌≢◌, ◌+◌, ◌<◌, ◌≤◌, ◌^◌, List, [], ◌∷◌, ◌++◌, Option, Some, None, codes, decimal, length, map, drop, refl, sym, ap, ◌∙◌, subst, arith, append_assoc}
 use Rattle.std.specs.List.{All, flat_map}
+use Rattle.std.specs.Option.{IfSome}
 use Rattle.std.proofs.lemmas.Fmt.{decimal_injective}
 use Rattle.std.proofs.lemmas.List.Elements.{All-head, All-tail}
 use Rattle.onll_words.specs.Texts.{line_text, says_something, AreWords, AreMeaningful}
@@ -9,6 +10,7 @@ use Rattle.onll_model.specs.declared.call.Call.{Call}
 use Rattle.onll_model.specs.declared.call.CallEnd.{CallEnd}
 use Rattle.onll_model.specs.Object.{Behaviour}
 use Rattle.onll_model.specs.Trace.{state_after}
+use Rattle.onll_core.specs.Fences.{fences_of}
 use Rattle.onll_core.specs.Core.{CoreThread, CoreState}
 use Rattle.onll_core.specs.Outcomes.{ends_of, script_of}
 use Rattle.onll_text.specs.Wording.{Wording}
@@ -19,10 +21,10 @@ use Rattle.onll_text.proofs.Determined.{text_determined, AreMeaningful-append, l
 use Rattle.onll_merge.specs.declared.counts.LogCounts.{LogCounts}
 use Rattle.onll_merge.specs.Recovered.{Recovered}
 use Rattle.onll_recovery.specs.RecoverJob.{content_line, log_lines, recovered_line, lines_with}
-use Rattle.onll_recovery.specs.ReplayJob.{begun_lines, flagged_lines, crash_line, fenced_lines, replay_report}
+use Rattle.onll_recovery.specs.ReplayJob.{begun_lines, flagged_lines, crash_line, fenced_lines, resumed_lines, replay_report}
 use Rattle.onll_recovery.specs.RecoverJob.{HeldData, RecoverData, held_line, held_lines, recover_data_lines, HeldReads, RecoverReads, held_with, held_of, data_with, recover_data}
 use Rattle.onll_recovery.specs.ReplayJob.{LogData, RunData, thread_lines, counted_lines, run_data_lines, EachReads, LogReads, RunReads, counts_of, replay_data}
-use Rattle.onll_recovery.proofs.ReplaySteps.{crash_in_words}
+use Rattle.onll_recovery.proofs.ReplaySteps.{resumed_in_words, crash_in_words}
 use Rattle.onll_recovery.proofs.RecoverSteps.{recovered_in_words}
 
 -- ---- the logs
@@ -128,6 +130,29 @@ recover_same {State} a b e₁ e₂ e₃ =
     ap (λ (v : List (Option HeldData)). record { logs = v; nodes = a.nodes; state = a.state }) e₁ ∙ ap (λ (v : List Node). record { logs = b.logs; nodes = v; state = a.state }) e₂
     ∙ ap (λ (v : State). record { logs = b.logs; nodes = b.nodes; state = v }) e₃
 
+-- ---- how many nodes a core goes on from
+-- the first of these lines says no such number
+abbrev NoResumedNext : List (List (List ℕ)) → Type 0
+NoResumedNext [] = Unit {0}
+NoResumedNext (ws ∷ lines) = (rest : List (List ℕ)) → ws ≢ codes "resumed" ∷ rest
+
+resumed_meaningful : (resumed : Option ℕ) → AreMeaningful (resumed_lines resumed)
+resumed_meaningful None = tt
+resumed_meaningful (Some nodes) = (resumed_in_words nodes, refl, tt)
+
+no_resumed_next : (nodes : ℕ) (lines more : List (List (List ℕ))) → NoResumedNext more → (codes "resumed" ∷ decimal nodes ∷ []) ∷ lines ≡ more → ⊥
+no_resumed_next nodes lines [] h e = line_none (codes "resumed" ∷ decimal nodes ∷ []) lines e
+no_resumed_next nodes lines (ws ∷ more) h e = h (decimal nodes ∷ []) (sym (line_same (codes "resumed" ∷ decimal nodes ∷ []) ws lines more e).0)
+
+resumed_determined : (resumed other : Option ℕ) (lines more : List (List (List ℕ))) → IfSome resumed (λ n. n < 2 ^ 64) → IfSome other (λ n. n < 2 ^ 64) → NoResumedNext lines → NoResumedNext more
+    → resumed_lines resumed ++ lines ≡ resumed_lines other ++ more → (resumed ≡ other) × (lines ≡ more)
+resumed_determined None None lines more g h u v e = (refl, e)
+resumed_determined None (Some n) lines more g h u v e = absurd (no_resumed_next n more lines u (sym e))
+resumed_determined (Some m) None lines more g h u v e = absurd (no_resumed_next m lines more v e)
+resumed_determined (Some m) (Some n) lines more g h u v e =
+    let parts = line_same (codes "resumed" ∷ decimal m ∷ []) (codes "resumed" ∷ decimal n ∷ []) lines more e in
+    (ap Some (first_number m n [] [] g h (ap (drop 1) parts.0)), parts.1)
+
 -- the first of these lines is no call's
 abbrev pub NoCall : List (List (List ℕ)) → Type 0
 NoCall lines = (t : ℕ) → NoCallNext t lines
@@ -225,10 +250,33 @@ module _ {State Op Query Reply : Type 0} where
       recover_same said other logs.0 nodes.0 (state_determined w said.state other.state g.state h.state nodes.1)
 
   -- ---- the report of a replay
+  -- how many nodes a core goes on from, before lines of calls and of a trace
+  no_resumed : (w : Wording State Op Query Reply) (t : ℕ) (scripts : List (List (Call State Op Query Reply))) (ends : List (List (CallEnd State Op Query Reply))) (lines : List (List (List ℕ)))
+      → NoResumedNext lines → NoResumedNext (thread_lines w t scripts ends ++ lines)
+  no_resumed w t [] [] lines h = h
+  no_resumed w t [] (es ∷ ends) lines h = h
+  no_resumed w t (s ∷ scripts) [] lines h = h
+  no_resumed w t (s ∷ scripts) ([] ∷ ends) lines h = no_resumed w (t + 1) scripts ends lines h
+  no_resumed w t ([] ∷ scripts) ((x ∷ es) ∷ ends) lines h = no_resumed w (t + 1) scripts ends lines h
+  no_resumed w t ((c ∷ s) ∷ scripts) ((x ∷ es) ∷ ends) lines h = λ rest e. cc e
+
+  -- the lines of a run after that one
+  abbrev played_lines : Behaviour State Op Query Reply → Wording State Op Query Reply → List (List (Call State Op Query Reply)) → RunData State Op Query Reply → List (List (List ℕ))
+  played_lines b w scripts said =
+      (thread_lines w 0 scripts said.ends ++ (trace_line (length said.nodes) ∷ flagged_lines b w 0 said.nodes said.flags))
+      ++ (crash_line said.keep ∷ (counted_lines 0 said.logs ++ (recovered_line said.recovered ∷ state_lines w said.state)))
+
+  none_resumed : (b : Behaviour State Op Query Reply) (w : Wording State Op Query Reply) (scripts : List (List (Call State Op Query Reply))) (said : RunData State Op Query Reply) → NoResumedNext (played_lines b w scripts said)
+  none_resumed b w scripts said =
+      let trace = trace_line (length said.nodes) ∷ flagged_lines b w 0 said.nodes said.flags in
+      let crash = crash_line said.keep ∷ (counted_lines 0 said.logs ++ (recovered_line said.recovered ∷ state_lines w said.state)) in
+      subst NoResumedNext (sym (append_assoc (thread_lines w 0 scripts said.ends) trace crash)) (no_resumed w 0 scripts said.ends (trace ++ crash) (λ rest e. cc e))
+
   run_meaningful : (b : Behaviour State Op Query Reply) (w : Wording State Op Query Reply) (scripts : List (List (Call State Op Query Reply))) (said : RunData State Op Query Reply) → AreMeaningful (run_data_lines b w scripts said)
   run_meaningful b w scripts said =
       let flagged = flagged_lines b w 0 said.nodes said.flags in
       let ending = recovered_line said.recovered ∷ state_lines w said.state in
+      AreMeaningful-append (resumed_lines said.resumed) (played_lines b w scripts said) (resumed_meaningful said.resumed) (
       AreMeaningful-append (thread_lines w 0 scripts said.ends ++ (trace_line (length said.nodes) ∷ flagged)) (crash_line said.keep ∷ (counted_lines 0 said.logs ++ ending))
       (
       AreMeaningful-append (thread_lines w 0 scripts said.ends) (trace_line (length said.nodes) ∷ flagged) (threads_meaningful w 0 scripts said.ends)
@@ -238,16 +286,19 @@ module _ {State Op Query Reply : Type 0} where
         refl,
         AreMeaningful-append (counted_lines 0 said.logs) ending (logs_meaningful 0 said.logs) (recovered_in_words said.recovered, refl, state_meaningful w said.state),
       )
+      )
 
-  run_same : (a b : RunData State Op Query Reply) → a.ends ≡ b.ends → a.nodes ≡ b.nodes → a.flags ≡ b.flags → a.keep ≡ b.keep → a.logs ≡ b.logs → a.recovered ≡ b.recovered → a.state ≡ b.state → a ≡ b
-  run_same a b e₁ e₂ e₃ e₄ e₅ e₆ e₇ =
-      ap (λ (v : List (List (CallEnd State Op Query Reply))). record { ends = v; nodes = a.nodes; flags = a.flags; keep = a.keep; logs = a.logs; recovered = a.recovered; state = a.state }) e₁
-      ∙ ap (λ (v : List Node). record { ends = b.ends; nodes = v; flags = a.flags; keep = a.keep; logs = a.logs; recovered = a.recovered; state = a.state }) e₂
-      ∙ ap (λ (v : List Bool). record { ends = b.ends; nodes = b.nodes; flags = v; keep = a.keep; logs = a.logs; recovered = a.recovered; state = a.state }) e₃
-      ∙ ap (λ (v : ℕ). record { ends = b.ends; nodes = b.nodes; flags = b.flags; keep = v; logs = a.logs; recovered = a.recovered; state = a.state }) e₄
-      ∙ ap (λ (v : List LogData). record { ends = b.ends; nodes = b.nodes; flags = b.flags; keep = b.keep; logs = v; recovered = a.recovered; state = a.state }) e₅
-      ∙ ap (λ (v : ℕ). record { ends = b.ends; nodes = b.nodes; flags = b.flags; keep = b.keep; logs = b.logs; recovered = v; state = a.state }) e₆
-      ∙ ap (λ (v : State). record { ends = b.ends; nodes = b.nodes; flags = b.flags; keep = b.keep; logs = b.logs; recovered = b.recovered; state = v }) e₇
+  run_same : (a b : RunData State Op Query Reply) → a.resumed ≡ b.resumed → a.ends ≡ b.ends → a.nodes ≡ b.nodes → a.flags ≡ b.flags → a.keep ≡ b.keep → a.logs ≡ b.logs → a.recovered ≡ b.recovered → a.state ≡ b.state → a ≡ b
+  run_same a b e₀ e₁ e₂ e₃ e₄ e₅ e₆ e₇ = λ i. record {
+    resumed = e₀ i;
+    ends = e₁ i;
+    nodes = e₂ i;
+    flags = e₃ i;
+    keep = e₄ i;
+    logs = e₅ i;
+    recovered = e₆ i;
+    state = e₇ i;
+  }
 
   run_determined : (b : Behaviour State Op Query Reply) (w : Wording State Op Query Reply) (scripts : List (List (Call State Op Query Reply))) (said other : RunData State Op Query Reply)
       → RunReads b w scripts said → RunReads b w scripts other → flat_map line_text (run_data_lines b w scripts said) ≡ flat_map line_text (run_data_lines b w scripts other) → said ≡ other
@@ -257,14 +308,15 @@ module _ {State Op Query Reply : Type 0} where
       let flagged : RunData State Op Query Reply → List (List (List ℕ)) = λ r. flagged_lines b w 0 r.nodes r.flags in
       let trace : RunData State Op Query Reply → List (List (List ℕ)) = λ r. trace_line (length r.nodes) ∷ flagged r in
       let lines = text_determined (run_data_lines b w scripts said) (run_data_lines b w scripts other) (run_meaningful b w scripts said) (run_meaningful b w scripts other) e in
-      let same = sym (append_assoc (thread_lines w 0 scripts said.ends) (trace said) (crash said)) ∙ lines ∙ append_assoc (thread_lines w 0 scripts other.ends) (trace other) (crash other) in
+      let base = resumed_determined said.resumed other.resumed (played_lines b w scripts said) (played_lines b w scripts other) g.resumed h.resumed (none_resumed b w scripts said) (none_resumed b w scripts other) lines in
+      let same = sym (append_assoc (thread_lines w 0 scripts said.ends) (trace said) (crash said)) ∙ base.1 ∙ append_assoc (thread_lines w 0 scripts other.ends) (trace other) (crash other) in
       let calls = threads_determined w 0 scripts said.ends other.ends (trace said ++ crash said) (trace other ++ crash other) (omega (arith, g.threads)) g.ends h.ends (λ t rest d. cc d) (λ t rest d. cc d) same in
       let traces = line_same (trace_line (length said.nodes)) (trace_line (length other.nodes)) (flagged said ++ crash said) (flagged other ++ crash other) calls.1 in
       let nodes = flagged_determined b w 0 said.nodes other.nodes said.flags other.flags (crash said) (crash other) g.flags h.flags g.nodes h.nodes (λ rest d. cc d) (λ rest d. cc d) traces.1 in
       let crashes = line_same (crash_line said.keep) (crash_line other.keep) (counted_lines 0 said.logs ++ ending said) (counted_lines 0 other.logs ++ ending other) nodes.2 in
       let logs = logs_determined 0 said.logs other.logs (ending said) (ending other) g.logs h.logs (λ rest d. cc d) (λ rest d. cc d) crashes.1 in
       let endings = line_same (recovered_line said.recovered) (recovered_line other.recovered) (state_lines w said.state) (state_lines w other.state) logs.1 in
-      run_same said other calls.0 nodes.0 nodes.1 (first_number said.keep other.keep [] [] g.keep h.keep (ap (drop 1) crashes.0)) logs.0
+      run_same said other base.0 calls.0 nodes.0 nodes.1 (first_number said.keep other.keep [] [] g.keep h.keep (ap (drop 1) crashes.0)) logs.0
       (first_number said.recovered other.recovered [] [] g.recovered h.recovered (ap (drop 1) endings.0)) (state_determined w said.state other.state g.state h.state endings.1)
 
   begun-said : (w : Wording State Op Query Reply) (t : ℕ) (ths : List (CoreThread State Op Query Reply)) → begun_lines w t ths ≡ thread_lines w t (map script_of ths) (map ends_of ths)
@@ -275,15 +327,15 @@ module _ {State Op Query Reply : Type 0} where
   fenced-said t [] [] = refl
   fenced-said t [] (th ∷ ths) = refl
   fenced-said t (log ∷ logs) [] = refl
-  fenced-said t (log ∷ logs) (th ∷ ths) = ap (λ ls. log_line t log.entries log.lines (Some (th.device.fences - 1)) ∷ ls) (fenced-said (t + 1) logs ths)
+  fenced-said t (log ∷ logs) (th ∷ ths) = ap (λ ls. log_line t log.entries log.lines (Some (fences_of th)) ∷ ls) (fenced-said (t + 1) logs ths)
 
-  replay_report-said : (b : Behaviour State Op Query Reply) (w : Wording State Op Query Reply) (c : CoreState State Op Query Reply) (keep : ℕ) (r : Recovered)
-      → replay_report b w c keep r ≡ flat_map line_text (run_data_lines b w (map script_of c.threads) (replay_data b c keep r))
-  replay_report-said b w c keep r =
+  replay_report-said : (b : Behaviour State Op Query Reply) (w : Wording State Op Query Reply) (resumed : Option ℕ) (c : CoreState State Op Query Reply) (keep : ℕ) (r : Recovered)
+      → replay_report b w resumed c keep r ≡ flat_map line_text (run_data_lines b w (map script_of c.threads) (replay_data b resumed c keep r))
+  replay_report-said b w resumed c keep r =
       let trace : List (List (List ℕ)) = trace_line (length c.trace) ∷ flagged_lines b w 0 c.trace c.flags in
       let ending : List (List (List ℕ)) = recovered_line (length r.nodes) ∷ state_lines w (state_after b c.initial r.nodes) in
-      ap (λ ls. flat_map line_text ((ls ++ trace) ++ (crash_line keep ∷ (fenced_lines 0 r.logs c.threads ++ ending)))) (begun-said w 0 c.threads)
-      ∙ ap (λ ls. flat_map line_text ((thread_lines w 0 (map script_of c.threads) (map ends_of c.threads) ++ trace) ++ (crash_line keep ∷ (ls ++ ending)))) (fenced-said 0 r.logs c.threads)
+      ap (λ ls. flat_map line_text (resumed_lines resumed ++ ((ls ++ trace) ++ (crash_line keep ∷ (fenced_lines 0 r.logs c.threads ++ ending))))) (begun-said w 0 c.threads)
+      ∙ ap (λ ls. flat_map line_text (resumed_lines resumed ++ ((thread_lines w 0 (map script_of c.threads) (map ends_of c.threads) ++ trace) ++ (crash_line keep ∷ (ls ++ ending))))) (fenced-said 0 r.logs c.threads)
 
   -- ---- what is printed says this and nothing else
   pub recover_says : (b : Behaviour State Op Query Reply) (w : Wording State Op Query Reply) (s state : State) (r : Recovered) (text : List ℕ) → state ≡ state_after b s r.nodes
@@ -294,7 +346,7 @@ module _ {State Op Query Reply : Type 0} where
       (e ∙ ap (λ (x : State). flat_map line_text (lines_with b w r x)) after ∙ ap (λ ls. flat_map line_text (ls ++ ending)) (logs-data 0 r.logs))
       (subst (λ (x : State). RecoverReads b w (data_with r x)) after h)
 
-  pub replay_says : (b : Behaviour State Op Query Reply) (w : Wording State Op Query Reply) (c : CoreState State Op Query Reply) (keep : ℕ) (r : Recovered) (text : List ℕ) → text ≡ replay_report b w c keep r
-      → RunReads b w (map script_of c.threads) (replay_data b c keep r) → SaysOnly (run_data_lines b w (map script_of c.threads)) (RunReads b w (map script_of c.threads)) text (replay_data b c keep r)
-  replay_says b w c keep r text e h =
-      says_only (run_data_lines b w (map script_of c.threads)) (RunReads b w (map script_of c.threads)) (run_determined b w (map script_of c.threads)) text (replay_data b c keep r) (e ∙ replay_report-said b w c keep r) h
+  pub replay_says : (b : Behaviour State Op Query Reply) (w : Wording State Op Query Reply) (resumed : Option ℕ) (c : CoreState State Op Query Reply) (keep : ℕ) (r : Recovered) (text : List ℕ) → text ≡ replay_report b w resumed c keep r
+      → RunReads b w (map script_of c.threads) (replay_data b resumed c keep r) → SaysOnly (run_data_lines b w (map script_of c.threads)) (RunReads b w (map script_of c.threads)) text (replay_data b resumed c keep r)
+  replay_says b w resumed c keep r text e h =
+      says_only (run_data_lines b w (map script_of c.threads)) (RunReads b w (map script_of c.threads)) (run_determined b w (map script_of c.threads)) text (replay_data b resumed c keep r) (e ∙ replay_report-said b w resumed c keep r) h

@@ -1,4 +1,5 @@
 pub mod Crashes
+pub mod Resumes
 pub mod Determined
 pub mod FoldSteps
 pub mod PrintedReads

@@ -1,4 +1,4 @@
-use Rattle.std.proofs.Common.{ℕ, zero, suc, ◌≡◌, ◌+◌, ◌-◌, ◌<◌, ◌≤◌, ◌^◌, Bool, true, false, List, [], ◌∷◌, ◌++◌, Some, None, length, drop, get_or, map, sym, ap, ◌∙◌, subst, arith}
+use Rattle.std.proofs.Common.{ℕ, zero, suc, ◌≡◌, ◌+◌, ◌<◌, ◌≤◌, ◌^◌, Bool, true, false, List, [], ◌∷◌, ◌++◌, Some, None, length, drop, get_or, map, sym, ap, ◌∙◌, subst, arith}
 use Rattle.std.specs.Option.{IfSome}
 use Rattle.std.specs.List.{All, slice_get}
 use Rattle.std.proofs.lemmas.List.{drop_more, drop_all}
@@ -11,6 +11,7 @@ use Rattle.onll_model.specs.Object.{Behaviour}
 use Rattle.onll_model.specs.Legal.{EachEnd, AreLegalThreads}
 use Rattle.onll_core.specs.declared.returned.Returned.{Returned}
 use Rattle.onll_core.specs.declared.returned.Current.{Current}
+use Rattle.onll_core.specs.Fences.{fences_of}
 use Rattle.onll_core.specs.Core.{CoreThread}
 use Rattle.onll_core.specs.Outcomes.{returned_end, current_ends, current_in, ends_of, script_of}
 use Rattle.onll_merge.specs.declared.counts.LogCounts.{LogCounts}
@@ -89,16 +90,16 @@ module _ {State Op Query Reply : Type 0} where
 
   -- one log's numbers before those of the rest
   pub logs_more : (t : ℕ) (logs : List LogCounts) (ths : List (CoreThread State Op Query Reply)) (none d : LogCounts) (fences : ℕ) → t < length logs → t < length ths
-      → IfSome (slice_get ths t) (λ th. fences + 1 ≡ th.device.fences) → d ≡ get_or logs t none → d.entries < 2 ^ 64 → d.lines < 2 ^ 64 → fences < 2 ^ 64
+      → IfSome (slice_get ths t) (λ th. fences ≡ fences_of th) → d ≡ get_or logs t none → d.entries < 2 ^ 64 → d.lines < 2 ^ 64 → fences < 2 ^ 64
       → All LogReads (counts_of (drop (t + 1) logs) (drop (t + 1) ths)) → All LogReads (counts_of (drop t logs) (drop t ths))
   logs_more t logs ths none d fences h k hf same entries used fits rest =
       let x = thread_at ths t k in
       let th = x.0 in
       let s : t + 1 ≡ suc t = omega arith in
-      let made = if_at (λ z. fences + 1 ≡ z.device.fences) ths t th x.1 hf in
-      let few : th.device.fences - 1 < 2 ^ 64 = omega (arith, made) in
+      let made = if_at (λ z. fences ≡ fences_of z) ths t th x.1 hf in
+      let few : fences_of th < 2 ^ 64 = subst (λ n. n < 2 ^ 64) made fits in
       let left : drop t logs ≡ d ∷ drop (t + 1) logs = drop_more logs t none h ∙ ap (λ (y : LogCounts). y ∷ drop (t + 1) logs) (sym same) in
-      let told : LogData = record { entries = d.entries; lines = d.lines; fences = th.device.fences - 1 } in
+      let told : LogData = record { entries = d.entries; lines = d.lines; fences = fences_of th } in
       let more : All LogReads (counts_of (drop (t + 1) logs) (drop (suc t) ths)) = subst (λ j. All LogReads (counts_of (drop (t + 1) logs) (drop j ths))) s rest in
       subst (λ (l : List (CoreThread State Op Query Reply)). All LogReads (counts_of (drop t logs) l)) (sym x.2)
       (subst (λ (l : List LogCounts). All LogReads (counts_of l (th ∷ drop (suc t) ths))) (sym left)

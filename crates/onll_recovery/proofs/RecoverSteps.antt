@@ -1,4 +1,4 @@
-use Rattle.std.proofs.Common.{ℕ, false, ◌≡◌, List, [], ◌∷◌, Option, Some, None, IsSome, refl, ◌+◌, ◌<◌, ◌++◌, length, drop, get_or, sym, ap, ◌∙◌}
+use Rattle.std.proofs.Common.{codes, decimal, ℕ, false, ◌≡◌, List, [], ◌∷◌, Option, Some, None, IsSome, refl, ◌+◌, ◌<◌, ◌++◌, length, drop, get_or, sym, ap, ◌∙◌}
 use Rattle.std.proofs.lemmas.List.{drop_more}
 use Rattle.std.specs.List.{AllByRecursion}
 use Rattle.onll_merge.specs.declared.counts.LogCounts.{LogCounts}
@@ -16,6 +16,10 @@ use Rattle.onll_recovery.specs.RecoverJob.{content_line, log_lines, recovered_li
 -- ---- words
 pub empty_in_words : (thread : ℕ) → AreWords (content_line thread false 0 0)
 empty_in_words thread = (record { some = refl; bytes = refl }, (IsWord-decimal thread, (record { some = refl; bytes = refl }, tt)))
+
+pub old_in_words : (log : ℕ) → AreWords (codes "log" ∷ decimal log ∷ codes "of" ∷ codes "format" ∷ decimal 1 ∷ [])
+old_in_words log =
+    (record { some = refl; bytes = refl }, (IsWord-decimal log, (record { some = refl; bytes = refl }, (record { some = refl; bytes = refl }, (IsWord-decimal 1, tt)))))
 
 pub recovered_in_words : (nodes : ℕ) → AreWords (recovered_line nodes)
 recovered_in_words nodes = (record { some = refl; bytes = refl }, (IsWord-decimal nodes, tt))

@@ -1,4 +1,4 @@
-use Rattle.std.proofs.Common.{ℕ, zero, suc, ◌≡◌, ◌+◌, ◌-◌, ◌<◌, ◌≤◌, Bool, List, [], ◌∷◌, ◌++◌, Option, Some, None, length, drop, get_or, map, refl, sym, ap, ◌∙◌, subst, arith}
+use Rattle.std.proofs.Common.{codes, decimal, ℕ, zero, suc, ◌≡◌, ◌+◌, ◌<◌, ◌≤◌, Bool, List, [], ◌∷◌, ◌++◌, Option, Some, None, length, drop, get_or, map, refl, sym, ap, ◌∙◌, subst, arith}
 use Rattle.std.specs.List.{slice_get}
 use Rattle.std.proofs.lemmas.List.{drop_more, append-nil}
 use Rattle.onll_words.specs.Texts.{AreWords, line_text}
@@ -10,6 +10,7 @@ use Rattle.onll_model.specs.Object.{Behaviour}
 use Rattle.onll_core.specs.declared.returned.Returned.{Returned}
 use Rattle.std.specs.Option.{IfSome}
 use Rattle.onll_core.specs.declared.returned.Current.{Current}
+use Rattle.onll_core.specs.Fences.{fences_of}
 use Rattle.onll_core.specs.Core.{CoreThread, CoreState}
 use Rattle.onll_core.specs.Outcomes.{returned_end, current_ends, current_in, ends_of}
 use Rattle.onll_merge.specs.declared.counts.LogCounts.{LogCounts}
@@ -20,6 +21,9 @@ use Rattle.onll_text.proofs.Appending.{with_lines-one, with_lines-append}
 use Rattle.onll_recovery.specs.ReplayJob.{begun_lines, flagged_lines, crash_line, fenced_lines, run_lines}
 
 -- The parts of a replay's report, as they are appended one after the other.
+
+pub resumed_in_words : (nodes : ℕ) → AreWords (codes "resumed" ∷ decimal nodes ∷ [])
+resumed_in_words nodes = (record { some = refl; bytes = refl }, (IsWord-decimal nodes, tt))
 
 pub crash_in_words : (keep : ℕ) → AreWords (crash_line keep)
 crash_in_words keep = (record { some = refl; bytes = refl }, (IsWord-decimal keep, tt))
@@ -148,7 +152,7 @@ module _ {State Op Query Reply : Type 0} where
 
   -- one log's line before those of the rest
   pub fenced_more : (out text : List ℕ) (t : ℕ) (logs : List LogCounts) (ths : List (CoreThread State Op Query Reply)) (none d : LogCounts) (fences : ℕ) → t < length logs → t < length ths
-      → IfSome (slice_get ths t) (λ th. fences + 1 ≡ th.device.fences) → d ≡ get_or logs t none
+      → IfSome (slice_get ths t) (λ th. fences ≡ fences_of th) → d ≡ get_or logs t none
       → text ≡ out ++ line_text (log_line t d.entries d.lines (Some fences))
       → with_lines text (fenced_lines (t + 1) (drop (t + 1) logs) (drop (t + 1) ths)) ≡ with_lines out (fenced_lines t (drop t logs) (drop t ths))
   fenced_more out text t logs ths none d fences h k hf same e =
@@ -156,20 +160,20 @@ module _ {State Op Query Reply : Type 0} where
       let th = x.0 in
       let s : t + 1 ≡ suc t = omega arith in
       let rest = fenced_lines (t + 1) (drop (t + 1) logs) (drop (t + 1) ths) in
-      let made = if_at (λ z. fences + 1 ≡ z.device.fences) ths t th x.1 hf in
-      let ef : fences ≡ th.device.fences - 1 = omega (arith, made) in
+      let made = if_at (λ z. fences ≡ fences_of z) ths t th x.1 hf in
+      let ef : fences ≡ fences_of th = made in
       let line : ℕ → List (List ℕ) = (λ n. log_line t d.entries d.lines (Some n)) in
       ap (λ z. with_lines z rest) e
       ∙ sym (with_lines-one out (line fences) rest)
       ∙ ap (λ n. with_lines out (line n ∷ rest)) ef
-      ∙ ap (λ j. with_lines out (line (th.device.fences - 1) ∷ fenced_lines (t + 1) (drop (t + 1) logs) (drop j ths))) s
+      ∙ ap (λ j. with_lines out (line (fences_of th) ∷ fenced_lines (t + 1) (drop (t + 1) logs) (drop j ths))) s
       ∙ ap (λ (y : LogCounts). with_lines out (fenced_lines t (y ∷ drop (t + 1) logs) (th ∷ drop (suc t) ths))) same
       ∙ sym (ap (λ (l : List LogCounts). with_lines out (fenced_lines t l (th ∷ drop (suc t) ths))) (drop_more logs t none h))
       ∙ sym (ap (λ (l : List (CoreThread State Op Query Reply)). with_lines out (fenced_lines t (drop t logs) l)) x.2)
 
   -- the same, where the threads are counted by themselves
   pub fenced_next : (out text : List ℕ) (t i : ℕ) (logs : List LogCounts) (ths : List (CoreThread State Op Query Reply)) (none d : LogCounts) (fences : ℕ) → t ≡ i → i < length logs → i < length ths
-      → IfSome (slice_get ths t) (λ th. fences + 1 ≡ th.device.fences) → d ≡ get_or logs i none
+      → IfSome (slice_get ths t) (λ th. fences ≡ fences_of th) → d ≡ get_or logs i none
       → text ≡ out ++ line_text (log_line t d.entries d.lines (Some fences))
       → with_lines text (fenced_lines (t + 1) (drop (i + 1) logs) (drop (t + 1) ths)) ≡ with_lines out (fenced_lines t (drop i logs) (drop t ths))
   fenced_next out text t i logs ths none d fences same h k hf is e =

@@ -1,6 +1,6 @@
 -- The parts of a replay, one after the other.
 
-use Rattle.std.proofs.Common.{Vec, Global, ℕ, suc, ◌≡◌, ◌+◌, ◌<◌, List, [], ◌∷◌, IsSome, length, drop, get_or, map, Result, Ok, Err, refl, sym, ap, ◌∙◌, subst}
+use Rattle.std.proofs.Common.{Vec, Global, ℕ, suc, ◌≡◌, ◌+◌, ◌<◌, List, [], ◌∷◌, Option, None, IsSome, length, drop, get_or, map, Result, Ok, Err, refl, sym, ap, ◌∙◌, subst}
 use Rattle.std.proofs.lemmas.List.{drop_more}
 use Rattle.std.specs.List.{AllByRecursion}
 use Rattle.onll_words.specs.declared.line.Line.{Line}
@@ -46,45 +46,47 @@ played_scripts b code init s scripts turns =
     steps_scripts b (created_core s code init scripts) (turns_of turns) ∙ made_scripts (length scripts) code init 0 scripts
 
 -- ---- the crash
-module _ {State Op Query Reply : Type 0} (b : Behaviour State Op Query Reply) (w : Wording State Op Query Reply) (logs : List ℕ) where
+module _ {State Op Query Reply : Type 0} (b : Behaviour State Op Query Reply) (w : Wording State Op Query Reply) (logs : List ℕ) (resumed : Option ℕ) where
   -- the same over any images
   abbrev crash_over : List (List (Call State Op Query Reply)) → CoreState State Op Query Reply → ℕ → List (List (List ℕ)) → Task
-  crash_over scripts c keep images = after_stage (writing_stage logs images) (λ _. run_task b w scripts c keep (state_recovered b (heads_of c.threads) images))
+  crash_over scripts c keep images = after_stage (writing_stage logs images) (λ _. run_task b w resumed scripts c keep (state_recovered b (heads_of c.threads) images))
 
   -- the images were written, and the rest is said
   pub crash_does : {V A : Type 0} (scripts : List (List (Call State Op Query Reply))) (c : CoreState State Op Query Reply) (keep : ℕ) {store mid : StoreView} (images : List (Vec Line Global)) {value : V → Unit {0}} {v : V} (r : Result (Vec ℕ A) Stop)
       → images_in images ≡ images_of keep c.threads → length images ≡ length c.threads
       → Begins (image_names logs 0 (length images)) store mid (writing_stage logs (images_in images)) value (Ok v)
-      → ((any : StoreView) → Does [] any any (run_task b w scripts c keep (state_recovered b (heads_of c.threads) (images_in images))) r)
-      → Does (image_names logs 0 (length c.threads)) store mid (crash_task b w logs scripts c keep) r
+      → ((any : StoreView) → Does [] any any (run_task b w resumed scripts c keep (state_recovered b (heads_of c.threads) (images_in images))) r)
+      → Does (image_names logs 0 (length c.threads)) store mid (crash_task b w logs resumed scripts c keep) r
   crash_does scripts c keep {store} {mid} images r e n first says =
       subst (λ images. Does (image_names logs 0 (length c.threads)) store mid (crash_over scripts c keep images) r) e
       (subst (λ m. Does (image_names logs 0 m) store mid (crash_over scripts c keep (images_in images)) r) n
-      (wrote_does (λ _. run_task b w scripts c keep (state_recovered b (heads_of c.threads) (images_in images))) first says))
+      (wrote_does (λ _. run_task b w resumed scripts c keep (state_recovered b (heads_of c.threads) (images_in images))) first says))
 
   -- one was not written
   pub crash_stops : {V A : Type 0} (scripts : List (List (Call State Op Query Reply))) (c : CoreState State Op Query Reply) (keep : ℕ) {store after : StoreView} (images : List (Vec Line Global)) {value : V → Unit {0}} (s : Stop)
       → images_in images ≡ images_of keep c.threads → length images ≡ length c.threads
       → Begins (image_names logs 0 (length images)) store after (writing_stage logs (images_in images)) value (Err s)
-      → Does {A = A} (image_names logs 0 (length c.threads)) store after (crash_task b w logs scripts c keep) (Err s)
+      → Does {A = A} (image_names logs 0 (length c.threads)) store after (crash_task b w logs resumed scripts c keep) (Err s)
   crash_stops {V} {A} scripts c keep {store} {after} images s e n first =
       subst (λ images. Does {A = A} (image_names logs 0 (length c.threads)) store after (crash_over scripts c keep images) (Err s)) e
       (subst (λ m. Does {A = A} (image_names logs 0 m) store after (crash_over scripts c keep (images_in images)) (Err s)) n
-      (stop_does (λ _. run_task b w scripts c keep (state_recovered b (heads_of c.threads) (images_in images))) first))
+      (stop_does (λ _. run_task b w resumed scripts c keep (state_recovered b (heads_of c.threads) (images_in images))) first))
 
+-- ---- the schedule
+module _ {State Op Query Reply : Type 0} (b : Behaviour State Op Query Reply) (w : Wording State Op Query Reply) (logs : List ℕ) where
   -- the schedule was read, and its core crashes
   pub schedule_does : {A : Type 0} (code : ℕ) (init : List ℕ) (s : State) (schedule : List ℕ) (scripts : List (List (Call State Op Query Reply))) (n : ℕ) (plan : Schedule) (c : CoreState State Op Query Reply) {store mid after : StoreView} (r : Result (Vec ℕ A) Stop)
       → Begins [] store mid (text_stage schedule (schedule_of (length scripts))) (λ (p : Schedule). p) (Ok plan) → c ≡ played b code init s scripts plan.turns → length c.threads ≡ n
-      → Does (image_names logs 0 (length c.threads)) mid after (crash_task b w logs (map script_of c.threads) c plan.keep) r
+      → Does (image_names logs 0 (length c.threads)) mid after (crash_task b w logs None (map script_of c.threads) c plan.keep) r
       → Does (image_names logs 0 n) store after (schedule_task (kind_by b w code) init s schedule logs scripts) r
   schedule_does code init s schedule scripts n plan c {store} {mid} {after} r first e many says =
       let run : CoreState State Op Query Reply = played b code init s scripts plan.turns in
       let by : List (List (Call State Op Query Reply)) → CoreState State Op Query Reply → Type 0 =
-      λ scripts core. Does (image_names logs 0 n) mid after (crash_task b w logs scripts core plan.keep) r in
-      read_does (λ (plan : Schedule). crash_task b w logs scripts (played b code init s scripts plan.turns) plan.keep) first
+      λ scripts core. Does (image_names logs 0 n) mid after (crash_task b w logs None scripts core plan.keep) r in
+      read_does (λ (plan : Schedule). crash_task b w logs None scripts (played b code init s scripts plan.turns) plan.keep) first
       (subst (λ scripts. by scripts run) (played_scripts b code init s scripts plan.turns)
       (subst (λ (core : CoreState State Op Query Reply). by (map script_of core.threads) core) e
-      (subst (λ m. Does (image_names logs 0 m) mid after (crash_task b w logs (map script_of c.threads) c plan.keep) r) many says)))
+      (subst (λ m. Does (image_names logs 0 m) mid after (crash_task b w logs None (map script_of c.threads) c plan.keep) r) many says)))
 
 -- ---- the core
 -- each row of a core that was made and took steps is an operation's

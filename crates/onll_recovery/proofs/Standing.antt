@@ -18,7 +18,7 @@ stand_many (l ∷ lines) [] s = absurd s
 stand_many (l ∷ lines) (image ∷ images) s = ap suc (stand_many lines images s.1)
 
 -- they hold the same, or the same is no log
-contents_stand : (i : ℕ) (lines images : List (List (List ℕ))) → StandFor lines images → contents_from i lines ≡ contents_from i images
+pub contents_stand : (i : ℕ) (lines images : List (List (List ℕ))) → StandFor lines images → contents_from i lines ≡ contents_from i images
 contents_stand i [] [] s = refl
 contents_stand i [] (image ∷ images) s = absurd s
 contents_stand i (l ∷ lines) [] s = absurd s

@@ -1,2 +1,3 @@
 pub mod RecoverJob
 pub mod ReplayJob
+pub mod AgainJob

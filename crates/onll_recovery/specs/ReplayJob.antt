@@ -1,8 +1,9 @@
 -- What `replay INIT SCHEDULE LOGS SCRIPT..` does: it plays a schedule on the step core, crashes it, writes the images, and says
--- the run and what recovery finds.
+-- the run and what recovery finds. The report is that of any core, also of one that goes on from recovered nodes.
 
-use Rattle.std.specs.Prelude.{ℕ, ◌≡◌, ◌<◌, ◌≤◌, ◌^◌, ◌+◌, ◌-◌, Bool, List, [], ◌∷◌, ◌++◌, Some, Result, Ok, Err, codes, decimal, length, map}
+use Rattle.std.specs.Prelude.{ℕ, ◌≡◌, ◌<◌, ◌≤◌, ◌^◌, ◌+◌, Bool, List, [], ◌∷◌, ◌++◌, Option, Some, None, Result, Ok, Err, codes, decimal, length, map}
 use Rattle.std.specs.List.{All, flat_map}
+use Rattle.std.specs.Option.{IfSome}
 use Rattle.onll_words.specs.Texts.{line_text}
 use Rattle.onll_model.specs.declared.node.Node.{Node}
 use Rattle.onll_model.specs.declared.call.Call.{Call}
@@ -14,6 +15,7 @@ use Rattle.onll_core.specs.Core.{CoreThread, CoreState}
 use Rattle.onll_core.specs.Step.{steps_of}
 use Rattle.onll_core.specs.Turns.{turns_of}
 use Rattle.onll_core.specs.Created.{created_core}
+use Rattle.onll_core.specs.Fences.{fences_of}
 use Rattle.onll_core.specs.Outcomes.{ends_of}
 use Rattle.onll_core.specs.Crash.{heads_of, images_of}
 use Rattle.onll_text.specs.declared.schedule.Schedule.{Schedule}
@@ -50,14 +52,19 @@ abbrev pub flagged_lines : {State Op Query Reply : Type 0} → Behaviour State O
 flagged_lines b w p (n ∷ nodes) (flag ∷ flags) = node_line b w (p + 1) n (Some flag) ∷ flagged_lines b w (p + 1) nodes flags
 flagged_lines b w p nodes flags = []
 
+-- the line of how many nodes the core goes on from; none where it begins anew
+abbrev pub resumed_lines : Option ℕ → List (List (List ℕ))
+resumed_lines None = []
+resumed_lines (Some nodes) = (codes "resumed" ∷ decimal nodes ∷ []) ∷ []
+
 abbrev pub crash_line : ℕ → List (List ℕ)
 crash_line keep = codes "crash" ∷ decimal keep ∷ []
 
--- the line of each thread's log, from thread t on: what its image holds, and the fences after the header's
+-- the line of each thread's log, from thread t on: what its image holds, and the fences of this generation
 abbrev pub fenced_lines : {State Op Query Reply : Type 0} → ℕ → List LogCounts → List (CoreThread State Op Query Reply)
     → List (List (List ℕ))
 fenced_lines t (log ∷ logs) (th ∷ ths) =
-    log_line t log.entries log.lines (Some (th.device.fences - 1)) ∷ fenced_lines (t + 1) logs ths
+    log_line t log.entries log.lines (Some (fences_of th)) ∷ fenced_lines (t + 1) logs ths
 fenced_lines t logs ths = []
 
 -- the lines of the core's calls and trace
@@ -71,19 +78,21 @@ abbrev pub crash_lines : {State Op Query Reply : Type 0} → Wording State Op Qu
 crash_lines w c keep r s = crash_line keep ∷ (fenced_lines 0 r.logs c.threads ++ (recovered_line (length r.nodes) ∷ state_lines w s))
 
 abbrev pub replay_report : {State Op Query Reply : Type 0} → Behaviour State Op Query Reply
-    → Wording State Op Query Reply → CoreState State Op Query Reply → ℕ → Recovered → List ℕ
-replay_report b w c keep r = flat_map line_text (run_lines b w c ++ crash_lines w c keep r (state_after b c.initial r.nodes))
+    → Wording State Op Query Reply → Option ℕ → CoreState State Op Query Reply → ℕ → Recovered → List ℕ
+replay_report b w resumed c keep r =
+    flat_map line_text (resumed_lines resumed ++ (run_lines b w c ++ crash_lines w c keep r (state_after b c.initial r.nodes)))
 
 -- ---- what the report says
--- what is said of a log: its entries, its lines, and the fences after the header's
+-- what is said of a log: its entries, its lines, and the fences of this generation
 pub record LogData : Type 0 where
   pub entries : ℕ
   pub lines : ℕ
   pub fences : ℕ
 
--- what a report of threads says: what became of the calls of each, the trace with its flags, the crash, the logs, how many nodes
--- are recovered, and the state after them
+-- what a report of threads says: how many nodes they go on from, where they do, what became of the calls of each, the trace with
+-- its flags, the crash, the logs, how many nodes are recovered, and the state after them
 pub record RunData (State Op Query Reply : Type 0) : Type 0 where
+  pub resumed : Option ℕ
   pub ends : List (List (CallEnd State Op Query Reply))
   pub nodes : List Node
   pub flags : List Bool
@@ -108,8 +117,9 @@ abbrev pub run_data_lines : {State Op Query Reply : Type 0} → Behaviour State 
     → Wording State Op Query Reply → List (List (Call State Op Query Reply)) → RunData State Op Query Reply
     → List (List (List ℕ))
 run_data_lines b w scripts said =
-    (thread_lines w 0 scripts said.ends ++ (trace_line (length said.nodes) ∷ flagged_lines b w 0 said.nodes said.flags))
-    ++ (crash_line said.keep ∷ (counted_lines 0 said.logs ++ (recovered_line said.recovered ∷ state_lines w said.state)))
+    resumed_lines said.resumed
+    ++ ((thread_lines w 0 scripts said.ends ++ (trace_line (length said.nodes) ∷ flagged_lines b w 0 said.nodes said.flags))
+    ++ (crash_line said.keep ∷ (counted_lines 0 said.logs ++ (recovered_line said.recovered ∷ state_lines w said.state))))
 
 -- the outcomes of the first calls of each script read back
 abbrev pub EachReads : {State Op Query Reply : Type 0} → Wording State Op Query Reply
@@ -129,6 +139,7 @@ pub record RunReads {State Op Query Reply : Type 0} (b : Behaviour State Op Quer
     (w : Wording State Op Query Reply) (scripts : List (List (Call State Op Query Reply)))
     (said : RunData State Op Query Reply) : Type 0 where
   pub threads : length scripts ≤ 2 ^ 64
+  pub resumed : IfSome said.resumed (λ nodes. nodes < 2 ^ 64)
   pub ends : EachReads w scripts said.ends
   pub nodes : All (NodeReads b w) said.nodes
   pub flags : length said.flags ≡ length said.nodes
@@ -140,13 +151,14 @@ pub record RunReads {State Op Query Reply : Type 0} (b : Behaviour State Op Quer
 -- the counts of logs and of their threads' devices
 abbrev pub counts_of : {State Op Query Reply : Type 0} → List LogCounts → List (CoreThread State Op Query Reply) → List LogData
 counts_of (log ∷ logs) (th ∷ ths) =
-    record { entries = log.entries; lines = log.lines; fences = th.device.fences - 1 } ∷ counts_of logs ths
+    record { entries = log.entries; lines = log.lines; fences = fences_of th } ∷ counts_of logs ths
 counts_of logs ths = []
 
 -- what the report of a replay says
 abbrev pub replay_data : {State Op Query Reply : Type 0} → Behaviour State Op Query Reply
-    → CoreState State Op Query Reply → ℕ → Recovered → RunData State Op Query Reply
-replay_data b c keep r = record {
+    → Option ℕ → CoreState State Op Query Reply → ℕ → Recovered → RunData State Op Query Reply
+replay_data b resumed c keep r = record {
+  resumed = resumed;
   ends = map ends_of c.threads;
   nodes = c.trace;
   flags = c.flags;
@@ -159,22 +171,22 @@ replay_data b c keep r = record {
 -- ---- the work
 -- the run of these scripts, its crash, and what was recovered are reported: the report says that, and nothing else
 abbrev pub run_task : {State Op Query Reply : Type 0} → Behaviour State Op Query Reply → Wording State Op Query Reply
-    → List (List (Call State Op Query Reply)) → CoreState State Op Query Reply → ℕ → Result Recovered StateFault → Task
-run_task b w scripts c keep (Ok r) = report_task (replay_report b w c keep r)
-    (λ text. SaysOnly (run_data_lines b w scripts) (RunReads b w scripts) text (replay_data b c keep r))
-run_task b w scripts c keep (Err fault) = say_task BadLog (fault_line fault)
+    → Option ℕ → List (List (Call State Op Query Reply)) → CoreState State Op Query Reply → ℕ → Result Recovered StateFault → Task
+run_task b w resumed scripts c keep (Ok r) = report_task (replay_report b w resumed c keep r)
+    (λ text. SaysOnly (run_data_lines b w scripts) (RunReads b w scripts) text (replay_data b resumed c keep r))
+run_task b w resumed scripts c keep (Err fault) = say_task BadLog (fault_line fault)
 
 -- a core crashes: its images are written, and then recovered as logs with its heads
 abbrev pub crash_task : {State Op Query Reply : Type 0} → Behaviour State Op Query Reply → Wording State Op Query Reply
-    → List ℕ → List (List (Call State Op Query Reply)) → CoreState State Op Query Reply → ℕ → Task
-crash_task b w logs scripts c keep = after_stage (writing_stage logs (images_of keep c.threads))
-    (λ _. run_task b w scripts c keep (state_recovered b (heads_of c.threads) (images_of keep c.threads)))
+    → List ℕ → Option ℕ → List (List (Call State Op Query Reply)) → CoreState State Op Query Reply → ℕ → Task
+crash_task b w logs resumed scripts c keep = after_stage (writing_stage logs (images_of keep c.threads))
+    (λ _. run_task b w resumed scripts c keep (state_recovered b (heads_of c.threads) (images_of keep c.threads)))
 
 -- the schedule of these scripts is read and played, and the core crashes
 abbrev pub schedule_task : (k : ObjectKind) → List ℕ → k.State → (schedule logs : List ℕ)
     → List (List (Call k.State k.Op k.Query k.Reply)) → Task
 schedule_task k init s schedule logs scripts = after_stage (text_stage schedule (schedule_of (length scripts)))
-    (λ (plan : Schedule). crash_task k.means k.wording logs scripts (played k.means k.code init s scripts plan.turns) plan.keep)
+    (λ (plan : Schedule). crash_task k.means k.wording logs None scripts (played k.means k.code init s scripts plan.turns) plan.keep)
 
 -- scripts are read, one after the other
 abbrev pub scripts_stage : {State Op Query Reply : Type 0} → Wording State Op Query Reply → List (List ℕ)

@@ -1,11 +1,14 @@
 //! The commands over the logs of one run: an object is recovered from them, or a schedule is played, crashes, and is recovered.
 #![tactic(auto)]
 
+mod again;
 mod bad_logs;
+mod crashed;
 mod nodes;
 mod recover;
 mod replay;
 
+pub use again::again_on;
 pub use nodes::put_nodes;
 pub use recover::{put_count, recover_logs};
 pub use replay::{replay_on, script_files};

@@ -42,7 +42,7 @@ then_changes names store mid after first then_ =
 pub none_then : {store mid after : StoreView} → SameBut [] store mid → SameBut [] mid after → SameBut [] store after
 none_then {store} {mid} {after} first then_ = then_changes [] store mid after first then_
 
-wider : (names : List (List ℕ)) (store after : StoreView) → SameBut [] store after → SameBut names store after
+pub wider : (names : List (List ℕ)) (store after : StoreView) → SameBut [] store after → SameBut names store after
 wider names store after same = record { tells = same.tells; file = λ other differs. same.file other tt }
 
 pub stay_same : (store : StoreView) → FilesStay store store

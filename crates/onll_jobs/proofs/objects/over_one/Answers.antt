@@ -12,6 +12,10 @@ pub returns-in-Replay : goal.returns-in-Replay
 returns-in-Replay g c =
     record { by = λ threads stands. rw (c.in-Replay.is, length-map c.in-Replay.scripts.now string_bytes) c.replay_on.ensures }
 
+pub returns-in-Again : goal.returns-in-Again
+returns-in-Again g c =
+    record { by = λ threads stands. rw (c.in-Again.is, length-map c.in-Again.scripts.now string_bytes) c.again_on.ensures }
+
 pub returns-in-Run : goal.returns-in-Run
 returns-in-Run g c =
     record { by = λ threads stands. rw (c.in-Run.is, length-map c.in-Run.scripts.now string_bytes) (c.run_on.ensures threads stands) }

@@ -12,6 +12,9 @@ returns-in-Recover g c = rw c.in-Recover.is c.answer-in-Recover.ensures
 pub returns-in-Replay : goal.returns-in-Replay
 returns-in-Replay g c = rw c.in-Replay.is c.answer-in-Replay.ensures
 
+pub returns-in-Again : goal.returns-in-Again
+returns-in-Again g c = rw c.in-Again.is c.answer-in-Again.ensures
+
 pub returns-in-Run : goal.returns-in-Run
 returns-in-Run g c = rw c.in-Run.is c.answer-in-Run.ensures
 

@@ -1,8 +1,7 @@
-use Rattle.std.proofs.Common.{ℕ, List, [], ◌∷◌, length, drop, arith, rules, ap, sym, subst, ◌≡◌, ◌+◌, ◌<◌, ◌≤◌, ◌∙◌}
+use Rattle.std.proofs.Common.{ℕ, List, length, arith, rules, ap, sym, subst, ◌≡◌, ◌+◌, ◌∙◌}
 use Rattle.std.proofs.lemmas.List.Elements.{All-cons}
 use Rattle.std.proofs.lemmas.List.{length-drop, append-nil}
 use Rattle.std.specs.List.{All, AllByRecursion}
-use Rattle.onll_model.specs.declared.node.Node.{Node}
 use Rattle.onll_model.specs.Segment.{Segment}
 use Rattle.onll_log.specs.Grammar.{Content, used_by, used_with}
 use Rattle.onll_log.specs.Cursor.{CursorState, entries_left, lines_passed, first_nodes}

@@ -15,6 +15,7 @@ pub const USAGE: &str = "usage: onll fold INIT SCRIPT\n       \
      onll show IMAGE\n       \
      onll recover INIT LOGS T\n       \
      onll replay INIT SCHEDULE LOGS SCRIPT..\n       \
+     onll again INIT SCHEDULE LOGS SCRIPT..\n       \
      onll run INIT LOGS SCRIPT..\n       \
      onll make T N SEED\n";
 

@@ -5,6 +5,8 @@
 #[cfg(test)]
 mod crashes;
 #[cfg(test)]
+mod generations;
+#[cfg(test)]
 mod hostile_images;
 #[cfg(test)]
 mod left_images;

@@ -1,11 +1,13 @@
 #!/usr/bin/env python3
-"""Crashes random schedules, and checks what is recovered of the logs that they leave.
+"""Crashes random schedules, goes on from what is left and crashes again, and checks what is recovered of the logs.
 Usage: bench/crashes.py [RUNS [SEED]]
 Build the program first, by `rt run` in crates/onll_main.
 
-Of each run `replay` prints the calls and the trace and writes the images, and `recover` reads the images. Checked is that both
-recover the same, that it is a front of the trace, and that it has each call that returned: for an update its own place, for a
-read the place at which it was answered."""
+A run has one to five generations. Of the first `replay` prints the calls and the trace and writes the images, of each further one
+`again`, which goes on from the images of the one before; `recover` reads the images of each. Checked is that both recover the
+same, that it is a front of the trace, and that it has each call that returned: for an update its own place, for a read the place at
+which it was answered. A further generation's trace begins with all that was recovered before it, which is set, and says how much
+that was, and the fences that it prints are its own: one for each update that returned, and at most one more for each thread."""
 import os
 import random
 import subprocess
@@ -46,6 +48,9 @@ def lease(rng):
 OBJECTS = [("bank 3\naccount 0 9\n", bank), ("map 3\npair a b\n", map_), ("queue 2\nitem 7\n", queue), ("lease 2\n", lease)]
 
 
+UPDATES = {"deposit", "withdraw", "transfer", "put", "del", "push", "pop", "grant", "renew", "release"}
+
+
 def run(*words):
     done = subprocess.run([PROGRAM, *words], capture_output=True)
     return done.returncode, done.stdout.decode()
@@ -67,11 +72,23 @@ def returned_places(report):
     return [int(end[-1]) for end in ends if end[0] not in ("running", "ordered")]
 
 
-def crash_once(rng):
-    init, call = rng.choice(OBJECTS)
-    threads = rng.choice([1, 2, 3, 4, 16])
-    with open("init", "w") as file:
-        file.write(init)
+def flags(report):
+    return [line.split()[4] for line in report.splitlines() if line.startswith("node ")]
+
+
+def fences(report):
+    """The fences of each thread, as its log's line says them."""
+    return [int(line.split()[-1]) for line in report.splitlines() if line.startswith("log ")]
+
+
+def updates_returned(report, thread):
+    """How many updates of a thread returned in this generation."""
+    calls = [line for line in report.splitlines() if line.startswith(f"call {thread} ")]
+    words = [call.split(" -> ")[0].split()[3] for call in calls if call.split(" -> ")[1].split()[0] not in ("running", "ordered")]
+    return sum(word in UPDATES for word in words)
+
+
+def write_texts(rng, call, threads):
     for thread in range(threads):
         with open(f"script{thread}", "w") as file:
             file.writelines(call(rng) + "\n" for _ in range(rng.randint(0, 8)))
@@ -80,28 +97,51 @@ def crash_once(rng):
             file.write(f"{rng.randrange(threads)} {rng.choice([1, 1, 2, 3, 9])}\n")
         file.write(f"crash {rng.choice([0, ALL, rng.getrandbits(64), ALL ^ 1 << rng.randrange(64)])}\n")
 
-    status, report = run("replay", "init", "plan", "out", *(f"script{thread}" for thread in range(threads)))
+
+def crash_once(rng, command, threads, base):
+    """One generation, over the nodes that were recovered before it; the nodes that are recovered after it."""
+    status, report = run(command, "init", "plan", "out", *(f"script{thread}" for thread in range(threads)))
     assert status == 0, report
-    again, recovery = run("recover", "init", "out", str(threads))
-    assert again == 0, recovery
+    status, recovery = run("recover", "init", "out", str(threads))
+    assert status == 0, recovery
     kept, trace = recovered(report), names(report, True)
     assert recovered(recovery) == kept
     assert names(recovery, False) == trace[:kept]
     places = returned_places(report)
     assert all(place <= kept for place in places), report
     assert report.split("\nstate\n")[1] == recovery.split("\nstate\n")[1]
-    return len(places), len(trace), kept
+    assert trace[:len(base)] == base and kept >= len(base), report
+    assert flags(report)[:len(base)] == ["set"] * len(base), report
+    first = report.splitlines()[0]
+    assert (first == f"resumed {len(base)}") if command == "again" else not first.startswith("resumed"), report
+    for thread, count in enumerate(fences(report)):
+        assert 0 <= count - updates_returned(report, thread) <= 1, report
+    return trace[:kept], (len(places), len(trace) - len(base), kept - len(base))
+
+
+def generations(rng):
+    init, call = rng.choice(OBJECTS)
+    threads = rng.choice([1, 2, 3, 4, 16])
+    with open("init", "w") as file:
+        file.write(init)
+    base, totals = [], [1, 0, 0, 0]
+    for generation in range(rng.randint(1, 5)):
+        write_texts(rng, call, threads)
+        base, parts = crash_once(rng, "again" if generation else "replay", threads, base)
+        totals = [generation + 1] + [total + part for total, part in zip(totals[1:], parts)]
+    return totals
 
 
 def main():
     runs, seed = int(sys.argv[1]) if len(sys.argv) > 1 else 1000, int(sys.argv[2]) if len(sys.argv) > 2 else 1
     rng = random.Random(seed)
-    totals = [0, 0, 0]
+    totals = [0, 0, 0, 0]
     with tempfile.TemporaryDirectory() as folder:
         os.chdir(folder)
         for _ in range(runs):
-            totals = [total + part for total, part in zip(totals, crash_once(rng))]
-    print(f"{runs} runs, none failing: {totals[0]} calls returned, {totals[1]} updates in a trace, {totals[2]} of them recovered")
+            totals = [total + part for total, part in zip(totals, generations(rng))]
+    print(f"{runs} runs of {totals[0]} generations, none failing: {totals[1]} calls returned, {totals[2]} updates in a trace, "
+          f"{totals[3]} of them recovered")
 
 
 main()

@@ -83,7 +83,7 @@ folds directory names changes
 folds printer waiting morning
 folds locks held shift
 
-take crash bank plan first second
+take crash bank plan first second next third fourth
 prints crash/replayed replay examples/crash/bank examples/crash/plan examples/crash/out \
     examples/crash/first examples/crash/second
 compare crash/out.0
@@ -91,6 +91,8 @@ compare crash/out.1
 prints crash/shown.0 show examples/crash/out.0
 prints crash/shown.1 show examples/crash/out.1
 prints crash/report recover examples/crash/bank examples/crash/out 2
+prints crash/resumed again examples/crash/bank examples/crash/next examples/crash/out \
+    examples/crash/third examples/crash/fourth
 
 # Of threads the order isn't known before. What they leave is the report that stands there but for the order, and the logs that they
 # keep recover to the very nodes that they print.
@@ -108,6 +110,7 @@ usage='usage: onll fold INIT SCRIPT
        onll show IMAGE
        onll recover INIT LOGS T
        onll replay INIT SCHEDULE LOGS SCRIPT..
+       onll again INIT SCHEDULE LOGS SCRIPT..
        onll run INIT LOGS SCRIPT..
        onll make T N SEED'
 ends 2 "$usage"

@@ -37,3 +37,4 @@ mod Answered
 mod Heads
 mod FoundWorkers
 mod FoundCores
+mod Generations

@@ -24,3 +24,4 @@ pub mod Stays
 pub mod Crash
 pub mod CrashLaws
 pub mod Durable
+pub mod Generations

@@ -1,6 +1,7 @@
 //! What a crash of a core leaves and what is recovered from it, for every object, whatever threads take steps.
 
 ghost use Rattle.onll_core.specs.Durable.{DurableLaw};
+ghost use Rattle.onll_core.specs.Generations.{GenerationsLaw, PrefixLaw, OnlyTooManyLaw};
 ghost use Rattle.onll_core.specs.CrashLaws.{ImageLaw, RestLaw, PickedLaw, RecoveryLaw, HeadsLaw, LaterCrashLaw, CrashLaw, ResumedCrashLaw, ReachedCrashLaw, GoOnLaw, MoreNodesLaw, NextCrashLaw};
 
 use onll_model::Object;
@@ -43,4 +44,13 @@ pub fn next_crash_law<O: Object>()
 /// update and all that returned reads saw.
 pub fn durable_law<O: Object>()
     ensures { DurableLaw O.means }
+{}
+
+/// Of any number of generations, each of which went on from what a crash left of the one before, the newest leaves logs that recover
+/// to a prefix of its trace with every returned update, all that returned reads saw, and all nodes from which it went on. So what is
+/// recovered of one is a prefix of what is recovered of the next, and the next is refused only for too many updates of a thread.
+pub fn generations_law<O: Object>()
+    ensures leaves { GenerationsLaw O.means }
+    ensures prefix { PrefixLaw O.means }
+    ensures refused { OnlyTooManyLaw O.means }
 {}

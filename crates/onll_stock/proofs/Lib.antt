@@ -3,3 +3,7 @@ pub mod Selling
 pub mod Heading
 pub mod Rows
 pub mod Recovering
+pub mod Shops
+pub mod Short
+pub mod Reopening
+pub mod Resuming

@@ -1,6 +1,6 @@
 -- What recovery finds of a stock.
 
-use Rattle.std.proofs.Common.{ℕ, ◌≡◌, List, Ok, sym, ap, ◌∙◌, subst}
+use Rattle.std.proofs.Common.{ℕ, ◌≡◌, List, Ok, ap, ◌∙◌, subst}
 use Rattle.onll_model.specs.Trace.{state_after}
 use Rattle.onll_log.specs.declared.head.LogHead.{LogHead}
 use Rattle.onll_merge.specs.Recovered.{Recovered, state_recovered}

@@ -1,8 +1,8 @@
 -- Each row of a legal history of a stock is an operation's, and each answered call stands in the trace.
 
-use Rattle.std.proofs.Common.{ℕ, zero, suc, ◌≡◌, ◌+◌, ◌≤◌, ◌==◌, Bool, true, false, if◌then◌else◌, List, [], ◌∷◌, ◌++◌, length, take, drop, Option, Some, None, refl, sym, ap, ◌∙◌, subst, arith}
+use Rattle.std.proofs.Common.{ℕ, zero, suc, ◌≡◌, ◌+◌, ◌<◌, ◌≤◌, Bool, true, false, if◌then◌else◌, List, [], ◌∷◌, ◌++◌, length, take, drop, Option, Some, None, refl, sym, ap, ◌∙◌, subst, arith}
 use Rattle.std.specs.List.{AllByRecursion}
-use Rattle.std.proofs.lemmas.Bool.Decides.{nat_tests}
+use Rattle.std.proofs.lemmas.List.{take-append-drop}
 use Rattle.onll_words.specs.declared.line.OpRow.{OpRow}
 use Rattle.onll_model.specs.declared.node.Node.{Node}
 use Rattle.onll_model.specs.declared.call.Call.TheVariants.{Update, Ask}
@@ -10,13 +10,15 @@ use Rattle.onll_model.specs.declared.call.CallEnd.TheVariants.{Answered, Running
 use Rattle.onll_model.specs.Trace.{is_of_thread}
 use Rattle.onll_model.specs.Recovered.{operations_front, where_some}
 use Rattle.onll_model.specs.Legal.{place_in, at_place, placed_updates, placed_rows, EachEnd, HasAnswer, AreLegalThreads, IsLegal}
-use Rattle.onll_stock.specs.Within.{StandsIn}
+use Rattle.onll_model.proofs.Lists.{all_drop}
+use Rattle.onll_run.specs.Outcomes.{StandsIn}
 use Rattle.onll_stock.specs.declared.operation.StockOp.{StockOp}
 use Rattle.onll_stock.specs.Stock.{stock_row, stock_op_at}
 use Rattle.onll_stock.specs.Laws.{op_of_its_row}
 use Rattle.onll_stock.specs.Object.{stock}
 use Rattle.onll_stock.specs.Sales.{StockCall, StockEnd}
 use Rattle.onll_stock.proofs.Placing.{over_placed, over_nodes, over_threads, threads_all}
+use Rattle.onll_stock.proofs.Selling.{length_dropped}
 
 -- ---- rows
 -- one for a row of no operation
@@ -57,11 +59,40 @@ front_all below zero ns h = refl
 front_all below (suc j) [] h = refl
 front_all below (suc j) (n ∷ ns) h = front_next (stock_op_at n.row) n (operations_front stock (take j ns)) (take j ns) (omega (arith, h)) (front_all (below + 1) j ns (omega (arith, h)))
 
-pub operations : (had : ℕ) (scripts : List (List StockCall)) (trace : List Node) (ends : List (List StockEnd)) (k : ℕ) → IsLegal stock had [] scripts trace ends → operations_front stock (take k trace) ≡ take k trace
-operations had scripts trace ends k legal =
-    let none = threads_none had 0 trace 0 scripts ends legal.outcomes in
-    let all = threads_all no_operation (length scripts) 0 trace legal.threads in
-    front_all 0 k trace (omega (arith, none, all))
+nodes_after : (below : ℕ) (xs ys : List Node) → over_nodes no_operation below (xs ++ ys) ≡ over_nodes no_operation below xs + over_nodes no_operation (below + length xs) ys
+nodes_after below [] ys = let z : below ≡ below + 0 = omega arith in let e = ap (λ (b : ℕ). over_nodes no_operation b ys) z in omega (arith, e)
+nodes_after below (x ∷ xs) ys =
+    let z : below + 1 + length xs ≡ below + suc (length xs) = omega arith in
+    let e = ap (λ (b : ℕ). over_nodes no_operation b ys) z in
+    let rest = nodes_after (below + 1) xs ys in
+    omega (arith, rest, e)
+
+front_first : (o : Option StockOp) (n : Node) (front ns : List Node) → where_some o (n ∷ front) ≡ n ∷ ns → (if_none o ≡ 0) × (front ≡ ns)
+front_first None n front ns e = absurd (cc)
+front_first (Some op) n front ns e = (refl, let rest : front ≡ ns = cc in rest)
+
+front_none : (below : ℕ) (ns : List Node) → operations_front stock ns ≡ ns → over_nodes no_operation below ns ≡ 0
+front_none below [] e = refl
+front_none below (n ∷ ns) e =
+    let parts = front_first (stock_op_at n.row) n (operations_front stock ns) ns e in
+    let here = parts.0 in
+    let rest = front_none (below + 1) ns parts.1 in
+    omega (arith, here, rest)
+
+-- the nodes of a legal history that goes on from nodes of operations are applied, up to any of them
+pub operations : (had : ℕ) (base : List Node) (scripts : List (List StockCall)) (trace : List Node) (ends : List (List StockEnd)) (k : ℕ) → IsLegal stock had base scripts trace ends
+    → operations_front stock base ≡ base → operations_front stock (take k trace) ≡ take k trace
+operations had base scripts trace ends k legal rows =
+    let m = length base in
+    let begun = front_none 0 base rows in
+    let none = threads_none had m trace 0 scripts ends legal.outcomes in
+    let all = threads_all no_operation (length scripts) m (drop m trace) (all_drop (λ (n : Node). n.thread < length scripts) m trace legal.threads) in
+    let whole : base ++ drop m trace ≡ trace = ap (λ (l : List Node). l ++ drop m trace) (sym legal.begins) ∙ take-append-drop m trace in
+    let z : 0 + m ≡ m = omega arith in
+    let e = ap (λ (b : ℕ). over_nodes no_operation b (drop m trace)) z in
+    let parts = nodes_after 0 base (drop m trace) in
+    let same = ap (over_nodes no_operation 0) whole in
+    front_all 0 k trace (omega (arith, begun, none, all, e, parts, same))
 
 -- ---- places
 abbrev PlacedIn : ℕ → List (OpRow × ℕ) → Type 0
@@ -90,10 +121,13 @@ ends_in had m trace (Ask query ∷ calls) (Ordered place ∷ ends) h p = (tt, en
 ends_in had m trace (Ask query ∷ calls) (FenceFailed place ∷ ends) h p = (tt, ends_in had m trace calls ends h.1 p)
 ends_in had m trace (Ask query ∷ calls) (Broken place ∷ ends) h p = (tt, ends_in had m trace calls ends h.1 p)
 
-pub all_in : (had : ℕ) (trace : List Node) (u : ℕ) (scripts : List (List StockCall)) (ends : List (List StockEnd)) → AreLegalThreads stock had 0 trace u scripts ends
+pub all_in : (had m : ℕ) (trace : List Node) → m ≤ length trace → (u : ℕ) (scripts : List (List StockCall)) (ends : List (List StockEnd)) → AreLegalThreads stock had m trace u scripts ends
     → AllByRecursion (λ (es : List StockEnd). AllByRecursion (StandsIn (length trace)) es) ends
-all_in had trace u [] [] h = tt
-all_in had trace u [] (es ∷ ends) h = absurd h
-all_in had trace u (calls ∷ scripts) [] h = absurd h
-all_in had trace u (calls ∷ scripts) (es ∷ ends) h =
-    (ends_in had 0 trace calls es h.0.answers (subst (PlacedIn (length trace)) (sym h.0.places) (rows_in u 0 (length trace) trace (omega arith))), all_in had trace (u + 1) scripts ends h.1)
+all_in had m trace low u [] [] h = tt
+all_in had m trace low u [] (es ∷ ends) h = absurd h
+all_in had m trace low u (calls ∷ scripts) [] h = absurd h
+all_in had m trace low u (calls ∷ scripts) (es ∷ ends) h =
+    let long = length_dropped m trace low in (
+      ends_in had m trace calls es h.0.answers (subst (PlacedIn (length trace)) (sym h.0.places) (rows_in u m (length trace) (drop m trace) (omega (arith, long)))),
+      all_in had m trace low (u + 1) scripts ends h.1,
+    )

@@ -1,16 +1,14 @@
 -- What was sold and what is left are no more than what there was and what was put in.
 
-use Rattle.std.proofs.Common.{ℕ, zero, suc, ◌≡◌, ◌+◌, ◌-◌, ◌<◌, ◌≤◌, Bool, true, false, if◌then◌else◌, nat_lt, List, [], ◌∷◌, ◌++◌, length, take, drop, Option, Some, None, refl, sym, ap, ◌∙◌, subst, arith}
+use Rattle.std.proofs.Common.{ℕ, zero, suc, ◌≡◌, ◌+◌, ◌-◌, ◌<◌, ◌≤◌, Bool, true, false, if◌then◌else◌, nat_lt, List, [], ◌∷◌, length, take, drop, Option, Some, None, refl, sym, ap, ◌∙◌, subst, arith}
 use Rattle.std.specs.List.{AllByRecursion, slice_get}
 use Rattle.std.proofs.lemmas.Bool.Decides.{nat_tests}
 use Rattle.onll_words.specs.declared.line.OpRow.{OpRow}
 use Rattle.onll_model.specs.declared.node.Node.{Node}
-use Rattle.onll_model.specs.declared.call.Call.{Call}
 use Rattle.onll_model.specs.declared.call.Call.TheVariants.{Update, Ask}
-use Rattle.onll_model.specs.declared.call.CallEnd.{CallEnd}
 use Rattle.onll_model.specs.declared.call.CallEnd.TheVariants.{Answered, Running, Ordered, FenceFailed, Broken}
 use Rattle.onll_model.specs.Trace.{state_after, after_row, reply_after}
-use Rattle.onll_model.specs.Legal.{placed_updates, EachEnd, HasReply, AreLegalThreads, IsLegal}
+use Rattle.onll_model.specs.Legal.{placed_updates, EachEnd, HasReply, AreLegalThreads}
 use Rattle.onll_model.proofs.Lists.{same_some, some_not_none, all_drop}
 use Rattle.onll_stock.specs.declared.operation.StockOp.{StockOp}
 use Rattle.onll_stock.specs.declared.operation.StockOp.TheVariants.{Sell, Restock}
@@ -19,8 +17,8 @@ use Rattle.onll_stock.specs.declared.operation.StockReply.TheVariants.{Sold, Too
 use Rattle.onll_stock.specs.Stock.{most_items, stock_reply, stock_next, stock_row, stock_op_at}
 use Rattle.onll_stock.specs.Laws.{op_of_its_row}
 use Rattle.onll_stock.specs.Object.{stock}
-use Rattle.onll_stock.specs.Sales.{StockCall, StockEnd, taken_out, put_in, at_most_put_in, sold_by, restocked_by, tally_of, tally, sold, restocked, NoneOversold}
-use Rattle.onll_stock.specs.Within.{StandsIn}
+use Rattle.onll_stock.specs.Sales.{StockCall, StockEnd, taken_out, put_in, at_most_put_in, sold_by, restocked_by, tally_of, tally}
+use Rattle.onll_run.specs.Outcomes.{StandsIn}
 use Rattle.onll_stock.specs.SalesLaw.{SalesLaw}
 use Rattle.onll_stock.proofs.Placing.{over_placed, over_nodes, over_threads, threads_all}
 
@@ -126,7 +124,7 @@ get_dropped zero xs i = let z : i ≡ 0 + i = omega arith in ap (slice_get xs) z
 get_dropped (suc m) [] i = refl
 get_dropped (suc m) (x ∷ xs) i = let z : suc m + i ≡ suc (m + i) = omega arith in get_dropped m xs i ∙ sym (ap (slice_get (x ∷ xs)) z)
 
-length_dropped : (m : ℕ) (xs : List Node) → m ≤ length xs → m + length (drop m xs) ≡ length xs
+pub length_dropped : (m : ℕ) (xs : List Node) → m ≤ length xs → m + length (drop m xs) ≡ length xs
 length_dropped zero xs low = omega arith
 length_dropped (suc m) [] low = absurd (omega (arith, low))
 length_dropped (suc m) (x ∷ xs) low = let rest = length_dropped m xs (omega (arith, low)) in omega (arith, rest)
@@ -139,8 +137,7 @@ module _ (had : ℕ) (trace : List Node) where
   follows below [] h = tt
   follows below (n ∷ ns) h =
       let z : below + 0 ≡ below = omega arith in
-      let one : suc below ≡ below + 1 = omega arith in
-      (
+      let one : suc below ≡ below + 1 = omega arith in (
         sym (ap left_at one) ∙ next_left had trace below n (sym (ap (slice_get trace) z) ∙ h 0 n refl),
         follows (below + 1) ns (λ i m e. let y : below + suc i ≡ below + 1 + i = omega arith in sym (ap (slice_get trace) y) ∙ h (suc i) m e),
       )

@@ -2,6 +2,6 @@ pub mod Stock
 pub mod Laws
 pub mod Object
 pub mod Sales
-pub mod Within
 pub mod SalesLaw
 pub mod Heads
+pub mod Shop

@@ -7,7 +7,7 @@ use Rattle.onll_model.specs.Trace.{state_after}
 use Rattle.onll_model.specs.Legal.{IsLegal}
 use Rattle.onll_stock.specs.Object.{stock}
 use Rattle.onll_stock.specs.Sales.{StockCall, StockEnd, NoneOversold}
-use Rattle.onll_stock.specs.Within.{StandsIn}
+use Rattle.onll_run.specs.Outcomes.{StandsIn}
 
 -- Threads go on from a base that left some items. Of all that they did the first k nodes of the trace are there, at least the base and
 -- every answered call. Then what these threads sold and what those nodes leave are no more than what the base left and what was put in.

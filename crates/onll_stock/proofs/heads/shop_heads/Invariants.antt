@@ -1,4 +1,4 @@
-use Rattle.std.proofs.Common.{◌≡◌, length}
+use Rattle.std.proofs.Common.{◌≡◌}
 use Rattle.onll_stock.specs.Heads.{heads_to}
 use Rattle.onll_stock.proofs.heads.shop_heads.Given as goal
 

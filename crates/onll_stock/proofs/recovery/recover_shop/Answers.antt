@@ -1,15 +1,8 @@
-use Rattle.std.proofs.Common.{length, map, ap, ◌∙◌}
+use Rattle.std.proofs.Common.{length, map}
 use Rattle.onll_pmem.specs.Pmem.{words_of}
-use Rattle.onll_merge.specs.Recovered.{recovered_in}
-use Rattle.onll_stock.proofs.Heading.{length-heads_to}
-use Rattle.onll_stock.proofs.Recovering.{left_found}
+use Rattle.onll_stock.specs.Heads.{shop_heads}
+use Rattle.onll_stock.proofs.Shops.{counts_every_sale}
 use Rattle.onll_stock.proofs.recovery.recover_shop.Goals as goal
 
-pub recover_state-requires-after_bounds : goal.recover_state-requires-after_bounds
-recover_state-requires-after_bounds c κs = ap length (c.deref.ensures.value ∙ c.in-Ok.ensures) ∙ length-heads_to _ _ c.args.init.now
-
-pub returns : goal.returns
-returns c = record {
-  left = left_found c.args.had c.deref.result.now _ (map (λ image. words_of image.items) c.args.images.now) c.of-stock.result c.recover_state.new.object c.left.result (recovered_in c.in_ok-recover_state.field-0)
-      (c.deref.ensures.value ∙ c.in-Ok.ensures) c.of-stock.ensures c.in_ok-recover_state.ensures.recovered c.in_ok-recover_state.ensures.state c.left.ensures;
-}
+pub returns-clause-sold : goal.returns-clause-sold
+returns-clause-sold c = counts_every_sale c.args.had (shop_heads (length c.args.images.now) c.args.init.now) (map (λ image. words_of image.items) c.args.images.now) c.count_items.result c.count_items.ensures.left

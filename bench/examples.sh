@@ -94,6 +94,26 @@ prints crash/report recover examples/crash/bank examples/crash/out 2
 prints crash/resumed again examples/crash/bank examples/crash/next examples/crash/out \
     examples/crash/third examples/crash/fourth
 
+take window bank plan first second third
+prints window/replayed replay examples/window/bank examples/window/plan examples/window/out \
+    examples/window/first examples/window/second examples/window/third
+compare window/out.2
+prints window/report recover examples/window/bank examples/window/out 3
+
+take workload
+prints workload/report make 4 500 7
+
+# Draws a replay of an example, and compares it with the picture that stands in docs/.
+draws() {
+    example=$1
+    shift
+    (cd "$top/examples/$example" && "$top/bench/lanes.py" "$top/onll" bank plan "$@") | cmp -s - "$top/docs/$example.svg"
+    same "the picture of $example is another" $? 0
+}
+
+draws crash first second
+draws window first second third
+
 # Of threads the order isn't known before. What they leave is the report that stands there but for the order, and the logs that they
 # keep recover to the very nodes that they print.
 take tickets hall door online out.0 out.1

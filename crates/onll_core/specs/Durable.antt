@@ -35,9 +35,9 @@ pub record IsDurable {State Op Query Reply : Type 0} (b : Behaviour State Op Que
   pub fences : CountsFences c
   pub entries : EntriesAreFew (length scripts) c
   pub returns : OrderedReturn b (length scripts) c
+  pub based : c.base ≡ length base
   -- whatever a crash leaves of each device, the logs recover to a prefix of the trace that holds the base, every returned update and
   -- all that returned reads saw
-  pub based : c.base ≡ length base
   pub crash : RecoversAlways b heads c
 
 -- a core of these scripts that goes on from some images, lists of lines

@@ -7,3 +7,4 @@ pub mod Shops
 pub mod Short
 pub mod Reopening
 pub mod Resuming
+pub mod Goings

@@ -31,7 +31,7 @@ length_taken zero xs = omega arith
 length_taken (suc n) [] = omega arith
 length_taken (suc n) (x ∷ xs) = let rest = length_taken n xs in omega (arith, rest)
 
-fits : (nodes trace : List Node) → take (length nodes) trace ≡ nodes → length nodes ≤ length trace
+pub fits : (nodes trace : List Node) → take (length nodes) trace ≡ nodes → length nodes ≤ length trace
 fits nodes trace e = subst (λ (n : ℕ). n ≤ length trace) (ap length e) (length_taken (length nodes) trace)
 
 -- scripts that were done over a base of operations, and whose logs recover

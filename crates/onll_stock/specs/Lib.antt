@@ -5,3 +5,4 @@ pub mod Sales
 pub mod SalesLaw
 pub mod Heads
 pub mod Shop
+pub mod GoingOn

@@ -15,7 +15,7 @@ mod tests;
 
 pub use devices::{DEVICE_LINES, keep_logs, new_devices, read_images};
 pub use heads::shop_heads;
-pub use laws::sales_law;
+pub use laws::{going_on_law, sales_law};
 pub use operation::{StockOp, StockQuery, StockReply};
 pub use recovery::recover_shop;
 pub use reopen::{ReopenFault, open_log, open_logs};

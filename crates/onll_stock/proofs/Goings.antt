@@ -1,8 +1,6 @@
 -- Threads that go on from recovered nodes sell no item twice.
 
-use Rattle.std.proofs.Common.{ℕ, ◌≡◌, ◌≤◌, List, [], length, map, take, refl, ap, subst, arith}
-use Rattle.onll_model.specs.declared.node.Node.{Node}
-use Rattle.onll_model.specs.Trace.{state_after}
+use Rattle.std.proofs.Common.{[], length, map, refl, subst, arith}
 use Rattle.onll_model.proofs.Lists.{take_all}
 use Rattle.onll_pmem.specs.Pmem.{DeviceView}
 use Rattle.onll_run.specs.Left.{Base}

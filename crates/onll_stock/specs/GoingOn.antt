@@ -10,7 +10,7 @@ use Rattle.onll_trace.specs.declared.trace.Ended.{Ended}
 use Rattle.onll_shared.specs.Crash.{head_of}
 use Rattle.onll_shared.specs.Ends.{HasClosed}
 use Rattle.onll_shared.specs.Passes.{OnllView}
-use Rattle.onll_run.specs.Left.{Base, AreLeft}
+use Rattle.onll_run.specs.Left.{AreLeft}
 use Rattle.onll_run.specs.Ended.{ThreadRun, HaveRun, script_of, ends_of, after_of, left_of}
 use Rattle.onll_stock.specs.declared.operation.StockOp.{StockOp}
 use Rattle.onll_stock.specs.declared.operation.StockQuery.{StockQuery}
@@ -26,7 +26,8 @@ SoldAbove onll runs nodes = NoneOversold (state_after stock onll.first onll.trac
 
 -- So it is of the whole trace, and of whatever a crash leaves: images of the devices give logs that merge to such nodes.
 pub record SellsOn {Device : Type 0} (means : Device → DeviceView) (onll : OnllView ℕ) (trace : List Ended)
-    (runs : List (ThreadRun ℕ StockOp StockQuery StockReply Device)) (closed : HasClosed onll.trace (map after_of runs) trace) : Type 0 where
+    (runs : List (ThreadRun ℕ StockOp StockQuery StockReply Device)) (closed : HasClosed onll.trace (map after_of runs) trace)
+    : Type 0 where
   pub now : SoldAbove onll runs closed.ended.frame.trace
   pub crash : (images : List (List (List ℕ))) → AreLeft (left_of stock means onll trace runs closed).logs (map ends_of runs) images
       → (logs : List Content) × (nodes : List Node) × (merge (map head_of (map after_of runs)) logs ≡ Ok nodes) × SoldAbove onll runs nodes

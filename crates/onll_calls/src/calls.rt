@@ -2,9 +2,9 @@
 
 use onll_outside::{FenceAt, FreeGate, Gate, MemSink, MemStore, Named, Store};
 use std::alloc::{AllocError, Global};
-use std::process::Abort;
 use std::str;
 use std::sync::Wait;
+use std::test::Fail;
 use std::thread::Threads;
 
 /// The longest text that is read.
@@ -160,10 +160,15 @@ pub fn fold<R: Threads + Wait + Sync>(
 }
 
 impl Outcome {
-    /// Asserts the status, and that a fault was counted exactly where the status tells one.
-    fn expect_status(&self, rt: &impl Abort, case: &str, status: u8) {
-        assert_eq!(rt; self.status, status, "{case}");
-        assert_eq!(rt; self.failed, matches!(status, 5 | 6), "{case}: faults");
+    /// Fails unless the status is this, and a fault was counted exactly where the status tells one.
+    fn expect_status(&self, case: &str, status: u8) -> Result<(), Fail> {
+        if self.status != status {
+            return Err(Fail::new(format_args!("{case}: status {}, not {status}", self.status)));
+        }
+        if self.failed != matches!(status, 5 | 6) {
+            return Err(Fail::new(format_args!("{case}: faults")));
+        }
+        Ok(())
     }
 
     /// What was printed.
@@ -171,25 +176,30 @@ impl Outcome {
         str::from_utf8(&self.taken).unwrap_or("no text")
     }
 
-    /// Asserts the status, and that the output has this line.
-    pub fn expect_line(&self, rt: &impl Abort, case: &str, status: u8, line: &str) {
-        self.expect_status(rt, case, status);
-        let taken = self.text();
-        assert!(rt;
-            taken.lines().any(|said| said == line),
-            "{case}: not said: {line}"
-        );
+    /// Fails unless the status is this and the output has this line.
+    pub fn expect_line(&self, case: &str, status: u8, line: &str) -> Result<(), Fail> {
+        self.expect_status(case, status)?;
+        if !self.text().lines().any(|said| said == line) {
+            return Err(Fail::new(format_args!("{case}: not said: {line}")));
+        }
+        Ok(())
     }
 
-    /// Asserts the status and the whole text of a case. A failure shows the first line that differs.
-    pub fn expect(&self, rt: &impl Abort, case: &str, status: u8, text: &str) {
-        self.expect_status(rt, case, status);
+    /// Fails unless the status and the whole text are these, and shows the first line that differs.
+    pub fn expect(&self, case: &str, status: u8, text: &str) -> Result<(), Fail> {
+        self.expect_status(case, status)?;
         let taken = self.text();
         let mut wanted = text.lines();
         for line in taken.lines() {
-            assert_eq!(rt; line, wanted.next().unwrap_or("the end"), "{case}");
+            let next = wanted.next().unwrap_or("the end");
+            if line != next {
+                return Err(Fail::new(format_args!("{case}: says {line}, not {next}")));
+            }
         }
-        assert!(rt; taken == text, "{case}: the end differs");
+        if taken != text {
+            return Err(Fail::new(format_args!("{case}: the end differs")));
+        }
+        Ok(())
     }
 }
 

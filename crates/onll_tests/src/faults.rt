@@ -216,7 +216,7 @@ fn files_and_puts_that_fail(rt: HostRuntime) -> Result<(), Fail> {
             failing_puts: case.failing_puts,
         };
         let outcome = program.run(&rt, rt.alloc())?;
-        outcome.expect(&rt, case.name, case.status, case.output);
+        outcome.expect(case.name, case.status, case.output)?;
     }
     Ok(())
 }

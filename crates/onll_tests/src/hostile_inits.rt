@@ -395,7 +395,7 @@ const LONG_LINES: &[LongCase<'static>] = &[
 #[test]
 fn refused_initial_states(rt: HostRuntime) -> Result<(), Fail> {
     for (case, init, output) in REFUSED {
-        fold(&rt, rt.alloc(), init, b"")?.expect(&rt, case, 3, output);
+        fold(&rt, rt.alloc(), init, b"")?.expect(case, 3, output)?;
     }
     Ok(())
 }
@@ -403,7 +403,7 @@ fn refused_initial_states(rt: HostRuntime) -> Result<(), Fail> {
 #[test]
 fn accepted_initial_states(rt: HostRuntime) -> Result<(), Fail> {
     for (case, init, output) in ACCEPTED {
-        fold(&rt, rt.alloc(), init, b"")?.expect(&rt, case, 0, output);
+        fold(&rt, rt.alloc(), init, b"")?.expect(case, 0, output)?;
     }
     Ok(())
 }
@@ -412,7 +412,7 @@ fn accepted_initial_states(rt: HostRuntime) -> Result<(), Fail> {
 fn longest_initial_states(rt: HostRuntime) -> Result<(), Fail> {
     for case in LONGEST_TEXTS {
         let init = case.text(rt.alloc())?;
-        fold(&rt, rt.alloc(), &init, b"")?.expect(&rt, case.name, case.status, case.output);
+        fold(&rt, rt.alloc(), &init, b"")?.expect(case.name, case.status, case.output)?;
     }
     Ok(())
 }
@@ -421,7 +421,7 @@ fn longest_initial_states(rt: HostRuntime) -> Result<(), Fail> {
 fn long_lines_of_initial_states(rt: HostRuntime) -> Result<(), Fail> {
     for case in LONG_LINES {
         let init = case.text(rt.alloc())?;
-        fold(&rt, rt.alloc(), &init, b"")?.expect(&rt, case.name, case.status, case.output);
+        fold(&rt, rt.alloc(), &init, b"")?.expect(case.name, case.status, case.output)?;
     }
     Ok(())
 }

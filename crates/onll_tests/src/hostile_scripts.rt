@@ -472,7 +472,7 @@ const CROWDED: &[LongCase<'static>] = &[
 #[test]
 fn refused_scripts(rt: HostRuntime) -> Result<(), Fail> {
     for (case, script, output) in REFUSED {
-        fold(&rt, rt.alloc(), b"bank 1\n", script)?.expect(&rt, case, 3, output);
+        fold(&rt, rt.alloc(), b"bank 1\n", script)?.expect(case, 3, output)?;
     }
     Ok(())
 }
@@ -480,7 +480,7 @@ fn refused_scripts(rt: HostRuntime) -> Result<(), Fail> {
 #[test]
 fn accepted_scripts(rt: HostRuntime) -> Result<(), Fail> {
     for (case, script, output) in ACCEPTED {
-        fold(&rt, rt.alloc(), b"bank 1\n", script)?.expect(&rt, case, 0, output);
+        fold(&rt, rt.alloc(), b"bank 1\n", script)?.expect(case, 0, output)?;
     }
     Ok(())
 }
@@ -489,12 +489,7 @@ fn accepted_scripts(rt: HostRuntime) -> Result<(), Fail> {
 fn longest_scripts(rt: HostRuntime) -> Result<(), Fail> {
     for case in LONGEST_TEXTS {
         let script = case.text(rt.alloc())?;
-        fold(&rt, rt.alloc(), b"bank 1\n", &script)?.expect(
-            &rt,
-            case.name,
-            case.status,
-            case.output,
-        );
+        fold(&rt, rt.alloc(), b"bank 1\n", &script)?.expect(case.name, case.status, case.output)?;
     }
     Ok(())
 }
@@ -503,12 +498,7 @@ fn longest_scripts(rt: HostRuntime) -> Result<(), Fail> {
 fn long_lines_of_scripts(rt: HostRuntime) -> Result<(), Fail> {
     for case in LONG_LINES {
         let script = case.text(rt.alloc())?;
-        fold(&rt, rt.alloc(), b"bank 1\n", &script)?.expect(
-            &rt,
-            case.name,
-            case.status,
-            case.output,
-        );
+        fold(&rt, rt.alloc(), b"bank 1\n", &script)?.expect(case.name, case.status, case.output)?;
     }
     Ok(())
 }
@@ -517,12 +507,7 @@ fn long_lines_of_scripts(rt: HostRuntime) -> Result<(), Fail> {
 fn one_call_too_many(rt: HostRuntime) -> Result<(), Fail> {
     for case in CROWDED {
         let script = case.text(rt.alloc())?;
-        fold(&rt, rt.alloc(), b"bank 1\n", &script)?.expect(
-            &rt,
-            case.name,
-            case.status,
-            case.output,
-        );
+        fold(&rt, rt.alloc(), b"bank 1\n", &script)?.expect(case.name, case.status, case.output)?;
     }
     Ok(())
 }

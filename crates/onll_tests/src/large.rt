@@ -22,7 +22,7 @@ fn as_many_updates_as_there_can_be(rt: HostRuntime) -> Result<(), Fail> {
     report.push_str("state\nbank 1\naccount 0 8192\n")?;
     let script = repeated(alloc, b"deposit 0 2\n", 4096)?;
     let outcome = fold(&rt, alloc, b"bank 1\n", &script)?;
-    outcome.expect(&rt, "4,096 deposits", 0, &report);
+    outcome.expect("4,096 deposits", 0, &report)?;
     Ok(())
 }
 
@@ -36,7 +36,7 @@ fn as_many_reads_as_there_can_be(rt: HostRuntime) -> Result<(), Fail> {
     report.push_str("trace 0\nstate\nbank 1\naccount 0 7\n")?;
     let script = repeated(alloc, b"total\n", 4096)?;
     let outcome = fold(&rt, alloc, b"bank 1\naccount 0 7\n", &script)?;
-    outcome.expect(&rt, "4,096 totals", 0, &report);
+    outcome.expect("4,096 totals", 0, &report)?;
     Ok(())
 }
 
@@ -102,6 +102,6 @@ fn as_many_of_all_as_there_can_be(rt: HostRuntime) -> Result<(), Fail> {
     let mut report = full_calls(alloc)?;
     report.push_str(&full_rest(alloc)?)?;
     let outcome = fold(&rt, alloc, init.as_bytes(), script.as_bytes())?;
-    outcome.expect(&rt, "4,096 updates, reads and accounts", 0, &report);
+    outcome.expect("4,096 updates, reads and accounts", 0, &report)?;
     Ok(())
 }

@@ -252,7 +252,7 @@ const REPORTS: &[(&str, &[u8], &[u8], &str)] = &[
 #[test]
 fn reports_of_leases(rt: HostRuntime) -> Result<(), Fail> {
     for (case, init, script, report) in REPORTS {
-        fold(&rt, rt.alloc(), init, script)?.expect(&rt, case, 0, report);
+        fold(&rt, rt.alloc(), init, script)?.expect(case, 0, report)?;
     }
     Ok(())
 }
@@ -457,10 +457,10 @@ const REFUSED_SCRIPTS: &[Case<'static>] = &[
 #[test]
 fn refused_leases(rt: HostRuntime) -> Result<(), Fail> {
     for (case, init, line) in REFUSED_INITS {
-        fold(&rt, rt.alloc(), init, b"")?.expect(&rt, case, 3, line);
+        fold(&rt, rt.alloc(), init, b"")?.expect(case, 3, line)?;
     }
     for (case, script, line) in REFUSED_SCRIPTS {
-        fold(&rt, rt.alloc(), b"lease 1\n", script)?.expect(&rt, case, 3, line);
+        fold(&rt, rt.alloc(), b"lease 1\n", script)?.expect(case, 3, line)?;
     }
     Ok(())
 }
@@ -511,6 +511,6 @@ fn as_many_resources_as_there_can_be(rt: HostRuntime) -> Result<(), Fail> {
         init.as_bytes(),
         b"holder 4094 0\nholder 4095 5\n",
     )?;
-    outcome.expect(&rt, "4,096 resources", 0, &report);
+    outcome.expect("4,096 resources", 0, &report)?;
     Ok(())
 }

@@ -98,7 +98,7 @@ const REPORTS: &[(&str, &[u8], &[u8], &str)] = &[
 #[test]
 fn reports_of_maps(rt: HostRuntime) -> Result<(), Fail> {
     for (case, init, script, report) in REPORTS {
-        fold(&rt, rt.alloc(), init, script)?.expect(&rt, case, 0, report);
+        fold(&rt, rt.alloc(), init, script)?.expect(case, 0, report)?;
     }
     Ok(())
 }
@@ -208,10 +208,10 @@ const REFUSED_SCRIPTS: &[Case<'static>] = &[
 #[test]
 fn refused_maps(rt: HostRuntime) -> Result<(), Fail> {
     for (case, init, line) in REFUSED_INITS {
-        fold(&rt, rt.alloc(), init, b"")?.expect(&rt, case, 3, line);
+        fold(&rt, rt.alloc(), init, b"")?.expect(case, 3, line)?;
     }
     for (case, script, line) in REFUSED_SCRIPTS {
-        fold(&rt, rt.alloc(), b"map 1\n", script)?.expect(&rt, case, 3, line);
+        fold(&rt, rt.alloc(), b"map 1\n", script)?.expect(case, 3, line)?;
     }
     Ok(())
 }
@@ -266,6 +266,6 @@ fn as_many_pairs_as_there_can_be(rt: HostRuntime) -> Result<(), Fail> {
     let mut report = put_lines(alloc)?;
     report.push_str(&pair_lines(alloc)?)?;
     let outcome = fold(&rt, alloc, b"map 4096\n", script.as_bytes())?;
-    outcome.expect(&rt, "4,096 pairs", 0, &report);
+    outcome.expect("4,096 pairs", 0, &report)?;
     Ok(())
 }

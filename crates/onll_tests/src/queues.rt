@@ -86,7 +86,7 @@ const REPORTS: &[(&str, &[u8], &[u8], &str)] = &[
 #[test]
 fn reports_of_queues(rt: HostRuntime) -> Result<(), Fail> {
     for (case, init, script, report) in REPORTS {
-        fold(&rt, rt.alloc(), init, script)?.expect(&rt, case, 0, report);
+        fold(&rt, rt.alloc(), init, script)?.expect(case, 0, report)?;
     }
     Ok(())
 }
@@ -226,10 +226,10 @@ const REFUSED_SCRIPTS: &[Case<'static>] = &[
 #[test]
 fn refused_queues(rt: HostRuntime) -> Result<(), Fail> {
     for (case, init, line) in REFUSED_INITS {
-        fold(&rt, rt.alloc(), init, b"")?.expect(&rt, case, 3, line);
+        fold(&rt, rt.alloc(), init, b"")?.expect(case, 3, line)?;
     }
     for (case, script, line) in REFUSED_SCRIPTS {
-        fold(&rt, rt.alloc(), b"queue 1\n", script)?.expect(&rt, case, 3, line);
+        fold(&rt, rt.alloc(), b"queue 1\n", script)?.expect(case, 3, line)?;
     }
     Ok(())
 }
@@ -275,7 +275,7 @@ fn one_place_filled_a_thousand_times(rt: HostRuntime) -> Result<(), Fail> {
     let script = rounds(alloc)?;
     let report = round_lines(alloc)?;
     let outcome = fold(&rt, alloc, b"queue 1\n", script.as_bytes())?;
-    outcome.expect(&rt, "a thousand rounds", 0, &report);
+    outcome.expect("a thousand rounds", 0, &report)?;
     Ok(())
 }
 
@@ -302,7 +302,7 @@ fn as_many_items_as_there_can_be(rt: HostRuntime) -> Result<(), Fail> {
     )?;
     report.push_str(&init)?;
     let outcome = fold(&rt, alloc, init.as_bytes(), b"push 3\nlength\n")?;
-    outcome.expect(&rt, "4,096 items", 0, &report);
+    outcome.expect("4,096 items", 0, &report)?;
     Ok(())
 }
 
@@ -312,6 +312,6 @@ fn one_item_too_many_for_the_greatest_room(rt: HostRuntime) -> Result<(), Fail> 
     let mut init = full_queue(alloc)?;
     init.push_str("item 0\n")?;
     let outcome = fold(&rt, alloc, init.as_bytes(), b"")?;
-    outcome.expect(&rt, "4,097 items", 3, "refused i 4098 too many\n");
+    outcome.expect("4,097 items", 3, "refused i 4098 too many\n")?;
     Ok(())
 }

@@ -186,7 +186,7 @@ fn images_of_logs(rt: HostRuntime) -> Result<(), Fail> {
         };
         program
             .run(&rt, rt.alloc())?
-            .expect(&rt, case.name, case.status, case.output);
+            .expect(case.name, case.status, case.output)?;
     }
     Ok(())
 }
@@ -201,7 +201,7 @@ fn an_image_that_is_not_there(rt: HostRuntime) -> Result<(), Fail> {
     };
     program
         .run(&rt, rt.alloc())?
-        .expect(&rt, "no image", 5, "read fault out.1\n");
+        .expect("no image", 5, "read fault out.1\n")?;
     Ok(())
 }
 
@@ -215,7 +215,7 @@ fn the_put_of_an_image_fails(rt: HostRuntime) -> Result<(), Fail> {
             failing_calls: &[],
             failing_puts: &[1],
         };
-        program.run(&rt, rt.alloc())?.expect(&rt, case.name, 6, "");
+        program.run(&rt, rt.alloc())?.expect(case.name, 6, "")?;
     }
     Ok(())
 }
@@ -233,7 +233,7 @@ fn images_that_are_too_long(rt: HostRuntime) -> Result<(), Fail> {
         let program = Program::new(&["show", "out.1"], files);
         program
             .run(&rt, rt.alloc())?
-            .expect(&rt, "zeros and then other bytes", *status, output);
+            .expect("zeros and then other bytes", *status, output)?;
     }
     Ok(())
 }

@@ -108,7 +108,7 @@ const REPORTS: &[(&str, &[u8], &[u8], &str)] = &[
 #[test]
 fn reports_of_scripts(rt: HostRuntime) -> Result<(), Fail> {
     for (case, init, script, report) in REPORTS {
-        fold(&rt, rt.alloc(), init, script)?.expect(&rt, case, 0, report);
+        fold(&rt, rt.alloc(), init, script)?.expect(case, 0, report)?;
     }
     Ok(())
 }
@@ -116,7 +116,7 @@ fn reports_of_scripts(rt: HostRuntime) -> Result<(), Fail> {
 #[test]
 fn ample_memory_is_enough(rt: HostRuntime) -> Result<(), Fail> {
     let outcome = fold(&rt, rt.alloc(), TRANSFER_INIT, TRANSFER_SCRIPT)?;
-    outcome.expect(&rt, "status 0 and not 9", 0, TRANSFER_REPORT);
+    outcome.expect("status 0 and not 9", 0, TRANSFER_REPORT)?;
     Ok(())
 }
 
@@ -141,7 +141,7 @@ fn words_of_no_command(rt: HostRuntime) -> Result<(), Fail> {
             failing_calls: &[],
             failing_puts: &[],
         };
-        program.run(&rt, rt.alloc())?.expect(&rt, case, 2, USAGE);
+        program.run(&rt, rt.alloc())?.expect(case, 2, USAGE)?;
     }
     Ok(())
 }

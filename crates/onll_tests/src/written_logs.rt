@@ -72,7 +72,7 @@ fn a_log_that_a_thread_wrote(rt: HostRuntime) -> Result<(), Fail> {
         let files: &[(&str, &[u8])] = &[("x", &bytes)];
         Program::new(&["show", "x"], files)
             .run(&rt, alloc)?
-            .expect(&rt, "a thread's log", 0, output);
+            .expect("a thread's log", 0, output)?;
     }
     Ok(())
 }
@@ -91,11 +91,10 @@ fn a_log_of_format_1(rt: HostRuntime) -> Result<(), Fail> {
     Program::new(&["recover", "i", "out", "1"], files)
         .run(&rt, alloc)?
         .expect(
-            &rt,
             "a log of format 1",
             0,
             "log 0 entries 1 lines 3\nrecovered 1\nnode 1 0 1 deposit 0 5\nstate\nbank 1\naccount 0 5\n",
-        );
+        )?;
     Ok(())
 }
 
@@ -120,13 +119,14 @@ fn replayed<R: Abort + Threads + Wait + Sync>(
     alloc: Global,
     files: &[(&str, &[u8])],
     output: &str,
-) -> Result<Vec<u8>, AllocError> {
+) -> Result<Vec<u8>, Fail> {
     let program = Program::new(&["replay", "i", "c", "out", "s"], files);
     let mut store = program.store(alloc)?;
     program
         .run_over(rt, alloc, &mut store)?
-        .expect(rt, "a replay", 0, output);
-    Vec::from_slice(alloc, store.file("out.0").unwrap_or(b""))
+        .expect("a replay", 0, output)?;
+    let image = Vec::from_slice(alloc, store.file("out.0").unwrap_or(b""))?;
+    Ok(image)
 }
 
 /// A recovery of one thread over `bank 1` from this image prints this.
@@ -135,11 +135,11 @@ fn recovers<R: Abort + Threads + Wait + Sync>(
     alloc: Global,
     image: &[u8],
     output: &str,
-) -> Result<(), AllocError> {
+) -> Result<(), Fail> {
     let files: &[(&str, &[u8])] = &[("i", b"bank 1\n"), ("out.0", image)];
     Program::new(&["recover", "i", "out", "1"], files)
         .run(rt, alloc)?
-        .expect(rt, "a recovery", 0, output);
+        .expect("a recovery", 0, output)?;
     Ok(())
 }
 

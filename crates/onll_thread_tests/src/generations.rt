@@ -3,7 +3,7 @@
 use onll_calls::images::{FORMAT_9_HEAD, HEAD_1, Image, OLD_HEAD_0, OLD_HEAD_1};
 use onll_calls::{Program, repeated};
 use onll_outside::MemStore;
-use std::alloc::{AllocError, Global};
+use std::alloc::Global;
 use std::process::Abort;
 use std::sync::Wait;
 use std::test::Fail;
@@ -214,12 +214,12 @@ fn told<R: Abort + Threads + Wait + Sync>(
     rt: &R,
     alloc: Global,
     story: &Story<'_>,
-) -> Result<(), AllocError> {
+) -> Result<(), Fail> {
     let mut store = Program::new(&[], story.files).store(alloc)?;
     for (words, status, output) in story.calls {
         Program::new(words, &[])
             .run_over(rt, alloc, &mut store)?
-            .expect(rt, story.name, *status, output);
+            .expect(story.name, *status, output)?;
     }
     Ok(())
 }
@@ -239,10 +239,10 @@ fn once_more<R: Abort + Threads + Wait + Sync>(
     alloc: Global,
     store: &mut MemStore,
     line: &str,
-) -> Result<(), AllocError> {
+) -> Result<(), Fail> {
     Program::new(AGAIN, &[])
         .run_over(rt, alloc, store)?
-        .expect_line(rt, "one generation more", 0, line);
+        .expect_line("one generation more", 0, line)?;
     Ok(())
 }
 
@@ -267,7 +267,7 @@ fn ten_generations(rt: HostRuntime) -> Result<(), Fail> {
     let replay = Program::new(REPLAY, &[]);
     replay
         .run_over(&rt, alloc, &mut store)?
-        .expect(&rt, "the first generation", 0, RETURNED);
+        .expect("the first generation", 0, RETURNED)?;
     for line in BALANCES {
         once_more(&rt, alloc, &mut store, line)?;
     }
@@ -293,10 +293,10 @@ fn too_many_updates(rt: HostRuntime) -> Result<(), Fail> {
     ];
     Program::new(AGAIN, files)
         .run(&rt, alloc)?
-        .expect(&rt, "4,097 updates", 3, "refused s 0 too many\n");
+        .expect("4,097 updates", 3, "refused s 0 too many\n")?;
     Program::new(&["again", "i", "c", "out", "fits"], files)
         .run(&rt, alloc)?
-        .expect_line(&rt, "4,096 updates", 0, "resumed 1");
+        .expect_line("4,096 updates", 0, "resumed 1")?;
     Ok(())
 }
 
@@ -323,7 +323,7 @@ fn from_lines<R: Abort + Threads + Wait + Sync>(
     first: &[[u64; 8]],
     second: &[[u64; 8]],
     line: &str,
-) -> Result<(), AllocError> {
+) -> Result<(), Fail> {
     let first = log("out.0", first).bytes(alloc)?;
     let second = log("out.1", second).bytes(alloc)?;
     let files: &[(&str, &[u8])] = &[
@@ -335,7 +335,7 @@ fn from_lines<R: Abort + Threads + Wait + Sync>(
     ];
     Program::new(&["again", "i", "c", "out", "s", "s"], files)
         .run(rt, alloc)?
-        .expect(rt, "an old log", 4, line);
+        .expect("an old log", 4, line)?;
     Ok(())
 }
 
@@ -380,7 +380,7 @@ fn calls_that_fail(rt: HostRuntime) -> Result<(), Fail> {
         };
         program
             .run(&rt, alloc)?
-            .expect(&rt, "a call fails", *status, output);
+            .expect("a call fails", *status, output)?;
     }
     Ok(())
 }

@@ -261,7 +261,7 @@ const HOSTILE_IMAGES: &[Recovery<'static>] = &[
 #[test]
 fn hostile_images(rt: HostRuntime) -> Result<(), Fail> {
     for case in HOSTILE_IMAGES {
-        recover(&rt, rt.alloc(), case)?.expect(&rt, case.name, case.status, case.output);
+        recover(&rt, rt.alloc(), case)?.expect(case.name, case.status, case.output)?;
     }
     Ok(())
 }
@@ -308,11 +308,10 @@ fn masks_with_wrong_bits(rt: HostRuntime) -> Result<(), Fail> {
     for (case, word, bits) in WRONG_BITS {
         let entry = turned(ONE_AT_1, *word, *bits);
         recover_lines(&rt, rt.alloc(), &[ONE_HEAD, entry, DEPOSIT_5])?.expect(
-            &rt,
             case,
             0,
             "log 0 entries 0 lines 1\nrecovered 0\nstate\nbank 1\naccount 0 0\n",
-        );
+        )?;
     }
     Ok(())
 }

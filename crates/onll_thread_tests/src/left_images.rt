@@ -68,7 +68,7 @@ fn calls_that_fail(rt: HostRuntime) -> Result<(), Fail> {
         let mut store = program.store(alloc)?;
         program
             .run_over(&rt, alloc, &mut store)?
-            .expect(&rt, "a call fails", *status, output);
+            .expect("a call fails", *status, output)?;
         expect_images(&rt, alloc, &store, *images)?;
     }
     Ok(())
@@ -86,7 +86,7 @@ fn the_put_of_a_replay_fails(rt: HostRuntime) -> Result<(), Fail> {
     let mut store = program.store(alloc)?;
     program
         .run_over(&rt, alloc, &mut store)?
-        .expect(&rt, "the put of a report fails", 6, "");
+        .expect("the put of a report fails", 6, "")?;
     expect_images(&rt, alloc, &store, 2)?;
     Ok(())
 }
@@ -112,12 +112,12 @@ fn recovers<R: Abort + Threads + Wait + Sync>(
     images: (&[u8], &[u8]),
     status: u8,
     output: &str,
-) -> Result<(), AllocError> {
+) -> Result<(), Fail> {
     let files: &[(&str, &[u8])] = &[("i", init), ("out.0", images.0), ("out.1", images.1)];
     let program = Program::new(&["recover", "i", "out", "2"], files);
     program
         .run(rt, alloc)?
-        .expect(rt, "a recovery", status, output);
+        .expect("a recovery", status, output)?;
     Ok(())
 }
 
@@ -128,7 +128,6 @@ fn what_a_crash_left_is_recovered(rt: HostRuntime) -> Result<(), Fail> {
     let files: &[(&str, &[u8])] = &[("x", &second)];
     let shown = Program::new(&["show", "x"], files);
     shown.run(&rt, rt.alloc())?.expect(
-        &rt,
         "the second log",
         0,
         "log thread 1 threads 2 object bank\n\
@@ -136,7 +135,7 @@ fn what_a_crash_left_is_recovered(rt: HostRuntime) -> Result<(), Fail> {
          row 1 0 1 1 0 5 0 0 0 0\n\
          row 2 1 1 1 1 7 0 0 0 0\n\
          entries 1 lines 4\n",
-    );
+    )?;
     recovers(
         &rt,
         rt.alloc(),
@@ -210,7 +209,7 @@ fn sixteen_logs_are_recovered(rt: HostRuntime) -> Result<(), Fail> {
     let recovery = Program::new(&["recover", "i", "out", "16"], &[]);
     recovery
         .run_over(&rt, rt.alloc(), &mut store)?
-        .expect(&rt, "sixteen logs", 0, SIXTEEN_RECOVERED);
+        .expect("sixteen logs", 0, SIXTEEN_RECOVERED)?;
     Ok(())
 }
 

@@ -3,7 +3,7 @@
 use onll_calls::{Program, USAGE, words_of};
 use onll_outside::{Gate, MemSink, Point};
 use onll_trace::Spot;
-use std::alloc::{AllocError, Global};
+use std::alloc::Global;
 use std::process::Abort;
 use std::sync::Wait;
 use std::sync::atomic::{AtomicU64, Ordering};
@@ -54,10 +54,10 @@ fn expect<R: Threads + Wait + Sync + Abort>(
     words: &[&str],
     status: u8,
     text: &str,
-) -> Result<(), AllocError> {
+) -> Result<(), Fail> {
     Program::new(words, &[])
         .run(rt, alloc)?
-        .expect(rt, "make", status, text);
+        .expect("make", status, text)?;
     Ok(())
 }
 

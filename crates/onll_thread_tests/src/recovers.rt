@@ -569,7 +569,7 @@ const RECOVERIES: &[Recovery<'static>] = &[
 #[test]
 fn recoveries_from_logs(rt: HostRuntime) -> Result<(), Fail> {
     for case in RECOVERIES {
-        recover(&rt, rt.alloc(), case)?.expect(&rt, case.name, case.status, case.output);
+        recover(&rt, rt.alloc(), case)?.expect(case.name, case.status, case.output)?;
     }
     Ok(())
 }
@@ -631,7 +631,7 @@ fn the_put_of_a_recovery_fails(rt: HostRuntime) -> Result<(), Fail> {
         let mut store = store_of(alloc, case.init, case.images)?;
         program
             .run_over(&rt, alloc, &mut store)?
-            .expect(&rt, case.name, case.status, case.output);
+            .expect(case.name, case.status, case.output)?;
     }
     Ok(())
 }
@@ -655,7 +655,7 @@ fn words_of_no_form(rt: HostRuntime) -> Result<(), Fail> {
     for words in NO_FORMS {
         Program::new(words, &[("i", b"bank 1\n")])
             .run(&rt, rt.alloc())?
-            .expect(&rt, "no form", 2, USAGE);
+            .expect("no form", 2, USAGE)?;
     }
     Ok(())
 }

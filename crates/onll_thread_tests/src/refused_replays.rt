@@ -137,7 +137,7 @@ fn schedules_that_are_refused(rt: HostRuntime) -> Result<(), Fail> {
             ("s1", b"deposit 1 7\n"),
         ];
         let program = Program::new(TWO, files);
-        program.run(&rt, rt.alloc())?.expect(&rt, name, 3, output);
+        program.run(&rt, rt.alloc())?.expect(name, 3, output)?;
     }
     Ok(())
 }
@@ -147,7 +147,7 @@ fn what_is_refused_first(rt: HostRuntime) -> Result<(), Fail> {
     for case in REFUSED_BEFORE {
         case.program()
             .run(&rt, rt.alloc())?
-            .expect(&rt, case.name, case.status, case.output);
+            .expect(case.name, case.status, case.output)?;
     }
     Ok(())
 }

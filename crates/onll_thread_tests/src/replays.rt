@@ -1,7 +1,7 @@
 //! Replays of schedules that crash.
 
 use onll_calls::Program;
-use std::alloc::{AllocError, Global};
+use std::alloc::Global;
 use std::process::Abort;
 use std::sync::Wait;
 use std::test::Fail;
@@ -431,7 +431,7 @@ fn schedules_that_crash(rt: HostRuntime) -> Result<(), Fail> {
     for case in REPLAYS {
         case.program()
             .run(&rt, rt.alloc())?
-            .expect(&rt, case.name, case.status, case.output);
+            .expect(case.name, case.status, case.output)?;
     }
     Ok(())
 }
@@ -461,7 +461,7 @@ fn crashes<R: Abort + Threads + Wait + Sync>(
     turns: &[u8],
     crash: &[u8],
     line: &str,
-) -> Result<(), AllocError> {
+) -> Result<(), Fail> {
     let mut schedule = Vec::from_slice(alloc, turns)?;
     schedule.extend_from_slice(crash)?;
     let files: &[(&str, &[u8])] = &[
@@ -473,7 +473,7 @@ fn crashes<R: Abort + Threads + Wait + Sync>(
     let program = Program::new(TWO, files);
     program
         .run(rt, alloc)?
-        .expect_line(rt, "a cut schedule", 0, line);
+        .expect_line("a cut schedule", 0, line)?;
     Ok(())
 }
 

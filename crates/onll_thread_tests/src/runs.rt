@@ -38,10 +38,10 @@ fn what_was_run_is_recovered(rt: HostRuntime) -> Result<(), Fail> {
     let run = Program::new(ONE, FILES);
     let mut store = run.store(alloc)?;
     run.run_over(&rt, alloc, &mut store)?
-        .expect(&rt, "one thread", 0, REPORT);
+        .expect("one thread", 0, REPORT)?;
     Program::new(&["recover", "i", "out", "1"], &[])
         .run_over(&rt, alloc, &mut store)?
-        .expect(&rt, "its log", 0, RECOVERED);
+        .expect("its log", 0, RECOVERED)?;
     Ok(())
 }
 
@@ -62,7 +62,7 @@ const TWO_REPORT: &str = "call 0 1 transfer 0 1 30 -> ok at 1\n\
 fn a_thread_with_no_call(rt: HostRuntime) -> Result<(), Fail> {
     Program::new(&["run", "i", "out", "s", "none"], FILES)
         .run(&rt, rt.alloc())?
-        .expect(&rt, "two threads", 0, TWO_REPORT);
+        .expect("two threads", 0, TWO_REPORT)?;
     Ok(())
 }
 
@@ -79,7 +79,7 @@ fn as_many_updates_as_there_can_be(rt: HostRuntime) -> Result<(), Fail> {
         let files: &[(&str, &[u8])] = &[("i", b"bank 1\n"), ("s", &script)];
         Program::new(ONE, files)
             .run(&rt, rt.alloc())?
-            .expect_line(&rt, "a long script", *status, line);
+            .expect_line("a long script", *status, line)?;
     }
     Ok(())
 }
@@ -100,7 +100,7 @@ fn words_of_no_run(rt: HostRuntime) -> Result<(), Fail> {
     for words in NO_FORMS {
         Program::new(words, FILES)
             .run(&rt, rt.alloc())?
-            .expect(&rt, "no form", 2, USAGE);
+            .expect("no form", 2, USAGE)?;
     }
     Ok(())
 }

@@ -119,7 +119,7 @@ fn fences_that_fail(rt: HostRuntime) -> Result<(), Fail> {
         let mut store = program.store_with(rt.alloc(), &[fence])?;
         program
             .run_over(&rt, rt.alloc(), &mut store)?
-            .expect(&rt, case.name, case.status, case.output);
+            .expect(case.name, case.status, case.output)?;
         let kept = store.file("out.0") != Some(b"first");
         assert_eq!(rt; kept, case.fence != 1, "{}: kept", case.name);
     }
@@ -157,7 +157,7 @@ fn what_a_failed_fence_leaves(rt: HostRuntime) -> Result<(), Fail> {
     for (words, output) in LEFT {
         Program::new(words, &[])
             .run_over(&rt, alloc, &mut store)?
-            .expect(&rt, "what was kept", 0, output);
+            .expect("what was kept", 0, output)?;
     }
     Ok(())
 }
@@ -279,7 +279,7 @@ fn expect_logs<R: Abort + Threads + Wait + Sync>(
             let shown = SHOWN.get(index).unwrap_or(&"");
             Program::new(&["show", *name], &[(*name, held)])
                 .run(rt, alloc)?
-                .expect(rt, name, 0, shown);
+                .expect(name, 0, shown)?;
         } else {
             assert!(rt; held == *before, "{name} is not as it was");
         }
@@ -301,7 +301,7 @@ fn calls_that_fail_in_turn(rt: HostRuntime) -> Result<(), Fail> {
         let gate = WatchGate::new(alloc, IN_TURN)?;
         program
             .run_at(&rt, alloc, &mut store, &gate)?
-            .expect(&rt, case.output, case.status, case.output);
+            .expect(case.output, case.status, case.output)?;
         assert_eq!(rt; gate.arrivals(), case.arrivals, "call {}", case.call);
         assert!(rt; !gate.expired());
         expect_logs(&rt, alloc, &store, case.kept)?;

@@ -79,11 +79,11 @@ fn expect_run<R: Abort + Threads + Wait + Sync, S: Store>(
     let gate = WatchGate::new(alloc, HOLDS)?;
     Program::new(RUN, &[])
         .call(rt, alloc, store, &gate)?
-        .expect(rt, "the run", 0, REPORT);
+        .expect("the run", 0, REPORT)?;
     assert!(rt; !gate.expired());
     Program::new(RECOVER, &[])
         .call(rt, alloc, store, &FreeGate)?
-        .expect(rt, "its logs", 0, RECOVERED);
+        .expect("its logs", 0, RECOVERED)?;
     Ok(())
 }
 

@@ -154,14 +154,14 @@ fn any_legal_order(rt: HostRuntime) -> Result<(), Fail> {
 
     let order = order_of(alloc, run.text())?;
     let folded = fold(&rt, alloc, INIT, &order)?;
-    folded.expect_line(&rt, "the fold", 0, "call 0 7 total -> 100 at 6");
+    folded.expect_line("the fold", 0, "call 0 7 total -> 100 at 6")?;
     expect_answers(&rt, run.text(), folded.text());
     assert_eq!(rt; state_of(run.text()), state_of(folded.text()));
 
     let recovered = Program::new(&["recover", "i", "out", "2"], &[]).run_over(
         &rt, alloc, &mut store,
     )?;
-    recovered.expect_line(&rt, "the logs", 0, "recovered 6");
+    recovered.expect_line("the logs", 0, "recovered 6")?;
     expect_nodes(&rt, run.text(), recovered.text());
     assert_eq!(rt; state_of(run.text()), state_of(recovered.text()));
     Ok(())

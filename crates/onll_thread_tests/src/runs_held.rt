@@ -39,7 +39,7 @@ fn expect_held<R: Abort + Threads + Wait + Sync>(
     let gate = WatchGate::new(alloc, holds)?;
     Program::new(words, &[])
         .run_at(rt, alloc, store, &gate)?
-        .expect(rt, "a held run", status, output);
+        .expect("a held run", status, output)?;
     assert!(rt; !gate.expired(), "a hold ran out of turns");
     Ok(())
 }
@@ -159,6 +159,6 @@ fn a_window_keeps_what_a_failed_fence_lost(rt: HostRuntime) -> Result<(), Fail> 
     expect_held(&rt, alloc, TWO, &mut store, WALKED, 7, BROKEN_REPORT)?;
     Program::new(&["recover", "b2", "out", "2"], &[])
         .run_over(&rt, alloc, &mut store)?
-        .expect(&rt, "what was kept", 0, BROKEN_RECOVERED);
+        .expect("what was kept", 0, BROKEN_RECOVERED)?;
     Ok(())
 }

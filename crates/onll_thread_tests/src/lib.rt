@@ -5,8 +5,6 @@
 #[cfg(test)]
 mod crashes;
 #[cfg(test)]
-mod generations;
-#[cfg(test)]
 mod hostile_images;
 #[cfg(test)]
 mod left_images;

@@ -2,7 +2,7 @@
 
 use onll_calls::images::{FORMAT_9_HEAD, HEAD_1, Image, OLD_HEAD_0, OLD_HEAD_1};
 use onll_calls::{Program, repeated};
-use onll_outside::MemStore;
+use onll_outside::{MemStore, Store};
 use std::alloc::Global;
 use std::process::Abort;
 use std::sync::Wait;
@@ -281,21 +281,13 @@ fn too_many_updates(rt: HostRuntime) -> Result<(), Fail> {
     let mut store = Program::new(&[], STORIES[0].files).store(alloc)?;
     let replay = Program::new(REPLAY, &[]);
     let _ = replay.run_over(&rt, alloc, &mut store)?;
-    let image = Vec::from_slice(alloc, store.file("out.0").unwrap_or(b""))?;
-    let most = repeated(alloc, b"deposit 0 1\n", 4096)?;
-    let one_less = repeated(alloc, b"deposit 0 1\n", 4095)?;
-    let files: &[(&str, &[u8])] = &[
-        ("i", b"bank 1\n"),
-        ("c", b"crash 0\n"),
-        ("s", &most),
-        ("fits", &one_less),
-        ("out.0", &image),
-    ];
-    Program::new(AGAIN, files)
-        .run(&rt, alloc)?
+    store.write(alloc, "s", &repeated(alloc, b"deposit 0 1\n", 4096)?)?;
+    Program::new(AGAIN, &[])
+        .run_over(&rt, alloc, &mut store)?
         .expect("4,097 updates", 3, "refused s 0 too many\n")?;
-    Program::new(&["again", "i", "c", "out", "fits"], files)
-        .run(&rt, alloc)?
+    store.write(alloc, "s", &repeated(alloc, b"deposit 0 1\n", 4095)?)?;
+    Program::new(AGAIN, &[])
+        .run_over(&rt, alloc, &mut store)?
         .expect_line("4,096 updates", 0, "resumed 1")?;
     Ok(())
 }
@@ -316,6 +308,9 @@ fn log<'a>(name: &'a str, lines: &'a [[u64; 8]]) -> Image<'a> {
     }
 }
 
+/// The other files of these threads.
+const OLD_FILES: &[(&str, &[u8])] = &[("i", b"bank 2\n"), ("c", b"crash 0\n"), ("s", b"")];
+
 /// Goes on from images with these lines.
 fn from_lines<R: Abort + Threads + Wait + Sync>(
     rt: &R,
@@ -324,17 +319,11 @@ fn from_lines<R: Abort + Threads + Wait + Sync>(
     second: &[[u64; 8]],
     line: &str,
 ) -> Result<(), Fail> {
-    let first = log("out.0", first).bytes(alloc)?;
-    let second = log("out.1", second).bytes(alloc)?;
-    let files: &[(&str, &[u8])] = &[
-        ("i", b"bank 2\n"),
-        ("c", b"crash 0\n"),
-        ("s", b""),
-        ("out.0", &first),
-        ("out.1", &second),
-    ];
-    Program::new(&["again", "i", "c", "out", "s", "s"], files)
-        .run(rt, alloc)?
+    let mut store = Program::new(&[], OLD_FILES).store(alloc)?;
+    store.write(alloc, "out.0", &log("out.0", first).bytes(alloc)?)?;
+    store.write(alloc, "out.1", &log("out.1", second).bytes(alloc)?)?;
+    Program::new(&["again", "i", "c", "out", "s", "s"], &[])
+        .run_over(rt, alloc, &mut store)?
         .expect("an old log", 4, line)?;
     Ok(())
 }

@@ -83,6 +83,17 @@ too_many threads nodes t (log ∷ logs) (script ∷ scripts) =
     else too_many threads nodes (t + 1) logs scripts
 too_many threads nodes t logs scripts = None
 
+module _ {State Op Query Reply : Type 0} (b : Behaviour State Op Query Reply) (heads : List LogHead)
+    (scripts : List (List (Call State Op Query Reply))) where
+  -- what was found, unless a thread has no room for its script
+  abbrev pub with_room : Result Found ResumeFault → Result Found ResumeFault
+  with_room (Ok found) = unless (too_many (length heads) found.nodes 0 (map log_counts found.logs) scripts) found
+  with_room (Err fault) = Err fault
+
+  -- what images give to scripts that go on from them, or the first reason why they can't
+  abbrev pub base_in : List (List (List ℕ)) → Result Found ResumeFault
+  base_in images = with_room (found_in b heads images)
+
 -- ---- a core
 abbrev pub going_on : {State Op Query Reply : Type 0} → State → List LogHead → List (List (Call State Op Query Reply))
     → Result Found ResumeFault → Result (CoreState State Op Query Reply) ResumeFault

@@ -10,7 +10,7 @@ ghost use Rattle.onll_pmem.specs.Pmem.{words_of};
 ghost use Rattle.onll_log.specs.Grammar.{content_of};
 ghost use Rattle.onll_log.specs.Torn.{AreLines};
 ghost use Rattle.onll_merge.specs.Recovered.{recovered_in};
-ghost use Rattle.onll_core.specs.Resume.{found_in, is_too_many, too_many};
+ghost use Rattle.onll_core.specs.Resume.{base_in, found_in, is_too_many, too_many};
 ghost use Rattle.onll_core.specs.Found.{is_old_log, first_old, answer_of, IsFound};
 ghost use Rattle.onll_core.specs.declared.fault.ResumeFault.TheVariants.{NoMemory as OutOfMemory};
 
@@ -167,4 +167,29 @@ pub fn check_room<O: Object>(
         }
     }
     Ok(())
+}
+
+/// What images give as logs that scripts can go on from with these heads, and the object after their nodes; or the first reason why
+/// they can't.
+pub fn find_base<O: Object>(
+    alloc: Global,
+    object: &mut O,
+    heads: &[LogHead],
+    images: &[Vec<Line>],
+    scripts: &[Vec<Call<O>>],
+) -> Result<Recovery, ResumeFault>
+    requires few { length scripts.now ≤ most_threads }
+    requires heads { length heads.now ≡ length scripts.now }
+    requires images { length images.now ≡ length scripts.now }
+    requires updates { All (λ script. updates_in script.items ≤ most_updates) scripts.now }
+    ensures base { let base = base_in O.means heads.now (map (λ script. script.items) scripts.now)
+        (map (λ image. words_of image.items) images.now) in
+        MatchResult result (λ r. IsFound base (recovered_in r)) (λ e. (e ≡ OutOfMemory) ⊎ (base ≡ Err e)) }
+    ensures state { IfOk result (λ r. object.new ≡ state_after O.means object.old r.nodes.items) }
+{
+    let found = find(alloc, object, heads, images)?;
+    match check_room(&found.nodes, &found.logs, scripts) {
+        Ok(()) => Ok(found),
+        Err(fault) => Err(fault),
+    }
 }

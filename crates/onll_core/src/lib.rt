@@ -17,6 +17,7 @@ pub use crash_laws::{
     crash_law, durable_law, generations_law, image_law, next_crash_law, recovery_law,
 };
 pub use fault::ResumeFault;
+pub use found::find_base;
 pub use laws::{consistency_law, fence_law, stays_law, step_event_law};
 pub use outcomes::{order_law, reached_law, report_law, return_law};
 pub use phase::Phase;

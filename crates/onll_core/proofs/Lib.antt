@@ -38,4 +38,4 @@ mod Heads
 mod FoundWorkers
 mod FoundCores
 pub mod Generations
-mod Based
+pub mod Based

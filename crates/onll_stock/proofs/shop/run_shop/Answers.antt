@@ -10,7 +10,7 @@ pub run_scripts-requires-after_bounds : goal.run_scripts-requires-after_bounds
 run_scripts-requires-after_bounds g c κs within =
     let count : c.len.result ≡ length c.args.scripts.items = search rules in
     can_run g.P.Pmem.means (length c.args.scripts.items) c.args.init.now c.deref.result.now _ c.args.devices.items (sym (length-map c.args.scripts.items (λ script. script.items)))
-    (c.deref.ensures.value ∙ (c.in_ok-heads.ensures ∙ ap (λ (n : ℕ). shop_heads n c.args.init.now) count)) c.requires.some_thread c.requires.few c.requires.devices
+    (c.deref.ensures.value ∙ (c.in_ok-heads.ensures ∙ ap (λ (n : ℕ). shop_heads n c.args.init.now) count)) c.requires.some_thread c.requires.few c.requires.updates c.requires.devices
 
 pub returns-in-Ok : goal.returns-in-Ok
 returns-in-Ok g c =

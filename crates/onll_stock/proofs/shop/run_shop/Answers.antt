@@ -1,8 +1,11 @@
-use Rattle.std.proofs.Common.{rules, ℕ, ◌≡◌, length, map, refl, sym, ap, ◌∙◌}
+use Rattle.std.proofs.Common.{rules, ℕ, ◌≡◌, List, length, map, refl, sym, ap, ◌∙◌, subst}
 use Rattle.std.proofs.lemmas.List.{length-map}
+use Rattle.onll_log.specs.declared.head.LogHead.{LogHead}
+use Rattle.onll_run.specs.Left.{no_base}
+use Rattle.onll_run.specs.Making.{HasRefused}
 use Rattle.onll_run.specs.Ran.{anew, left_in}
 use Rattle.onll_stock.specs.Heads.{shop_heads}
-use Rattle.onll_stock.proofs.Heading.{can_run}
+use Rattle.onll_stock.proofs.Heading.{can_run, length-heads_to}
 use Rattle.onll_stock.proofs.Shops.{same_run, never_oversells}
 use Rattle.onll_stock.proofs.shop.run_shop.Goals as goal
 
@@ -25,3 +28,10 @@ returns-in-Ok g c =
       sold = never_oversells (anew c.args.had heads scripts) (left_in g.P.Pmem.means c.in-Ok.ran) run.legal refl run.crash;
       refused = tt;
     }
+
+pub returns-clause-refused : goal.returns-clause-refused
+returns-clause-refused g c =
+    let count : c.len.result ≡ length c.args.scripts.items = search rules in
+    let heads : c.deref.result.now ≡ shop_heads (length c.args.scripts.items) c.args.init.now = c.deref.ensures.value ∙ (c.in_ok-heads.ensures ∙ ap (λ (n : ℕ). shop_heads n c.args.init.now) count) in
+    let many : length c.deref.result.now ≡ length c.args.scripts.items = ap length heads ∙ length-heads_to (length c.args.scripts.items) (length c.args.scripts.items) c.args.init.now in
+    subst (λ (z : List LogHead × ℕ). HasRefused g.P.Pmem.means z.0 (no_base z.1).logs c.args.devices.items c.in-Err.fault) (λ i. (heads i, many i)) c.in-Err.ensures.refused

@@ -1,7 +1,7 @@
 -- How scripts go on from the images of logs that are read, or why they don't.
 
-use Rattle.std.proofs.Common.{Vec, Global, ℕ, List, [], ◌∷◌, ◌≡◌, ◌⊎◌, ⊎_elim, ◌≤◌, length, map, Result, Ok, Err, refl, sym, ap, ◌∙◌, subst}
-use Rattle.std.specs.List.{AllByRecursion, All}
+use Rattle.std.proofs.Common.{Vec, ℕ, List, [], ◌∷◌, ◌≡◌, ◌≤◌, length, Result, Ok, Err, sym, ap, ◌∙◌, subst}
+use Rattle.std.specs.List.{AllByRecursion}
 use Rattle.onll_model.specs.declared.call.Call.{Call}
 use Rattle.onll_model.specs.Object.{Behaviour}
 use Rattle.onll_log.specs.declared.head.LogHead.{LogHead}
@@ -16,7 +16,7 @@ use Rattle.onll_task.specs.declared.ending.Ending.TheVariants.{Done}
 use Rattle.onll_task.specs.declared.answer.Stop.{Stop}
 use Rattle.onll_task.specs.Job.{Job}
 use Rattle.onll_task.specs.Doing.{Does}
-use Rattle.onll_task.specs.Images.{StandsFor, StandFor, used_in}
+use Rattle.onll_task.specs.Images.{StandFor, used_in}
 use Rattle.onll_task.specs.Running.{RunPlan, RunLeft}
 use Rattle.onll_task.specs.Stop.{StopSays}
 use Rattle.onll_task.proofs.Stages.{wider, says_does}

@@ -1,6 +1,6 @@
 -- Images that are decoded, and the lines of their devices, one thread after the other.
 
-use Rattle.std.proofs.Common.{Vec, Global, ℕ, List, [], ◌∷◌, ◌++◌, ◌≡◌, ◌+◌, ◌*◌, ◌<◌, ◌≤◌, max, length, map, take, drop, get_or, IsSome, refl, sym, ap, ◌∙◌, subst, arith}
+use Rattle.std.proofs.Common.{Vec, Global, ℕ, List, [], ◌∷◌, ◌++◌, ◌≡◌, ◌+◌, ◌*◌, ◌<◌, max, length, map, take, drop, get_or, sym, ap, ◌∙◌, subst}
 use Rattle.std.specs.List.{AllByRecursion}
 use Rattle.std.proofs.lemmas.List.{take_more, drop_more, map-append}
 use Rattle.onll_words.specs.declared.line.Line.{Line}
@@ -9,7 +9,7 @@ use Rattle.onll_model.specs.Calls.{updates_in}
 use Rattle.onll_pmem.specs.Pmem.{words_of}
 use Rattle.onll_log.specs.declared.decoded.Decoded.{Decoded}
 use Rattle.onll_log.specs.Decoded.{content_in}
-use Rattle.onll_log.specs.Grammar.{Content, content_of}
+use Rattle.onll_log.specs.Grammar.{Content}
 use Rattle.onll_merge.specs.declared.counts.LogCounts.{LogCounts}
 use Rattle.onll_merge.specs.Merge.{contents_in}
 use Rattle.onll_task.specs.Images.{images_in}

@@ -1,6 +1,6 @@
 -- What a run left is kept, and its report is said.
 
-use Rattle.std.proofs.Common.{Vec, Global, ℕ, suc, true, false, List, [], ◌∷◌, ◌≡◌, ◌≤◌, ◌+◌, ◌*◌, length, map, Result, Ok, Err, is_some, inr, refl, sym, ap, ◌∙◌, subst, arith}
+use Rattle.std.proofs.Common.{Vec, Global, ℕ, true, List, [], ◌∷◌, ◌≡◌, ◌≤◌, ◌+◌, ◌*◌, length, map, Result, Ok, Err, is_some, sym, ap, ◌∙◌, subst, arith}
 use Rattle.std.specs.List.{All, AllByRecursion}
 use Rattle.std.specs.Result.{IsErrAnd}
 use Rattle.std.proofs.lemmas.List.{length-map}
@@ -20,7 +20,7 @@ use Rattle.onll_run.specs.Making.{device_of}
 use Rattle.onll_run.specs.Ran as ran
 use Rattle.onll_text.specs.Kinds.{ObjectKind}
 use Rattle.onll_task.specs.declared.ending.Ending.{Ending}
-use Rattle.onll_task.specs.declared.ending.Ending.TheVariants.{Done, Usage, Refused, BadLog, ReadFault, WriteFault, Faulty}
+use Rattle.onll_task.specs.declared.ending.Ending.TheVariants.{Faulty}
 use Rattle.onll_task.specs.declared.answer.Stop.{Stop}
 use Rattle.onll_task.specs.declared.answer.Stop.TheVariants.{Says, NoMemory}
 use Rattle.onll_task.specs.FileLines.{IsWholeLine, FitFile}
@@ -28,7 +28,7 @@ use Rattle.onll_task.specs.ImageNames.{image_names}
 use Rattle.onll_task.specs.Running.{RunPlan, RunLeft, HasKept, HoldsLogs, broken_threads, fences_of, log_files}
 use Rattle.onll_task.specs.Stop.{StopSays}
 use Rattle.onll_task.specs.Writing.{SameBut, AllButStay}
-use Rattle.onll_runner.specs.Devices.{AreKept, HandsEach, ThreadFails, DeviceFails, fault_of, fences_in}
+use Rattle.onll_runner.specs.Devices.{AreKept, HandsEach, ThreadFails, fault_of, fences_in}
 use Rattle.onll_runner.specs.RunReport.{plan_report, PlanReads}
 use Rattle.onll_runner.specs.RunEnds.{NotKept, EndSays, HasEnded}
 use Rattle.onll_runner.proofs.Keeping.{risen_all, kept_logs, kept_many, faults_sum, fences_sum}

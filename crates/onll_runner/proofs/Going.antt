@@ -1,6 +1,6 @@
 -- How scripts go on from logs that were found in images.
 
-use Rattle.std.proofs.Common.{Vec, ℕ, zero, suc, true, List, [], ◌∷◌, ◌≡◌, ◌+◌, ◌*◌, ◌<◌, ◌≤◌, max, length, map, Option, Some, None, IsSome, is_some, true≢false, Result, Ok, Err, refl, sym, ap, ◌∙◌, subst, arith}
+use Rattle.std.proofs.Common.{Vec, ℕ, true, List, [], ◌∷◌, ◌≡◌, ◌+◌, ◌*◌, ◌≤◌, max, length, map, Option, Some, IsSome, Result, Ok, Err, refl, sym, ap, ◌∙◌, subst, arith}
 use Rattle.std.specs.List.{AllByRecursion, All}
 use Rattle.std.proofs.lemmas.List.{length-map}
 use Rattle.std.proofs.lemmas.List.Elements.{All-from_recursion, recursion_from_All}
@@ -19,7 +19,6 @@ use Rattle.onll_merge.specs.Recovered.{Recovered, log_counts}
 use Rattle.onll_merge.proofs.Backs.{merge-back}
 use Rattle.onll_core.specs.declared.fault.ResumeFault.{ResumeFault}
 use Rattle.onll_core.specs.Based.{HaveRoom, IsBase}
-use Rattle.onll_core.specs.Created.{created_heads}
 use Rattle.onll_core.specs.Found.{IsFound}
 use Rattle.onll_core.specs.Resume.{Found, base_in}
 use Rattle.onll_core.proofs.Based.{base_is}
@@ -37,8 +36,8 @@ use Rattle.onll_task.specs.Running.{RunPlan, RunLeft, LogsStayOrWipe, log_files}
 use Rattle.onll_task.specs.Standing.{StandsForRuns}
 use Rattle.onll_task.specs.Stop.{StopSays}
 use Rattle.onll_task.specs.Writing.{SameBut, SameCounts}
-use Rattle.onll_runner.specs.Devices.{ThreadFails, AreReopened, AreWiped, IsHeld, AreHeld, AreWithin, fronts_by}
-use Rattle.onll_runner.specs.ResumeJob.{AreRead, FitsIn, AreFitting, lines_over, plan_over}
+use Rattle.onll_runner.specs.Devices.{ThreadFails, AreReopened, AreWiped, AreHeld, AreWithin, fronts_by}
+use Rattle.onll_runner.specs.ResumeJob.{AreRead, AreFitting, lines_over, plan_over}
 use Rattle.onll_runner.specs.RunEnds.{HasGone}
 use Rattle.onll_runner.specs.RunJob.{calls_task}
 use Rattle.onll_runner.proofs.Reopening.{AreSound, are_sound, logs_stay, are_within, lines_small, roomy_again, small_again, fronts_within}

@@ -1,6 +1,6 @@
 -- Devices that are made, kept and given up, one thread after the other.
 
-use Rattle.std.proofs.Common.{ℕ, zero, suc, true, false, List, [], ◌∷◌, ◌++◌, ◌≡◌, ◌+◌, ◌<◌, ◌^◌, length, map, reverse, drop, get_or, decimal, codes, inl, inr, ◌⊎◌, ⊎_elim, refl, sym, ap, ◌∙◌, subst, arith, append_assoc, append-nil, length-append}
+use Rattle.std.proofs.Common.{ℕ, zero, suc, true, false, List, [], ◌∷◌, ◌++◌, ◌≡◌, ◌+◌, ◌<◌, ◌^◌, length, map, reverse, drop, get_or, decimal, codes, inl, inr, ⊎_elim, refl, sym, ap, ◌∙◌, subst, arith, append_assoc, append-nil, length-append}
 use Rattle.std.proofs.lemmas.Bool.{cases_Bool}
 use Rattle.std.proofs.lemmas.Fmt.{decimal_injective}
 use Rattle.std.proofs.lemmas.List.{drop_more, map-append, length-map, reverse-append, reverse-reverse, length-reverse, append_cancel_left}
@@ -12,7 +12,7 @@ use Rattle.onll_outside.specs.declared.store.FaultKind.{FaultKind}
 use Rattle.onll_task.specs.declared.answer.Stop.{Stop}
 use Rattle.onll_task.specs.declared.answer.Stop.TheVariants.{Says, NoMemory}
 use Rattle.onll_task.specs.Stop.{StopSays}
-use Rattle.onll_outside.specs.Views.{StoreView, Rose, SameFiles, SameOthers, SameFaults, HandsBack, IsFresh, KeepsDevice, KeptOrZeros, counted}
+use Rattle.onll_outside.specs.Views.{StoreView, Rose, SameFiles, SameOthers, SameFaults, HandsBack, IsFresh, KeepsDevice, KeptOrZeros}
 use Rattle.onll_task.specs.ImageNames.{image_name, image_names}
 use Rattle.onll_task.specs.Writing.{SameBut, SameCounts}
 use Rattle.onll_task.proofs.Onwards.{counts_more, others_on}

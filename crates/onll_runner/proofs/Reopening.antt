@@ -1,12 +1,10 @@
 -- Logs that are gone on from: what holds them is what their files begin with, and what the devices that are made of these read.
 
-use Rattle.std.proofs.Common.{Vec, Global, ℕ, zero, suc, Bool, true, false, true≢false, List, [], ◌∷◌, ◌++◌, ◌≡◌, ◌+◌, ◌-◌, ◌*◌, ◌<◌, ◌≤◌, ◌^◌, max, length, map, drop, get_or, cond, Option, Some, None, is_some, Result, Ok, inl, inr, ◌⊎◌, refl, sym, ap, ◌∙◌, subst, arith, append_assoc, append-nil, length-append}
-use Rattle.std.specs.List.{AllByRecursion, All}
+use Rattle.std.proofs.Common.{Vec, Global, ℕ, zero, suc, Bool, true, false, true≢false, List, [], ◌∷◌, ◌++◌, ◌≡◌, ◌+◌, ◌-◌, ◌*◌, ◌<◌, ◌≤◌, ◌^◌, max, length, map, drop, get_or, cond, Option, Some, None, is_some, inl, inr, ◌⊎◌, refl, sym, ap, ◌∙◌, subst, arith, append_assoc, append-nil, length-append}
+use Rattle.std.specs.List.{AllByRecursion}
 use Rattle.std.specs.Option.{IfSome}
-use Rattle.std.proofs.lemmas.List.{drop_more, drop_at, length-map, length-replicate, append_cancel_left}
-use Rattle.std.proofs.lemmas.List.Elements.{All-from_recursion, recursion_from_All}
+use Rattle.std.proofs.lemmas.List.{drop_more, drop_at, length-replicate, append_cancel_left}
 use Rattle.onll_model.specs.declared.call.Call.{Call}
-use Rattle.onll_model.specs.declared.node.Node.{Node}
 use Rattle.onll_model.specs.Segment.{Segment}
 use Rattle.onll_model.specs.Calls.{updates_in}
 use Rattle.onll_pmem.specs.Device.{zero_line, zero_lines}
@@ -14,24 +12,22 @@ use Rattle.onll_words.specs.declared.line.Line.{Line}
 use Rattle.onll_pmem.specs.Pmem.{DeviceView, words_of}
 use Rattle.onll_log.specs.declared.head.LogHead.{LogHead}
 use Rattle.onll_log.specs.Head.{head_of, is_head}
-use Rattle.onll_log.specs.Grammar.{Content, content_of, entries_from, is_zero_line, are_zero_lines, lines_in, used_with, used_by}
+use Rattle.onll_log.specs.Grammar.{Content, content_of, entries_from, are_zero_lines, lines_in, used_with, used_by}
 use Rattle.onll_log.specs.ImageFile.{longest_image}
-use Rattle.onll_log.specs.Log.{EndsInZeros, IsNewest, IsClean}
+use Rattle.onll_log.specs.Log.{IsNewest}
 use Rattle.onll_merge.specs.declared.counts.LogCounts.{LogCounts}
 use Rattle.onll_merge.specs.Laws.{HeadsFit}
-use Rattle.onll_merge.specs.Merge.{merge}
 use Rattle.onll_merge.specs.Recovered.{log_counts}
-use Rattle.onll_merge.proofs.Backs.{merge-back}
 use Rattle.onll_outside.specs.Views.{StoreView, SameOthers, SameFiles, IsFresh, BeginsWith, AreZeros, WipesAfter, MayWipe, word_bytes, image_bytes, with_zeros}
 use Rattle.onll_outside.specs.Views as views
-use Rattle.onll_run.specs.Making.{AreHeads, HoldsBefore, StandsBy, StandsAt}
+use Rattle.onll_run.specs.Making.{AreHeads, StandsBy, StandsAt}
 use Rattle.onll_run.specs.Ran.{IsRoomyFor, AreRoomy}
 use Rattle.onll_task.specs.ImageNames.{image_name, image_names}
 use Rattle.onll_task.specs.Images.{used_in, FilesBegin}
 use Rattle.onll_task.specs.Running.{IsFrontFor, LogsStayOrWipe}
 use Rattle.onll_task.proofs.Staying.{content_zeros}
-use Rattle.onll_runner.specs.Devices.{AreReopened, AreWiped, IsHeld, AreHeld, AreWithin, front_by, fronts_by}
-use Rattle.onll_runner.specs.ResumeJob.{FitsIn, AreFitting, lines_over}
+use Rattle.onll_runner.specs.Devices.{AreReopened, AreWiped, AreHeld, AreWithin, front_by, fronts_by}
+use Rattle.onll_runner.specs.ResumeJob.{AreFitting, lines_over}
 use Rattle.onll_runner.proofs.Handing.{name_differs}
 
 -- ---- files that begin with lines

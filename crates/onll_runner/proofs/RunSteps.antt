@@ -1,6 +1,6 @@
 -- How scripts that are run over devices do their task.
 
-use Rattle.std.proofs.Common.{Vec, Global, ℕ, zero, suc, Bool, true, false, List, [], ◌∷◌, ◌≡◌, ◌<◌, ◌≤◌, ◌+◌, ◌*◌, length, take, map, reverse, sum_by, Result, Ok, Err, Some, ◌⊎◌, inl, inr, refl, sym, ap, ◌∙◌, subst, arith}
+use Rattle.std.proofs.Common.{Vec, ℕ, zero, suc, Bool, true, false, List, [], ◌∷◌, ◌≡◌, ◌<◌, ◌≤◌, ◌+◌, ◌*◌, length, take, map, reverse, sum_by, Result, Ok, Err, Some, ◌⊎◌, inl, inr, refl, sym, ap, ◌∙◌, subst, arith}
 use Rattle.std.specs.List.{AllByRecursion, All}
 use Rattle.std.specs.Result.{IsErrAnd}
 use Rattle.std.proofs.lemmas.List.{length-map, length-reverse, length-replicate}
@@ -13,13 +13,12 @@ use Rattle.onll_model.specs.Limits.{most_threads, most_updates}
 use Rattle.onll_model.specs.declared.call.Call.{Call}
 use Rattle.onll_model.specs.declared.call.CallEnd.{CallEnd}
 use Rattle.onll_model.specs.Calls.{updates_in}
-use Rattle.onll_pmem.specs.Device.{zero_lines}
 use Rattle.onll_pmem.specs.Pmem.{DeviceView}
 use Rattle.onll_log.specs.declared.head.LogHead.{LogHead}
 use Rattle.onll_log.specs.ImageFile.{longest_image}
 use Rattle.onll_log.specs.Log.{LogState}
 use Rattle.onll_core.specs.Created.{created_heads, heads_from}
-use Rattle.onll_outside.specs.Views.{StoreView, SameFiles, SameFaults, Rose, IsFresh, AreZeros, counted}
+use Rattle.onll_outside.specs.Views.{StoreView, SameFiles, SameFaults, Rose, AreZeros, counted}
 use Rattle.onll_log.specs.Grammar.{Content}
 use Rattle.onll_merge.specs.Merge.{merge}
 use Rattle.onll_model.specs.declared.node.Node.{Node}
@@ -34,14 +33,14 @@ use Rattle.onll_task.specs.declared.ending.Ending.{Ending}
 use Rattle.onll_task.specs.declared.ending.Ending.TheVariants.{Done, Usage, Refused, BadLog, ReadFault, WriteFault, Faulty}
 use Rattle.onll_task.specs.declared.answer.Stop.{Stop}
 use Rattle.onll_task.specs.declared.answer.Stop.TheVariants.{Says, NoMemory}
-use Rattle.onll_task.specs.ImageNames.{image_name, image_names}
+use Rattle.onll_task.specs.ImageNames.{image_names}
 use Rattle.onll_task.specs.Printed.{fault_line}
 use Rattle.onll_task.specs.Job.{Job, JobEnds}
 use Rattle.onll_task.specs.Doing.{Does}
 use Rattle.onll_task.specs.Running.{RunPlan, RunLeft, RunStops, HasKept, HeaderFault, DeviceFault, StaysOrZeros, LogsStayOrWipe, FilesStand, device_call, broken_threads, fences_of, log_files}
 use Rattle.onll_task.specs.Standing.{StandsForRuns}
 use Rattle.onll_task.specs.Stop.{StopSays}
-use Rattle.onll_task.specs.Writing.{SameBut, AllButStay, SameCounts}
+use Rattle.onll_task.specs.Writing.{SameBut, SameCounts}
 use Rattle.onll_task.proofs.Stages.{stay_same}
 use Rattle.onll_task.proofs.Runs.{run_does, broken_does, stopped_does}
 use Rattle.onll_runner.specs.Devices.{AreNew, AreBlank, HandsEach, ThreadFails, risen, fault_of, fences_in}

@@ -1,4 +1,4 @@
-use Rattle.std.proofs.Common.{rules, [], map, reverse, refl, ◌∙◌}
+use Rattle.std.proofs.Common.{rules, refl, ◌∙◌}
 use Rattle.onll_runner.proofs.Handing.{handed_start, handed_next, handed_end, files_more}
 use Rattle.onll_runner.proofs.devices.give_up_all.Goals as goal
 

@@ -1,4 +1,4 @@
-use Rattle.std.proofs.Common.{Vec, Global, ℕ, List, ◌≡◌, ◌+◌, ◌∷◌, ◌++◌, [], take, length, get_or, Some, subst, sym, ap, ◌∙◌, arith, length-append}
+use Rattle.std.proofs.Common.{Vec, Global, ◌≡◌, ◌+◌, ◌∷◌, ◌++◌, [], take, length, get_or, Some, subst, sym, ap, ◌∙◌, arith, length-append}
 use Rattle.std.specs.List.{All, AllByRecursion}
 use Rattle.std.proofs.lemmas.List.{take_more}
 use Rattle.std.proofs.lemmas.List.Elements.{All-push}

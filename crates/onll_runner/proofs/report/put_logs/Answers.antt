@@ -1,4 +1,4 @@
-use Rattle.std.proofs.Common.{false, Some, get_or, refl, sym, subst, arith, ◌∙◌}
+use Rattle.std.proofs.Common.{false, Some, get_or, sym, subst, arith, ◌∙◌}
 use Rattle.std.specs.List.{All}
 use Rattle.std.proofs.lemmas.List.{drop_all}
 use Rattle.std.proofs.lemmas.List.Elements.{All-nil}

@@ -1,4 +1,4 @@
-use Rattle.std.proofs.Common.{◌+◌, false, [], Some, get_or, refl, arith, ◌∙◌}
+use Rattle.std.proofs.Common.{◌+◌, false, [], Some, get_or, arith, ◌∙◌}
 use Rattle.onll_trace.specs.declared.trace.Ended.{Ended}
 use Rattle.onll_text.specs.Lines.{node_line}
 use Rattle.onll_recovery.proofs.FoldSteps.{begins_after}

@@ -1,4 +1,4 @@
-use Rattle.std.proofs.Common.{Vec, Global, List, ℕ, Some, length, map, sym, ap, ◌≡◌, ◌∙◌}
+use Rattle.std.proofs.Common.{Vec, Global, Some, length, map, sym, ap, ◌∙◌}
 use Rattle.std.proofs.lemmas.List.{length-map}
 use Rattle.onll_words.specs.declared.line.Line.{Line}
 use Rattle.onll_model.specs.Trace.{state_after}
@@ -6,7 +6,7 @@ use Rattle.onll_pmem.specs.Pmem.{words_of}
 use Rattle.onll_log.specs.Grammar.{content_of}
 use Rattle.onll_log.specs.Log.{LogState}
 use Rattle.onll_merge.specs.Recovered.{Recovered, recovered_in}
-use Rattle.onll_run.specs.Left.{LogLeft, content_in}
+use Rattle.onll_run.specs.Left.{content_in}
 use Rattle.onll_run.specs.Ended.{log_left}
 use Rattle.onll_run.specs.Ran.{script_in, left_in}
 use Rattle.onll_runner.proofs.RunRecovers.{held_in, over_told, recovers_same, refused_so}

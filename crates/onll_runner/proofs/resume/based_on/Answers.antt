@@ -1,4 +1,4 @@
-use Rattle.std.proofs.Common.{rules, Vec, Global, ℕ, List, ◌≡◌, Ok, Err, length, map, string_bytes, sym, ap, ◌∙◌, subst}
+use Rattle.std.proofs.Common.{rules, Vec, Global, List, ◌≡◌, Err, length, map, string_bytes, sym, ap, ◌∙◌}
 use Rattle.onll_words.specs.declared.line.Line.{Line}
 use Rattle.onll_log.specs.declared.head.LogHead.{LogHead}
 use Rattle.onll_core.specs.Resume.{base_in}

@@ -1,5 +1,5 @@
-use Rattle.std.proofs.Common.{rules, Vec, Global, ℕ, List, ◌≡◌, ◌+◌, IsSome, Ok, true, length, map, sym, ap, ◌∙◌, subst}
-use Rattle.std.specs.List.{AllByRecursion, All}
+use Rattle.std.proofs.Common.{Vec, Global, ℕ, List, ◌≡◌, ◌+◌, IsSome, Ok, true, length, map, sym, ap, ◌∙◌, subst}
+use Rattle.std.specs.List.{AllByRecursion}
 use Rattle.std.proofs.lemmas.List.{length-map}
 use Rattle.onll_words.specs.declared.line.Line.{Line}
 use Rattle.onll_model.specs.declared.node.Node.{Node}
@@ -9,7 +9,6 @@ use Rattle.onll_log.specs.declared.decoded.Decoded.{Decoded}
 use Rattle.onll_merge.specs.Merge.{merge, contents_in}
 use Rattle.onll_merge.specs.declared.counts.LogCounts.{LogCounts}
 use Rattle.onll_merge.specs.Recovered.{recovered_in}
-use Rattle.onll_outside.specs.Views.{StoreView}
 use Rattle.onll_outside.specs.declared.store.FaultKind.TheVariants as kinds
 use Rattle.onll_run.specs.Ran.{CanRun, going_on}
 use Rattle.onll_task.specs.ImageNames.{image_names}

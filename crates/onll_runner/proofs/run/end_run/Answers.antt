@@ -1,14 +1,10 @@
-use Rattle.std.proofs.Common.{ℕ, ◌≡◌, true, length, map, is_some, refl, sym, ap, ◌∙◌, subst, arith}
+use Rattle.std.proofs.Common.{length, map, refl, sym, ap, ◌∙◌, arith}
 use Rattle.std.proofs.lemmas.List.{length-map}
-use Rattle.onll_outside.specs.Views.{StoreView}
 use Rattle.std.specs.List.{list_any}
 use Rattle.onll_log.specs.Log.{LogState}
 use Rattle.onll_merge.specs.Merge.{contents_in}
 use Rattle.onll_run.specs.Making.{device_of}
-use Rattle.onll_run.specs.Ran.{anew, left_in, script_in, ends_in}
-use Rattle.onll_task.specs.Running.{RunPlan, HasKept}
-use Rattle.onll_text.specs.Kinds.{ObjectKind, kind_by}
-use Rattle.onll_runner.specs.Devices.{AreKept, HandsEach}
+use Rattle.onll_run.specs.Ran.{script_in, ends_in}
 use Rattle.onll_runner.proofs.Keeping.{kept_many, none_broken, some_broken}
 use Rattle.onll_runner.proofs.Ending.{ended_whole, ended_broken, ended_unkept, kept_by, others_many, fails_many}
 use Rattle.onll_runner.proofs.run.end_run.Goals as goal

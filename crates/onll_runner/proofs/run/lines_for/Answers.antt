@@ -1,4 +1,4 @@
-use Rattle.std.proofs.Common.{◌++◌, ap, sym, ◌∙◌, drop, map, length, arith}
+use Rattle.std.proofs.Common.{◌++◌, ap, sym, ◌∙◌, map, length, arith}
 use Rattle.std.proofs.lemmas.List.{drop_all}
 use Rattle.onll_runner.proofs.NewHeads.{lines_among, lines_made}
 use Rattle.onll_runner.proofs.run.lines_for.Goals as goal

@@ -1,7 +1,4 @@
 use Rattle.std.proofs.Common.{◌≡◌, ◌≤◌, ◌++◌, drop, length, map, vec_capacity}
-use Rattle.std.specs.List.{All}
-use Rattle.onll_model.specs.Limits.{most_updates}
-use Rattle.onll_model.specs.Calls.{updates_in}
 use Rattle.onll_runner.proofs.NewHeads.{lines_among}
 use Rattle.onll_runner.proofs.run.lines_for.Given as goal
 

@@ -1,4 +1,4 @@
-use Rattle.std.proofs.Common.{rules, arith, vec_len}
+use Rattle.std.proofs.Common.{rules, arith}
 use Rattle.onll_runner.proofs.NewHeads.{heads_start, heads_next, heads_end, heads_fit}
 use Rattle.onll_runner.proofs.run.new_heads.Goals as goal
 

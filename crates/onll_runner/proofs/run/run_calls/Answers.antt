@@ -1,4 +1,4 @@
-use Rattle.std.proofs.Common.{rules, ℕ, ◌≡◌, length, map, sym, ap, ◌∙◌, subst}
+use Rattle.std.proofs.Common.{rules, ◌≡◌, length, map, sym, ap, ◌∙◌, subst}
 use Rattle.onll_merge.specs.Merge.{contents_in}
 use Rattle.onll_run.specs.Left.{no_base}
 use Rattle.onll_run.specs.Making.{AreHeads}

@@ -1,4 +1,4 @@
-use Rattle.std.proofs.Common.{map, refl}
+use Rattle.std.proofs.Common.{map}
 use Rattle.onll_merge.specs.Merge.{contents_in}
 use Rattle.onll_run.specs.Ran.{left_in, script_in, ends_in}
 use Rattle.onll_text.specs.Kinds.{kind_by}

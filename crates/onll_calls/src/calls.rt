@@ -16,6 +16,7 @@ pub const USAGE: &str = "usage: onll fold INIT SCRIPT\n       \
      onll recover INIT LOGS T\n       \
      onll replay INIT SCHEDULE LOGS SCRIPT..\n       \
      onll again INIT SCHEDULE LOGS SCRIPT..\n       \
+     onll resume INIT LOGS SCRIPT..\n       \
      onll run INIT LOGS SCRIPT..\n       \
      onll make T N SEED\n";
 

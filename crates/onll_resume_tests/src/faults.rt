@@ -6,7 +6,7 @@ use onll_calls::images::{
     DEPOSIT_5, FIRST_AT_1, HEAD_0, HEAD_1, Image, ONES, SECOND, SECOND_AT_2, ZERO,
 };
 use onll_outside::{FenceAt, MemStore, Store};
-use std::alloc::Global;
+use std::alloc::{AllocError, Global};
 use std::process::Abort;
 use std::sync::Wait;
 use std::test::Fail;
@@ -44,7 +44,7 @@ const REPORT: &str = "resumed 1\n\
      account 0 10\n\
      account 1 0\n";
 
-/// The number of the store's call that fails, how going on ends, and the lines of both logs then.
+/// The number of the store's call that fails, how going on ends, and the lines of both logs then. Two calls before it have written them.
 struct CallCase<'a> {
     call: u64,
     status: u8,
@@ -55,70 +55,70 @@ struct CallCase<'a> {
 
 const CALLS: &[CallCase<'static>] = &[
     CallCase {
-        call: 1,
+        call: 3,
         status: 5,
         output: "read fault b2\n",
         first: TORN,
         second: EMPTY,
     },
     CallCase {
-        call: 2,
+        call: 4,
         status: 5,
         output: "read fault s0\n",
         first: TORN,
         second: EMPTY,
     },
     CallCase {
-        call: 3,
+        call: 5,
         status: 5,
         output: "read fault none\n",
         first: TORN,
         second: EMPTY,
     },
     CallCase {
-        call: 4,
+        call: 6,
         status: 5,
         output: "read fault out.0\n",
         first: TORN,
         second: EMPTY,
     },
     CallCase {
-        call: 5,
+        call: 7,
         status: 5,
         output: "read fault out.1\n",
         first: TORN,
         second: EMPTY,
     },
     CallCase {
-        call: 6,
+        call: 8,
         status: 6,
         output: "write fault out.0\n",
         first: TORN,
         second: EMPTY,
     },
     CallCase {
-        call: 7,
+        call: 9,
         status: 6,
         output: "write fault out.1\n",
         first: WIPED,
         second: EMPTY,
     },
     CallCase {
-        call: 8,
+        call: 10,
         status: 6,
         output: "write fault out.0\n",
         first: WIPED,
         second: EMPTY,
     },
     CallCase {
-        call: 9,
+        call: 11,
         status: 6,
         output: "write fault out.1\n",
         first: KEPT,
         second: EMPTY,
     },
     CallCase {
-        call: 10,
+        call: 12,
         status: 0,
         output: REPORT,
         first: KEPT,
@@ -126,48 +126,43 @@ const CALLS: &[CallCase<'static>] = &[
     },
 ];
 
-/// A log has these lines.
-fn expect_lines<R: Abort>(
-    rt: &R,
-    alloc: Global,
-    store: &MemStore,
-    name: &str,
-    lines: &[[u64; 8]],
-    case: &str,
-) -> Result<(), Fail> {
+/// The bytes of a log of these lines.
+fn bytes_of(alloc: Global, lines: &[[u64; 8]]) -> Result<Vec<u8>, AllocError> {
     let image = Image {
-        name,
+        name: "a log",
         lines,
         length: usize::MAX,
     };
-    let bytes = image.bytes(alloc)?;
+    image.bytes(alloc)
+}
+
+/// The logs have these lines.
+fn expect_logs<R: Abort>(
+    rt: &R,
+    alloc: Global,
+    store: &MemStore,
+    first: &[[u64; 8]],
+    second: &[[u64; 8]],
+    case: &str,
+) -> Result<(), Fail> {
+    let first = bytes_of(alloc, first)?;
+    let second = bytes_of(alloc, second)?;
     assert!(rt;
-        store.file(name) == Some(bytes.as_slice()),
-        "{name} holds other lines: {case}"
+        store.file("out.0") == Some(first.as_slice()),
+        "the first log: {case}"
+    );
+    assert!(rt;
+        store.file("out.1") == Some(second.as_slice()),
+        "the second log: {case}"
     );
     Ok(())
 }
 
-/// Makes the file of that name one of these lines.
-fn put_lines(
-    alloc: Global,
-    store: &mut MemStore,
-    name: &str,
-    lines: &[[u64; 8]],
-) -> Result<(), Fail> {
-    let image = Image {
-        name,
-        lines,
-        length: usize::MAX,
-    };
-    store.write(alloc, name, &image.bytes(alloc)?)?;
-    Ok(())
-}
-
-/// Both logs as they are before, where two calls of the store have written them.
+/// Writes both logs as they are before, by two calls.
 fn put_logs(alloc: Global, store: &mut MemStore) -> Result<(), Fail> {
-    put_lines(alloc, store, "out.0", TORN)?;
-    put_lines(alloc, store, "out.1", EMPTY)
+    store.write(alloc, "out.0", &bytes_of(alloc, TORN)?)?;
+    store.write(alloc, "out.1", &bytes_of(alloc, EMPTY)?)?;
+    Ok(())
 }
 
 /// Goes on over a store of which this call fails.
@@ -179,7 +174,7 @@ fn expect_call<R: Abort + Threads + Wait + Sync>(
     let program = Program {
         words: RESUME,
         files: FILES,
-        failing_calls: &[case.call + 2],
+        failing_calls: &[case.call],
         failing_puts: &[],
     };
     let mut store = program.store(alloc)?;
@@ -187,8 +182,7 @@ fn expect_call<R: Abort + Threads + Wait + Sync>(
     program
         .run_over(rt, alloc, &mut store)?
         .expect(case.output, case.status, case.output)?;
-    expect_lines(rt, alloc, &store, "out.0", case.first, case.output)?;
-    expect_lines(rt, alloc, &store, "out.1", case.second, case.output)
+    expect_logs(rt, alloc, &store, case.first, case.second, case.output)
 }
 
 #[test]
@@ -217,11 +211,9 @@ fn a_header_whose_fence_fails(rt: HostRuntime) -> Result<(), Fail> {
     program
         .run_over(&rt, alloc, &mut store)?
         .expect(line, 7, line)?;
-    expect_lines(&rt, alloc, &store, "out.0", WIPED, line)?;
-    expect_lines(&rt, alloc, &store, "out.1", EMPTY, line)?;
+    expect_logs(&rt, alloc, &store, WIPED, EMPTY, line)?;
     program
         .run_over(&rt, alloc, &mut store)?
         .expect("the same again", 0, REPORT)?;
-    expect_lines(&rt, alloc, &store, "out.0", KEPT, "the same again")?;
-    expect_lines(&rt, alloc, &store, "out.1", BEGUN, "the same again")
+    expect_logs(&rt, alloc, &store, KEPT, BEGUN, "the same again")
 }

@@ -45,18 +45,22 @@ const TWO_FILES: &[(&str, &[u8])] = &[
     ("s1", b"deposit 1 4\ndeposit 0 3\nbalance 0\n"),
 ];
 
+const RUN_TWO: &[&str] = &["run", "b2", "out", "s0", "s1"];
+
+const RESUME_TWO: &[&str] = &["resume", "b2", "out", "s0", "s1"];
+
 /// What each of ten generations is, and lines that it prints whatever the order of its updates: how many nodes there are, and the balances.
-const TWO: &[(&str, [&str; 3])] = &[
-    ("run", ["trace 4", "account 0 4", "account 1 6"]),
-    ("resume", ["trace 8", "account 0 8", "account 1 12"]),
-    ("resume", ["trace 12", "account 0 12", "account 1 18"]),
-    ("resume", ["trace 16", "account 0 16", "account 1 24"]),
-    ("resume", ["trace 20", "account 0 20", "account 1 30"]),
-    ("resume", ["trace 24", "account 0 24", "account 1 36"]),
-    ("resume", ["trace 28", "account 0 28", "account 1 42"]),
-    ("resume", ["trace 32", "account 0 32", "account 1 48"]),
-    ("resume", ["trace 36", "account 0 36", "account 1 54"]),
-    ("resume", ["trace 40", "account 0 40", "account 1 60"]),
+const TWO: &[(&[&str], &[&str])] = &[
+    (RUN_TWO, &["trace 4", "account 0 4", "account 1 6"]),
+    (RESUME_TWO, &["resumed 4", "account 0 8", "account 1 12"]),
+    (RESUME_TWO, &["resumed 8", "account 0 12", "account 1 18"]),
+    (RESUME_TWO, &["resumed 12", "account 0 16", "account 1 24"]),
+    (RESUME_TWO, &["resumed 16", "account 0 20", "account 1 30"]),
+    (RESUME_TWO, &["resumed 20", "account 0 24", "account 1 36"]),
+    (RESUME_TWO, &["resumed 24", "account 0 28", "account 1 42"]),
+    (RESUME_TWO, &["resumed 28", "account 0 32", "account 1 48"]),
+    (RESUME_TWO, &["resumed 32", "account 0 36", "account 1 54"]),
+    (RESUME_TWO, &["resumed 36", "account 0 40", "account 1 60"]),
 ];
 
 /// Runs one generation of two threads, which prints these lines.
@@ -64,10 +68,9 @@ fn generation<R: Abort + Threads + Wait + Sync>(
     rt: &R,
     alloc: Global,
     store: &mut MemStore,
-    command: &str,
+    words: &[&str],
     lines: &[&str],
 ) -> Result<(), Fail> {
-    let words = &[command, "b2", "out", "s0", "s1"];
     let outcome = Program::new(words, &[]).run_over(rt, alloc, store)?;
     for line in lines {
         outcome.expect_line("two threads", 0, line)?;
@@ -79,8 +82,8 @@ fn generation<R: Abort + Threads + Wait + Sync>(
 fn two_threads(rt: HostRuntime) -> Result<(), Fail> {
     let alloc = rt.alloc();
     let mut store = Program::new(&[], TWO_FILES).store(alloc)?;
-    for (command, lines) in TWO {
-        generation(&rt, alloc, &mut store, command, lines)?;
+    for (words, lines) in TWO {
+        generation(&rt, alloc, &mut store, words, lines)?;
     }
     Program::new(&["recover", "b2", "out", "2"], &[])
         .run_over(&rt, alloc, &mut store)?

@@ -143,11 +143,11 @@ neither : (a b : Bool) → a || b ≡ false → (a ≡ false) × (b ≡ false)
 neither true b e = absurd (cc)
 neither false b e = (refl, e)
 
-unless_some : (q : Bool) (x : ResumeFault) (rest : Option ResumeFault) → (if q then Some x else rest) ≡ None → (q ≡ false) × (rest ≡ None)
+pub unless_some : (q : Bool) (x : ResumeFault) (rest : Option ResumeFault) → (if q then Some x else rest) ≡ None → (q ≡ false) × (rest ≡ None)
 unless_some true x rest e = absurd (cc)
 unless_some false x rest e = (refl, e)
 
-has_room : (threads recovered lines updates : ℕ) → is_too_many threads recovered lines updates ≡ false → (recovered + updates ≤ 4096) × (max 1 lines + updates * (threads + 1) ≤ most_lines)
+pub has_room : (threads recovered lines updates : ℕ) → is_too_many threads recovered lines updates ≡ false → (recovered + updates ≤ 4096) × (max 1 lines + updates * (threads + 1) ≤ most_lines)
 has_room threads recovered lines updates e =
     let x = neither (nat_lt 4096 (recovered + updates)) (nat_lt most_lines (max 1 lines + updates * (threads + 1))) e in
     (ltb-false 4096 (recovered + updates) x.0, ltb-false most_lines (max 1 lines + updates * (threads + 1)) x.1)

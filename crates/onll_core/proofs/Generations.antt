@@ -84,7 +84,7 @@ module _ {State Op Query Reply : Type 0} (b : Behaviour State Op Query Reply) wh
   where_short None nodes n e = absurd (omega arith)
   where_short (Some op) nodes n e = (refl, e)
 
-  whole_operations : (nodes : List Node) → length (operations_front b nodes) ≡ length nodes → AllOperations b nodes
+  pub whole_operations : (nodes : List Node) → length (operations_front b nodes) ≡ length nodes → AllOperations b nodes
   whole_operations [] e = tt
   whole_operations (n ∷ nodes) e = let x = where_short (b.op_at n.row) (n ∷ operations_front b nodes) (length nodes) e in (x.0, whole_operations nodes (omega (arith, x.1)))
 

@@ -38,3 +38,4 @@ mod Heads
 mod FoundWorkers
 mod FoundCores
 pub mod Generations
+pub mod Based

@@ -14,6 +14,7 @@ pub mod Created
 pub mod Resumed
 pub mod Resume
 pub mod Found
+pub mod Based
 pub mod Fences
 pub mod Entries
 pub mod Laws

@@ -1,5 +1,6 @@
 //! What a crash of a core leaves and what is recovered from it, for every object, whatever threads take steps.
 
+ghost use Rattle.onll_core.specs.Based.{BaseLaw, SameRefusalLaw, SameBaseLaw};
 ghost use Rattle.onll_core.specs.Durable.{DurableLaw};
 ghost use Rattle.onll_core.specs.Generations.{GenerationsLaw, PrefixLaw, OnlyTooManyLaw};
 ghost use Rattle.onll_core.specs.CrashLaws.{ImageLaw, RestLaw, PickedLaw, RecoveryLaw, HeadsLaw, LaterCrashLaw, CrashLaw, ResumedCrashLaw, ReachedCrashLaw, GoOnLaw, MoreNodesLaw, NextCrashLaw};
@@ -53,4 +54,12 @@ pub fn generations_law<O: Object>()
     ensures leaves { GenerationsLaw O.means }
     ensures prefix { PrefixLaw O.means }
     ensures refused { OnlyTooManyLaw O.means }
+{}
+
+/// What images give to scripts that go on from them: logs of one run, which merge to nodes of operations, and room for each script.
+/// A core goes on from the same images, and is refused for the same reason.
+pub fn base_law<O: Object>()
+    ensures base { BaseLaw O.means }
+    ensures same { SameBaseLaw O.means }
+    ensures refused { SameRefusalLaw O.means }
 {}

@@ -1,4 +1,27 @@
 //! The log of one thread: its lines, the grammar by which any image of a log is read, and the log over a device.
+//!
+//! ```rust
+//! let row = Bank::op_row(BankOp::Deposit { a: 0, x: 5 });
+//! let node = Node {
+//!     thread: 0,
+//!     number: 1,
+//!     row,
+//! };
+//! let head = LogHead::new(0, 1, Bank::CODE, b"bank 1\n");
+//! let device = MemPmem::new(alloc, 8, Vec::new(alloc))?;
+//! let Ok(mut log) = ThreadLog::make(device, head) else {
+//!     return Err("no log".into());
+//! };
+//! assert!(rt; log.append(1, &[node]).is_ok());
+//! let lines = log.used_lines(alloc)?;
+//! let Ok(decoded) = decode(alloc, &lines) else {
+//!     return Err("no log".into());
+//! };
+//! assert!(rt; decoded.head == Some(head));
+//! assert!(rt; decoded.entries.as_slice().len() == 1);
+//! ```
+//!
+//! The test `log` of `onll_uses` runs this.
 #![tactic(auto)]
 
 mod cause;

@@ -1,4 +1,18 @@
 //! The merge of the logs of one run into the nodes of its trace.
+//!
+//! ```rust
+//! let lines = lines_of_log(alloc)?;
+//! let images = vec![in alloc; lines]?;
+//! let heads = [LogHead::new(0, 1, Bank::CODE, b"bank 1\n")];
+//! let mut bank = Bank::make(alloc, 1)?;
+//! let Ok(recovery) = recover_state(alloc, &mut bank, &heads, &images) else {
+//!     return Err("no logs of one run".into());
+//! };
+//! assert!(rt; recovery.nodes.len() == 1);
+//! assert!(rt; bank.ask(BankQuery::Total) == BankReply::Amount(5));
+//! ```
+//!
+//! The test `merge` of `onll_uses` runs this.
 #![tactic(auto)]
 
 ghost use Rattle.onll_merge.specs.Laws.{FrontLaw, TopLaw, BackLaw, StandsLaw, NoOtherLaw, OnceLaw};

@@ -2,6 +2,16 @@
 //! each update.
 //! Each counts its calls that failed. `MemStore` and `MemSink` are in memory, and tell all that they
 //! hold; `FileStore` and `OutSink` are the system's files and a writer, and tell only their counts.
+//!
+//! ```rust
+//! let mut sink = MemSink::new(alloc, vec![in alloc; 2]?);
+//! assert!(rt; sink.put(b"first").is_ok());
+//! assert!(rt; sink.put(b"second").is_err());
+//! assert!(rt; sink.taken() == b"first".as_slice());
+//! assert!(rt; sink.faults() == 1);
+//! ```
+//!
+//! The test `outside` of `onll_uses` runs this.
 #![tactic(auto)]
 
 mod disk;

@@ -132,11 +132,11 @@ recover_same {State} a b e₁ e₂ e₃ =
 
 -- ---- how many nodes a core goes on from
 -- the first of these lines says no such number
-abbrev NoResumedNext : List (List (List ℕ)) → Type 0
+abbrev pub NoResumedNext : List (List (List ℕ)) → Type 0
 NoResumedNext [] = Unit {0}
 NoResumedNext (ws ∷ lines) = (rest : List (List ℕ)) → ws ≢ codes "resumed" ∷ rest
 
-resumed_meaningful : (resumed : Option ℕ) → AreMeaningful (resumed_lines resumed)
+pub resumed_meaningful : (resumed : Option ℕ) → AreMeaningful (resumed_lines resumed)
 resumed_meaningful None = tt
 resumed_meaningful (Some nodes) = (resumed_in_words nodes, refl, tt)
 
@@ -144,7 +144,7 @@ no_resumed_next : (nodes : ℕ) (lines more : List (List (List ℕ))) → NoResu
 no_resumed_next nodes lines [] h e = line_none (codes "resumed" ∷ decimal nodes ∷ []) lines e
 no_resumed_next nodes lines (ws ∷ more) h e = h (decimal nodes ∷ []) (sym (line_same (codes "resumed" ∷ decimal nodes ∷ []) ws lines more e).0)
 
-resumed_determined : (resumed other : Option ℕ) (lines more : List (List (List ℕ))) → IfSome resumed (λ n. n < 2 ^ 64) → IfSome other (λ n. n < 2 ^ 64) → NoResumedNext lines → NoResumedNext more
+pub resumed_determined : (resumed other : Option ℕ) (lines more : List (List (List ℕ))) → IfSome resumed (λ n. n < 2 ^ 64) → IfSome other (λ n. n < 2 ^ 64) → NoResumedNext lines → NoResumedNext more
     → resumed_lines resumed ++ lines ≡ resumed_lines other ++ more → (resumed ≡ other) × (lines ≡ more)
 resumed_determined None None lines more g h u v e = (refl, e)
 resumed_determined None (Some n) lines more g h u v e = absurd (no_resumed_next n more lines u (sym e))
@@ -251,7 +251,7 @@ module _ {State Op Query Reply : Type 0} where
 
   -- ---- the report of a replay
   -- how many nodes a core goes on from, before lines of calls and of a trace
-  no_resumed : (w : Wording State Op Query Reply) (t : ℕ) (scripts : List (List (Call State Op Query Reply))) (ends : List (List (CallEnd State Op Query Reply))) (lines : List (List (List ℕ)))
+  pub no_resumed : (w : Wording State Op Query Reply) (t : ℕ) (scripts : List (List (Call State Op Query Reply))) (ends : List (List (CallEnd State Op Query Reply))) (lines : List (List (List ℕ)))
       → NoResumedNext lines → NoResumedNext (thread_lines w t scripts ends ++ lines)
   no_resumed w t [] [] lines h = h
   no_resumed w t [] (es ∷ ends) lines h = h

@@ -67,8 +67,8 @@ fn too_many(alloc: Global, names: &[String], thread: u64) -> Stop
     Stop::refused(alloc, name, 0, Reason::TooMany)
 }
 
-/// What is said where no core goes on from images with the scripts of these files.
-fn not_resumed(alloc: Global, names: &[String], fault: ResumeFault) -> Stop
+/// What is said where nothing goes on from images with the scripts of these files.
+pub fn not_resumed(alloc: Global, names: &[String], fault: ResumeFault) -> Stop
     ensures { StopSays result (λ end said. (end ≡ resume_ending fault) × (said ≡ resume_text (map string_bytes names.now) fault)) }
 {
     match fault {
@@ -133,7 +133,15 @@ fn read_on<O: Texted + Drop, S: Store>(
 {
     match read_images(alloc, logs, scripts.len() as u64, store) {
         Ok(images) => go_on(
-            alloc, object, init, logs, names, scripts, plan, &images, store,
+            alloc,
+            object,
+            init,
+            logs,
+            names,
+            scripts,
+            plan,
+            &images.lines,
+            store,
         ),
         Err(stop) => Err(stop),
     }

@@ -123,8 +123,8 @@ fn put_run<O: Texted + Drop>(core: &Core<O>, out: &mut Report) -> Result<(), NoM
     put_flagged::<O>(trace, core.flags(), out)
 }
 
-/// The line of how many nodes the core goes on from; none where it begins anew.
-fn put_resumed(resumed: Option<u64>, out: &mut Report) -> Result<(), NoMemory>
+/// The line of how many nodes are gone on from; none where a run begins anew.
+pub fn put_resumed(resumed: Option<u64>, out: &mut Report) -> Result<(), NoMemory>
     requires { begins_line out.old ≡ true }
     ensures lines { OnOk result (out.new ≡ with_lines out.old (resumed_lines resumed)) }
     ensures begins { OnOk result (begins_line out.new ≡ true) }

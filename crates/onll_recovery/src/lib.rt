@@ -8,7 +8,8 @@ mod nodes;
 mod recover;
 mod replay;
 
-pub use again::again_on;
+pub use again::{again_on, not_resumed};
+pub use crashed::put_resumed;
 pub use nodes::put_nodes;
 pub use recover::{put_count, recover_logs};
 pub use replay::{replay_on, script_files};

@@ -141,7 +141,7 @@ pub fn recover_logs<O: Texted, S: Store>(
         Does [] (S.seen store.old) (S.seen store.new) task result }
 {
     match read_images(alloc, logs, threads, store) {
-        Ok(images) => recover_on(alloc, object, init, &images),
+        Ok(images) => recover_on(alloc, object, init, &images.lines),
         Err(stop) => Err(stop),
     }
 }

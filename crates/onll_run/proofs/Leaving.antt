@@ -1,143 +1,230 @@
--- What a run over new logs leaves, from what each thread made.
-use Rattle.std.proofs.Common.{◌≡◌, ℕ, zero, suc, ◌+◌, ◌-◌, ◌<◌, ◌≤◌, ◌↔◌, Bool, true, false, if◌then◌else◌, List, [], ◌∷◌, length, map, replicate, Option, Some, None, refl, sym, ap, ◌∙◌, subst, arith}
-use Rattle.std.specs.Prelude.{is_some, slice_index_or, drop}
+-- What a run leaves, from what each thread made.
+use Rattle.std.proofs.Common.{◌≡◌, ℕ, zero, suc, ◌+◌, ◌-◌, ◌<◌, ◌≤◌, ◌↔◌, Bool, true, false, if◌then◌else◌, List, [], ◌∷◌, ◌++◌, length, map, take, Option, Some, None, Ok, refl, sym, ap, ◌∙◌, subst, arith}
+use Rattle.std.specs.Prelude.{is_some, slice_index_or, drop, max, count_by, Err, All}
 use Rattle.std.specs.List.{AllByRecursion, slice_get}
 use Rattle.std.proofs.lemmas.List.{length-map}
+use Rattle.std.proofs.lemmas.List.Elements.{All-from_recursion}
+use mathlib.Core.List.{IsPrefix}
 use Rattle.onll_model.specs.Limits.{most_updates}
 use Rattle.onll_model.specs.declared.node.Node.{Node}
+use Rattle.onll_model.specs.declared.mark.Mark.{Mark}
 use Rattle.onll_model.specs.declared.call.Call.{Call}
 use Rattle.onll_model.specs.declared.call.CallEnd.{CallEnd}
 use Rattle.onll_model.specs.Object.{Behaviour}
+use Rattle.onll_model.specs.Calls.{updates_in}
+use Rattle.onll_model.specs.Trace.{is_of_thread}
+use Rattle.onll_model.specs.Segment.{Segment}
+use Rattle.onll_model.specs.Marks.{marked}
 use Rattle.onll_model.specs.Frames.{is_available}
 use Rattle.onll_model.specs.Legal.{placed_updates}
+use Rattle.onll_model.proofs.Lists.{same_some, some_not_none}
 use Rattle.onll_pmem.specs.Pmem.{DeviceView, ToldSettled}
 use Rattle.onll_log.specs.declared.head.LogHead.{LogHead}
-use Rattle.onll_log.specs.Grammar.{Content, content_of}
+use Rattle.onll_log.specs.Grammar.{Content, content_of, lines_in, used_with}
 use Rattle.onll_log.specs.Log.{LogState, free_of}
-use Rattle.onll_log.specs.Head.{FitsHead}
 use Rattle.onll_log.proofs.Encoded.{content_of-log_lines}
+use Rattle.onll_merge.specs.declared.fault.RecoverFault.{RecoverFault}
 use Rattle.onll_merge.specs.Merge.{merge}
+use Rattle.onll_merge.specs.Laws.{HeadsFit}
+use Rattle.onll_merge.proofs.Backs.{merge-back}
 use Rattle.onll_trace.specs.declared.trace.Ended.{Ended}
 use Rattle.onll_trace.specs.Closing.{ends_of as ended_of}
-use Rattle.onll_trace.specs.Plans.{Plan as TracePlan, new_plan}
-use Rattle.onll_shared.specs.Passes.{OnllView, PassView, log_of}
-use Rattle.onll_shared.specs.Starts.{AreLogs, IsLogOf, IsNewcomer, HasBegun}
+use Rattle.onll_trace.specs.Plans.{CanResume, base_place}
+use Rattle.onll_shared.specs.Passes.{OnllView, PassView, log_of, spot_of}
+use Rattle.onll_shared.specs.Starts.{AreLogs, IsLogOf, IsNewcomer, HasBegun, entries_of}
+use Rattle.onll_shared.specs.Found.{HoldBase, content_held, head_held}
 use Rattle.onll_shared.specs.Crash.{head_of}
 use Rattle.onll_shared.specs.Ends.{HasClosed}
 use Rattle.onll_shared.specs.Ends.{content_in as content_of_pass}
 use Rattle.onll_run.specs.Outcomes.{failed_in, fault_in}
 use Rattle.onll_run.specs.Workers.{HasWorked}
-use Rattle.onll_run.specs.Left.{Plan, Left, LogLeft, LogTells, LogsTell, HasRun, no_base, content_in, failed_at, fenced_in, flags_by}
+use Rattle.onll_run.specs.Left.{Base, Plan, Left, LogLeft, LogTells, LogsTell, HasRun, content_in, failed_at, fenced_in, flags_by}
 use Rattle.onll_run.specs.Ended.{ThreadRun, script_of, ends_of, after_of, log_left, HaveRun, plan_of, left_of, IsWhole}
 use Rattle.onll_run.specs.declared.worker.Worked.{Worked}
 use Rattle.onll_run.specs.Crew.{AreFit, AreReady, AreDone, runs_of, pass_done, script_done, ends_done, CanEnd}
-use Rattle.onll_run.specs.Making.{AreHeads, IsBlank, IsBegun, AreBegun}
-use Rattle.onll_run.specs.Ran.{AreRoomy, CanRun, IsKept, AreKept, anew, node_in, flag_in}
+use Rattle.onll_run.specs.Making.{AreHeads, StandsBy, CanOpen, AllCanOpen, IsOpen, AreOpen}
+use Rattle.onll_run.specs.Ran.{AreRoomy, HaveNumbers, CanRun, IsKept, AreKept, going_on, available, node_in, flag_in}
 use Rattle.onll_run.proofs.Beginning.{ready_all}
 use Rattle.onll_run.proofs.Ending.{passes_end}
 use Rattle.onll_run.proofs.Whole.{run_whole}
+use Rattle.onll_run.proofs.Merging.{SameEntries, merge_filled}
+use Rattle.onll_run.proofs.Headers.{open_fences, opened_faults, opened_lines}
 
--- ---- what scripts, heads and devices that fit give
+-- the heads and the tails of equal lists
+same_cons : {A : Type 0} (x y : A) (xs ys : List A) → x ∷ xs ≡ y ∷ ys → (x ≡ y) × (xs ≡ ys)
+same_cons x y xs ys e = (cc, cc)
+
+-- ---- what scripts, heads, logs and devices that fit give
 abbrev pub before_of : {State Op Query Reply Device : Type 0} → ThreadRun State Op Query Reply Device → PassView State Device
 before_of r = r.before
 
-heads_fit : (count t : ℕ) (heads : List LogHead) → AreHeads count t heads → AllByRecursion FitsHead heads
-heads_fit count t [] a = tt
-heads_fit count t (h ∷ heads) a = (a.0.fits, heads_fit count (t + 1) heads a.1)
-
 module _ {State Op Query Reply Device : Type 0} (means : Device → DeviceView) where
-  roomy_blank : (threads : ℕ) (scripts : List (List (Call State Op Query Reply))) (devices : List Device) → AreRoomy means threads scripts devices → AllByRecursion (IsBlank means) devices
-  roomy_blank threads [] [] a = tt
-  roomy_blank threads [] (d ∷ devices) a = absurd a
-  roomy_blank threads (s ∷ scripts) [] a = absurd a
-  roomy_blank threads (s ∷ scripts) (d ∷ devices) a = (record { fresh = a.0.fresh; some_line = (let l = a.0.lines in omega arith) }, roomy_blank threads scripts devices a.1)
+  -- each log can be opened on the device at its place
+  can_each : (count t threads : ℕ) (heads : List LogHead) (befores : List Content) (scripts : List (List (Call State Op Query Reply))) (devices : List Device) → length heads ≡ length scripts → AreHeads count t heads
+      → HeadsFit befores heads → AreRoomy means threads befores scripts devices → AllCanOpen means heads befores devices
+  can_each count t threads [] [] [] [] many h f r = tt
+  can_each count t threads [] [] [] (d ∷ devices) many h f r = absurd r
+  can_each count t threads [] [] (s ∷ scripts) devices many h f r = absurd r
+  can_each count t threads [] (b ∷ befores) [] devices many h f r = absurd r
+  can_each count t threads [] (b ∷ befores) (s ∷ scripts) devices many h f r = absurd (omega arith)
+  can_each count t threads (k ∷ heads) befores [] devices many h f r = absurd (omega arith)
+  can_each count t threads (k ∷ heads) [] (s ∷ scripts) devices many h f r = absurd r
+  can_each count t threads (k ∷ heads) (b ∷ befores) (s ∷ scripts) [] many h f r = absurd r
+  can_each count t threads (k ∷ heads) (b ∷ befores) (s ∷ scripts) (d ∷ devices) many h f r = (
+    record { fits = h.0.fits; head_is = f.0; fences = r.0.fences; faults = r.0.faults; settled = r.0.settled; stands = r.0.stands },
+    can_each count (t + 1) threads heads befores scripts devices (omega arith) h.1 f.1 r.1,
+  )
 
-  roomy_long : (threads : ℕ) (scripts : List (List (Call State Op Query Reply))) (devices : List Device) → AreRoomy means threads scripts devices → length devices ≡ length scripts
-  roomy_long threads [] [] a = refl
-  roomy_long threads [] (d ∷ devices) a = absurd a
-  roomy_long threads (s ∷ scripts) [] a = absurd a
-  roomy_long threads (s ∷ scripts) (d ∷ devices) a = ap suc (roomy_long threads scripts devices a.1)
+  pub can_open : (heads : List LogHead) (befores : List Content) (scripts : List (List (Call State Op Query Reply))) (devices : List Device) → CanRun means heads befores scripts devices → AllCanOpen means heads befores devices
+  can_open heads befores scripts devices c =
+      can_each (length scripts) 0 (length scripts) heads befores scripts devices c.many c.heads_are (merge-back c.base.nodes heads befores c.base.merged).heads_fit c.devices_are
 
-  pub can_many : (heads : List LogHead) (scripts : List (List (Call State Op Query Reply))) (devices : List Device) → CanRun means heads scripts devices → length heads ≡ length devices
-  can_many heads scripts devices c = c.many ∙ sym (roomy_long (length scripts) scripts devices c.devices_are)
+-- each script has few updates, since its thread has numbers for them
+few_each : {State Op Query Reply : Type 0} {V : Type 0} (items : V → List (Call State Op Query Reply)) (nodes : List Node) (t : ℕ) (scripts : List V) → HaveNumbers nodes t (map items scripts)
+    → AllByRecursion (λ (s : V). updates_in (items s) ≤ most_updates) scripts
+few_each items nodes t [] h = tt
+few_each items nodes t (s ∷ scripts) h = (let n = h.0 in omega arith, few_each items nodes (t + 1) scripts h.1)
 
-  pub can_heads : (heads : List LogHead) (scripts : List (List (Call State Op Query Reply))) (devices : List Device) → CanRun means heads scripts devices → AllByRecursion FitsHead heads
-  can_heads heads scripts devices c = heads_fit (length scripts) 0 heads c.heads_are
+pub few_updates : {State Op Query Reply Device : Type 0} {V : Type 0} (means : Device → DeviceView) (items : V → List (Call State Op Query Reply)) (heads : List LogHead) (befores : List Content) (scripts : List V) (devices : List Device)
+    → CanRun means heads befores (map items scripts) devices → All (λ (s : V). updates_in (items s) ≤ most_updates) scripts
+few_updates {State} {Op} {Query} {Reply} {Device} {V} means items heads befores scripts devices c =
+    All-from_recursion (λ (s : V). updates_in (items s) ≤ most_updates) scripts (few_each items c.base.nodes 0 scripts c.base.numbers)
 
-  pub can_blank : (heads : List LogHead) (scripts : List (List (Call State Op Query Reply))) (devices : List Device) → CanRun means heads scripts devices → AllByRecursion (IsBlank means) devices
-  can_blank heads scripts devices c = roomy_blank (length scripts) scripts devices c.devices_are
+-- the rooms of threads that have numbers for their scripts
+rooms_each : {State Op Query Reply : Type 0} (nodes : List Node) (t : ℕ) (scripts : List (List (Call State Op Query Reply))) → HaveNumbers nodes t scripts
+    → (i room : ℕ) → slice_get (map updates_in scripts) i ≡ Some room → count_by (is_of_thread (t + i)) nodes + room ≤ most_updates
+rooms_each nodes t [] h i room e = some_not_none room (sym e)
+rooms_each nodes t (s ∷ scripts) h zero room e =
+    let same : updates_in s ≡ room = same_some (updates_in s) room e in
+    let n : t + 0 ≡ t = omega arith in
+    let k = ap (λ (m : ℕ). count_by (is_of_thread m) nodes) n in
+    let low = h.0 in omega arith
+rooms_each nodes t (s ∷ scripts) h (suc i) room e =
+    let n : t + 1 + i ≡ t + suc i = omega arith in
+    subst (λ (m : ℕ). count_by (is_of_thread m) nodes + room ≤ most_updates) n (rooms_each nodes (t + 1) scripts h.1 i room e)
 
 module _ {Device : Type 0} (means : Device → DeviceView) where
-  -- ---- what logs that were begun give
-  begun_long : (heads : List LogHead) (devices : List Device) (logs : List (LogState Device)) → AreBegun means heads devices logs → length logs ≡ length heads
-  begun_long [] [] [] a = refl
-  begun_long [] [] (l ∷ logs) a = absurd a
-  begun_long [] (d ∷ devices) logs a = absurd a
-  begun_long (h ∷ heads) [] logs a = absurd a
-  begun_long (h ∷ heads) (d ∷ devices) [] a = absurd a
-  begun_long (h ∷ heads) (d ∷ devices) (l ∷ logs) a = ap suc (begun_long heads devices logs a.1)
+  -- ---- what logs that are open give
+  open_long : (heads : List LogHead) (befores : List Content) (devices : List Device) (logs : List (LogState Device)) → AreOpen means heads befores devices logs → length logs ≡ length heads
+  open_long [] [] [] [] a = refl
+  open_long [] [] [] (l ∷ logs) a = absurd a
+  open_long [] [] (d ∷ devices) logs a = absurd a
+  open_long [] (b ∷ befores) devices logs a = absurd a
+  open_long (h ∷ heads) [] devices logs a = absurd a
+  open_long (h ∷ heads) (b ∷ befores) [] logs a = absurd a
+  open_long (h ∷ heads) (b ∷ befores) (d ∷ devices) [] a = absurd a
+  open_long (h ∷ heads) (b ∷ befores) (d ∷ devices) (l ∷ logs) a = ap suc (open_long heads befores devices logs a.1)
 
-  begun_logs : (count t : ℕ) (heads : List LogHead) (devices : List Device) (logs : List (LogState Device)) → AreHeads count t heads → AreBegun means heads devices logs
+  log_each : (count t : ℕ) (heads : List LogHead) (befores : List Content) (devices : List Device) (logs : List (LogState Device)) → AreHeads count t heads → AreOpen means heads befores devices logs
       → (i : ℕ) (log : LogState Device) → slice_get logs i ≡ Some log → IsLogOf count (t + i) log
-  begun_logs count t [] [] [] h a i log e = absurd (cc)
-  begun_logs count t [] [] (l ∷ logs) h a i log e = absurd a
-  begun_logs count t [] (d ∷ devices) logs h a i log e = absurd a
-  begun_logs count t (k ∷ heads) [] logs h a i log e = absurd a
-  begun_logs count t (k ∷ heads) (d ∷ devices) [] h a i log e = absurd a
-  begun_logs count t (k ∷ heads) (d ∷ devices) (l ∷ logs) h a zero log e =
-      let is : l ≡ log = (cc) in
+  log_each count t [] [] [] [] h a i log e = some_not_none log (sym e)
+  log_each count t [] [] [] (l ∷ logs) h a i log e = absurd a
+  log_each count t [] [] (d ∷ devices) logs h a i log e = absurd a
+  log_each count t [] (b ∷ befores) devices logs h a i log e = absurd a
+  log_each count t (k ∷ heads) [] devices logs h a i log e = absurd a
+  log_each count t (k ∷ heads) (b ∷ befores) [] logs h a i log e = absurd a
+  log_each count t (k ∷ heads) (b ∷ befores) (d ∷ devices) [] h a i log e = absurd a
+  log_each count t (k ∷ heads) (b ∷ befores) (d ∷ devices) (l ∷ logs) h a zero log e =
+      let is : l ≡ log = same_some l log e in
       subst (λ (z : LogState Device). IsLogOf count (t + 0) z) is (record {
         thread = ap (λ (x : LogHead). x.thread) a.0.head_is ∙ (let n = h.0.thread in omega arith);
         threads = ap (λ (x : LogHead). x.threads) a.0.head_is ∙ h.0.threads;
         format = ap (λ (x : LogHead). x.format) a.0.head_is ∙ h.0.format;
         whole = a.0.whole;
       })
-  begun_logs count t (k ∷ heads) (d ∷ devices) (l ∷ logs) h a (suc i) log e =
+  log_each count t (k ∷ heads) (b ∷ befores) (d ∷ devices) (l ∷ logs) h a (suc i) log e =
       let n : t + 1 + i ≡ t + suc i = omega arith in
-      subst (λ (z : ℕ). IsLogOf count z log) n (begun_logs count (t + 1) heads devices logs h.1 a.1 i log e)
+      subst (λ (z : ℕ). IsLogOf count z log) n (log_each count (t + 1) heads befores devices logs h.1 a.1 i log e)
 
-  begun_empty : (heads : List LogHead) (devices : List Device) (logs : List (LogState Device)) → AreBegun means heads devices logs → AllByRecursion (λ (l : LogState Device). l.entries ≡ []) logs
-  begun_empty [] [] [] a = tt
-  begun_empty [] [] (l ∷ logs) a = absurd a
-  begun_empty [] (d ∷ devices) logs a = absurd a
-  begun_empty (h ∷ heads) [] logs a = absurd a
-  begun_empty (h ∷ heads) (d ∷ devices) [] a = absurd a
-  begun_empty (h ∷ heads) (d ∷ devices) (l ∷ logs) a = (a.0.empty, begun_empty heads devices logs a.1)
+  -- their heads and entries
+  heads_open : (heads : List LogHead) (befores : List Content) (devices : List Device) (logs : List (LogState Device)) → AreOpen means heads befores devices logs → map head_held logs ≡ heads
+  heads_open [] [] [] [] a = refl
+  heads_open [] [] [] (l ∷ logs) a = absurd a
+  heads_open [] [] (d ∷ devices) logs a = absurd a
+  heads_open [] (b ∷ befores) devices logs a = absurd a
+  heads_open (h ∷ heads) [] devices logs a = absurd a
+  heads_open (h ∷ heads) (b ∷ befores) [] logs a = absurd a
+  heads_open (h ∷ heads) (b ∷ befores) (d ∷ devices) [] a = absurd a
+  heads_open (h ∷ heads) (b ∷ befores) (d ∷ devices) (l ∷ logs) a = λ i. a.0.head_is i ∷ heads_open heads befores devices logs a.1 i
 
-  module _ {State Op Query Reply : Type 0} (heads : List LogHead) (scripts : List (List (Call State Op Query Reply))) (devices : List Device) (logs : List (LogState Device))
-      (c : CanRun means heads scripts devices) (a : AreBegun means heads devices logs) where
+  entries_open : (heads : List LogHead) (befores : List Content) (devices : List Device) (logs : List (LogState Device)) → AreOpen means heads befores devices logs
+      → SameEntries befores (map content_held logs) × HeadsFit (map content_held logs) heads
+  entries_open [] [] [] [] a = (tt, tt)
+  entries_open [] [] [] (l ∷ logs) a = absurd a
+  entries_open [] [] (d ∷ devices) logs a = absurd a
+  entries_open [] (b ∷ befores) devices logs a = absurd a
+  entries_open (h ∷ heads) [] devices logs a = absurd a
+  entries_open (h ∷ heads) (b ∷ befores) [] logs a = absurd a
+  entries_open (h ∷ heads) (b ∷ befores) (d ∷ devices) [] a = absurd a
+  entries_open (h ∷ heads) (b ∷ befores) (d ∷ devices) (l ∷ logs) a =
+      let r = entries_open heads befores devices logs a.1 in ((a.0.entries, r.0), (a.0.head_is, r.1))
+
+  -- how many lines a log uses, its header's among them
+  used_max : (o : Option LogHead) (before : Content) (read : List (List ℕ)) → StandsBy o before read → max 1 (used_with o before.entries) ≡ 1 + lines_in before.entries
+  used_max None before read s = let e = ap lines_in s.0 in omega arith
+  used_max (Some head) before read s = omega arith
+
+  fits : {State Op Query Reply : Type 0} (threads : ℕ) (heads : List LogHead) (befores : List Content) (scripts : List (List (Call State Op Query Reply))) (devices : List Device) (logs : List (LogState Device))
+      → AreRoomy means threads befores scripts devices → AreOpen means heads befores devices logs → AreFit means threads scripts (map updates_in scripts) logs
+  fits threads [] [] [] [] [] r a = tt
+  fits threads [] [] [] [] (l ∷ logs) r a = absurd a
+  fits threads [] [] [] (d ∷ devices) logs r a = absurd r
+  fits threads [] [] (s ∷ scripts) devices logs r a = absurd r
+  fits threads [] (b ∷ befores) scripts devices logs r a = absurd a
+  fits threads (h ∷ heads) [] scripts devices logs r a = absurd a
+  fits threads (h ∷ heads) (b ∷ befores) [] devices logs r a = absurd r
+  fits threads (h ∷ heads) (b ∷ befores) (s ∷ scripts) [] logs r a = absurd r
+  fits threads (h ∷ heads) (b ∷ befores) (s ∷ scripts) (d ∷ devices) [] r a = absurd a
+  fits threads (h ∷ heads) (b ∷ befores) (s ∷ scripts) (d ∷ devices) (l ∷ logs) r a =
+      let used = used_max b.head b (means d).read r.0.stands in
+      let lines = opened_lines means b.head h d l.device a.0.on in
+      let free : free_of (length (means l.device).read) l.entries ≡ length (means d).read - (1 + lines_in b.entries) =
+      λ i. free_of (lines i) (a.0.entries i) in (
+        omega arith,
+        (let k = r.0.lines in omega arith),
+        fits threads heads befores scripts devices logs r.1 a.1,
+      )
+
+  module _ {State Op Query Reply : Type 0} (heads : List LogHead) (befores : List Content) (scripts : List (List (Call State Op Query Reply))) (devices : List Device) (logs : List (LogState Device))
+      (c : CanRun means heads befores scripts devices) (a : AreOpen means heads befores devices logs) where
     pub logs_long : length logs ≡ length scripts
-    logs_long = begun_long heads devices logs a ∙ c.many
+    logs_long = open_long heads befores devices logs a ∙ c.many
 
     pub logs_are : AreLogs logs
     logs_are = λ i log e. let n : 0 + i ≡ i = omega arith in
-        subst (λ (z : ℕ × ℕ). IsLogOf z.0 z.1 log) (λ j. (sym logs_long j, n j)) (begun_logs (length scripts) 0 heads devices logs c.heads_are a i log e)
+        subst (λ (z : ℕ × ℕ). IsLogOf z.0 z.1 log) (λ j. (sym logs_long j, n j)) (log_each (length scripts) 0 heads befores devices logs c.heads_are a i log e)
 
-    pub logs_empty : AllByRecursion (λ (l : LogState Device). l.entries ≡ []) logs
-    logs_empty = begun_empty heads devices logs a
+    -- they hold the nodes that they held before
+    pub logs_merge : (nodes : List Node) → merge heads befores ≡ Ok nodes → merge (map head_held logs) (map content_held logs) ≡ Ok nodes
+    logs_merge nodes merged =
+        let e = entries_open heads befores devices logs a in
+        ap (λ (hs : List LogHead). merge hs (map content_held logs)) (heads_open heads befores devices logs a)
+        ∙ merge_filled heads befores (map content_held logs) nodes e.0 e.1 merged
 
-  fits : {State Op Query Reply : Type 0} (threads : ℕ) (heads : List LogHead) (scripts : List (List (Call State Op Query Reply))) (devices : List Device) (logs : List (LogState Device))
-      → AreRoomy means threads scripts devices → AreBegun means heads devices logs → AreFit means threads scripts (replicate (length logs) most_updates) logs
-  fits threads [] [] [] [] r a = tt
-  fits threads (h ∷ heads) scripts [] logs r a = absurd a
-  fits threads [] scripts (d ∷ devices) logs r a = absurd a
-  fits threads [] [] [] (l ∷ logs) r a = absurd a
-  fits threads [] (s ∷ scripts) [] logs r a = absurd r
-  fits threads (h ∷ heads) [] (d ∷ devices) logs r a = absurd r
-  fits threads (h ∷ heads) (s ∷ scripts) (d ∷ devices) [] r a = absurd a
-  fits threads (h ∷ heads) (s ∷ scripts) (d ∷ devices) (l ∷ logs) r a =
-      let free : free_of (length (means l.device).read) l.entries ≡ length (means d).read - 1 =
-      ap (λ (ss : List _). free_of (length (means l.device).read) ss) a.0.empty ∙ ap (λ (n : ℕ). n - 1) a.0.made.header.count in (
-        r.0.updates,
-        (let k = r.0.lines in omega arith),
-        fits threads heads scripts devices logs r.1 a.1,
-      )
+    pub no_fault : (fault : RecoverFault) → merge (map head_held logs) (map content_held logs) ≡ Err fault → ⊥
+    no_fault fault e = let bad : Ok c.base.nodes ≡ Err fault = sym (logs_merge c.base.nodes c.base.merged) ∙ e in absurd (cc)
 
-  pub logs_fit : {State Op Query Reply : Type 0} (heads : List LogHead) (scripts : List (List (Call State Op Query Reply))) (devices : List Device) (logs : List (LogState Device))
-      → CanRun means heads scripts devices → AreBegun means heads devices logs → (threads : ℕ) → threads ≡ length logs
-      → AreFit means threads scripts (replicate (length logs) most_updates) logs
-  logs_fit heads scripts devices logs c a threads is =
-      subst (λ (n : ℕ). AreFit means n scripts (replicate (length logs) most_updates) logs) (sym (logs_long heads scripts devices logs c a) ∙ sym is) (fits (length scripts) heads scripts devices logs c.devices_are a)
+    pub logs_fit : (threads : ℕ) → threads ≡ length logs → AreFit means threads scripts (map updates_in scripts) logs
+    logs_fit threads is =
+        subst (λ (n : ℕ). AreFit means n scripts (map updates_in scripts) logs) (sym logs_long ∙ sym is) (fits (length scripts) heads befores scripts devices logs c.devices_are a)
+
+    -- what the logs hold, and the marks of it, give what a trace goes on from
+    module _ (nodes : List Node) (marks : List Mark) (base : HoldBase logs nodes marks) where
+      same_nodes : nodes ≡ c.base.nodes
+      same_nodes = let both : Ok nodes ≡ Ok c.base.nodes = sym base.merged ∙ logs_merge c.base.nodes c.base.merged in cc
+
+      pub logs_held : merge heads befores ≡ Ok nodes
+      logs_held = c.base.merged ∙ ap Ok (sym same_nodes)
+
+      rooms_long : length (map updates_in scripts) ≡ length logs
+      rooms_long = length-map scripts updates_in ∙ sym logs_long
+
+      pub can_resume : CanResume nodes marks (map updates_in scripts)
+      can_resume = base.resumable (map updates_in scripts) rooms_long
+          (λ i room e. let n : 0 + i ≡ i = omega arith in subst (λ (z : ℕ × List Node). count_by (is_of_thread z.0) z.1 + room ≤ most_updates) (λ j. (n j, sym same_nodes j)) (rooms_each c.base.nodes 0 scripts c.base.numbers i room e))
+
+      pub entries_marked : map entries_of logs ≡ marked (length (map updates_in scripts)) nodes marks
+      entries_marked = base.entries ∙ ap (λ (n : ℕ). marked n nodes marks) (sym rooms_long)
 
 -- ---- flags
 -- each flag by itself
@@ -174,47 +261,51 @@ module _ {State Op Query Reply Device : Type 0} (b : Behaviour State Op Query Re
   abbrev after_left : ThreadRun State Op Query Reply Device → LogLeft
   after_left r = log_left means r.after.log
 
-  heads_are : (t : ℕ) (heads : List LogHead) (devices : List Device) (runs : List (ThreadRun State Op Query Reply Device)) → AreBegun means heads devices (map before_log runs)
+  heads_are : (t : ℕ) (heads : List LogHead) (befores : List Content) (devices : List Device) (runs : List (ThreadRun State Op Query Reply Device)) → AreOpen means heads befores devices (map before_log runs)
       → HaveRun b means onll t runs → map head_of (map after_of runs) ≡ heads
-  heads_are t [] [] [] a w = refl
-  heads_are t [] [] (r ∷ rs) a w = absurd a
-  heads_are t [] (d ∷ devices) runs a w = absurd a
-  heads_are t (h ∷ heads) [] runs a w = absurd a
-  heads_are t (h ∷ heads) (d ∷ devices) [] a w = absurd a
-  heads_are t (h ∷ heads) (d ∷ devices) (r ∷ rs) a w = λ i. (w.1.gone_on.same.head ∙ a.0.head_is) i ∷ heads_are (t + 1) heads devices rs a.1 w.2 i
+  heads_are t [] [] [] [] a w = refl
+  heads_are t [] [] [] (r ∷ rs) a w = absurd a
+  heads_are t [] [] (d ∷ devices) runs a w = absurd a
+  heads_are t [] (k ∷ befores) devices runs a w = absurd a
+  heads_are t (h ∷ heads) [] devices runs a w = absurd a
+  heads_are t (h ∷ heads) (k ∷ befores) [] runs a w = absurd a
+  heads_are t (h ∷ heads) (k ∷ befores) (d ∷ devices) [] a w = absurd a
+  heads_are t (h ∷ heads) (k ∷ befores) (d ∷ devices) (r ∷ rs) a w = λ i. (w.1.gone_on.same.head ∙ a.0.head_is) i ∷ heads_are (t + 1) heads befores devices rs a.1 w.2 i
 
   -- how many nodes a thread has linked
   own_many : (script : List (Call State Op Query Reply)) (ends : List (CallEnd State Op Query Reply)) (old new : PassView State Device) → HasWorked b means onll script ends old new
       → length new.spot.me.own ≡ length (placed_updates b script ends)
   own_many script ends old new w = ap length (w.tied.lawful.told.own ∙ sym w.runs.legal.places)
 
-  log_tells : (h : LogHead) (d : Device) (r : ThreadRun State Op Query Reply Device) → IsBegun means h d r.before.log → IsNewcomer r.before → HasWorked b means onll r.script r.ends r.before r.after
-      → LogTells h (record { head = None; entries = [] }) (length (placed_updates b r.script r.ends)) (log_left means r.after.log)
-  log_tells h d r a n w =
+  log_tells : (h : LogHead) (before : Content) (d : Device) (r : ThreadRun State Op Query Reply Device) → IsOpen means h before d r.before.log → IsNewcomer r.before → HasWorked b means onll r.script r.ends r.before r.after
+      → LogTells h before (length (placed_updates b r.script r.ends)) (log_left means r.after.log)
+  log_tells h before d r a n w =
       let holds = w.tied.holds in
       let own = own_many r.script r.ends r.before r.after w in
       let own0 = ap length n.own in
-      let entries0 = ap length a.empty in
+      let entries0 = ap length a.entries in
       let fences0 = a.fences in
       let entries1 = w.gone_on.entries in
       let fences1 = w.gone_on.fences in
       record {
         head_is = w.gone_on.same.head ∙ a.head_is;
         holds = ap content_of holds.read ∙ content_of-log_lines r.after.log.head r.after.log.entries (free_of (length (means r.after.log.device).read) r.after.log.entries) holds.fits holds.fit;
-        goes_on = (r.after.log.entries, refl);
+        goes_on = subst (λ (ss : List Segment). IsPrefix ss r.after.log.entries) a.entries w.gone_on.goes_on;
         entries = omega arith;
         fences = omega arith;
       }
 
-  logs_tell : (t : ℕ) (heads : List LogHead) (devices : List Device) (runs : List (ThreadRun State Op Query Reply Device)) → AreBegun means heads devices (map before_log runs)
+  logs_tell : (t : ℕ) (heads : List LogHead) (befores : List Content) (devices : List Device) (runs : List (ThreadRun State Op Query Reply Device)) → AreOpen means heads befores devices (map before_log runs)
       → AllByRecursion IsNewcomer (map before_of runs) → HaveRun b means onll t runs
-      → LogsTell b heads (replicate (length heads) (record { head = None; entries = [] })) (map script_of runs) (map ends_of runs) (map after_left runs)
-  logs_tell t [] [] [] a n w = tt
-  logs_tell t [] [] (r ∷ rs) a n w = absurd a
-  logs_tell t [] (d ∷ devices) runs a n w = absurd a
-  logs_tell t (h ∷ heads) [] runs a n w = absurd a
-  logs_tell t (h ∷ heads) (d ∷ devices) [] a n w = absurd a
-  logs_tell t (h ∷ heads) (d ∷ devices) (r ∷ rs) a n w = (log_tells h d r a.0 n.0 w.1, logs_tell (t + 1) heads devices rs a.1 n.1 w.2)
+      → LogsTell b heads befores (map script_of runs) (map ends_of runs) (map after_left runs)
+  logs_tell t [] [] [] [] a n w = tt
+  logs_tell t [] [] [] (r ∷ rs) a n w = absurd a
+  logs_tell t [] [] (d ∷ devices) runs a n w = absurd a
+  logs_tell t [] (k ∷ befores) devices runs a n w = absurd a
+  logs_tell t (h ∷ heads) [] devices runs a n w = absurd a
+  logs_tell t (h ∷ heads) (k ∷ befores) [] runs a n w = absurd a
+  logs_tell t (h ∷ heads) (k ∷ befores) (d ∷ devices) [] a n w = absurd a
+  logs_tell t (h ∷ heads) (k ∷ befores) (d ∷ devices) (r ∷ rs) a n w = (log_tells h k d r a.0 n.0 w.1, logs_tell (t + 1) heads befores devices rs a.1 n.1 w.2)
 
   -- the words of a device that are fenced
   fenced_are : (k : Option ℕ) (log : LogState Device) (script : List (Call State Op Query Reply)) (ends : List (CallEnd State Op Query Reply)) (old new : PassView State Device) → HasWorked b means onll script ends old new
@@ -222,17 +313,16 @@ module _ {State Op Query Reply Device : Type 0} (b : Behaviour State Op Query Re
   fenced_are None log script ends old new w e = w.tied.holds.settled (w.tied.broken ∙ ap is_some (sym e))
   fenced_are (Some p) log script ends old new w e = w.tied.holds.pending (w.tied.broken ∙ ap is_some (sym e))
 
-  log_kept : (h : LogHead) (d : Device) (r : ThreadRun State Op Query Reply Device) → IsBlank means d → IsBegun means h d r.before.log → IsNewcomer r.before → HasWorked b means onll r.script r.ends r.before r.after
-      → IsKept means r.ends d r.after.log
-  log_kept h d r blank a n w =
+  log_kept : (h : LogHead) (before : Content) (d : Device) (r : ThreadRun State Op Query Reply Device) → CanOpen means h before d → IsOpen means h before d r.before.log → IsNewcomer r.before → HasWorked b means onll r.script r.ends r.before r.after
+      → IsKept means before r.ends d r.after.log
+  log_kept h before d r can a n w =
       let own0 = ap length n.own in
       let fences0 = a.fences in
       let fences1 = w.gone_on.fences in
-      let count0 = blank.fresh.fences in
-      let count1 = a.made.header.fences in
-      let count2 = w.gone_on.count in
-      let faults0 = blank.fresh.faults in
-      let faults1 = a.made.faults in
+      let count0 = open_fences means h before d r.before.log can.fences a in
+      let count1 = w.gone_on.count in
+      let faults0 = can.faults in
+      let faults1 = opened_faults means before.head h d r.before.log.device a.on in
       let faults2 = w.gone_on.faults in
       let whole : fault_in r.before.broken ≡ 0 = ap fault_in n.whole in
       let failed : fault_in (failed_in r.ends) ≡ fault_in r.after.broken = ap fault_in w.runs.failed in
@@ -241,17 +331,19 @@ module _ {State Op Query Reply Device : Type 0} (b : Behaviour State Op Query Re
         broken = w.tied.broken ∙ ap is_some (sym w.runs.failed);
         fences = omega arith;
         faults = omega arith;
-        lines = w.gone_on.lines ∙ a.made.header.count;
+        lines = w.gone_on.lines ∙ opened_lines means before.head h d r.before.log.device a.on;
       }
 
-  logs_kept : (t : ℕ) (heads : List LogHead) (devices : List Device) (runs : List (ThreadRun State Op Query Reply Device)) → AllByRecursion (IsBlank means) devices → AreBegun means heads devices (map before_log runs)
-      → AllByRecursion IsNewcomer (map before_of runs) → HaveRun b means onll t runs → AreKept means (map ends_of runs) devices (map log_of (map after_of runs))
-  logs_kept t [] [] [] blank a n w = tt
-  logs_kept t [] [] (r ∷ rs) blank a n w = absurd a
-  logs_kept t [] (d ∷ devices) runs blank a n w = absurd a
-  logs_kept t (h ∷ heads) [] runs blank a n w = absurd a
-  logs_kept t (h ∷ heads) (d ∷ devices) [] blank a n w = absurd a
-  logs_kept t (h ∷ heads) (d ∷ devices) (r ∷ rs) blank a n w = (log_kept h d r blank.0 a.0 n.0 w.1, logs_kept (t + 1) heads devices rs blank.1 a.1 n.1 w.2)
+  logs_kept : (t : ℕ) (heads : List LogHead) (befores : List Content) (devices : List Device) (runs : List (ThreadRun State Op Query Reply Device)) → AllCanOpen means heads befores devices → AreOpen means heads befores devices (map before_log runs)
+      → AllByRecursion IsNewcomer (map before_of runs) → HaveRun b means onll t runs → AreKept means befores (map ends_of runs) devices (map log_of (map after_of runs))
+  logs_kept t [] [] [] [] can a n w = tt
+  logs_kept t [] [] [] (r ∷ rs) can a n w = absurd a
+  logs_kept t [] [] (d ∷ devices) runs can a n w = absurd a
+  logs_kept t [] (k ∷ befores) devices runs can a n w = absurd a
+  logs_kept t (h ∷ heads) [] devices runs can a n w = absurd a
+  logs_kept t (h ∷ heads) (k ∷ befores) [] runs can a n w = absurd a
+  logs_kept t (h ∷ heads) (k ∷ befores) (d ∷ devices) [] can a n w = absurd a
+  logs_kept t (h ∷ heads) (k ∷ befores) (d ∷ devices) (r ∷ rs) can a n w = (log_kept h k d r can.0 a.0 n.0 w.1, logs_kept (t + 1) heads befores devices rs can.1 a.1 n.1 w.2)
 
   contents_are : (runs : List (ThreadRun State Op Query Reply Device)) → map content_in (map after_left runs) ≡ map content_of_pass (map after_of runs)
   contents_are [] = refl
@@ -294,18 +386,24 @@ module _ {State Op Query Reply Device : Type 0} (b : Behaviour State Op Query Re
   scripts_done (s ∷ ss) (p ∷ ps) (w ∷ ws) d = λ i. d.0 i ∷ scripts_done ss ps ws d.2 i
 
   -- the passes that the object begins with are ready for the scripts
-  module _ (heads : List LogHead) (scripts : List (List (Call State Op Query Reply))) (devices : List Device) (logs : List (LogState Device)) (passes : List (PassView State Device))
-      (can : CanRun means heads scripts devices) (begun : AreBegun means heads devices logs) (h : HasBegun b means onll logs (replicate (length logs) most_updates) passes) where
-    pub passes_long : length scripts ≡ length passes
-    passes_long = sym (logs_long means heads scripts devices logs can begun) ∙ (sym (ap length h.logs_are) ∙ length-map passes log_of)
+  module _ (heads : List LogHead) (befores : List Content) (scripts : List (List (Call State Op Query Reply))) (devices : List Device) (logs : List (LogState Device)) (rooms : List ℕ) (passes : List (PassView State Device))
+      (can : CanRun means heads befores scripts devices) (open_ : AreOpen means heads befores devices logs) (h : HasBegun b means onll logs rooms passes) where
+    passes_many : length passes ≡ length logs
+    passes_many = sym (length-map passes log_of) ∙ ap length h.logs_are
 
-    pub passes_ready : onll.trace.plan ≡ new_plan (length logs) most_updates → AreReady b means onll scripts passes
-    passes_ready plan = ready_all b means onll logs (replicate (length logs) most_updates) scripts passes h
-        (logs_fit means heads scripts devices logs can begun onll.trace.plan.threads (ap (λ (k : TracePlan). k.threads) plan))
+    pub passes_long : length scripts ≡ length passes
+    passes_long = sym (logs_long means heads befores scripts devices logs can open_) ∙ sym passes_many
+
+    pub passes_ready : rooms ≡ map updates_in scripts → AreReady b means onll scripts passes
+    passes_ready is =
+        let threads : onll.trace.plan.threads ≡ length logs = sym h.all.count ∙ (length-map passes spot_of ∙ passes_many) in
+        ready_all b means onll logs rooms scripts passes h
+        (subst (λ (ns : List ℕ). AreFit means onll.trace.plan.threads scripts ns logs) (sym is) (logs_fit means heads befores scripts devices logs can open_ onll.trace.plan.threads threads))
 
     pub passes_ended : (all : List (Worked State Device Op Query Reply)) → AreDone b means onll scripts passes all → CanEnd b means onll scripts passes all
-    passes_ended all done = passes_end b means onll logs (replicate (length logs) most_updates) scripts passes all (logs_are means heads scripts devices logs can begun) h done
+    passes_ended all done = passes_end b means onll logs rooms scripts passes all (logs_are means heads befores scripts devices logs can open_) h done
 
+-- ---- the whole trace
 -- nodes and flags, of both together
 nodes_in : (xs : List Node) (fs : List Bool) → length fs ≡ length xs → map node_in (ended_of xs fs) ≡ xs
 nodes_in [] fs l = refl
@@ -318,74 +416,114 @@ flags_in [] (f ∷ fs) l = absurd (omega arith)
 flags_in (x ∷ xs) [] l = absurd (omega arith)
 flags_in (x ∷ xs) (f ∷ fs) l = ap (λ (z : List Bool). f ∷ z) (flags_in xs fs (omega arith))
 
+-- of the nodes from which a trace went on, all available, and those above them
+nodes_whole : (base trace : List Node) (flags : List Bool) → length flags ≡ length trace → take (length base) trace ≡ base
+    → map node_in (available base ++ ended_of (drop (length base) trace) (drop (length base) flags)) ≡ trace
+nodes_whole [] trace flags l e = nodes_in trace flags l
+nodes_whole (x ∷ base) [] flags l e = absurd (let n = ap length e in omega arith)
+nodes_whole (x ∷ base) (y ∷ trace) [] l e = absurd (omega arith)
+nodes_whole (x ∷ base) (y ∷ trace) (f ∷ flags) l e =
+    λ i. sym (same_cons y x (take (length base) trace) base e).0 i ∷ nodes_whole base trace flags (omega arith) (same_cons y x (take (length base) trace) base e).1 i
+
+flags_whole : (base trace : List Node) (flags : List Bool) → length flags ≡ length trace → length base ≤ length trace → ((i : ℕ) → i < length base → slice_index_or flags i false ≡ true)
+    → map flag_in (available base ++ ended_of (drop (length base) trace) (drop (length base) flags)) ≡ flags
+flags_whole [] trace flags l low h = flags_in trace flags l
+flags_whole (x ∷ base) [] flags l low h = absurd (omega arith)
+flags_whole (x ∷ base) (y ∷ trace) [] l low h = absurd (omega arith)
+flags_whole (x ∷ base) (y ∷ trace) (f ∷ flags) l low h =
+    λ i. sym (h 0 (omega arith)) i ∷ flags_whole base trace flags (omega arith) (omega arith) (λ k small. h (suc k) (omega arith)) i
+
+-- ---- what is left
 -- what the call left, as data
 abbrev pub left_with : {State Op Query Reply Device : Type 0} → (Device → DeviceView) → List (List (CallEnd State Op Query Reply)) → List Ended → List (LogState Device) → Left State Op Query Reply
 left_with means ends trace logs = record { ends = ends; nodes = map node_in trace; flags = map flag_in trace; logs = map (log_left means) logs }
 
 -- what is promised of it
-pub record Leaves {State Op Query Reply Device : Type 0} (b : Behaviour State Op Query Reply) (means : Device → DeviceView) (state : State) (heads : List LogHead)
+pub record Leaves {State Op Query Reply Device : Type 0} (b : Behaviour State Op Query Reply) (means : Device → DeviceView) (state : State) (heads : List LogHead) (befores : List Content)
     (scripts : List (List (Call State Op Query Reply))) (devices : List Device) (ends : List (List (CallEnd State Op Query Reply))) (trace : List Ended) (logs : List (LogState Device)) : Type 0 where
-  pub run : HasRun b (anew state heads scripts) (left_with means ends trace logs)
-  pub kept : AreKept means ends devices logs
+  pub run : (nodes : List Node) → merge heads befores ≡ Ok nodes → HasRun b (going_on state heads nodes befores scripts) (left_with means ends trace logs)
+  pub kept : AreKept means befores ends devices logs
 
 module _ {State Op Query Reply Device : Type 0} (b : Behaviour State Op Query Reply) (means : Device → DeviceView) (onll : OnllView State)
-    (state : State) (heads : List LogHead) (scripts : List (List (Call State Op Query Reply))) (devices : List Device) (logs : List (LogState Device)) (rooms : List ℕ)
-    (passes : List (PassView State Device)) (all : List (Worked State Device Op Query Reply)) (first : onll.first ≡ state) (base : onll.trace.plan.base ≡ [])
-    (can : CanRun means heads scripts devices) (begun : AreBegun means heads devices logs) (h : HasBegun b means onll logs rooms passes) (done : AreDone b means onll scripts passes all) where
+    (state : State) (heads : List LogHead) (befores : List Content) (scripts : List (List (Call State Op Query Reply))) (devices : List Device) (logs : List (LogState Device)) (rooms : List ℕ) (nodes : List Node)
+    (passes : List (PassView State Device)) (all : List (Worked State Device Op Query Reply)) (first : onll.first ≡ state) (base : onll.trace.plan.base ≡ nodes)
+    (can : CanRun means heads befores scripts devices) (open_ : AreOpen means heads befores devices logs) (held : merge heads befores ≡ Ok nodes)
+    (h : HasBegun b means onll logs rooms passes) (done : AreDone b means onll scripts passes all) where
   abbrev runs : List (ThreadRun State Op Query Reply Device)
   runs = runs_of scripts passes all
 
-  ended : CanEnd b means onll scripts passes all
-  ended = passes_end b means onll logs rooms scripts passes all (logs_are means heads scripts devices logs can begun) h done
+  abbrev from : Base
+  from = record { nodes = nodes; logs = befores }
 
-  over : AreBegun means heads devices (map (λ (r : ThreadRun State Op Query Reply Device). r.before.log) runs)
-  over = subst (AreBegun means heads devices) (sym (befores_are b means onll runs ∙ (ap (map log_of) (passes_before b means onll scripts passes all done) ∙ h.logs_are))) begun
+  ended : CanEnd b means onll scripts passes all
+  ended = passes_end b means onll logs rooms scripts passes all (logs_are means heads befores scripts devices logs can open_) h done
+
+  over : AreOpen means heads befores devices (map (λ (r : ThreadRun State Op Query Reply Device). r.before.log) runs)
+  over = subst (AreOpen means heads befores devices) (sym (befores_are b means onll runs ∙ (ap (map log_of) (passes_before b means onll scripts passes all done) ∙ h.logs_are))) open_
 
   new : AllByRecursion IsNewcomer (map before_of runs)
   new = subst (AllByRecursion IsNewcomer) (sym (passes_before b means onll scripts passes all done)) h.whole
 
-  module _ (trace : List Ended) (closed : HasClosed onll.trace (map after_of runs) trace) where
-    whole : IsWhole b means onll (no_base (length heads)) trace runs closed
-    whole = run_whole b means onll (no_base (length heads)) trace runs ended.have_run (sym base) ended.many closed
+  module _ (above : List Ended) (closed : HasClosed onll.trace (map after_of runs) above) where
+    whole : IsWhole b means onll from above runs closed
+    whole = run_whole b means onll from above runs ended.have_run (sym base) ended.many closed
 
-    has_run : HasRun b (plan_of b means onll (no_base (length heads)) runs) (left_of b means onll trace runs closed)
+    has_run : HasRun b (plan_of b means onll from runs) (left_of b means onll above runs closed)
     has_run = record {
       legal = whole.legal;
       over = whole.over;
       flags = flags_are (map ends_of runs) closed.ended.frame.trace closed.ended.frame.flags closed.ended.sound.sound.flags whole.flags;
-      logs = subst (λ (hs : List LogHead). LogsTell b hs (replicate (length heads) (record { head = None; entries = [] })) (map script_of runs) (map ends_of runs)
+      logs = subst (λ (hs : List LogHead). LogsTell b hs befores (map script_of runs) (map ends_of runs)
           (map (λ (r : ThreadRun State Op Query Reply Device). log_left means r.after.log) runs))
-          (sym (heads_are b means onll 0 heads devices runs over ended.have_run)) (logs_tell b means onll 0 heads devices runs over new ended.have_run);
+          (sym (heads_are b means onll 0 heads befores devices runs over ended.have_run)) (logs_tell b means onll 0 heads befores devices runs over new ended.have_run);
       merged = ap (merge (map head_of (map after_of runs))) (contents_are b means onll runs) ∙ closed.merged;
       crash = whole.crash;
     }
 
     -- what is run, and what is left, as the caller has them
-    plan_is : plan_of b means onll (no_base (length heads)) runs ≡ anew state heads scripts
-    plan_is = λ i. record { state = first i; scripts = ended.scripts_are i; heads = heads_are b means onll 0 heads devices runs over ended.have_run i; base = no_base (length heads) }
+    plan_is : plan_of b means onll from runs ≡ going_on state heads nodes befores scripts
+    plan_is = λ i. record { state = first i; scripts = ended.scripts_are i; heads = heads_are b means onll 0 heads befores devices runs over ended.have_run i; base = from }
 
-    ended_are : trace ≡ ended_of closed.ended.frame.trace closed.ended.frame.flags
-    ended_are = closed.ended.ends_are ∙ ap (λ (n : ℕ). ended_of (drop n closed.ended.frame.trace) (drop n closed.ended.frame.flags)) (ap length base)
+    place_is : base_place onll.trace.plan ≡ length nodes
+    place_is = ap length base
+
+    above_are : above ≡ ended_of (drop (length nodes) closed.ended.frame.trace) (drop (length nodes) closed.ended.frame.flags)
+    above_are = closed.ended.ends_are ∙ ap (λ (n : ℕ). ended_of (drop n closed.ended.frame.trace) (drop n closed.ended.frame.flags)) place_is
 
     long : length closed.ended.frame.flags ≡ length closed.ended.frame.trace
     long = closed.ended.sound.sound.flags
 
-    left_is : (ends : List (List (CallEnd State Op Query Reply))) (after : List (LogState Device)) → ends ≡ map ends_done all → after ≡ map log_of (map pass_done all)
-        → left_of b means onll trace runs closed ≡ left_with means ends trace after
-    left_is ends after e l = λ i. record {
+    front : take (length nodes) closed.ended.frame.trace ≡ nodes
+    front = ap (λ (n : ℕ). take n closed.ended.frame.trace) (sym place_is) ∙ (closed.ended.base ∙ base)
+
+    available_front : (i : ℕ) → i < length nodes → slice_index_or closed.ended.frame.flags i false ≡ true
+    available_front i low = closed.ended.sound.based.available (suc i) (let p = place_is in omega arith)
+
+    left_is : (ends : List (List (CallEnd State Op Query Reply))) (trace : List Ended) (after : List (LogState Device)) → ends ≡ map ends_done all → trace ≡ available nodes ++ above → after ≡ map log_of (map pass_done all)
+        → left_of b means onll above runs closed ≡ left_with means ends trace after
+    left_is ends trace after e t l = λ i. record {
       ends = (ends_are b means onll scripts passes all done ∙ sym e) i;
-      nodes = sym (ap (map node_in) ended_are ∙ nodes_in closed.ended.frame.trace closed.ended.frame.flags long) i;
-      flags = sym (ap (map flag_in) ended_are ∙ flags_in closed.ended.frame.trace closed.ended.frame.flags long) i;
+      nodes = sym (ap (map node_in) (t ∙ ap (λ (es : List Ended). available nodes ++ es) above_are) ∙ nodes_whole nodes closed.ended.frame.trace closed.ended.frame.flags long front) i;
+      flags = sym (ap (map flag_in) (t ∙ ap (λ (es : List Ended). available nodes ++ es) above_are)
+          ∙ flags_whole nodes closed.ended.frame.trace closed.ended.frame.flags long (let low = closed.ended.sound.based.long in let p = place_is in omega arith) available_front) i;
       logs = (lefts_are b means onll runs ∙ ap (map (log_left means)) (ap (map log_of) ended.passes_are ∙ sym l)) i;
     }
 
+  leaves_with : (ends : List (List (CallEnd State Op Query Reply))) (trace above : List Ended) (after : List (LogState Device)) → ends ≡ map ends_done all → trace ≡ available nodes ++ above → after ≡ map log_of (map pass_done all)
+      → HasClosed onll.trace (map pass_done all) above → HasRun b (going_on state heads nodes befores scripts) (left_with means ends trace after)
+  leaves_with ends trace above after e t l closed =
+      let closed0 : HasClosed onll.trace (map after_of runs) above = subst (λ (ps : List (PassView State Device)). HasClosed onll.trace ps above) (sym ended.passes_are) closed in
+      subst (λ (z : Plan State Op Query Reply × Left State Op Query Reply). HasRun b z.0 z.1) (λ i. (plan_is above closed0 i, left_is above closed0 ends trace after e t l i)) (has_run above closed0)
+
   pub run_leaves : (ends : List (List (CallEnd State Op Query Reply))) (trace : List Ended) (after : List (LogState Device)) → ends ≡ map ends_done all → after ≡ map log_of (map pass_done all)
-      → HasClosed onll.trace (map pass_done all) trace → Leaves b means state heads scripts devices ends trace after
-  run_leaves ends trace after e l closed =
-      let closed0 : HasClosed onll.trace (map after_of runs) trace = subst (λ (ps : List (PassView State Device)). HasClosed onll.trace ps trace) (sym ended.passes_are) closed in
+      → (above : List Ended) × (trace ≡ available nodes ++ above) × HasClosed onll.trace (map pass_done all) above → Leaves b means state heads befores scripts devices ends trace after
+  run_leaves ends trace after e l made =
       record {
-        run = subst (λ (z : Plan State Op Query Reply × Left State Op Query Reply). HasRun b z.0 z.1) (λ i. (plan_is trace closed0 i, left_is trace closed0 ends after e l i)) (has_run trace closed0);
-        kept = subst (λ (z : List (List (CallEnd State Op Query Reply)) × List (LogState Device)). AreKept means z.0 devices z.1)
+        run = λ found is.
+            let both : Ok nodes ≡ Ok found = sym held ∙ is in
+            let same : nodes ≡ found = cc in
+            subst (λ (ns : List Node). HasRun b (going_on state heads ns befores scripts) (left_with means ends trace after)) same (leaves_with ends trace made.0 after e made.1 l made.2);
+        kept = subst (λ (z : List (List (CallEnd State Op Query Reply)) × List (LogState Device)). AreKept means befores z.0 devices z.1)
             (λ i. ((ends_are b means onll scripts passes all done ∙ sym e) i, (ap (map log_of) ended.passes_are ∙ sym l) i))
-            (logs_kept b means onll 0 heads devices runs (can_blank means heads scripts devices can) over new ended.have_run);
+            (logs_kept b means onll 0 heads befores devices runs (can_open means heads befores scripts devices can) over new ended.have_run);
       }

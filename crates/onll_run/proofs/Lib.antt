@@ -4,5 +4,7 @@ pub mod Whole
 pub mod Crewing
 pub mod Ending
 pub mod Beginning
+pub mod Anew
+pub mod Merging
 pub mod Headers
 pub mod Leaving

@@ -27,6 +27,16 @@ pub record Base : Type 0 where
 abbrev pub no_base : ℕ → Base
 no_base threads = record { nodes = []; logs = replicate threads (record { head = None; entries = [] }) }
 
+-- one for a log without a head
+abbrev pub one_begun : Option LogHead → ℕ
+one_begun None = 1
+one_begun (Some head) = 0
+
+-- how many of these logs have no head, and so are begun anew
+abbrev pub begun_logs : List Content → ℕ
+begun_logs [] = 0
+begun_logs (before ∷ logs) = one_begun before.head + begun_logs logs
+
 -- a script for each thread on an object in this state, the head of each thread's log, and the base
 pub record Plan (State Op Query Reply : Type 0) : Type 0 where
   pub state : State

@@ -1,4 +1,26 @@
 //! Scripts done on threads, each on its own pass of one shared object.
+//!
+//! ```rust
+//! let heads = [LogHead::new(0, 1, Bank::CODE, b"bank 1\n")];
+//! let script = vec![in alloc; Call::Update(BankOp::Deposit { a: 0, x: 5 })]?;
+//! let devices = vec![in alloc; MemPmem::new(alloc, 3, Vec::new(alloc))?]?;
+//! let bank = Bank::make(alloc, 1)?;
+//! let Ok(ran) = run_scripts(
+//!     &rt,
+//!     alloc,
+//!     bank,
+//!     &heads,
+//!     vec![in alloc; script]?,
+//!     devices,
+//!     &FreeGate,
+//! ) else {
+//!     return Err("not run".into());
+//! };
+//! assert!(rt; ran.trace.len() == 1);
+//! assert!(rt; ran.logs[0].fences() == 1);
+//! ```
+//!
+//! The test `run` of `onll_uses` runs this.
 #![tactic(auto)]
 
 mod crew;
@@ -9,6 +31,6 @@ mod worker;
 
 pub use crew::run_passes;
 pub use laws::{passes_law, ready_law, run_law};
-pub use logs::{RunFault, make_logs};
-pub use run::{DoneScript, Ran, run_scripts};
+pub use logs::{RunFault, new_logs, open_logs};
+pub use run::{DoneScript, Ran, resume_scripts, run_scripts};
 pub use worker::{Worked, Worker, run_all};

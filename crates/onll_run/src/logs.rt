@@ -1,13 +1,14 @@
-//! Logs that are begun anew, one over each device.
+//! Logs that are opened, or begun anew where nothing is held, one over each device.
 
-ghost use Rattle.std.specs.Prelude.{◌≡◌, ◌+◌, ◌≤◌, ◌∷◌, ◌++◌, length, map, reverse, vec_capacity, IfOk, IfErr};
-ghost use Rattle.std.specs.List.{AllByRecursion};
-ghost use Rattle.onll_log.specs.Head.{FitsHead};
+ghost use Rattle.std.specs.Prelude.{◌≡◌, ◌+◌, ◌≤◌, ◌∷◌, ◌++◌, length, map, reverse, vec_capacity, IfOk, IfErr, None};
+ghost use Rattle.onll_log.specs.Decoded.{content_in};
 ghost use Rattle.onll_log.specs.Log.{IsPending};
+ghost use Rattle.onll_merge.specs.Merge.{contents_in};
 ghost use Rattle.onll_run.specs.declared.logs.RunFault.TheVariants.{NoMemory};
-ghost use Rattle.onll_run.specs.Making.{IsBlank, IsBegun, AreBegun, HasRefused, device_of};
+ghost use Rattle.onll_run.specs.Left.{no_base};
+ghost use Rattle.onll_run.specs.Making.{CanOpen, AllCanOpen, IsOpen, AreOpen, HasRefused, device_of};
 
-use onll_log::{LogHead, MakeFault, ThreadLog};
+use onll_log::{Decoded, Entries, LogHead, MakeFault, ThreadLog};
 use onll_pmem::Pmem;
 use onll_words::NoMemory;
 use std::alloc::{AllocError, Global};
@@ -37,16 +38,33 @@ impl<P: Pmem> From<AllocError> for RunFault<P> {
     }
 }
 
-/// The log of this head over a new device. Where the header's fence fails the device is handed back.
-fn make_log<P: Pmem>(head: LogHead, device: P) -> Result<ThreadLog<P>, P>
-    requires head { FitsHead head }
-    requires blank { IsBlank P.means device }
-    ensures begun { IfOk result (λ log. IsBegun P.means head device log) }
-    ensures failed { IfErr result (λ back. IsPending (P.means device) (P.means back) head) }
+/// What so many logs hold that are begun anew.
+pub fn new_logs(alloc: Global, count: usize) -> Result<Vec<Decoded>, AllocError>
+    ensures { IfOk result (λ logs. contents_in logs.items ≡ (no_base count).logs) }
 {
-    match ThreadLog::make(device, head) {
-        Ok(log) => Ok(log),
-        Err(MakeFault { device, .. }) => Err(device),
+    let mut logs = Vec::with_capacity(alloc, count)?;
+    for _ in 0..count {
+        logs.push_reserved(Decoded {
+            head: None,
+            entries: Entries::of_vec(Vec::new(alloc)),
+        });
+    }
+    Ok(logs)
+}
+
+/// The log of this head over the device, which held this before. Where it held nothing it is begun, and where the header's fence fails
+/// the device is handed back.
+fn open_log<P: Pmem>(head: LogHead, log: &Decoded, device: P) -> Result<ThreadLog<P>, P>
+    requires { CanOpen P.means head (content_in log.now) device }
+    ensures open { IfOk result (λ log_. IsOpen P.means head (content_in log.now) device log_) }
+    ensures failed { IfErr result (λ back. (log.now.head ≡ None) × IsPending (P.means device) (P.means back) head) }
+{
+    match log.head {
+        Some(_) => Ok(ThreadLog::open(device, log)),
+        None => match ThreadLog::make(device, head) {
+            Ok(log) => Ok(log),
+            Err(MakeFault { device, .. }) => Err(device),
+        },
     }
 }
 
@@ -63,30 +81,32 @@ fn devices_back<P: Pmem + Drop>(mut logs: Vec<ThreadLog<P>>, failed: P, mut left
     left
 }
 
-/// A log of each head over the device at its place. At the first header whose fence fails all devices are handed back.
-pub fn make_logs<P: Pmem + Drop>(
+/// A log of each head over the device at its place, which held what is at its place in the base. At the first header whose fence fails
+/// all devices are handed back.
+pub fn open_logs<P: Pmem + Drop>(
     alloc: Global,
     heads: &[LogHead],
+    base: &[Decoded],
     mut devices: Vec<P>,
 ) -> Result<Vec<ThreadLog<P>>, RunFault<P>>
-    requires many { length heads.now ≡ length devices.items }
-    requires heads { AllByRecursion FitsHead heads.now }
-    requires devices { AllByRecursion (IsBlank P.means) devices.items }
-    ensures begun { IfOk result (λ logs. AreBegun P.means heads.now devices.items logs.items) }
-    ensures refused { IfErr result (λ fault. HasRefused P.means heads.now devices.items fault) }
+    requires { AllCanOpen P.means heads.now (contents_in base.now) devices.items }
+    ensures open { IfOk result (λ logs. AreOpen P.means heads.now (contents_in base.now) devices.items logs.items) }
+    ensures refused { IfErr result (λ fault. HasRefused P.means heads.now (contents_in base.now) devices.items fault) }
 {
     let mut logs = Vec::with_capacity(alloc, heads.len())?;
     devices.reverse();
-    for head in heads {
+    for thread in 0..heads.len() {
         let Some(device) = devices.pop() else {
             unreachable!()
         };
-        match make_log(*head, device) {
+        match open_log(heads[thread], &base[thread], device) {
             Ok(log) => logs.push_reserved(log),
             Err(failed) => {
-                let thread = logs.len() as u64;
                 let devices = devices_back(logs, failed, devices);
-                return Err(RunFault::HeaderFailed { thread, devices });
+                return Err(RunFault::HeaderFailed {
+                    thread: thread as u64,
+                    devices,
+                });
             }
         }
     }

@@ -1,23 +1,29 @@
-//! Scripts run on threads over logs that are begun anew.
+//! Scripts run on threads, over logs that are opened or begun anew.
 
-ghost use Rattle.std.specs.Prelude.{◌≡◌, map, IfOk, IfErr};
+ghost use Rattle.std.specs.Prelude.{◌≡◌, ◌≤◌, ◌++◌, length, map, All, IfOk, IfErr, Ok, Err};
 ghost use Rattle.std.specs.List.{AllByRecursion};
+ghost use Rattle.onll_model.specs.Limits.{most_threads, most_updates};
+ghost use Rattle.onll_model.specs.Calls.{updates_in};
+ghost use Rattle.onll_merge.specs.Merge.{contents_in, merge};
 ghost use Rattle.onll_trace.specs.Closing.{AreAll};
+ghost use Rattle.onll_shared.specs.Starts.{AreLogs};
+ghost use Rattle.onll_shared.specs.Found.{HoldBase, content_held, head_held};
 ghost use Rattle.onll_shared.specs.Passes.{IsTied, spot_of, log_of};
 ghost use Rattle.onll_shared.specs.Ends.{HasClosed};
 ghost use Rattle.onll_run.specs.Crew.{pass_done, script_done, ends_done};
-ghost use Rattle.onll_run.specs.Left.{HasRun};
+ghost use Rattle.onll_run.specs.Left.{HasRun, no_base};
 ghost use Rattle.onll_run.specs.Making.{HasRefused};
-ghost use Rattle.onll_run.specs.Ran.{CanRun, AreKept, anew, left_in, script_in, ends_in};
+ghost use Rattle.onll_run.specs.Ran.{CanRun, AreKept, available, going_on, anew, left_in, script_in, ends_in};
 
 use crate::crew::run_passes;
-use crate::logs::{RunFault, make_logs};
+use crate::logs::{RunFault, new_logs, open_logs};
 use crate::worker::Worked;
-use onll_log::{LogHead, ThreadLog};
-use onll_model::{Call, CallEnd, MOST_UPDATES, Object};
+use onll_log::{Decoded, LogHead, ThreadLog};
+use onll_merge::RecoverFault;
+use onll_model::{Call, CallEnd, Node, Object};
 use onll_outside::Gate;
 use onll_pmem::Pmem;
-use onll_shared::{Closed, Onll, Pass};
+use onll_shared::{Base, Closed, Onll, Pass, find_base};
 use onll_trace::Ended;
 use onll_words::NoMemory;
 use std::alloc::{AllocError, Global};
@@ -60,9 +66,10 @@ fn take_apart<O: Object + Drop, P: Pmem + Drop>(
     Ok((threads, passes))
 }
 
-/// The end of an object after these scripts were done on its passes.
+/// The end of an object that went on from these nodes, after these scripts were done on its passes.
 fn finish<O: Object + Drop, P: Pmem + Drop>(
     alloc: Global,
+    base: &[Node],
     onll: Onll<O>,
     all: Vec<Worked<O, P>>,
 ) -> Result<Ran<O, P>, NoMemory>
@@ -70,22 +77,115 @@ fn finish<O: Object + Drop, P: Pmem + Drop>(
     requires tied { AllByRecursion (IsTied O.means P.means onll) (map pass_done all.items) }
     ensures scripts { IfOk result (λ ran. map script_in ran.threads.items ≡ map script_done all.items) }
     ensures ends { IfOk result (λ ran. map ends_in ran.threads.items ≡ map ends_done all.items) }
-    ensures closed { IfOk result (λ ran. HasClosed onll.trace (map pass_done all.items) ran.trace.items) }
+    ensures closed { IfOk result (λ ran. (above : _) × (ran.trace.items ≡ available base.now ++ above)
+        × HasClosed onll.trace (map pass_done all.items) above) }
     ensures logs { IfOk result (λ ran. ran.logs.items ≡ map log_of (map pass_done all.items)) }
 {
     let (threads, passes) = take_apart(alloc, all)?;
     match onll.close(alloc, passes) {
         Ok(Closed { trace, logs }) => Ok(Ran {
             threads,
-            trace,
+            trace: whole_trace(alloc, base, trace)?,
             logs,
         }),
         Err(_) => Err(NoMemory),
     }
 }
 
-/// Runs each script in a thread of its own, where one can be started, on its own pass of an object in this state, over a log of the
-/// head at its place that is begun on the device at its place. No thread begins before all headers are fenced.
+/// How many of these calls are updates.
+fn count_updates<O: Object>(calls: &[Call<O>]) -> u64
+    requires { updates_in calls.now ≤ most_updates }
+    ensures { result ≡ updates_in calls.now }
+{
+    let mut updates = 0;
+    for call in calls {
+        if let Call::Update(_) = call {
+            updates += 1;
+        }
+    }
+    updates
+}
+
+/// How many updates each script has.
+fn rooms_for<O: Object>(alloc: Global, scripts: &[Vec<Call<O>>]) -> Result<Vec<u64>, AllocError>
+    requires { All (λ script. updates_in script.items ≤ most_updates) scripts.now }
+    ensures { IfOk result (λ rooms. rooms.items ≡ map updates_in (map (λ script. script.items) scripts.now)) }
+{
+    let mut rooms = Vec::with_capacity(alloc, scripts.len())?;
+    for script in scripts {
+        rooms.push_reserved(count_updates(script));
+    }
+    Ok(rooms)
+}
+
+/// The nodes of the one trace that the logs of all threads hold, with their marks.
+fn base_of<P: Pmem>(alloc: Global, logs: &[ThreadLog<P>]) -> Result<Base, NoMemory>
+    requires many { (1 ≤ length logs.now) × (length logs.now ≤ most_threads) }
+    requires logs { AreLogs logs.now }
+    requires merged { (fault : _) → merge (map head_held logs.now) (map content_held logs.now) ≡ Err fault → ⊥ }
+    ensures { IfOk result (λ base. HoldBase logs.now base.nodes.items base.marks.items) }
+{
+    match find_base(alloc, logs) {
+        Ok(base) => Ok(base),
+        Err(RecoverFault::NoMemory) => Err(NoMemory),
+        Err(_) => unreachable!(),
+    }
+}
+
+/// The whole trace: the nodes from which it went on, all of them available, and what was made above them.
+fn whole_trace(alloc: Global, base: &[Node], above: Vec<Ended>) -> Result<Vec<Ended>, AllocError>
+    ensures { IfOk result (λ trace. trace.items ≡ available base.now ++ above.items) }
+{
+    if base.is_empty() {
+        return Ok(above);
+    }
+    let mut trace = Vec::with_capacity(alloc, base.len())?;
+    for node in base {
+        trace.push_reserved(Ended {
+            node: *node,
+            flag: true,
+        });
+    }
+    trace.extend_from_slice(&above)?;
+    Ok(trace)
+}
+
+/// Runs each script in a thread of its own, where one can be started, on its own pass of an object that began in this state, over the
+/// log of the head at its place. The logs held the base before: each is opened on the device at its place, or begun on it where it
+/// has no head. No thread begins before all headers are fenced.
+pub fn resume_scripts<
+    R: Threads + Wait + Sync,
+    O: Object + Drop + Send + Sync,
+    P: Pmem + Drop + Send,
+    G: Gate + Sync,
+>(
+    rt: &R,
+    alloc: Global,
+    object: O,
+    heads: &[LogHead],
+    base: &[Decoded],
+    scripts: Vec<Vec<Call<O>>>,
+    devices: Vec<P>,
+    gate: &G,
+) -> Result<Ran<O, P>, RunFault<P>>
+    requires { CanRun P.means heads.now (contents_in base.now) (map (λ script. script.items) scripts.items) devices.items }
+    ensures scripts { IfOk result (λ ran. map script_in ran.threads.items ≡ map (λ script. script.items) scripts.items) }
+    ensures run { IfOk result (λ ran. (nodes : _) → merge heads.now (contents_in base.now) ≡ Ok nodes
+        → HasRun O.means (going_on object heads.now nodes (contents_in base.now) (map (λ script. script.items) scripts.items))
+        (left_in P.means ran)) }
+    ensures kept { IfOk result (λ ran. AreKept P.means (contents_in base.now) (map ends_in ran.threads.items)
+        devices.items ran.logs.items) }
+    ensures refused { IfErr result (λ fault. HasRefused P.means heads.now (contents_in base.now) devices.items fault) }
+{
+    let rooms = rooms_for(alloc, &scripts)?;
+    let logs = open_logs(alloc, heads, base, devices)?;
+    let held = base_of(alloc, &logs)?;
+    let (onll, passes) = Onll::resume(alloc, object, &held.nodes, &held.marks, logs, &rooms)?;
+    let all = run_passes(rt, alloc, &onll, gate, scripts, passes)?;
+    Ok(finish(alloc, &held.nodes, onll, all)?)
+}
+
+/// The same over logs that are begun anew.
 pub fn run_scripts<
     R: Threads + Wait + Sync,
     O: Object + Drop + Send + Sync,
@@ -100,15 +200,14 @@ pub fn run_scripts<
     devices: Vec<P>,
     gate: &G,
 ) -> Result<Ran<O, P>, RunFault<P>>
-    requires { CanRun P.means heads.now (map (λ script. script.items) scripts.items) devices.items }
+    requires { CanRun P.means heads.now (no_base (length heads.now)).logs (map (λ script. script.items) scripts.items) devices.items }
     ensures scripts { IfOk result (λ ran. map script_in ran.threads.items ≡ map (λ script. script.items) scripts.items) }
     ensures run { IfOk result (λ ran. HasRun O.means (anew object heads.now (map (λ script. script.items) scripts.items))
         (left_in P.means ran)) }
-    ensures kept { IfOk result (λ ran. AreKept P.means (map ends_in ran.threads.items) devices.items ran.logs.items) }
-    ensures refused { IfErr result (λ fault. HasRefused P.means heads.now devices.items fault) }
+    ensures kept { IfOk result (λ ran. AreKept P.means (no_base (length heads.now)).logs (map ends_in ran.threads.items)
+        devices.items ran.logs.items) }
+    ensures refused { IfErr result (λ fault. HasRefused P.means heads.now (no_base (length heads.now)).logs devices.items fault) }
 {
-    let logs = make_logs(alloc, heads, devices)?;
-    let (onll, passes) = Onll::create(alloc, object, logs, MOST_UPDATES)?;
-    let all = run_passes(rt, alloc, &onll, gate, scripts, passes)?;
-    Ok(finish(alloc, onll, all)?)
+    let base = new_logs(alloc, heads.len())?;
+    resume_scripts(rt, alloc, object, heads, &base, scripts, devices, gate)
 }

@@ -2,6 +2,7 @@
 use Rattle.std.proofs.Common.{◌≡◌, ℕ, zero, suc, ◌+◌, ◌*◌, ◌<◌, ◌≤◌, List, [], ◌∷◌, ◌++◌, length, map, refl, sym, ap, ◌∙◌, subst, arith}
 use Rattle.std.specs.List.{AllByRecursion}
 use Rattle.std.proofs.lemmas.Nat.{mul-le}
+use Rattle.onll_model.specs.Limits.{most_updates}
 use Rattle.onll_model.specs.declared.call.Call.{Call}
 use Rattle.onll_model.specs.declared.call.Call.TheVariants.{Update, Ask}
 use Rattle.onll_model.specs.Calls.{updates_in}
@@ -11,7 +12,9 @@ use Rattle.onll_pmem.specs.Memory.{MemoryState, memory_view}
 use Rattle.onll_log.specs.declared.head.LogHead.{LogHead}
 use Rattle.onll_outside.specs.Views.{IsFresh}
 use Rattle.onll_run.specs.Making.{IsHeadOf, AreHeads}
+use Rattle.onll_run.specs.Left.{no_base}
 use Rattle.onll_run.specs.Ran.{AreRoomy, CanRun}
+use Rattle.onll_run.proofs.Anew.{new_base, new_roomy}
 
 -- one head more
 pub heads_more : (count t : ℕ) (heads : List LogHead) (head : LogHead) → AreHeads count t heads → IsHeadOf count (t + length heads) head → AreHeads count t (heads ++ head ∷ [])
@@ -32,31 +35,31 @@ module _ {State Op Query Reply : Type 0} where
   abbrev pub AreShort : List (List (Call State Op Query Reply)) → Type 0
   AreShort = AllByRecursion (λ (calls : List (Call State Op Query Reply)). length calls ≤ 8)
 
+  few_each : (scripts : List (List (Call State Op Query Reply))) → AreShort scripts → AllByRecursion (λ (calls : List (Call State Op Query Reply)). updates_in calls ≤ most_updates) scripts
+  few_each [] short = tt
+  few_each (s ∷ scripts) short = (let updates = few_updates s in let calls = short.0 in omega arith, few_each scripts short.1)
+
   roomy : (threads : ℕ) (scripts : List (List (Call State Op Query Reply))) (devices : List MemoryState) → threads ≤ 4 → AreShort scripts → length devices ≡ length scripts
-      → AllByRecursion (λ (d : MemoryState). IsFresh (zero_lines 41) (memory_view d)) devices → AreRoomy memory_view threads scripts devices
+      → AllByRecursion (λ (d : MemoryState). IsFresh (zero_lines 41) (memory_view d)) devices → AreRoomy memory_view threads (no_base (length scripts)).logs scripts devices
   roomy threads [] [] few short many fresh = tt
   roomy threads [] (d ∷ devices) few short many fresh = absurd (omega arith)
   roomy threads (s ∷ scripts) [] few short many fresh = absurd (omega arith)
   roomy threads (s ∷ scripts) (d ∷ devices) few short many fresh =
-      let long : length (memory_view d).read ≡ 41 = ap length fresh.0.read in
       let updates = few_updates s in
       let calls = short.0 in
       let lines : (threads + 1) * updates_in s ≤ 5 * 8 = mul-le (threads + 1) (updates_in s) 5 8 (omega arith) (omega arith) in (
-        record {
-          fresh = subst (λ (n : ℕ). IsFresh (zero_lines n) (memory_view d)) (sym long) fresh.0;
-          updates = omega arith;
-          lines = omega arith;
-        },
+        new_roomy memory_view threads 41 s d fresh.0 (omega arith),
         roomy threads scripts devices few short.1 (omega arith) fresh.1,
       )
 
   pub can_run : (heads : List LogHead) (scripts : List (List (Call State Op Query Reply))) (devices : List MemoryState) → 1 ≤ length scripts → length scripts ≤ 4 → AreShort scripts
       → length devices ≡ length scripts → AllByRecursion (λ (d : MemoryState). IsFresh (zero_lines 41) (memory_view d)) devices → length heads ≡ length scripts → AreHeads (length scripts) 0 heads
-      → CanRun memory_view heads scripts devices
+      → CanRun memory_view heads (no_base (length heads)).logs scripts devices
   can_run heads scripts devices some_thread few short many fresh long are = record {
     some_thread = some_thread;
     few = omega arith;
     many = long;
     heads_are = are;
-    devices_are = roomy (length scripts) scripts devices few short many fresh;
+    base = new_base heads (length heads) scripts (few_each scripts short);
+    devices_are = subst (λ (n : ℕ). AreRoomy memory_view (length scripts) (no_base n).logs scripts devices) (sym long) (roomy (length scripts) scripts devices few short many fresh);
   }

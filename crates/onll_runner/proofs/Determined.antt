@@ -1,6 +1,6 @@
 -- The bytes of a run's report determine all that it says.
 
-use Rattle.std.proofs.Common.{ℕ, Bool, ◌≡◌, ◌+◌, ◌<◌, ◌^◌, List, [], ◌∷◌, ◌++◌, Option, Some, None, length, refl, sym, ap, ◌∙◌, arith, append_assoc}
+use Rattle.std.proofs.Common.{ℕ, Bool, ◌≡◌, ◌+◌, ◌<◌, ◌^◌, List, [], ◌∷◌, ◌++◌, Option, Some, None, length, refl, sym, ap, ◌∙◌, subst, arith, append_assoc}
 use Rattle.std.specs.List.{flat_map}
 use Rattle.std.proofs.lemmas.List.{append_cancel_left}
 use Rattle.onll_words.specs.Texts.{line_text, AreMeaningful}
@@ -16,9 +16,9 @@ use Rattle.onll_text.specs.Lines.{trace_line, state_lines}
 use Rattle.onll_text.specs.Reports.{NoNodeNext, SaysOnly}
 use Rattle.onll_text.proofs.Determined.{text_determined, AreMeaningful-append, line_same, state_determined, state_meaningful, says_only}
 use Rattle.onll_recovery.specs.RecoverJob.{recovered_line}
-use Rattle.onll_recovery.specs.ReplayJob.{LogData, thread_lines, flagged_lines, counted_lines}
+use Rattle.onll_recovery.specs.ReplayJob.{LogData, resumed_lines, thread_lines, flagged_lines, counted_lines}
 use Rattle.onll_recovery.proofs.RecoverSteps.{recovered_in_words}
-use Rattle.onll_recovery.proofs.Determined.{threads_determined, threads_meaningful, flagged_determined, flagged_meaningful, logs_determined, logs_meaningful}
+use Rattle.onll_recovery.proofs.Determined.{NoResumedNext, no_resumed, resumed_meaningful, resumed_determined, threads_determined, threads_meaningful, flagged_determined, flagged_meaningful, logs_determined, logs_meaningful}
 use Rattle.onll_runner.specs.RunReport.{RunData, RunReads, faults_at, fault_lines, end_lines, run_lines, run_data, run_report}
 use Rattle.onll_runner.proofs.ReportSteps.{fault_in_words}
 
@@ -41,14 +41,24 @@ module _ {State Op Query Reply : Type 0} where
         AreMeaningful-append (fault_lines 0 said.ends) (state_lines w said.state) (faults_meaningful 0 said.ends) (state_meaningful w said.state),
       )
 
+  -- the lines after how many nodes are gone on from
+  abbrev ran_lines : Behaviour State Op Query Reply → Wording State Op Query Reply → List (List (Call State Op Query Reply)) → RunData State Op Query Reply → List (List (List ℕ))
+  ran_lines b w scripts said = (thread_lines w 0 scripts said.ends ++ (trace_line (length said.nodes) ∷ flagged_lines b w 0 said.nodes said.flags)) ++ end_lines w said
+
+  none_resumed : (b : Behaviour State Op Query Reply) (w : Wording State Op Query Reply) (scripts : List (List (Call State Op Query Reply))) (said : RunData State Op Query Reply) → NoResumedNext (ran_lines b w scripts said)
+  none_resumed b w scripts said =
+      let trace = trace_line (length said.nodes) ∷ flagged_lines b w 0 said.nodes said.flags in
+      subst NoResumedNext (sym (append_assoc (thread_lines w 0 scripts said.ends) trace (end_lines w said))) (no_resumed w 0 scripts said.ends (trace ++ end_lines w said) (λ rest e. cc e))
+
   run_meaningful : (b : Behaviour State Op Query Reply) (w : Wording State Op Query Reply) (scripts : List (List (Call State Op Query Reply))) (said : RunData State Op Query Reply) → AreMeaningful (run_lines b w scripts said)
   run_meaningful b w scripts said =
       let flagged = flagged_lines b w 0 said.nodes said.flags in
-      AreMeaningful-append (thread_lines w 0 scripts said.ends ++ (trace_line (length said.nodes) ∷ flagged)) (end_lines w said)
+      AreMeaningful-append (resumed_lines said.resumed) (ran_lines b w scripts said) (resumed_meaningful said.resumed)
+      (AreMeaningful-append (thread_lines w 0 scripts said.ends ++ (trace_line (length said.nodes) ∷ flagged)) (end_lines w said)
       (
       AreMeaningful-append (thread_lines w 0 scripts said.ends) (trace_line (length said.nodes) ∷ flagged) (threads_meaningful w 0 scripts said.ends)
       ((record { some = refl; bytes = refl }, (IsWord-decimal (length said.nodes), tt)), refl, flagged_meaningful b w 0 said.nodes said.flags)
-      ) (end_meaningful w said)
+      ) (end_meaningful w said))
 
   -- the lines after the trace begin with no node's
   no_node_in_end : (w : Wording State Op Query Reply) (said : RunData State Op Query Reply) → NoNodeNext (end_lines w said)
@@ -59,13 +69,15 @@ module _ {State Op Query Reply : Type 0} where
       by (log ∷ logs) = λ rest d. cc d
 
   -- ---- all that is said
-  run_same : (a b : RunData State Op Query Reply) → a.ends ≡ b.ends → a.nodes ≡ b.nodes → a.flags ≡ b.flags → a.logs ≡ b.logs → a.state ≡ b.state → a ≡ b
-  run_same a b e₁ e₂ e₃ e₄ e₅ =
-      ap (λ (v : List (List (CallEnd State Op Query Reply))). record { ends = v; nodes = a.nodes; flags = a.flags; logs = a.logs; state = a.state }) e₁
-      ∙ ap (λ (v : List Node). record { ends = b.ends; nodes = v; flags = a.flags; logs = a.logs; state = a.state }) e₂
-      ∙ ap (λ (v : List Bool). record { ends = b.ends; nodes = b.nodes; flags = v; logs = a.logs; state = a.state }) e₃
-      ∙ ap (λ (v : List LogData). record { ends = b.ends; nodes = b.nodes; flags = b.flags; logs = v; state = a.state }) e₄
-      ∙ ap (λ (v : State). record { ends = b.ends; nodes = b.nodes; flags = b.flags; logs = b.logs; state = v }) e₅
+  run_same : (a b : RunData State Op Query Reply) → a.resumed ≡ b.resumed → a.ends ≡ b.ends → a.nodes ≡ b.nodes → a.flags ≡ b.flags → a.logs ≡ b.logs → a.state ≡ b.state → a ≡ b
+  run_same a b e₀ e₁ e₂ e₃ e₄ e₅ = λ i. record {
+    resumed = e₀ i;
+    ends = e₁ i;
+    nodes = e₂ i;
+    flags = e₃ i;
+    logs = e₄ i;
+    state = e₅ i;
+  }
 
   run_determined : (b : Behaviour State Op Query Reply) (w : Wording State Op Query Reply) (scripts : List (List (Call State Op Query Reply))) (said other : RunData State Op Query Reply)
       → RunReads b w scripts said → RunReads b w scripts other → flat_map line_text (run_lines b w scripts said) ≡ flat_map line_text (run_lines b w scripts other) → said ≡ other
@@ -75,7 +87,8 @@ module _ {State Op Query Reply : Type 0} where
       let flagged : RunData State Op Query Reply → List (List (List ℕ)) = λ r. flagged_lines b w 0 r.nodes r.flags in
       let trace : RunData State Op Query Reply → List (List (List ℕ)) = λ r. trace_line (length r.nodes) ∷ flagged r in
       let lines = text_determined (run_lines b w scripts said) (run_lines b w scripts other) (run_meaningful b w scripts said) (run_meaningful b w scripts other) e in
-      let same = sym (append_assoc (thread_lines w 0 scripts said.ends) (trace said) (end_lines w said)) ∙ lines ∙ append_assoc (thread_lines w 0 scripts other.ends) (trace other) (end_lines w other) in
+      let base = resumed_determined said.resumed other.resumed (ran_lines b w scripts said) (ran_lines b w scripts other) g.resumed h.resumed (none_resumed b w scripts said) (none_resumed b w scripts other) lines in
+      let same = sym (append_assoc (thread_lines w 0 scripts said.ends) (trace said) (end_lines w said)) ∙ base.1 ∙ append_assoc (thread_lines w 0 scripts other.ends) (trace other) (end_lines w other) in
       let calls = threads_determined w 0 scripts said.ends other.ends (trace said ++ end_lines w said) (trace other ++ end_lines w other) (omega (arith, g.threads)) g.ends h.ends (λ t rest d. cc d) (λ t rest d. cc d) same in
       let traces = line_same (trace_line (length said.nodes)) (trace_line (length other.nodes)) (flagged said ++ end_lines w said) (flagged other ++ end_lines w other) calls.1 in
       let nodes = flagged_determined b w 0 said.nodes other.nodes said.flags other.flags (end_lines w said) (end_lines w other) g.flags h.flags g.nodes h.nodes (no_node_in_end w said) (no_node_in_end w other) traces.1 in
@@ -83,9 +96,9 @@ module _ {State Op Query Reply : Type 0} where
       let endings = line_same (recovered_line (length said.nodes)) (recovered_line (length other.nodes)) (ending said) (ending other) logs.1 in
       let faults = ap (fault_lines 0) calls.0 in
       let states = append_cancel_left (fault_lines 0 said.ends) (state_lines w said.state) (state_lines w other.state) (endings.1 ∙ ap (λ (ls : List (List (List ℕ))). ls ++ state_lines w other.state) (sym faults)) in
-      run_same said other calls.0 nodes.0 nodes.1 logs.0 (state_determined w said.state other.state g.state h.state states)
+      run_same said other base.0 calls.0 nodes.0 nodes.1 logs.0 (state_determined w said.state other.state g.state h.state states)
 
   -- what is printed says this and nothing else
-  pub run_says : (b : Behaviour State Op Query Reply) (w : Wording State Op Query Reply) (scripts : List (List (Call State Op Query Reply))) (state : State) (left : Left State Op Query Reply) (text : List ℕ)
-      → text ≡ run_report b w state scripts left → RunReads b w scripts (run_data b state left) → SaysOnly (run_lines b w scripts) (RunReads b w scripts) text (run_data b state left)
-  run_says b w scripts state left text e h = says_only (run_lines b w scripts) (RunReads b w scripts) (run_determined b w scripts) text (run_data b state left) e h
+  pub run_says : (b : Behaviour State Op Query Reply) (w : Wording State Op Query Reply) (scripts : List (List (Call State Op Query Reply))) (resumed : Option ℕ) (state : State) (left : Left State Op Query Reply) (text : List ℕ)
+      → text ≡ run_report b w resumed state scripts left → RunReads b w scripts (run_data b resumed state left) → SaysOnly (run_lines b w scripts) (RunReads b w scripts) text (run_data b resumed state left)
+  run_says b w scripts resumed state left text e h = says_only (run_lines b w scripts) (RunReads b w scripts) (run_determined b w scripts) text (run_data b resumed state left) e h

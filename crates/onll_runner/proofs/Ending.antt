@@ -13,7 +13,8 @@ use Rattle.onll_log.specs.ImageFile.{longest_image}
 use Rattle.onll_log.specs.Log.{LogState}
 use Rattle.onll_outside.specs.Views.{StoreView, SameFaults, counted}
 use Rattle.onll_outside.specs.declared.store.FaultKind.TheVariants as kinds
-use Rattle.onll_run.specs.Left.{LogLeft}
+use Rattle.onll_log.specs.Grammar.{Content}
+use Rattle.onll_run.specs.Left.{LogLeft, begun_logs}
 use Rattle.onll_run.specs.Ended.{log_left}
 use Rattle.onll_run.specs.Making.{device_of}
 use Rattle.onll_run.specs.Ran as ran
@@ -24,12 +25,12 @@ use Rattle.onll_task.specs.declared.answer.Stop.{Stop}
 use Rattle.onll_task.specs.declared.answer.Stop.TheVariants.{Says, NoMemory}
 use Rattle.onll_task.specs.FileLines.{IsWholeLine, FitFile}
 use Rattle.onll_task.specs.ImageNames.{image_names}
-use Rattle.onll_task.specs.Running.{RunPlan, RunLeft, HasKept, HoldsLogs, DeviceFault, broken_threads, fences_of, log_files}
+use Rattle.onll_task.specs.Running.{RunPlan, RunLeft, HasKept, HoldsLogs, broken_threads, fences_of, log_files}
 use Rattle.onll_task.specs.Stop.{StopSays}
 use Rattle.onll_task.specs.Writing.{SameBut, AllButStay}
 use Rattle.onll_runner.specs.Devices.{AreKept, HandsEach, ThreadFails, DeviceFails, fault_of, fences_in}
-use Rattle.onll_runner.specs.RunReport.{run_report, run_data, RunReads}
-use Rattle.onll_runner.specs.RunEnds.{EndSays, HasEnded}
+use Rattle.onll_runner.specs.RunReport.{plan_report, PlanReads}
+use Rattle.onll_runner.specs.RunEnds.{NotKept, EndSays, HasEnded}
 use Rattle.onll_runner.proofs.Keeping.{risen_all, kept_logs, kept_many, faults_sum, fences_sum}
 
 pub but_stay : {names : List (List ℕ)} {old new : StoreView} → SameBut names old new → AllButStay names old new
@@ -45,33 +46,33 @@ fit_logs {Device} means (log ∷ logs) whole small =
     (record { each = All-head Whole log logs whole; few = All-head Small log logs small }, fit_logs means logs (All-tail Whole log logs whole) (All-tail Small log logs small))
 
 module _ {State Op Query Reply Device : Type 0} (means : Device → DeviceView) where
-  hands_faults : (ends : List (List (CallEnd State Op Query Reply))) (olds : List Device) (logs : List (LogState Device)) (store after : StoreView) → 1 ≤ length logs → ran.AreKept means ends olds logs
+  hands_faults : (befores : List Content) (ends : List (List (CallEnd State Op Query Reply))) (olds : List Device) (logs : List (LogState Device)) (store after : StoreView) → 1 ≤ length logs → ran.AreKept means befores ends olds logs
       → HandsEach (map means (map device_of logs)) store after → after.device_faults ≡ counted store.device_faults (broken_threads ends)
-  hands_faults ends olds [] store after some all hands = absurd (omega arith)
-  hands_faults ends olds (log ∷ logs) store after some all hands =
-      hands.faults ∙ risen_all fault_of store.device_faults (means log.device) (map means (map device_of logs)) ∙ ap (counted store.device_faults) (faults_sum means ends olds (log ∷ logs) all)
+  hands_faults befores ends olds [] store after some all hands = absurd (omega arith)
+  hands_faults befores ends olds (log ∷ logs) store after some all hands =
+      hands.faults ∙ risen_all fault_of store.device_faults (means log.device) (map means (map device_of logs)) ∙ ap (counted store.device_faults) (faults_sum means befores ends olds (log ∷ logs) all)
 
-  hands_fences : (ends : List (List (CallEnd State Op Query Reply))) (olds : List Device) (logs : List (LogState Device)) (store after : StoreView) → 1 ≤ length logs → ran.AreKept means ends olds logs
-      → HandsEach (map means (map device_of logs)) store after → after.device_fences ≡ counted store.device_fences (fences_of (map (log_left means) logs) + length logs)
-  hands_fences ends olds [] store after some all hands = absurd (omega arith)
-  hands_fences ends olds (log ∷ logs) store after some all hands =
-      hands.fences ∙ risen_all fences_in store.device_fences (means log.device) (map means (map device_of logs)) ∙ ap (counted store.device_fences) (fences_sum means ends olds (log ∷ logs) all)
+  hands_fences : (befores : List Content) (ends : List (List (CallEnd State Op Query Reply))) (olds : List Device) (logs : List (LogState Device)) (store after : StoreView) → 1 ≤ length logs → ran.AreKept means befores ends olds logs
+      → HandsEach (map means (map device_of logs)) store after → after.device_fences ≡ counted store.device_fences (fences_of (map (log_left means) logs) + begun_logs befores)
+  hands_fences befores ends olds [] store after some all hands = absurd (omega arith)
+  hands_fences befores ends olds (log ∷ logs) store after some all hands =
+      hands.fences ∙ risen_all fences_in store.device_fences (means log.device) (map means (map device_of logs)) ∙ ap (counted store.device_fences) (fences_sum means befores ends olds (log ∷ logs) all)
 
 module _ {k : ObjectKind} {Device : Type 0} (same : SameLaw) (means : Device → DeviceView) (plan : RunPlan k) (left : RunLeft k) (olds : List Device) (logs : List (LogState Device)) (store after : StoreView)
-    (logs_are : left.logs ≡ map (log_left means) logs) (some : 1 ≤ length plan.run.scripts) (many : length left.ends ≡ length plan.run.scripts) (all : ran.AreKept means left.ends olds logs)
+    (logs_are : left.logs ≡ map (log_left means) logs) (some : 1 ≤ length plan.run.scripts) (many : length left.ends ≡ length plan.run.scripts) (all : ran.AreKept means plan.run.base.logs left.ends olds logs)
     (whole : All (λ (log : LogState Device). AllByRecursion IsWholeLine (means log.device).read) logs) (small : All (λ (log : LogState Device). 64 * length (means log.device).read ≤ longest_image) logs) where
   -- devices that were kept hold what a run left
   pub has_kept : (after.tells ≡ true → (d : Device) → is_some (means d).told ≡ true) → AreKept plan.logs 0 (map means (map device_of logs)) after → SameFaults store after
       → HandsEach (map means (map device_of logs)) store after → SameBut (image_names plan.logs 0 (length logs)) store after → HasKept plan left store after
   has_kept tells kept faults hands others =
-      let long : length logs ≡ length plan.run.scripts = kept_many means left.ends olds logs all ∙ many in
+      let long : length logs ≡ length plan.run.scripts = kept_many means plan.run.base.logs left.ends olds logs all ∙ many in
       let there : 1 ≤ length logs = omega (arith, long, some) in
       record {
         calls = faults;
-        faults = hands_faults means left.ends olds logs store after there all hands;
-        fences = hands_fences means left.ends olds logs store after there all hands
-            ∙ ap (λ (ls : List LogLeft). counted store.device_fences (fences_of ls + length logs)) (sym logs_are) ∙ ap (λ n. counted store.device_fences (fences_of left.logs + n)) long;
-        files = subst (λ ls. HoldsLogs after plan.logs 0 ls left.ends) (sym logs_are) (kept_logs same means after plan.logs 0 left.ends olds logs tells all kept);
+        faults = hands_faults means plan.run.base.logs left.ends olds logs store after there all hands;
+        fences = hands_fences means plan.run.base.logs left.ends olds logs store after there all hands
+            ∙ ap (λ (ls : List LogLeft). counted store.device_fences (fences_of ls + begun_logs plan.run.base.logs)) (sym logs_are);
+        files = subst (λ ls. HoldsLogs after plan.logs 0 ls left.ends) (sym logs_are) (kept_logs same means after plan.logs 0 plan.run.base.logs left.ends olds logs tells all kept);
         fit = subst (AllByRecursion (λ (log : LogLeft). FitFile log.read)) (sym logs_are) (fit_logs means logs whole small);
         others = but_stay (subst (λ n. SameBut (image_names plan.logs 0 n) store after) long others);
       }
@@ -85,22 +86,22 @@ module _ {k : ObjectKind} {Device : Type 0} (same : SameLaw) (means : Device →
       (subst (λ n. SameBut (image_names plan.logs 0 n) store after) (ap length is ∙ length-map logs device_of) others)
 
 module _ {k : ObjectKind} (plan : RunPlan k) (left : RunLeft k) (store after : StoreView) where
-  pub ended_whole : {A : Type 0} (text : Vec ℕ A) → HasKept plan left store after → broken_threads left.ends ≡ 0 → text.items ≡ run_report k.means k.wording plan.run.state plan.run.scripts left
-      → RunReads k.means k.wording plan.run.scripts (run_data k.means plan.run.state left) → SameBut (log_files plan) store after → HasEnded plan left store after (Ok text)
+  pub ended_whole : {A : Type 0} (text : Vec ℕ A) → HasKept plan left store after → broken_threads left.ends ≡ 0 → text.items ≡ plan_report plan left
+      → PlanReads plan left → SameBut (log_files plan) store after → HasEnded plan left store after (Ok text)
   ended_whole text kept whole report reads others = record { kept = kept; whole = whole; report = report; reads = reads; stop = tt; others = others }
 
-  pub ended_broken : {A : Type 0} (text : Vec ℕ Global) → HasKept plan left store after → 1 ≤ broken_threads left.ends → text.items ≡ run_report k.means k.wording plan.run.state plan.run.scripts left
+  pub ended_broken : {A : Type 0} (text : Vec ℕ Global) → HasKept plan left store after → 1 ≤ broken_threads left.ends → text.items ≡ plan_report plan left
       → SameBut (log_files plan) store after → HasEnded plan left store after {A = A} (Err (Says Faulty text))
   ended_broken text kept broken report others = record { kept = tt; whole = tt; report = tt; reads = tt; stop = (kept, broken, report); others = others }
 
-  unkept : (ending : Ending) (text : List ℕ) → ThreadFails kinds.Keep plan.logs (length plan.run.scripts) store after ending text → SameBut (log_files plan) store after → EndSays plan left store after ending text
-  unkept ending text h others = subst (λ e. EndSays plan left store after e text) (sym h.fails.ends) fault
+  unkept : (ending : Ending) (text : List ℕ) → ThreadFails kinds.Keep plan.logs (length plan.run.scripts) store after ending text → EndSays plan left store after ending text
+  unkept ending text h = subst (λ e. EndSays plan left store after e text) (sym h.fails.ends) fault
     where
-      fault : DeviceFault plan store after text
-      fault = record { thread = h.thread; within = h.within; line = h.fails.line; rose = h.fails.rose; last = inr h.fails.last; others = but_stay others }
+      fault : NotKept plan store after text
+      fault = record { thread = h.thread; within = h.within; line = h.fails.line; rose = h.fails.rose; last = h.fails.last }
 
   pub ended_unkept : {A : Type 0} (s : Stop) → StopSays s (ThreadFails kinds.Keep plan.logs (length plan.run.scripts) store after) → SameBut (log_files plan) store after → HasEnded plan left store after {A = A} (Err s)
-  ended_unkept (Says ending text) h others = record { kept = tt; whole = tt; report = tt; reads = tt; stop = unkept ending text.items h others; others = others }
+  ended_unkept (Says ending text) h others = record { kept = tt; whole = tt; report = tt; reads = tt; stop = unkept ending text.items h; others = others }
   ended_unkept NoMemory h others = record { kept = tt; whole = tt; report = tt; reads = tt; stop = tt; others = others }
 
   -- memory could not be had
@@ -110,15 +111,15 @@ module _ {k : ObjectKind} (plan : RunPlan k) (left : RunLeft k) (store after : S
       subst (HasEnded plan left store after) (sym p.1) (record { kept = tt; whole = tt; report = tt; reads = tt; stop = subst (λ s. StopSays s (EndSays plan left store after)) (sym p.2) tt; others = others })
 
 -- ---- as many devices as threads
-module _ {State Op Query Reply Device A : Type 0} (means : Device → DeviceView) (ends : List (List (CallEnd State Op Query Reply))) (olds : List Device) (logs : List (LogState Device)) (threads : List A)
+module _ {State Op Query Reply Device A : Type 0} (means : Device → DeviceView) (befores : List Content) (ends : List (List (CallEnd State Op Query Reply))) (olds : List Device) (logs : List (LogState Device)) (threads : List A)
     (devices : List Device) (name : List ℕ) (store after : StoreView) where
-  run_many : length ends ≡ length threads → devices ≡ map device_of logs → ran.AreKept means ends olds logs → length devices ≡ length threads
-  run_many few is all = ap length is ∙ length-map logs device_of ∙ kept_many means ends olds logs all ∙ few
+  run_many : length ends ≡ length threads → devices ≡ map device_of logs → ran.AreKept means befores ends olds logs → length devices ≡ length threads
+  run_many few is all = ap length is ∙ length-map logs device_of ∙ kept_many means befores ends olds logs all ∙ few
 
-  pub others_many : {B : Type 0} (f : A → B) → length ends ≡ length threads → devices ≡ map device_of logs → ran.AreKept means ends olds logs → SameBut (image_names name 0 (length devices)) store after
+  pub others_many : {B : Type 0} (f : A → B) → length ends ≡ length threads → devices ≡ map device_of logs → ran.AreKept means befores ends olds logs → SameBut (image_names name 0 (length devices)) store after
       → SameBut (image_names name 0 (length (map f threads))) store after
   others_many f few is all = subst (λ n. SameBut (image_names name 0 n) store after) (run_many few is all ∙ sym (length-map threads f))
 
-  pub fails_many : {B : Type 0} (f : A → B) (s : Stop) → length ends ≡ length threads → devices ≡ map device_of logs → ran.AreKept means ends olds logs
+  pub fails_many : {B : Type 0} (f : A → B) (s : Stop) → length ends ≡ length threads → devices ≡ map device_of logs → ran.AreKept means befores ends olds logs
       → StopSays s (ThreadFails kinds.Keep name (length devices) store after) → StopSays s (ThreadFails kinds.Keep name (length (map f threads)) store after)
   fails_many f s few is all = subst (λ n. StopSays s (ThreadFails kinds.Keep name n store after)) (run_many few is all ∙ sym (length-map threads f))

@@ -15,7 +15,7 @@ use Rattle.onll_task.specs.Stop.{StopSays}
 use Rattle.onll_outside.specs.Views.{StoreView, Rose, SameFiles, SameOthers, SameFaults, HandsBack, IsFresh, KeepsDevice, KeptOrZeros, counted}
 use Rattle.onll_task.specs.ImageNames.{image_name, image_names}
 use Rattle.onll_task.specs.Writing.{SameBut, SameCounts}
-use Rattle.onll_task.proofs.Onwards.{others_on}
+use Rattle.onll_task.proofs.Onwards.{counts_more, others_on}
 use Rattle.onll_runner.specs.Devices.{DeviceFails, ThreadFails, AreNew, AreBlank, AreKept, HandsEach, risen, fault_of, fences_in}
 
 -- ---- files that hold zeros
@@ -50,7 +50,7 @@ blank_same logs t zero old mid new h same = tt
 blank_same logs t (suc n) old mid new h same = (blank_two (image_name logs t) old mid new h.0 (inl (same.file (image_name logs t))), blank_same logs (suc t) n old mid new h.1 same)
 
 -- ---- files that are kept
-name_differs : (logs : List ℕ) (i j : ℕ) → i < 2 ^ 64 → j < 2 ^ 64 → image_name logs i ≡ image_name logs j → i ≡ j
+pub name_differs : (logs : List ℕ) (i j : ℕ) → i < 2 ^ 64 → j < 2 ^ 64 → image_name logs i ≡ image_name logs j → i ≡ j
 name_differs logs i j hi hj e =
     decimal_injective i j hi hj (append_cancel_left (codes ".") (decimal i) (decimal j) (append_cancel_left logs (codes "." ++ decimal i) (codes "." ++ decimal j) e))
 
@@ -72,9 +72,6 @@ pub files_more : (old mid new : StoreView) → SameFiles old mid → SameFiles m
 files_more old mid new first then_ = record { tells = then_.tells ∙ first.tells; file = λ name. then_.file name ∙ first.file name }
 
 -- ---- counts
-counts_more : (old mid new : StoreView) → SameCounts old mid → SameCounts mid new → SameCounts old new
-counts_more old mid new first then_ = ((then_.0.0 ∙ first.0.0, then_.0.1 ∙ first.0.1), (then_.1.0 ∙ first.1.0, then_.1.1 ∙ first.1.1))
-
 -- where this one is handed back first, what is left makes what all make
 pub hands_more : (d : DeviceView) (ds : List DeviceView) (mid new : StoreView) → HandsBack d mid new
     → (risen new.device_faults (map fault_of ds) ≡ risen mid.device_faults (map fault_of (d ∷ ds))) × (risen new.device_fences (map fences_in ds) ≡ risen mid.device_fences (map fences_in (d ∷ ds)))

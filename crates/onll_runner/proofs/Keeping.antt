@@ -10,7 +10,8 @@ use Rattle.onll_log.specs.Log.{LogState}
 use Rattle.onll_model.specs.declared.call.CallEnd.{CallEnd}
 use Rattle.onll_outside.specs.Views.{StoreView, KeepsDevice, counted, image_bytes, one_fault}
 use Rattle.onll_run.specs.Outcomes.{failed_in, fault_in}
-use Rattle.onll_run.specs.Left.{LogLeft, fenced_in}
+use Rattle.onll_log.specs.Grammar.{Content}
+use Rattle.onll_run.specs.Left.{LogLeft, begun_logs, fenced_in}
 use Rattle.onll_run.specs.Ended.{log_left}
 use Rattle.onll_run.specs.Making.{device_of}
 use Rattle.onll_run.specs.Ran as ran
@@ -51,18 +52,20 @@ module _ (same : SameLaw) where
 
   module _ {State Op Query Reply Device : Type 0} (means : Device → DeviceView) where
     -- so do the files of all devices
-    pub kept_logs : (store : StoreView) (name : List ℕ) (t : ℕ) (ends : List (List (CallEnd State Op Query Reply))) (olds : List Device) (logs : List (LogState Device))
-        → (store.tells ≡ true → (d : Device) → is_some (means d).told ≡ true) → ran.AreKept means ends olds logs
+    pub kept_logs : (store : StoreView) (name : List ℕ) (t : ℕ) (befores : List Content) (ends : List (List (CallEnd State Op Query Reply))) (olds : List Device) (logs : List (LogState Device))
+        → (store.tells ≡ true → (d : Device) → is_some (means d).told ≡ true) → ran.AreKept means befores ends olds logs
         → AreKept name t (map means (map device_of logs)) store → HoldsLogs store name t (map (log_left means) logs) ends
-    kept_logs store name t [] [] [] tells all kept = tt
-    kept_logs store name t (es ∷ ends) (d ∷ olds) (log ∷ logs) tells all kept = (
+    kept_logs store name t [] [] [] [] tells all kept = tt
+    kept_logs store name t (before ∷ befores) (es ∷ ends) (d ∷ olds) (log ∷ logs) tells all kept = (
       kept_log store (image_name name t) (log_left means log) (failed_in es) (means log.device) (λ on. tells on log.device) refl all.0.fenced kept.0,
-      kept_logs store name (suc t) ends olds logs tells all.1 kept.1,
+      kept_logs store name (suc t) befores ends olds logs tells all.1 kept.1,
     )
-    kept_logs store name t [] [] (log ∷ logs) tells all kept = absurd all
-    kept_logs store name t [] (d ∷ olds) logs tells all kept = absurd all
-    kept_logs store name t (es ∷ ends) [] logs tells all kept = absurd all
-    kept_logs store name t (es ∷ ends) (d ∷ olds) [] tells all kept = absurd all
+    kept_logs store name t [] [] [] (log ∷ logs) tells all kept = absurd all
+    kept_logs store name t [] [] (d ∷ olds) logs tells all kept = absurd all
+    kept_logs store name t [] (es ∷ ends) olds logs tells all kept = absurd all
+    kept_logs store name t (before ∷ befores) [] olds logs tells all kept = absurd all
+    kept_logs store name t (before ∷ befores) (es ∷ ends) [] logs tells all kept = absurd all
+    kept_logs store name t (before ∷ befores) (es ∷ ends) (d ∷ olds) [] tells all kept = absurd all
 
 or_false : (b c : Bool) → (b || c) ≡ false → (b ≡ false) × (c ≡ false)
 or_false true c h = absurd (true≢false h)
@@ -86,70 +89,80 @@ one_is (Some place) = refl
 
 module _ {State Op Query Reply Device : Type 0} (means : Device → DeviceView) where
   -- the devices that count a fault are those of the threads whose fence failed
-  pub faults_sum : (ends : List (List (CallEnd State Op Query Reply))) (olds : List Device) (logs : List (LogState Device)) → ran.AreKept means ends olds logs
+  pub faults_sum : (befores : List Content) (ends : List (List (CallEnd State Op Query Reply))) (olds : List Device) (logs : List (LogState Device)) → ran.AreKept means befores ends olds logs
       → sum_by fault_of (map means (map device_of logs)) ≡ broken_threads ends
-  faults_sum [] [] [] all = refl
-  faults_sum (es ∷ ends) (d ∷ olds) (log ∷ logs) all =
+  faults_sum [] [] [] [] all = refl
+  faults_sum (before ∷ befores) (es ∷ ends) (d ∷ olds) (log ∷ logs) all =
       let one = ap one_fault all.0.faults ∙ one_is (failed_in es) in
-      let rest = faults_sum ends olds logs all.1 in
+      let rest = faults_sum befores ends olds logs all.1 in
       let here = sum_by-cons fault_of (means log.device) (map means (map device_of logs)) in
       let there = sum_by-cons (λ (e : List (CallEnd State Op Query Reply)). fault_in (failed_in e)) es ends in
       omega (arith, one, rest, here, there)
-  faults_sum [] [] (log ∷ logs) all = absurd all
-  faults_sum [] (d ∷ olds) logs all = absurd all
-  faults_sum (es ∷ ends) [] logs all = absurd all
-  faults_sum (es ∷ ends) (d ∷ olds) [] all = absurd all
+  faults_sum [] [] [] (log ∷ logs) all = absurd all
+  faults_sum [] [] (d ∷ olds) logs all = absurd all
+  faults_sum [] (es ∷ ends) olds logs all = absurd all
+  faults_sum (before ∷ befores) [] olds logs all = absurd all
+  faults_sum (before ∷ befores) (es ∷ ends) [] logs all = absurd all
+  faults_sum (before ∷ befores) (es ∷ ends) (d ∷ olds) [] all = absurd all
 
-  -- the devices were fenced once for each header, and for each fence of the logs
-  pub fences_sum : (ends : List (List (CallEnd State Op Query Reply))) (olds : List Device) (logs : List (LogState Device)) → ran.AreKept means ends olds logs
-      → sum_by fences_in (map means (map device_of logs)) ≡ fences_of (map (log_left means) logs) + length logs
-  fences_sum [] [] [] all = refl
-  fences_sum (es ∷ ends) (d ∷ olds) (log ∷ logs) all =
+  -- the devices were fenced once for the header of each log that was begun, and for each fence of the logs
+  pub fences_sum : (befores : List Content) (ends : List (List (CallEnd State Op Query Reply))) (olds : List Device) (logs : List (LogState Device)) → ran.AreKept means befores ends olds logs
+      → sum_by fences_in (map means (map device_of logs)) ≡ fences_of (map (log_left means) logs) + begun_logs befores
+  fences_sum [] [] [] [] all = refl
+  fences_sum (before ∷ befores) (es ∷ ends) (d ∷ olds) (log ∷ logs) all =
       let one = all.0.fences in
-      let rest = fences_sum ends olds logs all.1 in
+      let rest = fences_sum befores ends olds logs all.1 in
       let here = sum_by-cons fences_in (means log.device) (map means (map device_of logs)) in
       let there = sum_by-cons (λ (l : LogLeft). l.fences) (log_left means log) (map (log_left means) logs) in
       omega (arith, one, rest, here, there)
-  fences_sum [] [] (log ∷ logs) all = absurd all
-  fences_sum [] (d ∷ olds) logs all = absurd all
-  fences_sum (es ∷ ends) [] logs all = absurd all
-  fences_sum (es ∷ ends) (d ∷ olds) [] all = absurd all
+  fences_sum [] [] [] (log ∷ logs) all = absurd all
+  fences_sum [] [] (d ∷ olds) logs all = absurd all
+  fences_sum [] (es ∷ ends) olds logs all = absurd all
+  fences_sum (before ∷ befores) [] olds logs all = absurd all
+  fences_sum (before ∷ befores) (es ∷ ends) [] logs all = absurd all
+  fences_sum (before ∷ befores) (es ∷ ends) (d ∷ olds) [] all = absurd all
 
   -- ---- threads whose fence failed
-  pub kept_many : (ends : List (List (CallEnd State Op Query Reply))) (olds : List Device) (logs : List (LogState Device)) → ran.AreKept means ends olds logs → length logs ≡ length ends
-  kept_many [] [] [] all = refl
-  kept_many (es ∷ ends) (d ∷ olds) (log ∷ logs) all = ap suc (kept_many ends olds logs all.1)
-  kept_many [] [] (log ∷ logs) all = absurd all
-  kept_many [] (d ∷ olds) logs all = absurd all
-  kept_many (es ∷ ends) [] logs all = absurd all
-  kept_many (es ∷ ends) (d ∷ olds) [] all = absurd all
+  pub kept_many : (befores : List Content) (ends : List (List (CallEnd State Op Query Reply))) (olds : List Device) (logs : List (LogState Device)) → ran.AreKept means befores ends olds logs → length logs ≡ length ends
+  kept_many [] [] [] [] all = refl
+  kept_many (before ∷ befores) (es ∷ ends) (d ∷ olds) (log ∷ logs) all = ap suc (kept_many befores ends olds logs all.1)
+  kept_many [] [] [] (log ∷ logs) all = absurd all
+  kept_many [] [] (d ∷ olds) logs all = absurd all
+  kept_many [] (es ∷ ends) olds logs all = absurd all
+  kept_many (before ∷ befores) [] olds logs all = absurd all
+  kept_many (before ∷ befores) (es ∷ ends) [] logs all = absurd all
+  kept_many (before ∷ befores) (es ∷ ends) (d ∷ olds) [] all = absurd all
 
   -- where no log is broken, no thread is
-  pub none_broken : (ends : List (List (CallEnd State Op Query Reply))) (olds : List Device) (logs : List (LogState Device)) → ran.AreKept means ends olds logs
+  pub none_broken : (befores : List Content) (ends : List (List (CallEnd State Op Query Reply))) (olds : List Device) (logs : List (LogState Device)) → ran.AreKept means befores ends olds logs
       → list_any (λ (log : LogState Device). log.broken) logs ≡ false → broken_threads ends ≡ 0
-  none_broken [] [] [] all e = refl
-  none_broken (es ∷ ends) (d ∷ olds) (log ∷ logs) all e =
+  none_broken [] [] [] [] all e = refl
+  none_broken (before ∷ befores) (es ∷ ends) (d ∷ olds) (log ∷ logs) all e =
       let both = or_false log.broken (list_any (λ (l : LogState Device). l.broken) logs) e in
       let here = fault_none (failed_in es) (sym all.0.broken ∙ both.0) in
-      let rest = none_broken ends olds logs all.1 both.1 in
+      let rest = none_broken befores ends olds logs all.1 both.1 in
       let there = sum_by-cons (λ (x : List (CallEnd State Op Query Reply)). fault_in (failed_in x)) es ends in
       omega (arith, here, rest, there)
-  none_broken [] [] (log ∷ logs) all e = absurd all
-  none_broken [] (d ∷ olds) logs all e = absurd all
-  none_broken (es ∷ ends) [] logs all e = absurd all
-  none_broken (es ∷ ends) (d ∷ olds) [] all e = absurd all
+  none_broken [] [] [] (log ∷ logs) all e = absurd all
+  none_broken [] [] (d ∷ olds) logs all e = absurd all
+  none_broken [] (es ∷ ends) olds logs all e = absurd all
+  none_broken (before ∷ befores) [] olds logs all e = absurd all
+  none_broken (before ∷ befores) (es ∷ ends) [] logs all e = absurd all
+  none_broken (before ∷ befores) (es ∷ ends) (d ∷ olds) [] all e = absurd all
 
   -- where a log is broken, a thread is
-  pub some_broken : (ends : List (List (CallEnd State Op Query Reply))) (olds : List Device) (logs : List (LogState Device)) → ran.AreKept means ends olds logs
+  pub some_broken : (befores : List Content) (ends : List (List (CallEnd State Op Query Reply))) (olds : List Device) (logs : List (LogState Device)) → ran.AreKept means befores ends olds logs
       → list_any (λ (log : LogState Device). log.broken) logs ≡ true → 1 ≤ broken_threads ends
-  some_broken [] [] [] all e = absurd (true≢false (sym e))
-  some_broken (es ∷ ends) (d ∷ olds) (log ∷ logs) all e =
+  some_broken [] [] [] [] all e = absurd (true≢false (sym e))
+  some_broken (before ∷ befores) (es ∷ ends) (d ∷ olds) (log ∷ logs) all e =
       let there = sum_by-cons (λ (x : List (CallEnd State Op Query Reply)). fault_in (failed_in x)) es ends in
       ⊎_elim
       (λ (t : log.broken ≡ true). let here = fault_some (failed_in es) (sym all.0.broken ∙ t) in let all_ : 1 ≤ broken_threads (es ∷ ends) = omega (arith, here, there) in all_)
-      (λ (t : list_any (λ (l : LogState Device). l.broken) logs ≡ true). let rest = some_broken ends olds logs all.1 t in let all_ : 1 ≤ broken_threads (es ∷ ends) = omega (arith, rest, there) in all_)
+      (λ (t : list_any (λ (l : LogState Device). l.broken) logs ≡ true). let rest = some_broken befores ends olds logs all.1 t in let all_ : 1 ≤ broken_threads (es ∷ ends) = omega (arith, rest, there) in all_)
       (or_true log.broken (list_any (λ (l : LogState Device). l.broken) logs) e)
-  some_broken [] [] (log ∷ logs) all e = absurd all
-  some_broken [] (d ∷ olds) logs all e = absurd all
-  some_broken (es ∷ ends) [] logs all e = absurd all
-  some_broken (es ∷ ends) (d ∷ olds) [] all e = absurd all
+  some_broken [] [] [] (log ∷ logs) all e = absurd all
+  some_broken [] [] (d ∷ olds) logs all e = absurd all
+  some_broken [] (es ∷ ends) olds logs all e = absurd all
+  some_broken (before ∷ befores) [] olds logs all e = absurd all
+  some_broken (before ∷ befores) (es ∷ ends) [] logs all e = absurd all
+  some_broken (before ∷ befores) (es ∷ ends) (d ∷ olds) [] all e = absurd all

@@ -1,3 +1,7 @@
+pub mod Based
+pub mod Going
+pub mod Decoding
+pub mod Reopening
 pub mod Determined
 pub mod Ending
 pub mod FaultLines

@@ -2,6 +2,7 @@
 
 use Rattle.std.proofs.Common.{ℕ, zero, suc, ◌≡◌, ◌+◌, ◌<◌, ◌≤◌, ◌^◌, Bool, List, [], ◌∷◌, ◌++◌, Option, Some, None, IsSome, length, drop, get_or, map, refl, sym, ap, ◌∙◌, subst, arith}
 use Rattle.std.specs.List.{All, AllByRecursion, slice_get}
+use Rattle.std.specs.Option.{IfSome}
 use Rattle.std.proofs.lemmas.List.{drop_more}
 use Rattle.std.proofs.lemmas.List.Elements.{All-cons}
 use Rattle.onll_words.specs.Texts.{AreWords, line_text}
@@ -29,7 +30,7 @@ use Rattle.onll_text.specs.Reports.{EndsRead, NodeReads, StateReads}
 use Rattle.onll_text.proofs.Appending.{with_lines-one, with_lines-append}
 use Rattle.onll_task.specs.Printed.{fault_line}
 use Rattle.onll_recovery.specs.RecoverJob.{recovered_line}
-use Rattle.onll_recovery.specs.ReplayJob.{LogData, LogReads, EachReads, thread_lines, flagged_lines, counted_lines}
+use Rattle.onll_recovery.specs.ReplayJob.{LogData, LogReads, EachReads, resumed_lines, thread_lines, flagged_lines, counted_lines}
 use Rattle.onll_runner.specs.RunReport.{faults_at, fault_lines, log_data, run_data, run_report, RunReads}
 
 -- ---- lists
@@ -150,25 +151,29 @@ fault_in_words thread place = (
 )
 
 -- ---- the whole
-module _ {State Op Query Reply : Type 0} (b : Behaviour State Op Query Reply) (w : Wording State Op Query Reply) (state after : State) (scripts : List (List (Call State Op Query Reply)))
+module _ {State Op Query Reply : Type 0} (b : Behaviour State Op Query Reply) (w : Wording State Op Query Reply) (resumed : Option ℕ) (state after : State) (scripts : List (List (Call State Op Query Reply)))
     (left : Left State Op Query Reply) (nodes : List Node) (found : nodes ≡ left.nodes) (after_is : after ≡ state_after b state left.nodes) where
-  -- the lines of the calls and of the trace, then those of the logs, of the fences that failed, and of the object
-  pub report_parts : (run text : List ℕ) → run ≡ with_lines [] (thread_lines w 0 scripts left.ends ++ (trace_line (length left.nodes) ∷ flagged_lines b w 0 left.nodes left.flags))
+  -- the lines of how many nodes are gone on from, of the calls and of the trace, then those of the logs, of the fences that failed, and of
+  -- the object
+  pub report_parts : (run text : List ℕ) → run ≡ with_lines (with_lines [] (resumed_lines resumed)) (thread_lines w 0 scripts left.ends ++ (trace_line (length left.nodes) ∷ flagged_lines b w 0 left.nodes left.flags))
       → text ≡ with_lines run (counted_lines 0 (map log_data left.logs) ++ (recovered_line (length nodes) ∷ (fault_lines 0 left.ends ++ state_lines w after)))
-      → text ≡ run_report b w state scripts left
+      → text ≡ run_report b w resumed state scripts left
   report_parts run text e f =
-      let first : List (List (List ℕ)) = thread_lines w 0 scripts left.ends ++ (trace_line (length left.nodes) ∷ flagged_lines b w 0 left.nodes left.flags) in
+      let first : List (List (List ℕ)) = resumed_lines resumed in
+      let then_ : List (List (List ℕ)) = thread_lines w 0 scripts left.ends ++ (trace_line (length left.nodes) ∷ flagged_lines b w 0 left.nodes left.flags) in
       let rest : List Node → State → List (List (List ℕ)) =
       λ ns s. counted_lines 0 (map log_data left.logs) ++ (recovered_line (length ns) ∷ (fault_lines 0 left.ends ++ state_lines w s)) in
       f ∙ ap (λ z. with_lines z (rest nodes after)) e
-      ∙ ap (λ (ns : List Node). with_lines (with_lines [] first) (rest ns after)) found
-      ∙ ap (λ (s : State). with_lines (with_lines [] first) (rest left.nodes s)) after_is
-      ∙ sym (with_lines-append [] first (rest left.nodes (state_after b state left.nodes)))
+      ∙ ap (λ (ns : List Node). with_lines (with_lines (with_lines [] first) then_) (rest ns after)) found
+      ∙ ap (λ (s : State). with_lines (with_lines (with_lines [] first) then_) (rest left.nodes s)) after_is
+      ∙ sym (with_lines-append (with_lines [] first) then_ (rest left.nodes (state_after b state left.nodes)))
+      ∙ sym (with_lines-append [] first (then_ ++ rest left.nodes (state_after b state left.nodes)))
 
-  pub report_reads : length scripts ≤ 2 ^ 64 → EachReads w scripts left.ends → All (NodeReads b w) left.nodes → length left.flags ≡ length left.nodes → All LogReads (map log_data left.logs)
-      → length nodes < 2 ^ 64 → StateReads w after → RunReads b w scripts (run_data b state left)
-  report_reads threads ends rows flags logs few reads = record {
+  pub report_reads : length scripts ≤ 2 ^ 64 → IfSome resumed (λ n. n < 2 ^ 64) → EachReads w scripts left.ends → All (NodeReads b w) left.nodes → length left.flags ≡ length left.nodes → All LogReads (map log_data left.logs)
+      → length nodes < 2 ^ 64 → StateReads w after → RunReads b w scripts (run_data b resumed state left)
+  report_reads threads base ends rows flags logs few reads = record {
     threads = threads;
+    resumed = base;
     ends = ends;
     nodes = rows;
     flags = flags;

@@ -15,10 +15,10 @@ use Rattle.onll_merge.specs.declared.fault.StateFault.{StateFault}
 use Rattle.onll_merge.specs.declared.fault.StateFault.TheVariants.{NoMemory}
 use Rattle.onll_merge.specs.Recovered.{Recovered, recovered_with, state_recovered}
 use Rattle.onll_merge.proofs.Images.{their_contents}
-use Rattle.onll_run.specs.Left.{Left, LogLeft, LogsTell, HasRun, content_in}
+use Rattle.onll_run.specs.Left.{Plan, Left, LogLeft, LogsTell, HasRun, content_in}
 use Rattle.onll_run.specs.Ended.{log_left}
-use Rattle.onll_run.specs.Ran.{anew}
 use Rattle.onll_recovery.proofs.Crashes.{recovered_is}
+use Rattle.onll_runner.specs.RunReport.{RanOver}
 use Rattle.onll_runner.proofs.LegalRows.{legal_operations}
 
 abbrev read_in : LogLeft → List (List ℕ)
@@ -66,17 +66,28 @@ module _ {State Op Query Reply : Type 0} (b : Behaviour State Op Query Reply) wh
       let rest = are_told heads base scripts ends logs h.1 in
       record { contents = λ i. h.0.holds i ∷ rest.contents i; many = ap suc rest.many }
 
-  module _ (s : State) (heads : List LogHead) (scripts : List (List (Call State Op Query Reply))) (left : Left State Op Query Reply) (run : HasRun b (anew s heads scripts) left) where
-    pub run_told : AreTold heads left.logs
-    run_told = are_told heads _ scripts left.ends left.logs run.logs
+  module _ (plan : Plan State Op Query Reply) (left : Left State Op Query Reply) (run : HasRun b plan left) where
+    pub run_told : AreTold plan.heads left.logs
+    run_told = are_told plan.heads plan.base.logs plan.scripts left.ends left.logs run.logs
 
-    pub run_operations : AllByRecursion (λ (n : Node). IsSome (b.op_at n.row)) left.nodes
-    run_operations = legal_operations b s scripts left.nodes left.ends run.legal
+    -- the rows of the trace are operations, where those of the base are
+    pub run_operations : AllByRecursion (λ (n : Node). IsSome (b.op_at n.row)) plan.base.nodes → AllByRecursion (λ (n : Node). IsSome (b.op_at n.row)) left.nodes
+    run_operations first = legal_operations b plan.state plan.base.nodes plan.scripts left.nodes left.ends first run.legal
+
+  module _ (s : State) (heads : List LogHead) (scripts : List (List (Call State Op Query Reply))) (left : Left State Op Query Reply) (over : RanOver b s heads scripts left) where
+    abbrev plan_ran : Plan State Op Query Reply
+    plan_ran = record { state = s; scripts = scripts; heads = heads; base = over.base }
+
+    pub over_told : AreTold heads left.logs
+    over_told = run_told plan_ran left over.run
+
+    pub over_operations : AllByRecursion (λ (n : Node). IsSome (b.op_at n.row)) left.nodes
+    over_operations = run_operations plan_ran left over.run over.operations
 
     run_recovers : (images : List (List (List ℕ))) → map content_of images ≡ map Some (map content_in left.logs)
         → state_recovered b heads images ≡ Ok (recovered_with (map content_in left.logs) left.nodes)
     run_recovers images held =
-        recovered_is b images heads (map content_in left.logs) left.nodes (their_contents 0 images (map content_in left.logs) held) run.merged run_operations
+        recovered_is b images heads (map content_in left.logs) left.nodes (their_contents 0 images (map content_in left.logs) held) over.run.merged over_operations
 
     -- what recovery found is that
     pub recovers_same : (images : List (List (List ℕ))) (r : Recovered) → map content_of images ≡ map Some (map content_in left.logs)

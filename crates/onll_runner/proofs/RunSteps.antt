@@ -1,9 +1,11 @@
--- How scripts that are run over new devices do their task.
+-- How scripts that are run over devices do their task.
 
-use Rattle.std.proofs.Common.{Vec, Global, ℕ, zero, suc, true, List, [], ◌∷◌, ◌≡◌, ◌<◌, ◌≤◌, ◌+◌, ◌*◌, length, map, reverse, sum_by, Result, Ok, Err, Some, ◌⊎◌, inl, inr, refl, sym, ap, ◌∙◌, subst, arith}
+use Rattle.std.proofs.Common.{Vec, Global, ℕ, zero, suc, Bool, true, false, List, [], ◌∷◌, ◌≡◌, ◌<◌, ◌≤◌, ◌+◌, ◌*◌, length, take, map, reverse, sum_by, Result, Ok, Err, Some, ◌⊎◌, inl, inr, refl, sym, ap, ◌∙◌, subst, arith}
 use Rattle.std.specs.List.{AllByRecursion, All}
+use Rattle.std.specs.Result.{IsErrAnd}
 use Rattle.std.proofs.lemmas.List.{length-map, length-reverse, length-replicate}
 use Rattle.std.proofs.lemmas.Nat.{mul-le}
+use Rattle.std.proofs.lemmas.Result.{err_from_is_err_and}
 use Rattle.std.proofs.lemmas.List.Elements.{All-nil, All-cons, All-head, All-tail, All-from_recursion, recursion_from_All}
 use Rattle.std.proofs.lemmas.List.Sums.{sum_by-cons}
 use Rattle.std.proofs.lemmas.List.Sorted.{sum_by-IsPermutation, IsPermutation-reverse}
@@ -18,10 +20,14 @@ use Rattle.onll_log.specs.ImageFile.{longest_image}
 use Rattle.onll_log.specs.Log.{LogState}
 use Rattle.onll_core.specs.Created.{created_heads, heads_from}
 use Rattle.onll_outside.specs.Views.{StoreView, SameFiles, SameFaults, Rose, IsFresh, AreZeros, counted}
+use Rattle.onll_log.specs.Grammar.{Content}
+use Rattle.onll_merge.specs.Merge.{merge}
+use Rattle.onll_model.specs.declared.node.Node.{Node}
 use Rattle.onll_outside.specs.declared.store.FaultKind.TheVariants as kinds
-use Rattle.onll_run.specs.Left.{Plan, HasRun}
+use Rattle.onll_run.specs.Left.{Plan, HasRun, no_base, begun_logs}
 use Rattle.onll_run.specs.Making as making
-use Rattle.onll_run.specs.Ran.{CanRun, AreRoomy, IsRoomyFor, AreKept, anew}
+use Rattle.onll_run.specs.Ran.{CanRun, HasBase, AreRoomy, AreKept, going_on, anew}
+use Rattle.onll_run.proofs.Anew.{new_base, new_merge, new_roomy}
 use Rattle.onll_text.specs.Kinds.{ObjectKind}
 use Rattle.onll_words.specs.Texts.{line_text}
 use Rattle.onll_task.specs.declared.ending.Ending.{Ending}
@@ -32,15 +38,15 @@ use Rattle.onll_task.specs.ImageNames.{image_name, image_names}
 use Rattle.onll_task.specs.Printed.{fault_line}
 use Rattle.onll_task.specs.Job.{Job, JobEnds}
 use Rattle.onll_task.specs.Doing.{Does}
-use Rattle.onll_task.specs.Running.{RunPlan, RunLeft, RunStops, HasKept, HeaderFault, DeviceFault, StaysOrZeros, broken_threads, fences_of, log_files}
+use Rattle.onll_task.specs.Running.{RunPlan, RunLeft, RunStops, HasKept, HeaderFault, DeviceFault, StaysOrZeros, LogsStayOrWipe, FilesStand, device_call, broken_threads, fences_of, log_files}
 use Rattle.onll_task.specs.Standing.{StandsForRuns}
 use Rattle.onll_task.specs.Stop.{StopSays}
 use Rattle.onll_task.specs.Writing.{SameBut, AllButStay, SameCounts}
 use Rattle.onll_task.proofs.Stages.{stay_same}
 use Rattle.onll_task.proofs.Runs.{run_does, broken_does, stopped_does}
 use Rattle.onll_runner.specs.Devices.{AreNew, AreBlank, HandsEach, ThreadFails, risen, fault_of, fences_in}
-use Rattle.onll_runner.specs.RunReport.{run_report, run_data, RunReads}
-use Rattle.onll_runner.specs.RunEnds.{EndSays, HasEnded}
+use Rattle.onll_runner.specs.RunReport.{plan_resumed, plan_report}
+use Rattle.onll_runner.specs.RunEnds.{NotKept, EndSays, HasEnded, GaveUp, HasFailed, HasGone}
 use Rattle.onll_runner.specs.RunJob.{run_plan, lines_for, said_task, calls_task}
 use Rattle.onll_runner.proofs.Determined.{run_says}
 use Rattle.onll_runner.proofs.Ending.{but_stay}
@@ -56,7 +62,7 @@ module _ {k : ObjectKind} (plan : RunPlan k) (left : RunLeft k) (old mid new : S
   kept_since h = record {
     calls = (h.calls.0 ∙ counts.0.0, h.calls.1 ∙ counts.0.1);
     faults = h.faults ∙ ap (λ n. counted n (broken_threads left.ends)) counts.1.0;
-    fences = h.fences ∙ ap (λ n. counted n (fences_of left.logs + length plan.run.scripts)) counts.1.1;
+    fences = h.fences ∙ ap (λ n. counted n (fences_of left.logs + begun_logs plan.run.base.logs)) counts.1.1;
     files = h.files;
     fit = h.fit;
     others = record {
@@ -65,32 +71,58 @@ module _ {k : ObjectKind} (plan : RunPlan k) (left : RunLeft k) (old mid new : S
     };
   }
 
-  fault_since : (text : List ℕ) → DeviceFault plan mid new text → DeviceFault plan old new text
-  fault_since text h = record {
+  unkept_since : (text : List ℕ) → SameBut (log_files plan) old new → NotKept plan mid new text → DeviceFault plan old new text
+  unkept_since text others h = record {
     thread = h.thread;
     within = h.within;
     line = h.line;
     rose = subst (λ n. Rose n new.faults) counts.0.0 h.rose;
-    last = h.last;
-    others = record {
-      tells = h.others.tells ∙ files.tells;
-      file = λ on other differs. h.others.file (files.tells ∙ on) other differs ∙ files.file other differs;
-    };
+    last = inr h.last;
+    others = but_stay others;
   }
+
+-- ---- files that stand before a device is kept
+zeros_same : (old mid new : StoreView) (names : List (List ℕ)) → SameFiles mid new → AllByRecursion (StaysOrZeros old mid) names → AllByRecursion (StaysOrZeros old new) names
+zeros_same old mid new [] same h = tt
+zeros_same old mid new (name ∷ names) same h = (first, zeros_same old mid new names same h.1)
+  where
+    by : (mid.file name ≡ old.file name) ⊎ ((bytes : List ℕ) × (mid.file name ≡ Some bytes) × AreZeros bytes) → (new.file name ≡ old.file name) ⊎ ((bytes : List ℕ) × (new.file name ≡ Some bytes) × AreZeros bytes)
+    by (inl e) = inl (same.file name ∙ e)
+    by (inr z) = inr (z.0, same.file name ∙ z.1, z.2)
+
+    first : StaysOrZeros old new name
+    first on = by (h.0 on)
+
+wipes_same : (old mid new : StoreView) (names : List (List ℕ)) (logs : List Content) → SameFiles mid new → LogsStayOrWipe old mid names logs → LogsStayOrWipe old new names logs
+wipes_same old mid new [] [] same h = tt
+wipes_same old mid new [] (log ∷ logs) same h = absurd h
+wipes_same old mid new (name ∷ names) [] same h = absurd h
+wipes_same old mid new (name ∷ names) (log ∷ logs) same h = (
+  (h.0.0, h.0.1, λ on. let w = h.0.2 on in record { was = w.was; rest = w.rest; before = w.before; now = same.file name ∙ w.now; wiped = w.wiped }),
+  wipes_same old mid new names logs same h.1,
+)
+
+stand_same : (reopens : Bool) (old mid new : StoreView) (names : List (List ℕ)) (logs : List Content) → SameFiles mid new → FilesStand reopens names logs old mid → FilesStand reopens names logs old new
+stand_same false old mid new names logs same h = zeros_same old mid new names same h
+stand_same true old mid new names logs same h = wipes_same old mid new names logs same h
+
+blank_stays : (logs : List ℕ) (t n : ℕ) (old new : StoreView) → AreBlank logs t n old new → AllByRecursion (StaysOrZeros old new) (image_names logs t n)
+blank_stays logs t zero old new h = tt
+blank_stays logs t (suc n) old new h = ((λ on. h.0), blank_stays logs (suc t) n old new h.1)
 
 -- ---- the endings
 module _ {k : ObjectKind} (threads : RunPlan k → (RunLeft k → Job) → Job) (stands : StandsForRuns k threads) (plan : RunPlan k) where
-  said_broken : (left : RunLeft k) (new : StoreView) (n : ℕ) → 1 ≤ n → JobEnds new new (said_task k plan left n).job Faulty (run_report k.means k.wording plan.run.state plan.run.scripts left)
+  said_broken : (left : RunLeft k) (new : StoreView) (n : ℕ) → 1 ≤ n → JobEnds new new (said_task k plan left n).job Faulty (plan_report plan left)
   said_broken left new zero some = absurd (omega arith)
   said_broken left new (suc n) some = (refl, refl, stay_same new, ((refl, refl), (refl, refl)))
 
   -- what a run left was kept and is said, or this is said in its place
-  pub ended_does : {A : Type 0} (left : RunLeft k) (old mid new : StoreView) (r : Result (Vec ℕ A) Stop) → HasRun k.means plan.run left → SameCounts old mid → SameBut (log_files plan) old mid
+  ended_does : {A : Type 0} (left : RunLeft k) (old mid new : StoreView) (r : Result (Vec ℕ A) Stop) → HasRun k.means plan.run left → SameCounts old mid → SameBut (log_files plan) old mid
       → HasEnded plan left mid new r → Does (log_files plan) old new (calls_task k threads plan) r
   ended_does left old mid new (Ok text) run counts files h =
       run_does threads stands plan (λ l. said_task k plan l (broken_threads l.ends)) old new left text run (kept_since plan left old mid new counts files h.kept) (same_then (log_files plan) old mid new files h.others)
       (subst (λ n. JobEnds new new (said_task k plan left n).job Done text.items) (sym h.whole) (refl, h.report, stay_same new, ((refl, refl), (refl, refl))))
-      (λ before. subst (λ n. (said_task k plan left n).reports before text.items) (sym h.whole) (run_says k.means k.wording plan.run.scripts plan.run.state left text.items h.report h.reads))
+      (λ before. subst (λ n. (said_task k plan left n).reports before text.items) (sym h.whole) (run_says k.means k.wording plan.run.scripts (plan_resumed plan) plan.run.state left text.items h.report h.reads))
   ended_does left old mid new (Err NoMemory) run counts files h =
       let others = same_then (log_files plan) old mid new files h.others in
       stopped_does threads stands plan (λ l. said_task k plan l (broken_threads l.ends)) old new NoMemory others (but_stay others) tt
@@ -105,32 +137,69 @@ module _ {k : ObjectKind} (threads : RunPlan k → (RunLeft k → Job) → Job) 
       by Refused s = absurd s
       by BadLog s = absurd s
       by ReadFault s = absurd s
-      by WriteFault s = stopped_does threads stands plan (λ l. said_task k plan l (broken_threads l.ends)) old new (Says WriteFault text) others (but_stay others) (fault_since plan left old mid new counts files text.items s)
-      by Faulty s = broken_does threads stands plan (λ l. said_task k plan l (broken_threads l.ends)) old new left (Says Faulty text) (run_report k.means k.wording plan.run.state plan.run.scripts left) run
+      by WriteFault s = stopped_does threads stands plan (λ l. said_task k plan l (broken_threads l.ends)) old new (Says WriteFault text) others (but_stay others) (unkept_since plan left old mid new counts files text.items others s)
+      by Faulty s = broken_does threads stands plan (λ l. said_task k plan l (broken_threads l.ends)) old new left (Says Faulty text) (plan_report plan left) run
           (kept_since plan left old mid new counts files s.0) others (said_broken left new (broken_threads left.ends) s.1) (refl, s.2)
 
-  unmade : (old new : StoreView) (ending : Ending) (text : List ℕ) → SameBut (log_files plan) old new → ThreadFails kinds.Device plan.logs (length plan.run.scripts) old new ending text → RunStops plan old new ending text
-  unmade old new ending text others h = subst (λ e. RunStops plan old new e text) (sym h.fails.ends) fault
+  -- ---- nothing was left
+  unmade : (old new : StoreView) (ending : Ending) (text : List ℕ) → SameBut (log_files plan) old new → FilesStand plan.reopens (log_files plan) plan.run.base.logs old new
+      → ThreadFails (device_call plan.reopens) plan.logs (length plan.run.scripts) old new ending text → RunStops plan old new ending text
+  unmade old new ending text others stand h = subst (λ e. RunStops plan old new e text) (sym h.fails.ends) fault
     where
       fault : DeviceFault plan old new text
-      fault = record { thread = h.thread; within = h.within; line = h.fails.line; rose = h.fails.rose; last = inl h.fails.last; others = but_stay others }
+      fault = record { thread = h.thread; within = h.within; line = h.fails.line; rose = h.fails.rose; last = inl (record { last = h.fails.last; files = stand }); others = but_stay others }
 
   -- a device could not be made
-  pub unmade_does : {A : Type 0} (old new : StoreView) (s : Stop) → StopSays s (ThreadFails kinds.Device plan.logs (length plan.run.scripts) old new) → SameBut (log_files plan) old new
-      → Does {A = A} (log_files plan) old new (calls_task k threads plan) (Err s)
-  unmade_does old new (Says ending text) h others = stopped_does threads stands plan (λ l. said_task k plan l (broken_threads l.ends)) old new (Says ending text) others (but_stay others) (unmade old new ending text.items others h)
-  unmade_does old new NoMemory h others = stopped_does threads stands plan (λ l. said_task k plan l (broken_threads l.ends)) old new NoMemory others (but_stay others) tt
+  pub unmade_does : {A : Type 0} (old new : StoreView) (s : Stop) → StopSays s (ThreadFails (device_call plan.reopens) plan.logs (length plan.run.scripts) old new) → SameBut (log_files plan) old new
+      → FilesStand plan.reopens (log_files plan) plan.run.base.logs old new → Does {A = A} (log_files plan) old new (calls_task k threads plan) (Err s)
+  unmade_does old new (Says ending text) h others stand =
+      stopped_does threads stands plan (λ l. said_task k plan l (broken_threads l.ends)) old new (Says ending text) others (but_stay others) (unmade old new ending text.items others stand h)
+  unmade_does old new NoMemory h others stand = stopped_does threads stands plan (λ l. said_task k plan l (broken_threads l.ends)) old new NoMemory others (but_stay others) tt
 
-  header : (old new : StoreView) (ending : Ending) (text : List ℕ) (thread : ℕ) → HeaderFault plan old new (line_text (fault_line thread 0)) → (ending ≡ Faulty) × (text ≡ line_text (fault_line thread 0)) → RunStops plan old new ending text
-  header old new ending text thread h s = subst (λ e. RunStops plan old new e text) (sym s.0) (subst (HeaderFault plan old new) (sym s.1) h)
+  header_fault : (old mid new : StoreView) (text : List ℕ) → SameCounts old mid → SameBut (log_files plan) old new → FilesStand plan.reopens (log_files plan) plan.run.base.logs old new → GaveUp plan mid new text
+      → HeaderFault plan old new text
+  header_fault old mid new text counts others stand h = record {
+    thread = h.thread;
+    within = h.within;
+    line = h.line;
+    calls = (h.calls.0 ∙ counts.0.0, h.calls.1 ∙ counts.0.1);
+    faults = h.faults ∙ ap (λ n. counted n 1) counts.1.0;
+    fences = h.fences ∙ ap (λ n. counted n (begun_logs (take (h.thread + 1) plan.run.base.logs))) counts.1.1;
+    files = stand;
+    others = but_stay others;
+  }
 
-  -- a header's fence failed
-  pub header_does : {A : Type 0} (old new : StoreView) (thread : ℕ) (s : Stop) → HeaderFault plan old new (line_text (fault_line thread 0)) → SameBut (log_files plan) old new
-      → StopSays s (λ end said. (end ≡ Faulty) × (said ≡ line_text (fault_line thread 0))) → Does {A = A} (log_files plan) old new (calls_task k threads plan) (Err s)
-  header_does old new thread (Says ending text) h others says = stopped_does threads stands plan (λ l. said_task k plan l (broken_threads l.ends)) old new (Says ending text) others (but_stay others) (header old new ending text.items thread h says)
-  header_does old new thread NoMemory h others says = stopped_does threads stands plan (λ l. said_task k plan l (broken_threads l.ends)) old new NoMemory others (but_stay others) tt
+  failed_does : {A : Type 0} (old mid new : StoreView) (s : Stop) → SameCounts old mid → SameBut (log_files plan) old mid → FilesStand plan.reopens (log_files plan) plan.run.base.logs old mid
+      → HasFailed plan mid new s → Does {A = A} (log_files plan) old new (calls_task k threads plan) (Err s)
+  failed_does old mid new NoMemory counts files stand h =
+      let others = same_after (log_files plan) old mid new files h.files in
+      stopped_does threads stands plan (λ l. said_task k plan l (broken_threads l.ends)) old new NoMemory others (but_stay others) tt
+  failed_does old mid new (Says ending text) counts files stand h =
+      let others = same_after (log_files plan) old mid new files h.files in
+      let fault = header_fault old mid new text.items counts others (stand_same plan.reopens old mid new (log_files plan) plan.run.base.logs h.files stand) h.says.1 in
+      stopped_does threads stands plan (λ l. said_task k plan l (broken_threads l.ends)) old new (Says ending text) others (but_stay others)
+      (subst (λ e. RunStops plan old new e text.items) (sym h.says.0) fault)
+
+  -- ---- the whole
+  -- Devices were made, and then what was run over them has gone so.
+  pub gone_does : {A : Type 0} (old mid new : StoreView) (r : Result (Vec ℕ A) Stop) → SameCounts old mid → SameBut (log_files plan) old mid → FilesStand plan.reopens (log_files plan) plan.run.base.logs old mid
+      → HasGone plan mid new r → Does (log_files plan) old new (calls_task k threads plan) r
+  gone_does old mid new r counts files stand (inl h) = ended_does h.0 old mid new r h.1 counts files h.2
+  gone_does old mid new r counts files stand (inr h) =
+      let p = err_from_is_err_and r h in
+      subst (λ x. Does (log_files plan) old new (calls_task k threads plan) x) (sym p.1) (failed_does old mid new p.0 counts files stand p.2)
 
 -- ---- what scripts and devices need
+module _ {Device : Type 0} (means : Device → DeviceView) where
+  small_new : (lines : List ℕ) (devices : List Device) → AllByRecursion (λ n. 64 * n ≤ longest_image) lines → AreNew means lines devices → AllByRecursion (λ (d : Device). 64 * length (means d).read ≤ longest_image) devices
+  small_new [] [] small new = tt
+  small_new [] (d ∷ ds) small new = absurd new
+  small_new (n ∷ lines) [] small new = absurd new
+  small_new (n ∷ lines) (d ∷ ds) small new =
+      let long : length (means d).read ≡ n = ap length new.0.read ∙ length-replicate n _ in
+      let here = small.0 in
+      (omega (arith, long, here), small_new lines ds small.1 new.1)
+
 module _ {State Op Query Reply : Type 0} where
   all_updates : {V : Type 0} (items : V → List (Call State Op Query Reply)) (scripts : List V) → All (λ (s : V). updates_in (items s) ≤ most_updates) scripts
       → AllByRecursion (λ (s : List (Call State Op Query Reply)). updates_in s ≤ most_updates) (map items scripts)
@@ -163,26 +232,21 @@ module _ {State Op Query Reply : Type 0} where
   lines_few items scripts lines few u is = λ i d low. let small = lines_read items scripts lines few u is i d low in omega (arith, small)
 
   module _ {Device : Type 0} (means : Device → DeviceView) where
-    is_roomy : (threads : ℕ) (script : List (Call State Op Query Reply)) (d : Device) → updates_in script ≤ most_updates → IsFresh (zero_lines (1 + (threads + 1) * updates_in script)) (means d) → IsRoomyFor means threads script d
-    is_roomy threads script d u fresh =
-        let long : length (means d).read ≡ 1 + (threads + 1) * updates_in script = ap length fresh.read ∙ length-replicate (1 + (threads + 1) * updates_in script) _ in
-        record {
-          fresh = subst (λ m. IsFresh (zero_lines m) (means d)) (sym long) fresh;
-          updates = u;
-          lines = omega (arith, long);
-        }
+    roomy : (threads n : ℕ) (scripts : List (List (Call State Op Query Reply))) (devices : List Device) → n ≡ length scripts
+        → AreNew means (map (λ (s : List (Call State Op Query Reply)). 1 + (threads + 1) * updates_in s) scripts) devices → AreRoomy means threads (no_base n).logs scripts devices
+    roomy threads zero [] [] many m = tt
+    roomy threads zero [] (d ∷ ds) many m = absurd m
+    roomy threads zero (s ∷ scripts) ds many m = absurd (omega (arith, many))
+    roomy threads (suc n) [] ds many m = absurd (omega (arith, many))
+    roomy threads (suc n) (s ∷ scripts) [] many m = absurd m
+    roomy threads (suc n) (s ∷ scripts) (d ∷ ds) many m =
+        (new_roomy means threads (1 + (threads + 1) * updates_in s) s d m.0 (omega arith), roomy threads n scripts ds (omega (arith, many)) m.1)
 
-    roomy : (threads : ℕ) (scripts : List (List (Call State Op Query Reply))) (devices : List Device) → AllByRecursion (λ (s : List (Call State Op Query Reply)). updates_in s ≤ most_updates) scripts
-        → AreNew means (map (λ (s : List (Call State Op Query Reply)). 1 + (threads + 1) * updates_in s) scripts) devices → AreRoomy means threads scripts devices
-    roomy threads [] [] u m = tt
-    roomy threads [] (d ∷ ds) u m = absurd m
-    roomy threads (s ∷ scripts) [] u m = absurd m
-    roomy threads (s ∷ scripts) (d ∷ ds) u m = (is_roomy threads s d u.0 m.0, roomy threads scripts ds u.1 m.1)
-
-    pub can_run : {V : Type 0} (items : V → List (Call State Op Query Reply)) (scripts : List V) (heads : List LogHead) (devices : List Device) (lines : List ℕ) → (1 ≤ length scripts) × (length scripts ≤ most_threads)
-        → All (λ (s : V). updates_in (items s) ≤ most_updates) scripts → length heads ≡ length scripts → making.AreHeads (length scripts) 0 heads → lines ≡ lines_for (map items scripts) → AreNew means lines devices
-        → CanRun means heads (map items scripts) devices
-    can_run items scripts heads devices lines few u many heads_are is new =
+    -- new devices, one for each log that is begun
+    pub can_run : {V : Type 0} (items : V → List (Call State Op Query Reply)) (scripts : List V) (heads : List LogHead) (logs : List Content) (devices : List Device) (lines : List ℕ) → (1 ≤ length scripts) × (length scripts ≤ most_threads)
+        → All (λ (s : V). updates_in (items s) ≤ most_updates) scripts → length heads ≡ length scripts → making.AreHeads (length scripts) 0 heads → logs ≡ (no_base (length scripts)).logs → lines ≡ lines_for (map items scripts)
+        → AreNew means lines devices → CanRun means heads logs (map items scripts) devices
+    can_run items scripts heads logs devices lines few u many heads_are begun is new =
         let same = length-map scripts items in
         let some = few.0 in
         let low = few.1 in
@@ -191,47 +255,51 @@ module _ {State Op Query Reply : Type 0} where
           few = omega (arith, same, low);
           many = many ∙ sym same;
           heads_are = subst (λ n. making.AreHeads n 0 heads) (sym same) heads_are;
-          devices_are = roomy (length (map items scripts)) (map items scripts) devices (all_updates items scripts u) (subst (λ l. AreNew means l devices) is new);
+          base = subst (λ ls. HasBase heads ls (map items scripts)) (sym begun) (new_base heads (length scripts) (map items scripts) (all_updates items scripts u));
+          devices_are = subst (λ ls. AreRoomy means (length (map items scripts)) ls (map items scripts) devices) (sym begun)
+              (roomy (length (map items scripts)) (length scripts) (map items scripts) devices (sym same) (subst (λ l. AreNew means l devices) is new));
         }
 
-    -- the devices that are handed back have as many lines as the new ones
-    small_each : (ends : List (List (CallEnd State Op Query Reply))) (lines : List ℕ) (devices : List Device) (logs : List (LogState Device)) → AllByRecursion (λ n. 64 * n ≤ longest_image) lines → AreNew means lines devices
-        → AreKept means ends devices logs → AllByRecursion (λ (log : LogState Device). 64 * length (means log.device).read ≤ longest_image) logs
-    small_each [] [] [] [] small new kept = tt
-    small_each (es ∷ ends) (n ∷ lines) (d ∷ devices) (log ∷ logs) small new kept =
-        let long : length (means d).read ≡ n = ap length new.0.read ∙ length-replicate n _ in
+    -- their files are read whole
+    pub small_devices : {V : Type 0} (items : V → List (Call State Op Query Reply)) (scripts : List V) (lines : List ℕ) (devices : List Device)
+        → length scripts ≤ most_threads → All (λ (s : V). updates_in (items s) ≤ most_updates) scripts → lines ≡ lines_for (map items scripts) → AreNew means lines devices
+        → All (λ (d : Device). 64 * length (means d).read ≤ longest_image) devices
+    small_devices items scripts lines devices few u is new =
+        All-from_recursion (λ (d : Device). 64 * length (means d).read ≤ longest_image) devices
+        (small_new means lines devices (recursion_from_All (λ n. 64 * n ≤ longest_image) lines (lines_read items scripts lines few u is)) new)
+
+    -- the devices that are handed back have as many lines as they had
+    small_each : (befores : List Content) (ends : List (List (CallEnd State Op Query Reply))) (devices : List Device) (logs : List (LogState Device)) → AllByRecursion (λ (d : Device). 64 * length (means d).read ≤ longest_image) devices
+        → AreKept means befores ends devices logs → AllByRecursion (λ (log : LogState Device). 64 * length (means log.device).read ≤ longest_image) logs
+    small_each [] [] [] [] small kept = tt
+    small_each [] [] [] (log ∷ logs) small kept = absurd kept
+    small_each [] [] (d ∷ devices) logs small kept = absurd kept
+    small_each [] (es ∷ ends) devices logs small kept = absurd kept
+    small_each (before ∷ befores) [] devices logs small kept = absurd kept
+    small_each (before ∷ befores) (es ∷ ends) [] logs small kept = absurd kept
+    small_each (before ∷ befores) (es ∷ ends) (d ∷ devices) [] small kept = absurd kept
+    small_each (before ∷ befores) (es ∷ ends) (d ∷ devices) (log ∷ logs) small kept =
         let same = kept.0.lines in
         let here = small.0 in
-        (omega (arith, long, same, here), small_each ends lines devices logs small.1 new.1 kept.1)
-    small_each [] [] (d ∷ devices) logs small new kept = absurd new
-    small_each [] (n ∷ lines) [] logs small new kept = absurd new
-    small_each [] (n ∷ lines) (d ∷ devices) logs small new kept = absurd kept
-    small_each [] [] [] (log ∷ logs) small new kept = absurd kept
-    small_each (es ∷ ends) [] [] logs small new kept = absurd kept
-    small_each (es ∷ ends) [] (d ∷ devices) logs small new kept = absurd new
-    small_each (es ∷ ends) (n ∷ lines) [] logs small new kept = absurd new
-    small_each (es ∷ ends) (n ∷ lines) (d ∷ devices) [] small new kept = absurd kept
+        (omega (arith, same, here), small_each befores ends devices logs small.1 kept.1)
 
-    pub small_logs : {V : Type 0} (items : V → List (Call State Op Query Reply)) (scripts : List V) (ends : List (List (CallEnd State Op Query Reply))) (lines : List ℕ) (devices : List Device) (logs : List (LogState Device))
-        → length scripts ≤ most_threads → All (λ (s : V). updates_in (items s) ≤ most_updates) scripts → lines ≡ lines_for (map items scripts) → AreNew means lines devices → AreKept means ends devices logs
-        → All (λ (log : LogState Device). 64 * length (means log.device).read ≤ longest_image) logs
-    small_logs items scripts ends lines devices logs few u is new kept =
+    pub small_logs : (befores : List Content) (ends : List (List (CallEnd State Op Query Reply))) (devices : List Device) (logs : List (LogState Device)) → All (λ (d : Device). 64 * length (means d).read ≤ longest_image) devices
+        → AreKept means befores ends devices logs → All (λ (log : LogState Device). 64 * length (means log.device).read ≤ longest_image) logs
+    small_logs befores ends devices logs small kept =
         All-from_recursion (λ (log : LogState Device). 64 * length (means log.device).read ≤ longest_image) logs
-        (small_each ends lines devices logs (recursion_from_All (λ n. 64 * n ≤ longest_image) lines (lines_read items scripts lines few u is)) new kept)
+        (small_each befores ends devices logs (recursion_from_All (λ (d : Device). 64 * length (means d).read ≤ longest_image) devices small) kept)
 
--- ---- a header whose fence failed
-blank_stays : (logs : List ℕ) (t n : ℕ) (old mid new : StoreView) → AreBlank logs t n old mid → SameFiles mid new → AllByRecursion (StaysOrZeros old new) (image_names logs t n)
-blank_stays logs t zero old mid new h same = tt
-blank_stays logs t (suc n) old mid new h same = (first, blank_stays logs (suc t) n old mid new h.1 same)
-  where
-    by : (mid.file (image_name logs t) ≡ old.file (image_name logs t)) ⊎ ((bytes : List ℕ) × (mid.file (image_name logs t) ≡ Some bytes) × AreZeros bytes)
-        → (new.file (image_name logs t) ≡ old.file (image_name logs t)) ⊎ ((bytes : List ℕ) × (new.file (image_name logs t) ≡ Some bytes) × AreZeros bytes)
-    by (inl e) = inl (same.file (image_name logs t) ∙ e)
-    by (inr z) = inr (z.0, same.file (image_name logs t) ∙ z.1, z.2)
+-- ---- nothing was left
+none_failed : {k : ObjectKind} (plan : RunPlan k) (store : StoreView) → HasFailed plan store store NoMemory
+none_failed plan store = record { says = tt; files = record { tells = refl; file = λ name. refl } }
 
-    first : StaysOrZeros old new (image_name logs t)
-    first on = by h.0
+-- memory could not be had
+pub none_gone : {k : ObjectKind} {A : Type 0} (plan : RunPlan k) (store : StoreView) (r : Result (Vec ℕ A) Stop) → IsErrAnd r (λ stop. stop ≡ NoMemory) → HasGone plan store store r
+none_gone plan store r h =
+    let p = err_from_is_err_and r h in
+    subst (HasGone plan store store) (sym p.1) (inr (subst (HasFailed plan store store) (sym p.2) (none_failed plan store)))
 
+-- ---- devices that are given up
 risen_some : (g : DeviceView → ℕ) (n : ℕ) (ds : List DeviceView) → 1 ≤ length ds → risen n (map g ds) ≡ counted n (sum_by g ds)
 risen_some g n [] some = absurd (omega arith)
 risen_some g n (d ∷ ds) some = risen_all g n d ds
@@ -253,32 +321,43 @@ module _ {Device : Type 0} (means : Device → DeviceView) where
       risen_some g n (map means (reverse ds)) there
       ∙ ap (counted n) (sum_means g (reverse ds) ∙ sum_by-IsPermutation (λ (d : Device). g (means d)) ds (reverse ds) (IsPermutation-reverse ds))
 
-  headers_low : (t : ℕ) (heads : List LogHead) (olds news : List Device) → making.HeadersTo means t heads olds news → (t < length heads) × (1 ≤ length news)
-  headers_low zero [] olds news h = absurd h
-  headers_low zero (x ∷ heads) [] news h = absurd h
-  headers_low zero (x ∷ heads) (o ∷ olds) [] h = absurd h
-  headers_low zero (x ∷ heads) (o ∷ olds) (n ∷ news) h = (omega arith, omega arith)
-  headers_low (suc t) [] olds news h = absurd h
-  headers_low (suc t) (x ∷ heads) [] news h = absurd h
-  headers_low (suc t) (x ∷ heads) (o ∷ olds) [] h = absurd h
-  headers_low (suc t) (x ∷ heads) (o ∷ olds) (n ∷ news) h = let low = (headers_low t heads olds news h.1).0 in (omega (arith, low), omega arith)
+  headers_low : (t : ℕ) (heads : List LogHead) (logs : List Content) (olds news : List Device) → making.HeadersTo means t heads logs olds news → (t < length heads) × (1 ≤ length news)
+  headers_low zero [] logs olds news h = absurd h
+  headers_low zero (x ∷ heads) [] olds news h = absurd h
+  headers_low zero (x ∷ heads) (c ∷ logs) [] news h = absurd h
+  headers_low zero (x ∷ heads) (c ∷ logs) (o ∷ olds) [] h = absurd h
+  headers_low zero (x ∷ heads) (c ∷ logs) (o ∷ olds) (n ∷ news) h = (omega arith, omega arith)
+  headers_low (suc t) [] logs olds news h = absurd h
+  headers_low (suc t) (x ∷ heads) [] olds news h = absurd h
+  headers_low (suc t) (x ∷ heads) (c ∷ logs) [] news h = absurd h
+  headers_low (suc t) (x ∷ heads) (c ∷ logs) (o ∷ olds) [] h = absurd h
+  headers_low (suc t) (x ∷ heads) (c ∷ logs) (o ∷ olds) (n ∷ news) h = let low = (headers_low t heads logs olds news h.1).0 in (omega (arith, low), omega arith)
 
-  pub header_failed : {k : ObjectKind} (plan : RunPlan k) (heads : List LogHead) (olds news : List Device) (thread : ℕ) (old mid new : StoreView) → making.HeaderFailed means heads olds thread news
-      → length heads ≡ length plan.run.scripts → SameCounts old mid → SameBut (log_files plan) old mid → AreBlank plan.logs 0 (length plan.run.scripts) old mid → SameFiles mid new → SameFaults mid new
-      → HandsEach (map means (reverse news)) mid new → HeaderFault plan old new (line_text (fault_line thread 0))
-  header_failed plan heads olds news thread old mid new failed many counts files blank same faults hands =
-      let low = headers_low thread heads olds news failed.headers in
+  -- a header's fence failed, and every device is given up
+  gave_up : {k : ObjectKind} (plan : RunPlan k) (heads : List LogHead) (olds news : List Device) (thread : ℕ) (mid new : StoreView) → making.HeaderFailed means heads plan.run.base.logs olds thread news
+      → length heads ≡ length plan.run.scripts → SameFaults mid new → HandsEach (map means (reverse news)) mid new → GaveUp plan mid new (line_text (fault_line thread 0))
+  gave_up plan heads olds news thread mid new failed many faults hands =
+      let low = headers_low thread heads plan.run.base.logs olds news failed.headers in
       let first = low.0 in
       record {
         thread = thread;
         within = omega (arith, first, many);
         line = refl;
-        calls = (faults.0 ∙ counts.0.0, faults.1 ∙ counts.0.1);
-        faults = hands.faults ∙ given_back fault_of mid.device_faults news low.1 ∙ ap (counted mid.device_faults) failed.faults ∙ ap (λ n. counted n 1) counts.1.0;
-        fences = hands.fences ∙ given_back fences_in mid.device_fences news low.1 ∙ ap (counted mid.device_fences) failed.fences ∙ ap (λ n. counted n (thread + 1)) counts.1.1;
-        files = blank_stays plan.logs 0 (length plan.run.scripts) old mid new blank same;
-        others = but_stay (same_after (log_files plan) old mid new files same);
+        calls = faults;
+        faults = hands.faults ∙ given_back fault_of mid.device_faults news low.1 ∙ ap (counted mid.device_faults) failed.faults;
+        fences = hands.fences ∙ given_back fences_in mid.device_fences news low.1 ∙ ap (counted mid.device_fences) failed.fences;
       }
+
+  says_so : {k : ObjectKind} (plan : RunPlan k) (thread : ℕ) (mid new : StoreView) (s : Stop) → GaveUp plan mid new (line_text (fault_line thread 0))
+      → StopSays s (λ end said. (end ≡ Faulty) × (said ≡ line_text (fault_line thread 0))) → StopSays s (λ end said. (end ≡ Faulty) × GaveUp plan mid new said)
+  says_so plan thread mid new (Says ending text) h s = (s.0, subst (GaveUp plan mid new) (sym s.1) h)
+  says_so plan thread mid new NoMemory h s = tt
+
+  pub has_failed : {k : ObjectKind} {A : Type 0} (plan : RunPlan k) (heads : List LogHead) (olds news : List Device) (thread : ℕ) (mid new : StoreView) (s : Stop) → making.HeaderFailed means heads plan.run.base.logs olds thread news
+      → length heads ≡ length plan.run.scripts → SameFiles mid new → SameFaults mid new → HandsEach (map means (reverse news)) mid new
+      → StopSays s (λ end said. (end ≡ Faulty) × (said ≡ line_text (fault_line thread 0))) → HasGone plan mid new {A = A} (Err s)
+  has_failed plan heads olds news thread mid new s failed many files faults hands says =
+      inr (record { says = says_so plan thread mid new s (gave_up plan heads olds news thread mid new failed many faults hands) says; files = files })
 
 -- ---- the heads and the lines that were made
 heads_many : (threads object : ℕ) (init : List ℕ) (t n : ℕ) → length (heads_from threads object init t n) ≡ n
@@ -298,48 +377,55 @@ lines_many items scripts lines is = ap length is ∙ length-map (map items scrip
 pub done_many : {State Op Query Reply V D : Type 0} (items : V → List (Call State Op Query Reply)) (scripts : List V) (script : D → List (Call State Op Query Reply)) (done : List D) → map script done ≡ map items scripts → length done ≡ length scripts
 done_many items scripts script done e = sym (length-map done script) ∙ ap length e ∙ length-map scripts items
 
--- ---- the whole
-module _ {k : ObjectKind} {V Device : Type 0} (means : Device → DeviceView) (items : V → List (Call k.State k.Op k.Query k.Reply)) (init logs : List ℕ) (state : k.State) (scripts : List V) (heads : List LogHead)
-    (heads_are : heads ≡ created_heads k.code init (map items scripts)) (threads : RunPlan k → (RunLeft k → Job) → Job) (stands : StandsForRuns k threads) (old mid : StoreView)
-    (counts : SameCounts old mid) (files : SameBut (image_names logs 0 (length scripts)) old mid) where
-  by_heads : anew state heads (map items scripts) ≡ anew state (created_heads k.code init (map items scripts)) (map items scripts)
-  by_heads = ap (λ (hs : List LogHead). anew state hs (map items scripts)) heads_are
+-- ---- over any devices
+-- what a run left has ended so, and what was run is as it was handed in
+pub ended_gone : {k : ObjectKind} {A : Type 0} (logs : List ℕ) (reopens : Bool) (state state_ : k.State) (heads : List LogHead) (nodes : List Node) (befores : List Content)
+    (scripts scripts_ : List (List (Call k.State k.Op k.Query k.Reply))) (left : RunLeft k) (old new : StoreView) (r : Result (Vec ℕ A) Stop) → state_ ≡ state → scripts_ ≡ scripts
+    → HasRun k.means (going_on state heads nodes befores scripts) left → HasEnded {k = k} (record { logs = logs; reopens = reopens; run = going_on state_ heads nodes befores scripts_ }) left old new r
+    → HasGone {k = k} (record { logs = logs; reopens = reopens; run = going_on state heads nodes befores scripts }) old new r
+ended_gone {k} logs reopens state state_ heads nodes befores scripts scripts_ left old new r same all run ended =
+    inl (
+      left,
+      run,
+      subst (λ (s : k.State). HasEnded {k = k} (record { logs = logs; reopens = reopens; run = going_on s heads nodes befores scripts }) left old new r) same
+          (subst (λ (ss : List (List (Call k.State k.Op k.Query k.Reply))). HasEnded {k = k} (record { logs = logs; reopens = reopens; run = going_on state_ heads nodes befores ss }) left old new r) all ended),
+    )
 
-  names : (new : StoreView) → SameBut (image_names logs 0 (length scripts)) old new → SameBut (log_files (run_plan k init logs state (map items scripts))) old new
-  names new = subst (λ n. SameBut (image_names logs 0 n) old new) (sym (length-map scripts items))
+-- ---- over new devices
+pub new_merged : (heads : List LogHead) (logs : List Content) (nodes : List Node) (n : ℕ) → logs ≡ (no_base n).logs → nodes ≡ [] → merge heads logs ≡ Ok nodes
+new_merged heads logs nodes n begun none = ap (merge heads) begun ∙ new_merge heads n ∙ ap Ok (sym none)
 
-  named : {A : Type 0} (new : StoreView) (r : Result (Vec ℕ A) Stop) → Does (log_files (run_plan k init logs state (map items scripts))) old new (calls_task k threads (run_plan k init logs state (map items scripts))) r
-      → Does (image_names logs 0 (length scripts)) old new (calls_task k threads (run_plan k init logs state (map items scripts))) r
-  named new r = subst (λ n. Does (image_names logs 0 n) old new (calls_task k threads (run_plan k init logs state (map items scripts))) r) (length-map scripts items)
+module _ {k : ObjectKind} {V : Type 0} (items : V → List (Call k.State k.Op k.Query k.Reply)) (init logs : List ℕ) (state : k.State) (scripts : List V) (threads : RunPlan k → (RunLeft k → Job) → Job)
+    (stands : StandsForRuns k threads) where
+  abbrev plan_here : RunPlan k
+  plan_here = run_plan k init logs state (map items scripts)
 
-  pub ran_does : {A : Type 0} (left : RunLeft k) (state_ : k.State) (heads_ : List LogHead) (done : List (List (Call k.State k.Op k.Query k.Reply))) (new : StoreView) (r : Result (Vec ℕ A) Stop) → state_ ≡ state → heads_ ≡ heads
-      → done ≡ map items scripts → HasRun k.means (anew state heads (map items scripts)) left → HasEnded {k = k} (record { logs = logs; run = anew state_ heads_ done }) left mid new r
-      → Does (image_names logs 0 (length scripts)) old new (calls_task k threads (run_plan k init logs state (map items scripts))) r
-  ran_does left state_ heads_ done new r same alike all run ended =
-      let run_is : anew state_ heads_ done ≡ anew state (created_heads k.code init (map items scripts)) (map items scripts) =
-      ap (λ (s : k.State). anew s heads_ done) same ∙ ap (λ (hs : List LogHead). anew state hs done) alike
-      ∙ ap (λ (ss : List (List (Call k.State k.Op k.Query k.Reply))). anew state heads ss) all ∙ by_heads in
-      named new r
-      (ended_does threads stands (run_plan k init logs state (map items scripts)) left old mid new r (subst (λ (p : Plan k.State k.Op k.Query k.Reply). HasRun k.means p left) by_heads run) counts (names mid files)
-      (subst (λ (p : Plan k.State k.Op k.Query k.Reply). HasEnded {k = k} (record { logs = logs; run = p }) left mid new r) run_is ended))
+  named : {A : Type 0} (old new : StoreView) (r : Result (Vec ℕ A) Stop) → Does (log_files plan_here) old new (calls_task k threads plan_here) r → Does (image_names logs 0 (length scripts)) old new (calls_task k threads plan_here) r
+  named old new r = subst (λ n. Does (image_names logs 0 n) old new (calls_task k threads plan_here) r) (length-map scripts items)
 
-  pub none_does : {A : Type 0} → Does {A = A} (image_names logs 0 (length scripts)) old mid (calls_task k threads (run_plan k init logs state (map items scripts))) (Err NoMemory)
-  none_does = named mid (Err NoMemory) (unmade_does threads stands (run_plan k init logs state (map items scripts)) old mid NoMemory tt (names mid files))
+  files_here : (old new : StoreView) → SameBut (image_names logs 0 (length scripts)) old new → SameBut (log_files plan_here) old new
+  files_here old new = subst (λ n. SameBut (image_names logs 0 n) old new) (sym (length-map scripts items))
 
-  pub failed_does : {A : Type 0} (olds news : List Device) (thread : ℕ) (new : StoreView) (s : Stop) → making.HeaderFailed means heads olds thread news → length heads ≡ length scripts
-      → AreBlank logs 0 (length scripts) old mid → SameFiles mid new → SameFaults mid new → HandsEach (map means (reverse news)) mid new
-      → StopSays s (λ end said. (end ≡ Faulty) × (said ≡ line_text (fault_line thread 0)))
-      → Does {A = A} (image_names logs 0 (length scripts)) old new (calls_task k threads (run_plan k init logs state (map items scripts))) (Err s)
-  failed_does olds news thread new s failed many blank same faults hands says =
-      let fault = header_failed means (run_plan k init logs state (map items scripts)) heads olds news thread old mid new failed (many ∙ sym (length-map scripts items)) counts (names mid files)
-      (subst (λ n. AreBlank logs 0 n old mid) (sym (length-map scripts items)) blank) same faults hands in
-      named new (Err s) (header_does threads stands (run_plan k init logs state (map items scripts)) old new thread s fault (same_after (log_files (run_plan k init logs state (map items scripts))) old mid new (names mid files) same) says)
+  blank_here : (old new : StoreView) → AreBlank logs 0 (length scripts) old new → AllByRecursion (StaysOrZeros old new) (log_files plan_here)
+  blank_here old new h = blank_stays logs 0 (length (map items scripts)) old new (subst (λ n. AreBlank logs 0 n old new) (sym (length-map scripts items)) h)
 
--- a device could not be made
-pub not_made : {k : ObjectKind} {V A : Type 0} (items : V → List (Call k.State k.Op k.Query k.Reply)) (init logs : List ℕ) (state : k.State) (scripts : List V) (threads : RunPlan k → (RunLeft k → Job) → Job)
-    (stands : StandsForRuns k threads) (old new : StoreView) (s : Stop) → StopSays s (ThreadFails kinds.Device logs (length scripts) old new) → SameBut (image_names logs 0 (length scripts)) old new
-    → Does {A = A} (image_names logs 0 (length scripts)) old new (calls_task k threads (run_plan k init logs state (map items scripts))) (Err s)
-not_made {k} {A = A} items init logs state scripts threads stands old new s h others =
-    subst (λ n. Does {A = A} (image_names logs 0 n) old new (calls_task k threads (run_plan k init logs state (map items scripts))) (Err s)) (length-map scripts items)
-    (unmade_does threads stands (run_plan k init logs state (map items scripts)) old new s (subst (λ n. StopSays s (ThreadFails kinds.Device logs n old new)) (sym (length-map scripts items)) h)
-    (subst (λ n. SameBut (image_names logs 0 n) old new) (sym (length-map scripts items)) others))
+  -- what was run over them has gone so
+  pub run_goes : {A : Type 0} (old mid new : StoreView) (r : Result (Vec ℕ A) Stop) (heads : List LogHead) (befores : List Content) (nodes : List Node)
+      → (heads ≡ created_heads k.code init (map items scripts)) × (length heads ≡ length scripts) → befores ≡ (no_base (length scripts)).logs → nodes ≡ [] → SameCounts old mid
+      → SameBut (image_names logs 0 (length scripts)) old mid → AreBlank logs 0 (length scripts) old mid
+      → HasGone {k = k} (record { logs = logs; reopens = false; run = going_on state heads nodes befores (map items scripts) }) mid new r
+      → Does (image_names logs 0 (length scripts)) old new (calls_task k threads plan_here) r
+  run_goes old mid new r heads befores nodes made begun none counts files blank gone =
+      let calls = map items scripts in
+      let same : going_on state heads nodes befores calls ≡ anew state (created_heads k.code init calls) calls =
+      ap (λ (ns : List Node). going_on state heads ns befores calls) none
+      ∙ ap (λ (ls : List Content). going_on state heads [] ls calls) (begun ∙ ap (λ n. (no_base n).logs) (sym made.1))
+      ∙ ap (λ (hs : List LogHead). anew state hs calls) made.0 in
+      named old new r (gone_does threads stands plan_here old mid new r counts (files_here old mid files) (blank_here old mid blank)
+      (subst (λ (p : Plan k.State k.Op k.Query k.Reply). HasGone {k = k} (record { logs = logs; reopens = false; run = p }) mid new r) same gone))
+
+  -- one could not be made
+  pub not_made : {A : Type 0} (old new : StoreView) (s : Stop) → StopSays s (ThreadFails kinds.Device logs (length scripts) old new) → SameBut (image_names logs 0 (length scripts)) old new → AreBlank logs 0 (length scripts) old new
+      → Does {A = A} (image_names logs 0 (length scripts)) old new (calls_task k threads plan_here) (Err s)
+  not_made old new s h others blank =
+      named old new (Err s) (unmade_does threads stands plan_here old new s (subst (λ n. StopSays s (ThreadFails kinds.Device logs n old new)) (sym (length-map scripts items)) h) (files_here old new others) (blank_here old new blank))

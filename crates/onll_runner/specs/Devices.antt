@@ -1,9 +1,11 @@
 -- Devices that a store hands out for the logs of a run, and takes back.
 
-use Rattle.std.specs.Prelude.{ℕ, zero, suc, ◌<◌, ◌≡◌, ◌⊎◌, List, [], ◌∷◌, length, map, Some}
+use Rattle.std.specs.Prelude.{ℕ, zero, suc, ◌<◌, ◌≤◌, ◌≡◌, ◌⊎◌, Bool, true, false, List, [], ◌∷◌, length, map, Some}
 use Rattle.onll_pmem.specs.Device.{zero_lines}
 use Rattle.onll_pmem.specs.Pmem.{DeviceView}
-use Rattle.onll_outside.specs.Views.{StoreView, Rose, IsFresh, KeepsDevice, KeptOrZeros, counted, one_fault}
+use Rattle.onll_log.specs.Grammar.{Content, content_of, used_by}
+use Rattle.onll_merge.specs.declared.counts.LogCounts.{LogCounts}
+use Rattle.onll_outside.specs.Views.{StoreView, Rose, IsFresh, KeepsDevice, KeptOrZeros, MayWipe, counted, image_bytes, one_fault, with_zeros}
 use Rattle.onll_outside.specs.declared.store.FaultKind.{FaultKind}
 use Rattle.onll_task.specs.declared.ending.Ending.{Ending}
 use Rattle.onll_task.specs.declared.ending.Ending.TheVariants.{WriteFault}
@@ -35,6 +37,48 @@ AreNew means lines devices = ⊥
 abbrev pub AreBlank : List ℕ → ℕ → ℕ → StoreView → StoreView → Type 0
 AreBlank logs t zero old new = Unit {0}
 AreBlank logs t (suc threads) old new = KeptOrZeros (image_name logs t) old new × AreBlank logs (suc t) threads old new
+
+-- ---- reopened
+-- the lines with which a log's device begins: those that hold the log, none where it has no head
+abbrev pub front_by : Bool → List (List ℕ) → List (List ℕ)
+front_by false lines = []
+front_by true lines = lines
+
+-- the same of each log, by how much it holds
+abbrev pub fronts_by : List LogCounts → List (List (List ℕ)) → List (List (List ℕ))
+fronts_by (log ∷ logs) (lines ∷ more) = front_by log.head lines ∷ fronts_by logs more
+fronts_by logs more = []
+
+-- devices of so many lines that read as these and then zeros
+abbrev pub AreReopened : {Device : Type 0} → (Device → DeviceView) → List (List (List ℕ)) → List ℕ → List Device → Type 0
+AreReopened means [] [] [] = Unit {0}
+AreReopened means (front ∷ fronts) (lines ∷ more) (device ∷ devices) =
+    IsFresh (with_zeros front lines) (means device) × AreReopened means fronts more devices
+AreReopened means fronts lines devices = ⊥
+
+-- where the store tells its files, each thread's, from thread t on, begins with the lines at its place as before, and what follows is
+-- wiped in part or not
+abbrev pub AreWiped : List ℕ → ℕ → List (List (List ℕ)) → StoreView → StoreView → Type 0
+AreWiped logs t [] old new = Unit {0}
+AreWiped logs t (front ∷ fronts) old new =
+    MayWipe (image_name logs t) (image_bytes front) old new × AreWiped logs (suc t) fronts old new
+
+-- an image is a log that holds this, in no more lines than the image has
+pub record IsHeld (image : List (List ℕ)) (log : Content) : Type 0 where
+  pub holds : content_of image ≡ Some log
+  pub least : used_by log ≤ length image
+
+-- so is each image
+abbrev pub AreHeld : List (List (List ℕ)) → List Content → Type 0
+AreHeld [] [] = Unit {0}
+AreHeld (image ∷ images) (log ∷ logs) = IsHeld image log × AreHeld images logs
+AreHeld images logs = ⊥
+
+-- no image has more lines than its device will have
+abbrev pub AreWithin : List (List (List ℕ)) → List ℕ → Type 0
+AreWithin [] [] = Unit {0}
+AreWithin (image ∷ images) (lines ∷ more) = (length image ≤ lines) × AreWithin images more
+AreWithin images lines = ⊥
 
 -- ---- handed back
 -- a count after each of these more

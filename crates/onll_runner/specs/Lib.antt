@@ -1,4 +1,5 @@
 pub mod Devices
+pub mod ResumeJob
 pub mod RunEnds
 pub mod RunJob
 pub mod RunReport

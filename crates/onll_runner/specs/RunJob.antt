@@ -1,6 +1,6 @@
 -- What `run INIT LOGS SCRIPT..` does: it runs a script on each thread, over devices that are kept as logs, and says what became of that.
 
-use Rattle.std.specs.Prelude.{ℕ, zero, suc, ◌+◌, ◌*◌, List, length, map}
+use Rattle.std.specs.Prelude.{ℕ, zero, suc, ◌+◌, ◌*◌, false, List, length, map}
 use Rattle.onll_model.specs.declared.call.Call.{Call}
 use Rattle.onll_model.specs.Calls.{updates_in}
 use Rattle.onll_core.specs.Created.{created_heads}
@@ -13,11 +13,11 @@ use Rattle.onll_task.specs.Job.{Job}
 use Rattle.onll_task.specs.Doing.{Task, after_stage, report_task, say_task}
 use Rattle.onll_task.specs.Standing.{threads_stage}
 use Rattle.onll_recovery.specs.ReplayJob.{scripts_stage}
-use Rattle.onll_runner.specs.RunReport.{RunReads, run_data, run_lines, run_report}
+use Rattle.onll_runner.specs.RunReport.{RunReads, run_lines, plan_data, plan_report}
 
 -- these scripts on an object of this kind, in the state that these bytes say, over new logs of this name
 abbrev pub run_plan : (k : ObjectKind) → (init logs : List ℕ) → k.State → List (List (Call k.State k.Op k.Query k.Reply)) → RunPlan k
-run_plan k init logs s scripts = record { logs = logs; run = anew s (created_heads k.code init scripts) scripts }
+run_plan k init logs s scripts = record { logs = logs; reopens = false; run = anew s (created_heads k.code init scripts) scripts }
 
 -- the lines of each log's device: the header's, and those of the longest entry for each update
 abbrev pub lines_for : {State Op Query Reply : Type 0} → List (List (Call State Op Query Reply)) → List ℕ
@@ -26,10 +26,9 @@ lines_for {State} {Op} {Query} {Reply} scripts =
 
 -- what a run left is reported; where fences failed the report says so, and so does the ending
 abbrev pub said_task : (k : ObjectKind) → RunPlan k → RunLeft k → (broken : ℕ) → Task
-said_task k plan left zero = report_task (run_report k.means k.wording plan.run.state plan.run.scripts left)
-    (λ text. SaysOnly (run_lines k.means k.wording plan.run.scripts) (RunReads k.means k.wording plan.run.scripts) text
-    (run_data k.means plan.run.state left))
-said_task k plan left (suc more) = say_task Faulty (run_report k.means k.wording plan.run.state plan.run.scripts left)
+said_task k plan left zero = report_task (plan_report plan left)
+    (λ text. SaysOnly (run_lines k.means k.wording plan.run.scripts) (RunReads k.means k.wording plan.run.scripts) text (plan_data plan left))
+said_task k plan left (suc more) = say_task Faulty (plan_report plan left)
 
 -- scripts are run, and what they left is said
 abbrev pub calls_task : (k : ObjectKind) → (RunPlan k → (RunLeft k → Job) → Job) → RunPlan k → Task

@@ -1,6 +1,6 @@
-//! The report of a run: what became of each call, the trace, the logs, the fences that failed, and the state after the trace.
+//! The report of a run: how many nodes it went on from, what became of each call, the trace, the logs, the fences that failed, and the state after the trace.
 
-ghost use Rattle.std.specs.Prelude.{◌≡◌, ◌≤◌, ◌<◌, ◌^◌, ◌++◌, ◌∷◌, true, length, map, IfOk, OnOk, All, IsSome, Some};
+ghost use Rattle.std.specs.Prelude.{◌≡◌, ◌≤◌, ◌<◌, ◌^◌, ◌++◌, ◌∷◌, true, length, map, IfOk, IfSome, OnOk, All, IsSome, Some};
 ghost use Rattle.std.specs.List.{AllByRecursion};
 ghost use Rattle.onll_words.specs.Texts.{line_text};
 ghost use Rattle.onll_model.specs.Recovered.{operations_front};
@@ -10,22 +10,22 @@ ghost use Rattle.onll_log.specs.Grammar.{content_of};
 ghost use Rattle.onll_merge.specs.declared.fault.StateFault.TheVariants.{NoMemory as OutOfMemory};
 ghost use Rattle.onll_merge.specs.Recovered.{log_counts};
 ghost use Rattle.onll_run.specs.Outcomes.{failed_in};
-ghost use Rattle.onll_run.specs.Left.{HasRun, AllOver, content_in};
+ghost use Rattle.onll_run.specs.Left.{AllOver, content_in};
 ghost use Rattle.onll_run.specs.Ended.{log_left};
-ghost use Rattle.onll_run.specs.Ran.{anew, left_in, script_in, ends_in, node_in, flag_in};
+ghost use Rattle.onll_run.specs.Ran.{left_in, script_in, ends_in, node_in, flag_in};
 ghost use Rattle.onll_text.specs.Bytes.{begins_line, with_lines};
 ghost use Rattle.onll_text.specs.Lines.{call_lines, trace_line, state_lines};
 ghost use Rattle.onll_text.specs.Reports.{EndsRead, NodeReads, StateReads};
 ghost use Rattle.onll_recovery.specs.RecoverJob.{recovered_line};
-ghost use Rattle.onll_recovery.specs.ReplayJob.{LogReads, EachReads, thread_lines, flagged_lines, counted_lines};
+ghost use Rattle.onll_recovery.specs.ReplayJob.{LogReads, EachReads, resumed_lines, thread_lines, flagged_lines, counted_lines};
 ghost use Rattle.onll_task.specs.FileLines.{IsWholeLine};
-ghost use Rattle.onll_runner.specs.RunReport.{faults_at, fault_lines, log_data, run_data, run_report, RunReads};
+ghost use Rattle.onll_runner.specs.RunReport.{faults_at, fault_lines, log_data, run_data, run_report, RunReads, RanOver};
 
 use onll_log::{LogHead, ThreadLog};
 use onll_merge::{LogCounts, Recovery, StateFault, recover_state};
 use onll_model::{Call, CallEnd, Object};
 use onll_pmem::Pmem;
-use onll_recovery::put_count;
+use onll_recovery::{put_count, put_resumed};
 use onll_run::{DoneScript, Ran};
 use onll_text::{Piece, Report, Texted};
 use onll_trace::Ended;
@@ -192,14 +192,15 @@ fn wants_memory(fault: StateFault) -> NoMemory
     }
 }
 
-/// Recovers the object from the lines of a run's devices as read. They give the trace, and the object is after it.
+/// Recovers the object from the lines of a run's devices as read. They give the trace, and the object is after it. The rows of the
+/// base, from which the run went on, are operations.
 pub fn recover_run<O: Object, P: Pmem>(
     alloc: Global,
     object: &mut O,
     heads: &[LogHead],
     ran: &Ran<O, P>,
 ) -> Result<Recovery, NoMemory>
-    requires { HasRun O.means (anew object.old heads.now (map script_in ran.now.threads.items)) (left_in P.means ran.now) }
+    requires { RanOver O.means object.old heads.now (map script_in ran.now.threads.items) (left_in P.means ran.now) }
     ensures logs { IfOk result (λ r. r.logs.items
         ≡ map log_counts (map content_in (map (log_left P.means) ran.now.logs.items))) }
     ensures nodes { IfOk result (λ r. r.nodes.items ≡ map node_in ran.now.trace.items) }
@@ -213,19 +214,25 @@ pub fn recover_run<O: Object, P: Pmem>(
     }
 }
 
-/// Appends the lines of the calls of a run and of its trace.
-fn put_run<O: Texted, P: Pmem>(ran: &Ran<O, P>, out: &mut Report) -> Result<(), NoMemory>
+/// Appends the lines of how many nodes are gone on from, of the calls of a run, and of its trace.
+fn put_run<O: Texted, P: Pmem>(
+    resumed: Option<u64>,
+    ran: &Ran<O, P>,
+    out: &mut Report,
+) -> Result<(), NoMemory>
     requires begins { begins_line out.old ≡ true }
     requires over { AllOver (map script_in ran.now.threads.items) (map ends_in ran.now.threads.items) }
     requires operations { AllByRecursion (λ n. IsSome (O.means.op_at n.row)) (map node_in ran.now.trace.items) }
-    ensures lines { let left = left_in P.means ran.now in OnOk result (out.new ≡ with_lines out.old
+    ensures lines { let left = left_in P.means ran.now in OnOk result (out.new ≡ with_lines (with_lines out.old (resumed_lines resumed))
         (thread_lines O.wording 0 (map script_in ran.now.threads.items) left.ends
         ++ (trace_line (length left.nodes) ∷ flagged_lines O.means O.wording 0 left.nodes left.flags))) }
     ensures begins { OnOk result (begins_line out.new ≡ true) }
+    ensures resumed { OnOk result (IfSome resumed (λ nodes. nodes < 2 ^ 64)) }
     ensures threads { OnOk result (length (map script_in ran.now.threads.items) ≤ 2 ^ 64) }
     ensures ends { OnOk result (EachReads O.wording (map script_in ran.now.threads.items) (map ends_in ran.now.threads.items)) }
     ensures nodes { OnOk result (All (NodeReads O.means O.wording) (map node_in ran.now.trace.items)) }
 {
+    put_resumed(resumed, out)?;
     put_threads(&ran.threads, out)?;
     out.trace_line(ran.trace.len() as u64)?;
     put_nodes::<O>(&ran.trace, out)
@@ -253,24 +260,26 @@ fn put_end<O: Texted, P: Pmem>(
     out.state_lines(object)
 }
 
-/// The report of scripts that were run on an object in this state, which is after the trace then. All that it says reads back. What
+/// The report of scripts that were run on an object in this state, which is after the trace then, and of how many nodes it went on
+/// from, where it did. All that it says reads back. What
 /// it says of the logs, and how many nodes are recovered, comes from the recovery of the devices' lines as read, which are whole.
 pub(crate) fn run_report<O: Texted, P: Pmem>(
     alloc: Global,
     object: &mut O,
     heads: &[LogHead],
+    resumed: Option<u64>,
     ran: &Ran<O, P>,
 ) -> Result<Vec<u8>, NoMemory>
-    requires { HasRun O.means (anew object.old heads.now (map script_in ran.now.threads.items)) (left_in P.means ran.now) }
+    requires { RanOver O.means object.old heads.now (map script_in ran.now.threads.items) (left_in P.means ran.now) }
     ensures report { IfOk result (λ bytes. bytes.items
-        ≡ run_report O.means O.wording object.old (map script_in ran.now.threads.items) (left_in P.means ran.now)) }
+        ≡ run_report O.means O.wording resumed object.old (map script_in ran.now.threads.items) (left_in P.means ran.now)) }
     ensures reads { OnOk result (RunReads O.means O.wording (map script_in ran.now.threads.items)
-        (run_data O.means object.old (left_in P.means ran.now))) }
+        (run_data O.means resumed object.old (left_in P.means ran.now))) }
     ensures whole { OnOk result (All (λ log. AllByRecursion IsWholeLine (P.means log.device).read) ran.now.logs.items) }
 {
     let recovery = recover_run(alloc, object, heads, ran)?;
     let mut out = Report::new(alloc);
-    put_run(ran, &mut out)?;
+    put_run(resumed, ran, &mut out)?;
     put_end(&recovery, ran, object, &mut out)?;
     Ok(out.into_bytes())
 }

@@ -1,32 +1,33 @@
 //! The command `run`: a script on each thread, over devices that are kept as logs.
 
-ghost use Rattle.std.specs.Prelude.{◌≡◌, ◌≤◌, ◌*◌, List, length, map, string_bytes, IfOk, All, is_some};
-ghost use Rattle.std.specs.List.{list_any};
+ghost use Rattle.std.specs.Prelude.{◌≡◌, ◌≤◌, ◌*◌, List, length, map, string_bytes, IfOk, All, IsSome, Ok, is_some};
+ghost use Rattle.std.specs.List.{AllByRecursion, list_any};
 ghost use Rattle.onll_model.specs.Limits.{most_threads, most_updates, greatest_code};
 ghost use Rattle.onll_model.specs.Calls.{updates_in};
 ghost use Rattle.onll_log.specs.ImageFile.{longest_image};
+ghost use Rattle.onll_merge.specs.Merge.{merge, contents_in};
 ghost use Rattle.onll_core.specs.Created.{created_heads, heads_from};
 ghost use Rattle.onll_run.specs.Making.{AreHeads, device_of};
 ghost use Rattle.onll_run.specs.Left.{HasRun};
-ghost use Rattle.onll_run.specs.Ran.{AreKept, anew, left_in, script_in, ends_in};
-ghost use Rattle.onll_outside.specs.Views.{StoreView, SameFiles};
+ghost use Rattle.onll_run.specs.Ran.{CanRun, AreKept, going_on, left_in, script_in, ends_in};
 ghost use Rattle.onll_text.specs.Kinds.{kind_by};
 ghost use Rattle.onll_task.specs.ImageNames.{image_names};
 ghost use Rattle.onll_task.specs.Doing.{Does};
-ghost use Rattle.onll_task.specs.Running.{RunPlan, RunLeft};
+ghost use Rattle.onll_task.specs.Running.{RunPlan};
 ghost use Rattle.onll_task.specs.Standing.{StandsForRuns};
-ghost use Rattle.onll_runner.specs.RunEnds.{HasEnded};
+ghost use Rattle.onll_runner.specs.RunEnds.{HasEnded, HasGone};
+ghost use Rattle.onll_runner.specs.RunReport.{resumed_by};
 ghost use Rattle.onll_runner.specs.RunJob.{run_plan, lines_for, calls_task, run_task};
 
 use crate::devices::{give_up_all, keep_devices, make_devices};
 use crate::report::run_report;
 use onll_core::count_updates;
-use onll_log::{LogHead, ThreadLog};
-use onll_model::Call;
+use onll_log::{Decoded, LogHead, ThreadLog};
+use onll_model::{Call, Node};
 use onll_outside::{Gate, Store};
 use onll_pmem::{Pmem, image_laws};
 use onll_recovery::script_files;
-use onll_run::{Ran, RunFault, run_scripts};
+use onll_run::{Ran, RunFault, new_logs, resume_scripts};
 use onll_task::{Ending, Stop};
 use onll_text::Texted;
 use std::alloc::{AllocError, Global};
@@ -93,27 +94,46 @@ fn told_law<P: Pmem>()
     ensures { (device : P) → is_some (P.means device).told ≡ P.tells }
 {}
 
+/// How many nodes are said to be gone on from.
+fn resumed_by(reopens: bool, nodes: &[Node]) -> Option<u64>
+    ensures { result ≡ resumed_by reopens (length nodes.now) }
+{
+    if reopens {
+        Some(nodes.len() as u64)
+    } else {
+        None
+    }
+}
+
 /// Keeps what a run left, and says its report.
 fn end_run<O: Texted + Drop, S: Store>(
     alloc: Global,
     mut object: O,
     heads: &[LogHead],
+    base: &[Decoded],
+    nodes: &[Node],
+    reopens: bool,
     logs: &str,
     ran: Ran<O, S::Dev>,
     store: &mut S,
 ) -> Result<Vec<u8>, Stop>
     requires some { 1 ≤ length ran.threads.items }
     requires few { length ran.threads.items ≤ most_threads }
-    requires run { HasRun O.means (anew object heads.now (map script_in ran.threads.items)) (left_in S.Dev.means ran) }
-    requires kept { (devices : List S.Dev) × AreKept S.Dev.means (map ends_in ran.threads.items) devices ran.logs.items }
+    requires operations { AllByRecursion (λ n. IsSome (O.means.op_at n.row)) nodes.now }
+    requires run { HasRun O.means (going_on object heads.now nodes.now (contents_in base.now) (map script_in ran.threads.items))
+        (left_in S.Dev.means ran) }
+    requires kept { (devices : List S.Dev) × AreKept S.Dev.means (contents_in base.now) (map ends_in ran.threads.items)
+        devices ran.logs.items }
     requires small { All (λ log. 64 * length (S.Dev.means log.device).read ≤ longest_image) ran.logs.items }
     ensures { let k = kind_by O.means O.wording O.CODE in
-        let plan : RunPlan k = record { logs = logs.now; run = anew object heads.now (map script_in ran.threads.items) } in
+        let run = going_on object heads.now nodes.now (contents_in base.now) (map script_in ran.threads.items) in
+        let plan : RunPlan k = record { logs = logs.now; reopens = reopens; run = run } in
         HasEnded plan (left_in S.Dev.means ran) (S.seen store.old) (S.seen store.new) result }
 {
     image_laws();
     told_law::<S::Dev>();
-    let report = run_report(alloc, &mut object, heads, &ran)?;
+    let resumed = resumed_by(reopens, nodes);
+    let report = run_report(alloc, &mut object, heads, resumed, &ran)?;
     let broken = is_broken(&ran.logs);
     let devices = devices_of(alloc, ran.logs)?;
     match keep_devices(alloc, logs, devices, store) {
@@ -123,6 +143,48 @@ fn end_run<O: Texted + Drop, S: Store>(
         }),
         Ok(()) => Ok(report),
         Err(stop) => Err(stop),
+    }
+}
+
+/// Runs scripts over these devices of the store, whose logs held these nodes, and keeps and says what they left.
+pub(crate) fn run_over<
+    R: Threads + Wait + Sync,
+    O: Texted + Drop + Send + Sync,
+    S: Store,
+    G: Gate + Sync,
+>(
+    rt: &R,
+    alloc: Global,
+    object: O,
+    heads: &[LogHead],
+    base: &[Decoded],
+    nodes: &[Node],
+    reopens: bool,
+    logs: &str,
+    scripts: Vec<Vec<Call<O>>>,
+    devices: Vec<S::Dev>,
+    gate: &G,
+    store: &mut S,
+) -> Result<Vec<u8>, Stop>
+    requires can { CanRun S.Dev.means heads.now (contents_in base.now) (map (λ script. script.items) scripts.items) devices.items }
+    requires merged { merge heads.now (contents_in base.now) ≡ Ok nodes.now }
+    requires operations { AllByRecursion (λ n. IsSome (O.means.op_at n.row)) nodes.now }
+    requires small { All (λ device. 64 * length (S.Dev.means device).read ≤ longest_image) devices.items }
+    ensures { let k = kind_by O.means O.wording O.CODE in
+        let run = going_on object heads.now nodes.now (contents_in base.now) (map (λ script. script.items) scripts.items) in
+        let plan : RunPlan k = record { logs = logs.now; reopens = reopens; run = run } in
+        HasGone plan (S.seen store.old) (S.seen store.new) result }
+{
+    let initial = object.copy(alloc)?;
+    match resume_scripts(rt, alloc, object, heads, base, scripts, devices, gate) {
+        Ok(ran) => end_run(
+            alloc, initial, heads, base, nodes, reopens, logs, ran, store,
+        ),
+        Err(RunFault::NoMemory) => Err(Stop::NoMemory),
+        Err(RunFault::HeaderFailed { thread, devices }) => {
+            give_up_all(devices, store);
+            Err(Stop::fence_failed(alloc, thread, 0))
+        }
     }
 }
 
@@ -145,19 +207,14 @@ fn run_calls<R: Threads + Wait + Sync, O: Texted + Drop + Send + Sync, S: Store,
         → Does (image_names logs.now 0 (length scripts.items)) (S.seen store.old) (S.seen store.new) (calls_task k threads plan) result }
 {
     let heads = new_heads(alloc, O::CODE, init, scripts.len() as u64)?;
+    let base = new_logs(alloc, scripts.len())?;
     let lines = lines_for(alloc, &scripts)?;
-    let initial = object.copy(alloc)?;
-    let devices = match make_devices(alloc, logs, &lines, store) {
-        Ok(devices) => devices,
-        Err(stop) => return Err(stop),
-    };
-    match run_scripts(rt, alloc, object, &heads, scripts, devices, gate) {
-        Ok(ran) => end_run(alloc, initial, &heads, logs, ran, store),
-        Err(RunFault::NoMemory) => Err(Stop::NoMemory),
-        Err(RunFault::HeaderFailed { thread, devices }) => {
-            give_up_all(devices, store);
-            Err(Stop::fence_failed(alloc, thread, 0))
-        }
+    let nodes = Vec::new(alloc);
+    match make_devices(alloc, logs, &lines, store) {
+        Ok(devices) => run_over(
+            rt, alloc, object, &heads, &base, &nodes, false, logs, scripts, devices, gate, store,
+        ),
+        Err(stop) => Err(stop),
     }
 }
 

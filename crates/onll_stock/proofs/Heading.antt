@@ -1,12 +1,17 @@
 -- The heads of a shop's logs are those of new logs.
 
 use Rattle.std.proofs.Common.{ℕ, zero, suc, ◌≡◌, ◌+◌, ◌<◌, ◌≤◌, List, [], ◌∷◌, ◌++◌, length, length-append, refl, sym, ap, ◌∙◌, subst, arith}
+use Rattle.std.specs.List.{AllByRecursion}
+use Rattle.onll_model.specs.Limits.{most_updates}
+use Rattle.onll_model.specs.Calls.{updates_in}
 use Rattle.onll_log.specs.declared.head.LogHead.{LogHead}
 use Rattle.onll_log.specs.Head.{head_for}
 use Rattle.onll_log.proofs.Lines.{length-digest_words}
 use Rattle.onll_pmem.specs.Pmem.{DeviceView}
 use Rattle.onll_run.specs.Making.{IsHeadOf, AreHeads}
+use Rattle.onll_run.specs.Left.{no_base}
 use Rattle.onll_run.specs.Ran.{AreRoomy, CanRun}
+use Rattle.onll_run.proofs.Anew.{new_base}
 use Rattle.onll_stock.specs.Heads.{heads_to, shop_heads}
 use Rattle.onll_stock.specs.Sales.{StockCall}
 
@@ -44,11 +49,15 @@ heads_are threads (suc n) init low few =
 
 -- scripts can be run with these heads
 pub can_run : {Device : Type 0} (means : Device → DeviceView) (threads : ℕ) (init : List ℕ) (used : List LogHead) (scripts : List (List StockCall)) (devices : List Device) → threads ≡ length scripts
-    → used ≡ shop_heads threads init → 1 ≤ threads → threads ≤ 16 → AreRoomy means threads scripts devices → CanRun means used scripts devices
-can_run means threads init used scripts devices many is some_thread few roomy = record {
-  some_thread = omega (arith, many, some_thread);
-  few = omega (arith, many, few);
-  many = ap length is ∙ (length-heads_to threads threads init ∙ many);
-  heads_are = subst (λ (z : ℕ × List LogHead). AreHeads z.0 0 z.1) (λ i. (many i, sym is i)) (heads_are threads threads init (omega arith) few);
-  devices_are = subst (λ (n : ℕ). AreRoomy means n scripts devices) many roomy;
-}
+    → used ≡ shop_heads threads init → 1 ≤ threads → threads ≤ 16 → AllByRecursion (λ (calls : List StockCall). updates_in calls ≤ most_updates) scripts → AreRoomy means threads (no_base threads).logs scripts devices
+    → CanRun means used (no_base (length used)).logs scripts devices
+can_run means threads init used scripts devices many is some_thread few updates roomy =
+    let heads : length used ≡ threads = ap length is ∙ length-heads_to threads threads init in
+    record {
+      some_thread = omega (arith, many, some_thread);
+      few = omega (arith, many, few);
+      many = heads ∙ many;
+      heads_are = subst (λ (z : ℕ × List LogHead). AreHeads z.0 0 z.1) (λ i. (many i, sym is i)) (heads_are threads threads init (omega arith) few);
+      base = new_base used (length used) scripts updates;
+      devices_are = subst (λ (z : ℕ × ℕ). AreRoomy means z.0 (no_base z.1).logs scripts devices) (λ i. (many i, sym heads i)) roomy;
+    }

@@ -1,11 +1,12 @@
 //! A shop: threads that sell from one stock, and restock it.
 
 ghost use Rattle.std.specs.Prelude.{◌≡◌, ◌≤◌, length, map, IfOk, IfErr};
-ghost use Rattle.onll_model.specs.Limits.{most_threads};
+ghost use Rattle.onll_model.specs.Limits.{most_threads, most_updates};
+ghost use Rattle.onll_model.specs.Calls.{updates_in};
 ghost use Rattle.std.specs.List.{AllByRecursion};
 ghost use Rattle.onll_pmem.specs.Device.{zero_lines};
 ghost use Rattle.onll_outside.specs.Views.{IsFresh};
-ghost use Rattle.onll_run.specs.Left.{HasRun};
+ghost use Rattle.onll_run.specs.Left.{HasRun, no_base};
 ghost use Rattle.onll_run.specs.Making.{HasRefused};
 ghost use Rattle.onll_run.specs.Ran.{AreRoomy, anew, left_in, script_in};
 ghost use Rattle.onll_stock.specs.Heads.{shop_heads};
@@ -35,13 +36,16 @@ pub fn run_shop<R: Threads + Wait + Sync, P: Pmem + Drop + Send, G: Gate + Sync>
 ) -> Result<Ran<Stock, P>, RunFault<P>>
     requires some_thread { 1 ≤ length scripts.items }
     requires few { length scripts.items ≤ most_threads }
-    requires devices { AreRoomy P.means (length scripts.items) (map (λ script. script.items) scripts.items) devices.items }
+    requires updates { AllByRecursion (λ script. updates_in script ≤ most_updates) (map (λ script. script.items) scripts.items) }
+    requires devices { AreRoomy P.means (length scripts.items) (no_base (length scripts.items)).logs
+        (map (λ script. script.items) scripts.items) devices.items }
     ensures scripts { IfOk result (λ ran. map script_in ran.threads.items ≡ map (λ script. script.items) scripts.items) }
     ensures run { IfOk result (λ ran. HasRun stock (anew had (shop_heads (length scripts.items) init.now)
         (map (λ script. script.items) scripts.items)) (left_in P.means ran)) }
     ensures sold { IfOk result (λ ran. NeverOversells (anew had (shop_heads (length scripts.items) init.now)
         (map (λ script. script.items) scripts.items)) (left_in P.means ran)) }
-    ensures refused { IfErr result (λ fault. HasRefused P.means (shop_heads (length scripts.items) init.now) devices.items fault) }
+    ensures refused { IfErr result (λ fault. HasRefused P.means (shop_heads (length scripts.items) init.now)
+        (no_base (length scripts.items)).logs devices.items fault) }
 {
     let heads = shop_heads(alloc, scripts.len() as u64, init)?;
     match run_scripts(rt, alloc, Stock::of(had), &heads, scripts, devices, gate) {

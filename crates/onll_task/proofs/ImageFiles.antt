@@ -1,16 +1,21 @@
 -- Reading the images of threads, one after the other.
 
-use Rattle.std.proofs.Common.{Vec, Global, ℕ, zero, suc, List, [], ◌∷◌, ◌++◌, ◌≡◌, ◌+◌, ◌-◌, ◌<◌, ap, sym, refl, subst, ◌∙◌, arith, Ok, Err}
+use Rattle.std.proofs.Common.{Vec, Global, ℕ, zero, suc, List, [], ◌∷◌, ◌++◌, ◌≡◌, ◌+◌, ◌-◌, ◌*◌, ◌<◌, ◌≤◌, length, map, ap, sym, refl, subst, ◌∙◌, arith, Ok, Err}
+use Rattle.std.specs.List.{All}
 use Rattle.std.proofs.lemmas.List.{map-append}
+use Rattle.std.proofs.lemmas.List.Elements.{All-from_recursion, recursion_from_All}
+use Rattle.onll_model.proofs.Lists.{all_append}
 use Rattle.onll_words.specs.declared.line.Line.{Line}
 use Rattle.onll_pmem.specs.Pmem.{words_of}
-use Rattle.onll_log.specs.ImageFile.{image_lines}
+use Rattle.onll_log.specs.ImageFile.{longest_image, image_lines}
 use Rattle.onll_task.specs.declared.ending.Ending.TheVariants.{Usage}
 use Rattle.onll_task.specs.Job.{Job, Never}
 use Rattle.onll_outside.specs.Views.{StoreView}
 use Rattle.onll_task.specs.declared.answer.Stop.{Stop}
 use Rattle.onll_task.specs.ImageNames.{image_name, image_names}
-use Rattle.onll_task.specs.Images.{StandsFor, StandFor, images_in}
+use Rattle.onll_task.specs.declared.images.KeptImages.{KeptImages}
+use Rattle.onll_task.specs.declared.texts.KeptImage.{KeptImage}
+use Rattle.onll_task.specs.Images.{StandsFor, StandFor, KeepsOf, KeepOf, images_in}
 use Rattle.onll_task.specs.Doing.{BeginsBy, lines_stage, each_job, each_stage}
 use Rattle.onll_task.proofs.Stages.{ReadSo, none_read, value_next, value_stops, values_read, by_given, by_begins, by_stops, begins_by, stops_by}
 
@@ -33,43 +38,58 @@ reading_images_never logs (suc threads) i next f =
     λ bytes. reading_images_never logs threads (suc i) (λ images. next (image_lines bytes ∷ images)) (λ images. f (image_lines bytes ∷ images))
 
 -- ---- lines that stand for the images that were read
--- one image more, and lines that stand for it
+-- lines that stand for one image more
 standing_more : (lines images : List (List (List ℕ))) (l image : List (List ℕ)) → StandFor lines images → StandsFor l image → StandFor (lines ++ l ∷ []) (images ++ image ∷ [])
 standing_more [] [] l image h k = (k, tt)
 standing_more [] (i ∷ images) l image h k = absurd h
 standing_more (x ∷ lines) [] l image h k = absurd h
 standing_more (x ∷ lines) (i ∷ images) l image h k = (h.0, standing_more lines images l image h.1 k)
 
--- images were read, for which these lines stand
-pub record ReadStanding (all left : List (List ℕ)) (store mid : StoreView) (lines : List (List (List ℕ))) : Type 0 where
+-- images were read, of which this is kept
+pub record ReadStanding (all left : List (List ℕ)) (store mid : StoreView) (lines : List (List (List ℕ))) (counts : List ℕ) : Type 0 where
   pub images : List (List (List ℕ))
-  pub stand : StandFor lines images
+  pub keep : KeepOf lines counts images
   pub so : ReadSo lines_stage all left store mid images
 
-pub none_standing : (all : List (List ℕ)) (store : StoreView) (lines : List (List (List ℕ))) → lines ≡ [] → ReadStanding all all store store lines
-none_standing all store lines e =
+pub none_standing : (all : List (List ℕ)) (store : StoreView) (lines : List (List (List ℕ))) (counts : List ℕ) → lines ≡ [] → counts ≡ [] → ReadStanding all all store store lines counts
+none_standing all store lines counts e f =
     let none : List (List (List ℕ)) = [] in
-    subst (ReadStanding all all store store) (sym e) (record { images = none; stand = tt; so = none_read lines_stage all store none refl })
+    record { images = none; keep = record { stand = subst (λ ls. StandFor ls none) (sym e) tt; many = f }; so = none_read lines_stage all store none refl }
 
-pub standing_next : {all before left : List (List ℕ)} {name : List ℕ} {store mid new : StoreView} {lines more : List (List (List ℕ))} {l : Vec Line Global}
-    → ReadStanding all before store mid lines → before ≡ name ∷ left
-    → BeginsBy [] mid new (lines_stage name) (λ (l : Vec Line Global) image. StandsFor (words_of l.items) image) (Ok l)
-    → more ≡ lines ++ words_of l.items ∷ [] → ReadStanding all left store new more
-standing_next {all} {left = left} {store = store} {new = new} {lines} {more} {l} r split b e =
+-- one image more
+keep_more : (lines images : List (List (List ℕ))) (counts : List ℕ) (l image : List (List ℕ)) (n : ℕ) → KeepOf lines counts images → KeepsOf l n image → KeepOf (lines ++ l ∷ []) (counts ++ n ∷ []) (images ++ image ∷ [])
+keep_more lines images counts l image n h k = record {
+  stand = standing_more lines images l image h.stand k.stands;
+  many = ap (λ ns. ns ++ n ∷ []) h.many ∙ ap (λ m. map length images ++ m ∷ []) k.many ∙ sym (map-append length images (image ∷ []));
+}
+
+abbrev pub KeepsImage : KeptImage → List (List ℕ) → Type 0
+KeepsImage kept image = KeepsOf (words_of kept.lines.items) kept.count image
+
+pub standing_next : {all before left : List (List ℕ)} {name : List ℕ} {store mid new : StoreView} {lines more : List (List (List ℕ))} {counts longer : List ℕ} {kept : KeptImage}
+    → ReadStanding all before store mid lines counts → before ≡ name ∷ left → BeginsBy [] mid new (lines_stage name) KeepsImage (Ok kept)
+    → more ≡ lines ++ words_of kept.lines.items ∷ [] → longer ≡ counts ++ kept.count ∷ [] → ReadStanding all left store new more longer
+standing_next {all} {left = left} {store = store} {new = new} {lines} {more} {counts} {longer} {kept} r split b e f =
     let image = (by_given b).value in
-    subst (ReadStanding all left store new) (sym e) (record {
+    record {
       images = r.images ++ image ∷ [];
-      stand = standing_more lines r.images (words_of l.items) image r.stand (by_given b).fits;
+      keep = subst (λ ls. KeepOf ls longer (r.images ++ image ∷ [])) (sym e) (subst (λ ns. KeepOf (lines ++ words_of kept.lines.items ∷ []) ns (r.images ++ image ∷ [])) (sym f)
+          (keep_more lines r.images counts (words_of kept.lines.items) image kept.count r.keep (by_given b).fits));
       so = value_next r.so split (by_begins b) refl;
-    })
+    }
 
-pub standing_stops : {all before left : List (List ℕ)} {name : List ℕ} {store mid new : StoreView} {lines : List (List (List ℕ))} {s : Stop} {W : Type 0} {Fits : W → List (List (List ℕ)) → Type 0}
-    → ReadStanding all before store mid lines → before ≡ name ∷ left
-    → BeginsBy [] mid new (lines_stage name) (λ (l : Vec Line Global) image. StandsFor (words_of l.items) image) (Err s)
+pub standing_stops : {all before left : List (List ℕ)} {name : List ℕ} {store mid new : StoreView} {lines : List (List (List ℕ))} {counts : List ℕ} {s : Stop} {W : Type 0} {Fits : W → List (List (List ℕ)) → Type 0}
+    → ReadStanding all before store mid lines counts → before ≡ name ∷ left → BeginsBy [] mid new (lines_stage name) KeepsImage (Err s)
     → BeginsBy [] store new (each_stage lines_stage all) Fits (Err s)
 standing_stops {W = W} r split b =
     stops_by (value_stops {V = List (List ℕ)} {value = λ x. x} {W = W} {made = λ w. r.images} r.so split (by_stops b))
 
-pub standing_read : {all left : List (List ℕ)} {store new : StoreView} (lines : Vec (Vec Line Global) Global) → ReadStanding all left store new (images_in lines.items) → left ≡ []
-    → BeginsBy [] store new (each_stage lines_stage all) (λ (ls : Vec (Vec Line Global) Global) images. StandFor (images_in ls.items) images) (Ok lines)
-standing_read lines r none = begins_by lines r.images r.stand (values_read {value = λ (u : Unit {0}). r.images} tt r.so none)
+pub standing_read : {all left : List (List ℕ)} {store new : StoreView} (kept : KeptImages) → ReadStanding all left store new (images_in kept.lines.items) kept.counts.items → left ≡ []
+    → BeginsBy [] store new (each_stage lines_stage all) (λ (k : KeptImages) images. KeepOf (images_in k.lines.items) k.counts.items images) (Ok kept)
+standing_read kept r none = begins_by kept r.images r.keep (values_read {value = λ (u : Unit {0}). r.images} tt r.so none)
+
+-- one number of lines more
+pub few_more : (counts more : List ℕ) (n : ℕ) → All (λ count. 64 * count ≤ longest_image) counts → 64 * n ≤ longest_image → more ≡ counts ++ n ∷ [] → All (λ count. 64 * count ≤ longest_image) more
+few_more counts more n few one e =
+    let Few : ℕ → Type 0 = λ count. 64 * count ≤ longest_image in
+    subst (All Few) (sym e) (All-from_recursion Few (counts ++ n ∷ []) (all_append Few counts (n ∷ []) (recursion_from_All Few counts few) (one, tt)))

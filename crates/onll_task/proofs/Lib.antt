@@ -1,4 +1,5 @@
 pub mod Cuts
+pub mod FileFronts
 pub mod FileLines
 pub mod ImageFiles
 pub mod Jobs

@@ -1,6 +1,6 @@
 -- How jobs that read and write go on.
 
-use Rattle.std.proofs.Common.{Vec, Global, ℕ, zero, suc, true, false, List, [], ◌∷◌, ◌≡◌, inl, inr, ⊎_elim, Option, Some, cond, ◌+◌, ◌<◌, length, drop, get_or, true≢false, Result, refl, sym, ap, ◌∙◌, subst, arith}
+use Rattle.std.proofs.Common.{Vec, Global, ℕ, zero, suc, true, false, List, [], ◌∷◌, ◌≡◌, inl, inr, ⊎_elim, Option, Some, cond, ◌+◌, ◌<◌, length, take, drop, get_or, Bool, true≢false, Result, refl, sym, ap, ◌∙◌, subst, arith}
 use Rattle.std.proofs.lemmas.List.{drop_more}
 use Rattle.std.proofs.lemmas.Bool.{cases_Bool}
 use Rattle.std.proofs.lemmas.Slice.Eq.{bytes_eq-Decides}
@@ -9,7 +9,7 @@ use Rattle.std.specs.Str.{bytes_eq}
 use Rattle.onll_words.specs.declared.line.Line.{Line}
 use Rattle.onll_pmem.specs.Pmem.{words_of}
 use Rattle.onll_log.specs.ImageFile.{image_lines}
-use Rattle.onll_outside.specs.Views.{StoreView, SameFiles, SameOthers, SameFaults, Rose, Holds, counted}
+use Rattle.onll_outside.specs.Views.{StoreView, SameFiles, SameOthers, SameFaults, Rose, Holds, MayWipe, counted}
 use Rattle.onll_text.specs.Refusal.{Refusal}
 use Rattle.onll_task.specs.declared.ending.Ending.{Ending}
 use Rattle.onll_task.specs.declared.ending.Ending.TheVariants.{Done, Usage, Refused, BadLog, ReadFault, WriteFault, Faulty}
@@ -17,7 +17,9 @@ use Rattle.onll_task.specs.Reading.{Reads, ReadsWhole, HoldsImage, Stops}
 use Rattle.onll_task.specs.ImageNames.{image_name, image_names}
 use Rattle.onll_task.specs.Images.{images_in, image_bytes, writing_images}
 use Rattle.onll_text.specs.Kinds.{ObjectKind}
-use Rattle.onll_task.specs.Running.{RunPlan, RunLeft, HasKept, StaysOrZeros, RunStops, broken_threads, fences_of, log_files}
+use Rattle.onll_log.specs.Grammar.{Content}
+use Rattle.onll_run.specs.Left.{begun_logs}
+use Rattle.onll_task.specs.Running.{RunPlan, RunLeft, HasKept, StaysOrZeros, LogsStayOrWipe, FilesStand, DeviceLast, RunStops, broken_threads, fences_of, log_files}
 use Rattle.onll_task.specs.Writing.{FilesStay, SameCounts, AllButStay, OthersStay, SameBut, HasWritten, CannotWrite, WriteFailed, written}
 use Rattle.onll_task.specs.Job.{Job, Say, Read, Write, Threads, JobEnds, JobCut, GoesOn, on_value, reading, reading_whole}
 use Rattle.onll_task.proofs.Jobs.{files_stay, cannot_from}
@@ -28,7 +30,7 @@ stay_more store mid after first then_ = record { tells = then_.tells ∙ first.t
 faults_more : (store mid after : StoreView) → SameFaults store mid → SameFaults mid after → SameFaults store after
 faults_more store mid after first then_ = (then_.0 ∙ first.0, then_.1 ∙ first.1)
 
-counts_more : (store mid after : StoreView) → SameCounts store mid → SameCounts mid after → SameCounts store after
+pub counts_more : (store mid after : StoreView) → SameCounts store mid → SameCounts mid after → SameCounts store after
 counts_more store mid after first then_ =
     (faults_more store mid after first.0 then_.0, (then_.1.0 ∙ first.1.0, then_.1.1 ∙ first.1.1))
 
@@ -59,7 +61,7 @@ kept_from : {k : ObjectKind} (plan : RunPlan k) (left : RunLeft k) (store mid ke
 kept_from plan left store mid kept files counts h = record {
   calls = faults_more store mid kept counts.0 h.calls;
   faults = h.faults ∙ ap (λ n. counted n (broken_threads left.ends)) counts.1.0;
-  fences = h.fences ∙ ap (λ n. counted n (fences_of left.logs + length plan.run.scripts)) counts.1.1;
+  fences = h.fences ∙ ap (λ n. counted n (fences_of left.logs + begun_logs plan.run.base.logs)) counts.1.1;
   files = h.files;
   fit = h.fit;
   others = but_more (log_files plan) store mid kept files h.others;
@@ -72,6 +74,25 @@ zeros_from store mid after (name ∷ names) files h = (first, zeros_from store m
     first : StaysOrZeros store after name
     first tells = ⊎_elim (λ (e : after.file name ≡ mid.file name). inl (e ∙ files.file tells name)) (λ z. inr z) (h.0 (files.tells ∙ tells))
 
+wiped_from : (store mid after : StoreView) (name front : List ℕ) → FilesStay store mid → MayWipe name front mid after → MayWipe name front store after
+wiped_from store mid after name front files h on =
+    let w = h (files.tells ∙ on) in record { was = w.was; rest = w.rest; before = sym (files.file on name) ∙ w.before; now = w.now; wiped = w.wiped }
+
+wipes_from : (store mid after : StoreView) (names : List (List ℕ)) (logs : List Content) → FilesStay store mid → LogsStayOrWipe mid after names logs → LogsStayOrWipe store after names logs
+wipes_from store mid after [] [] files h = tt
+wipes_from store mid after [] (log ∷ logs) files h = absurd h
+wipes_from store mid after (name ∷ names) [] files h = absurd h
+wipes_from store mid after (name ∷ names) (log ∷ logs) files h =
+    ((h.0.0, h.0.1, wiped_from store mid after name (image_bytes h.0.0) files h.0.2), wipes_from store mid after names logs files h.1)
+
+stand_from : (reopens : Bool) (store mid after : StoreView) (names : List (List ℕ)) (logs : List Content) → FilesStay store mid → FilesStand reopens names logs mid after → FilesStand reopens names logs store after
+stand_from false store mid after names logs files h = zeros_from store mid after names files h
+stand_from true store mid after names logs files h = wipes_from store mid after names logs files h
+
+last_from : {k : ObjectKind} (plan : RunPlan k) (store mid after : StoreView) (name : List ℕ) → FilesStay store mid → DeviceLast plan mid after name → DeviceLast plan store after name
+last_from plan store mid after name files (inl h) = inl (record { last = h.last; files = stand_from plan.reopens store mid after (log_files plan) plan.run.base.logs files h.files })
+last_from plan store mid after name files (inr h) = inr h
+
 run_stops_from : {k : ObjectKind} (plan : RunPlan k) (store mid after : StoreView) (ending : Ending) (text : List ℕ) → FilesStay store mid → SameCounts store mid → RunStops plan mid after ending text → RunStops plan store after ending text
 run_stops_from plan store mid after Done text files counts h = absurd h
 run_stops_from plan store mid after Usage text files counts h = absurd h
@@ -83,7 +104,7 @@ run_stops_from plan store mid after WriteFault text files counts h = record {
   within = h.within;
   line = h.line;
   rose = subst (λ n. Rose n after.faults) counts.0.0 h.rose;
-  last = h.last;
+  last = last_from plan store mid after (image_name plan.logs h.thread) files h.last;
   others = but_more (log_files plan) store mid after files h.others;
 }
 run_stops_from plan store mid after Faulty text files counts h = record {
@@ -92,8 +113,8 @@ run_stops_from plan store mid after Faulty text files counts h = record {
   line = h.line;
   calls = faults_more store mid after counts.0 h.calls;
   faults = h.faults ∙ ap (λ n. counted n 1) counts.1.0;
-  fences = h.fences ∙ ap (λ n. counted n (h.thread + 1)) counts.1.1;
-  files = zeros_from store mid after (log_files plan) files h.files;
+  fences = h.fences ∙ ap (λ n. counted n (begun_logs (take (h.thread + 1) plan.run.base.logs))) counts.1.1;
+  files = stand_from plan.reopens store mid after (log_files plan) plan.run.base.logs files h.files;
   others = but_more (log_files plan) store mid after files h.others;
 }
 

@@ -13,6 +13,7 @@ use Rattle.onll_log.specs.declared.head.LogHead.{LogHead}
 use Rattle.onll_log.specs.Head.{word, is_head, head_of}
 use Rattle.onll_log.specs.Encoding.{guard}
 use Rattle.onll_log.specs.Grammar.{Content, all_named, is_entry, segment_of, node_of_line, entries_from, lines_in, is_zero_line, are_zero_lines, content_of, format_in}
+use Rattle.onll_log.specs.ImageFile.{longest_image, whole_lines, image_lines}
 use Rattle.onll_log.proofs.Accepted.{Accepted-if, is_entry-Accepted, is_entry-no_magic, entries_from-entry, entries_from-none, both_true}
 use Rattle.onll_task.specs.Images.{used_in, StandsFor, IsFrontOf}
 
@@ -143,7 +144,7 @@ zeros_zeros n (l ∷ ls) = ap (λ b. is_zero_line l && b) (zeros_zeros n ls)
 abbrev held : List ℕ → Bool → List Segment → Bool → Option Content
 held l b entries z = cond {A = Option Content} b (Some (record { head = Some (head_of l); entries = entries })) (cond {A = Option Content} z (Some (record { head = None; entries = [] })) None)
 
-content_zeros : (n : ℕ) (ls : List (List ℕ)) → (ls ≡ [] → n ≡ 0) → content_of (ls ++ zero_lines n) ≡ content_of ls
+pub content_zeros : (n : ℕ) (ls : List (List ℕ)) → (ls ≡ [] → n ≡ 0) → content_of (ls ++ zero_lines n) ≡ content_of ls
 content_zeros n [] none = ap (λ k. content_of (zero_lines k)) (none refl)
 content_zeros n (l ∷ ls) none =
     ap (λ es. held l (is_head l) es (are_zero_lines (l ∷ (ls ++ zero_lines n)))) (entries_zeros (head_of l) 0 0 n ls)
@@ -266,6 +267,12 @@ chunk_more lines new chunks i bytes less same is e =
     ∙ ap (map words_of_bytes) (sym (take_more chunks i bytes less ∙ ap (λ b. take i chunks ++ b ∷ []) same))))
 
 -- the first lines of an image
+pub words_taken : (old new : List Line) (n : ℕ) → new ≡ take n old → n ≡ used_in (content_of (words_of old)) → words_of new ≡ take (used_in (content_of (words_of old))) (words_of old)
+words_taken old new n cut used = ap words_of cut ∙ (sym (take-map (λ (l : Line). l.w) n old) ∙ ap (λ k. take k (words_of old)) used)
+
 pub stands_taken : (old new : List Line) (n : ℕ) → new ≡ take n old → n ≡ used_in (content_of (words_of old)) → StandsFor (words_of new) (words_of old)
-stands_taken old new n cut used =
-    subst (λ ls. StandsFor ls (words_of old)) (sym (ap words_of cut ∙ (sym (take-map (λ (l : Line). l.w) n old) ∙ ap (λ k. take k (words_of old)) used))) (stands_cut (words_of old))
+stands_taken old new n cut used = subst (λ ls. StandsFor ls (words_of old)) (sym (words_taken old new n cut used)) (stands_cut (words_of old))
+
+-- those of a file
+pub used_stand : (lines front : List (List ℕ)) (bytes part : List ℕ) → part ≡ take longest_image bytes → IsFrontOf front (whole_lines part) → StandsFor lines front → StandsFor lines (image_lines bytes)
+used_stand lines front bytes part is f s = stands_front lines front (image_lines bytes) (subst (λ bs. IsFrontOf front (whole_lines bs)) is f) s

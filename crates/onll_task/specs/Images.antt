@@ -9,6 +9,7 @@ use Rattle.onll_words.specs.Lines.{bytes_of_words}
 use Rattle.onll_pmem.specs.Device.{zero_lines}
 use Rattle.onll_pmem.specs.Pmem.{words_of}
 use Rattle.onll_log.specs.Grammar.{Content, content_of, used_by, format_in}
+use Rattle.onll_outside.specs.Views.{StoreView, BeginsWith}
 use Rattle.onll_task.specs.ImageNames.{image_name, image_names}
 use Rattle.onll_task.specs.Job.{Job, Write}
 use Rattle.onll_task.specs.Doing.{Stage, lines_stage, each_stage}
@@ -16,6 +17,10 @@ use Rattle.onll_task.specs.Doing.{Stage, lines_stage, each_stage}
 -- the lines of images, as words
 abbrev pub images_in : List (Vec Line Global) → List (List (List ℕ))
 images_in images = map (λ image. words_of image.items) images
+
+-- the bytes of an image's file
+abbrev pub image_bytes : List (List ℕ) → List ℕ
+image_bytes lines = flat_map bytes_of_words lines
 
 -- ---- what stays of an image
 -- how many lines decide what an image holds: those of its head and its entries, one where it is all zero, none where it is no log
@@ -35,6 +40,27 @@ StandFor [] [] = Unit {0}
 StandFor (lines ∷ more) (image ∷ images) = StandsFor lines image × StandFor more images
 StandFor more images = ⊥
 
+-- what is kept of an image: lines that stand for it, and how many lines it has
+pub record KeepsOf (lines : List (List ℕ)) (count : ℕ) (image : List (List ℕ)) : Type 0 where
+  pub stands : StandsFor lines image
+  pub many : count ≡ length image
+
+-- the same of all images
+pub record KeepOf (lines : List (List (List ℕ))) (counts : List ℕ) (images : List (List (List ℕ))) : Type 0 where
+  pub stand : StandFor lines images
+  pub many : counts ≡ map length images
+
+-- bytes begin with those of these lines
+pub record BytesBegin (lines : List (List ℕ)) (bytes : List ℕ) : Type 0 where
+  pub rest : List ℕ
+  pub whole : bytes ≡ image_bytes lines ++ rest
+
+-- where the store tells its files, each thread's, from thread t on, begins with the lines at its place
+abbrev pub FilesBegin : List ℕ → ℕ → List (List (List ℕ)) → StoreView → Type 0
+FilesBegin logs t [] store = Unit {0}
+FilesBegin logs t (lines ∷ more) store =
+    BeginsWith store (image_name logs t) (image_bytes lines) × FilesBegin logs (suc t) more store
+
 -- lines of zeros follow these lines to the image's end, none where there is no line
 pub record IsFrontOf (lines image : List (List ℕ)) : Type 0 where
   pub zeros : ℕ
@@ -47,10 +73,6 @@ abbrev pub images_stage : List ℕ → ℕ → Stage (List (List (List ℕ)))
 images_stage logs threads = each_stage lines_stage (image_names logs 0 threads)
 
 -- ---- writing
--- the bytes of an image's file
-abbrev pub image_bytes : List (List ℕ) → List ℕ
-image_bytes lines = flat_map bytes_of_words lines
-
 -- writes the images of threads, from thread i on, and goes on
 abbrev pub writing_images : List ℕ → ℕ → List (List (List ℕ)) → Job → Job
 writing_images logs i [] next = next

@@ -1,16 +1,17 @@
 //! The images of the logs of one run: a file for each thread.
 
-ghost use Rattle.std.specs.Prelude.{◌≡◌, [], length, string_bytes, IfOk, IfErr, OnOk};
-ghost use Rattle.onll_outside.specs.Views.{SameOthers};
+ghost use Rattle.std.specs.Prelude.{◌≡◌, ◌≤◌, ◌*◌, [], length, All, string_bytes, IfOk, IfErr, OnOk};
+ghost use Rattle.onll_outside.specs.Views.{SameOthers, BeginsWith};
 ghost use Rattle.onll_pmem.specs.Pmem.{words_of};
+ghost use Rattle.onll_log.specs.ImageFile.{longest_image};
 ghost use Rattle.onll_task.specs.ImageNames.{image_name, image_names};
-ghost use Rattle.onll_task.specs.Images.{StandsFor, StandFor, images_in, image_bytes, images_stage, writing_stage};
+ghost use Rattle.onll_task.specs.Images.{KeepsOf, KeepOf, FilesBegin, images_in, image_bytes, images_stage, writing_stage};
 ghost use Rattle.onll_task.specs.Writing.{HasWritten, CannotWrite, WriteStops};
 ghost use Rattle.onll_task.specs.Stop.{StopSays};
 ghost use Rattle.onll_task.specs.Doing.{Begins, BeginsBy, lines_stage};
 
 use crate::answer::Stop;
-use crate::texts::{image_file, write_file};
+use crate::texts::{KeptImage, kept_image, write_file};
 use itoa::Buffer;
 use onll_outside::Store;
 use onll_words::{Line, line_bytes};
@@ -28,40 +29,65 @@ pub fn image_name(alloc: Global, logs: &str, thread: u64) -> Result<String, Allo
     Ok(name)
 }
 
-/// The lines that decide what the image of a thread's log holds, or what is said in their place.
+/// What is kept of the image of a thread's log, or what is said in its place.
 fn read_image<S: Store>(
     alloc: Global,
     logs: &str,
     thread: u64,
     store: &mut S,
-) -> Result<Vec<Line>, Stop>
-    ensures { let stage = lines_stage (image_name logs.now thread) in
-        BeginsBy [] (S.seen store.old) (S.seen store.new) stage (λ lines image. StandsFor (words_of lines.items) image) result }
+) -> Result<KeptImage, Stop>
+    ensures begins { let stage = lines_stage (image_name logs.now thread) in
+        BeginsBy [] (S.seen store.old) (S.seen store.new) stage (λ kept image. KeepsOf (words_of kept.lines.items) kept.count image) result }
+    ensures front { IfOk result (λ kept. BeginsWith (S.seen store.new) (image_name logs.now thread)
+        (image_bytes (words_of kept.lines.items))) }
+    ensures few { IfOk result (λ kept. 64 * kept.count ≤ longest_image) }
 {
     let name = image_name(alloc, logs, thread)?;
-    image_file(alloc, &name, store)
+    kept_image(alloc, &name, store)
 }
 
-/// The lines that decide what the images of the logs of so many threads hold, or what is said in their place. No more of an image
-/// stays when the next is read.
+/// What is kept of the images of a run's logs, in their order.
+#[derive(Drop)]
+pub struct KeptImages {
+    /// Of each the lines that decide what it holds as a log.
+    pub lines: Vec<Vec<Line>>,
+    /// How many lines each has.
+    pub counts: Vec<u64>,
+}
+
+/// What is kept of the images of the logs of so many threads, or what is said in their place. Each file begins with the lines that are
+/// kept of it, and no more of an image stays when the next is read.
 pub fn read_images<S: Store>(
     alloc: Global,
     logs: &str,
     threads: u64,
     store: &mut S,
-) -> Result<Vec<Vec<Line>>, Stop>
+) -> Result<KeptImages, Stop>
     ensures begins { let stage = images_stage logs.now threads in
-        BeginsBy [] (S.seen store.old) (S.seen store.new) stage (λ lines images. StandFor (images_in lines.items) images) result }
-    ensures count { IfOk result (λ images. length images.items ≡ threads) }
+        BeginsBy [] (S.seen store.old) (S.seen store.new) stage (λ kept images. KeepOf (images_in kept.lines.items) kept.counts.items images)
+        result }
+    ensures fronts { IfOk result (λ kept. FilesBegin logs.now 0 (images_in kept.lines.items) (S.seen store.new)) }
+    ensures few { IfOk result (λ kept. All (λ count. 64 * count ≤ longest_image) kept.counts.items) }
+    ensures count { IfOk result (λ kept. length kept.lines.items ≡ threads) }
+    ensures many { IfOk result (λ kept. length kept.counts.items ≡ threads) }
 {
-    let mut images = Vec::new(alloc);
+    let mut lines = Vec::new(alloc);
+    let mut counts = Vec::new(alloc);
     for thread in 0..threads {
         match read_image(alloc, logs, thread, store) {
-            Ok(image) => images.push(image)?,
+            Ok(
+                KeptImage {
+                    lines: image,
+                    count,
+                },
+            ) => {
+                lines.push(image)?;
+                counts.push(count)?;
+            }
             Err(stop) => return Err(stop),
         }
     }
-    Ok(images)
+    Ok(KeptImages { lines, counts })
 }
 
 /// The bytes of an image's file.

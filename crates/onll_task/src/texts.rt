@@ -1,8 +1,8 @@
 //! Files read as texts, each by its grammar, and images as lines; and bytes written as files.
 
-ghost use Rattle.std.specs.Prelude.{[], ◌≤◌, IfOk, IfErr, OnOk};
+ghost use Rattle.std.specs.Prelude.{[], ◌≤◌, ◌*◌, IfOk, IfErr, OnOk};
 ghost use Rattle.onll_model.specs.Limits.{most_updates};
-ghost use Rattle.onll_outside.specs.Views.{Gives, SameFiles, SameOthers};
+ghost use Rattle.onll_outside.specs.Views.{Gives, SameFiles, SameOthers, BeginsWith};
 ghost use Rattle.onll_model.specs.Calls.{updates_in};
 ghost use Rattle.onll_pmem.specs.Pmem.{words_of};
 ghost use Rattle.onll_text.specs.Init.{init_of};
@@ -12,10 +12,11 @@ ghost use Rattle.onll_task.specs.Stop.{StopSays};
 ghost use Rattle.onll_task.specs.Writing.{SameCounts, HasWritten, CannotWrite, WriteStops};
 ghost use Rattle.onll_text.specs.Schedule.{schedule_of, IsPlayable};
 ghost use Rattle.onll_task.specs.Doing.{Begins, BeginsBy, text_stage, whole_stage, lines_stage};
-ghost use Rattle.onll_task.specs.Images.{StandsFor};
+ghost use Rattle.onll_task.specs.Images.{StandsFor, KeepsOf, image_bytes};
+ghost use Rattle.onll_log.specs.ImageFile.{longest_image};
 
 use crate::answer::Stop;
-use crate::used_lines::used_lines;
+use crate::used_lines::{count_lines, used_lines};
 use onll_log::LONGEST_IMAGE;
 use onll_model::Call;
 use onll_outside::{OutsideFault, Store};
@@ -98,16 +99,40 @@ pub fn script_file<O: Texted, S: Store>(
     }
 }
 
-/// The lines that decide what a file holds as the image of a log, or what is said in their place.
-pub fn image_file<S: Store>(alloc: Global, name: &str, store: &mut S) -> Result<Vec<Line>, Stop>
-    ensures { let stage = lines_stage name.now in
-        BeginsBy [] (S.seen store.old) (S.seen store.new) stage (λ lines image. StandsFor (words_of lines.items) image) result }
+/// What is kept of an image that was read.
+#[derive(Drop)]
+pub struct KeptImage {
+    /// The lines that decide what it holds as a log.
+    pub lines: Vec<Line>,
+    /// How many lines it has.
+    pub count: u64,
+}
+
+/// What is kept of what a file holds as the image of a log, or what is said in its place. The file begins with the lines that are kept.
+pub fn kept_image<S: Store>(alloc: Global, name: &str, store: &mut S) -> Result<KeptImage, Stop>
+    ensures begins { let stage = lines_stage name.now in
+        BeginsBy [] (S.seen store.old) (S.seen store.new) stage (λ kept image. KeepsOf (words_of kept.lines.items) kept.count image) result }
+    ensures front { IfOk result (λ kept. BeginsWith (S.seen store.new) name.now (image_bytes (words_of kept.lines.items))) }
+    ensures few { IfOk result (λ kept. 64 * kept.count ≤ longest_image) }
 {
     let bytes = match read_bytes(alloc, name, LONGEST_IMAGE as u64, store) {
         Ok(bytes) => bytes,
         Err(stop) => return Err(stop),
     };
-    Ok(used_lines(alloc, &bytes)?)
+    let lines = used_lines(alloc, &bytes)?;
+    let count = count_lines(&bytes);
+    Ok(KeptImage { lines, count })
+}
+
+/// The lines that decide what a file holds as the image of a log, or what is said in their place.
+pub fn image_file<S: Store>(alloc: Global, name: &str, store: &mut S) -> Result<Vec<Line>, Stop>
+    ensures { let stage = lines_stage name.now in
+        BeginsBy [] (S.seen store.old) (S.seen store.new) stage (λ lines image. StandsFor (words_of lines.items) image) result }
+{
+    match kept_image(alloc, name, store) {
+        Ok(KeptImage { lines, .. }) => Ok(lines),
+        Err(stop) => Err(stop),
+    }
 }
 
 /// The schedule that a file holds for so many threads, or what is said in its place.

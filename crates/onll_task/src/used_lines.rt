@@ -1,11 +1,11 @@
 //! What stays of an image that was read: the lines that decide what it holds as a log.
 
-ghost use Rattle.std.specs.Prelude.{◌≡◌, ℕ, List, ◌+◌, ◌-◌, ◌<◌, ◌≤◌, ◌^◌, ◌++◌, ◌∷◌, [], OnOk, IfOk};
+ghost use Rattle.std.specs.Prelude.{◌≡◌, ℕ, List, ◌+◌, ◌-◌, ◌<◌, ◌≤◌, ◌^◌, ◌*◌, ◌++◌, ◌∷◌, [], length, take, OnOk, IfOk};
 ghost use Rattle.onll_pmem.specs.Device.{zero_lines};
 ghost use Rattle.onll_pmem.specs.Pmem.{words_of};
 ghost use Rattle.onll_log.specs.Grammar.{content_of, used_by};
-ghost use Rattle.onll_log.specs.ImageFile.{image_lines, whole_lines};
-ghost use Rattle.onll_task.specs.Images.{used_in, StandsFor, IsFrontOf};
+ghost use Rattle.onll_log.specs.ImageFile.{image_lines, longest_image, whole_lines};
+ghost use Rattle.onll_task.specs.Images.{used_in, StandsFor, IsFrontOf, BytesBegin};
 
 use onll_log::{LogCursor, read_part};
 use onll_words::{Line, NoMemory, line_of_bytes};
@@ -87,16 +87,26 @@ fn used_of(lines: &[Line]) -> usize
 
 /// Lets go of the lines of an image that decide nothing.
 pub fn cut_to_used(lines: &mut Vec<Line>)
-    ensures { StandsFor (words_of lines.new.items) (words_of lines.old.items) }
+    ensures stands { StandsFor (words_of lines.new.items) (words_of lines.old.items) }
+    ensures front { let words = words_of lines.old.items in words_of lines.new.items ≡ take (used_in (content_of words)) words }
 {
     let used = used_of(lines);
     lines.truncate(used);
     lines.shrink_to_fit();
 }
 
-/// The lines that decide what an image's file holds as a log.
+/// How many lines an image's file holds.
+pub fn count_lines(bytes: &[u8]) -> u64
+    ensures count { result ≡ length (image_lines bytes.now) }
+    ensures few { 64 * result ≤ longest_image }
+{
+    read_part(bytes).len() as u64 / 64
+}
+
+/// The lines that decide what an image's file holds as a log. It begins with them.
 pub fn used_lines(alloc: Global, bytes: &[u8]) -> Result<Vec<Line>, NoMemory>
-    ensures { IfOk result (λ lines. StandsFor (words_of lines.items) (image_lines bytes.now)) }
+    ensures stands { IfOk result (λ lines. StandsFor (words_of lines.items) (image_lines bytes.now)) }
+    ensures front { IfOk result (λ lines. BytesBegin (words_of lines.items) bytes.now) }
 {
     let mut lines = front_lines(alloc, read_part(bytes))?;
     cut_to_used(&mut lines);

@@ -1,4 +1,15 @@
 //! Words, rows, numbers and lines: what every crate of the object speaks of.
+//!
+//! ```rust
+//! let line = Line {
+//!     w: [1, 2, 3, 4, 5, 6, 7, 8],
+//! };
+//! assert!(rt; line_of_bytes(line_bytes(line)) == line);
+//! assert!(rt; whole_number(b"42") == Some(42));
+//! assert!(rt; whole_number(b"4 2") == None);
+//! ```
+//!
+//! The test `words` of `onll_uses` runs this.
 #![tactic(auto)]
 
 mod line;

@@ -23,7 +23,7 @@ returns-in-Ok g c =
     let count : c.len.result ≡ length c.args.scripts.items = search rules in
     let begins = rw (count ∙ sym (length-map c.args.scripts.items (λ script. script.items))) at c.in-Ok.ensures.begins in
     let given = by_given begins in
-    let same = resumed_stands b code init c.args.object scripts (images_in c.in-Ok.images.items) given.value given.fits in
+    let same = resumed_stands b code init c.args.object scripts (images_in c.in-Ok.images.lines.items) given.value given.fits.stand in
     let does : Result (CoreState _ _ _ _) ResumeFault → Type 0 = λ found. Does (image_names c.args.logs.now 0 (length c.args.scripts.items)) (g.S.Store.seen c.read_images.new.store) (g.S.Store.seen c.go_on.new.store)
     (resumed_task b w c.args.logs.now names scripts plan found) c.go_on.result in
     read_does (λ (images : List (List (List ℕ))). resumed_task b w c.args.logs.now names scripts plan (resumed b code init c.args.object images scripts)) (by_begins begins)

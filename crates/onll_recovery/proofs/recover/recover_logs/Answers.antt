@@ -14,7 +14,7 @@ returns-in-Ok g c =
     let s = c.args.object.now in
     let mid = g.S.Store.seen c.read_images.new.store in
     let given = by_given c.in-Ok.ensures.begins in
-    let same = state_stands k.means k.code init (images_in c.in-Ok.images.items) given.value given.fits in
+    let same = state_stands k.means k.code init (images_in c.in-Ok.images.lines.items) given.value given.fits.stand in
     read_does (images_task k init s) (by_begins c.in-Ok.ensures.begins)
     (subst (λ recovered. Does [] mid mid (recovered_task k.means k.wording s recovered) c.recover_on.result) same (rw (sym c.deref.ensures.value) (c.recover_on.ensures mid)))
 

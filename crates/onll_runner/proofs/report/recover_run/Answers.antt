@@ -9,14 +9,14 @@ use Rattle.onll_merge.specs.Recovered.{Recovered, recovered_in}
 use Rattle.onll_run.specs.Left.{LogLeft, content_in}
 use Rattle.onll_run.specs.Ended.{log_left}
 use Rattle.onll_run.specs.Ran.{script_in, left_in}
-use Rattle.onll_runner.proofs.RunRecovers.{held_in, run_told, recovers_same, refused_so}
+use Rattle.onll_runner.proofs.RunRecovers.{held_in, over_told, recovers_same, refused_so}
 use Rattle.onll_runner.proofs.report.recover_run.Goals as goal
 
 pub recover_state-requires-after_bounds : goal.recover_state-requires-after_bounds
 recover_state-requires-after_bounds g c κs within =
     let m = g.P.Pmem.means in
     let ran = c.args.ran.now in
-    let told = run_told g.O.Object.means c.args.object.now c.args.heads.now (map script_in ran.threads.items) (left_in m ran) c.requires in
+    let told = over_told g.O.Object.means c.args.object.now c.args.heads.now (map script_in ran.threads.items) (left_in m ran) c.requires in
     told.many ∙ length-map ran.logs.items (log_left m) ∙ sym (ap length c.deref.ensures.value) ∙ sym c.in_ok-images.ensures.count ∙ sym (ap length c.deref-2.ensures.value)
 
 pub wants_memory-requires : goal.wants_memory-requires

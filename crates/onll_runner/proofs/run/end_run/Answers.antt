@@ -3,6 +3,7 @@ use Rattle.std.proofs.lemmas.List.{length-map}
 use Rattle.onll_outside.specs.Views.{StoreView}
 use Rattle.std.specs.List.{list_any}
 use Rattle.onll_log.specs.Log.{LogState}
+use Rattle.onll_merge.specs.Merge.{contents_in}
 use Rattle.onll_run.specs.Making.{device_of}
 use Rattle.onll_run.specs.Ran.{anew, left_in, script_in, ends_in}
 use Rattle.onll_task.specs.Running.{RunPlan, HasKept}
@@ -12,11 +13,15 @@ use Rattle.onll_runner.proofs.Keeping.{kept_many, none_broken, some_broken}
 use Rattle.onll_runner.proofs.Ending.{ended_whole, ended_broken, ended_unkept, kept_by, others_many, fails_many}
 use Rattle.onll_runner.proofs.run.end_run.Goals as goal
 
+pub run_report-requires-after_bounds : goal.run_report-requires-after_bounds
+run_report-requires-after_bounds g c κs within =
+    record { base = record { nodes = c.args.nodes.now; logs = contents_in c.args.base.now }; operations = c.requires.operations; run = c.requires.run }
+
 pub keep_devices-requires-after_bounds : goal.keep_devices-requires-after_bounds
 keep_devices-requires-after_bounds g c κs within =
     let mapped = ap length c.in_ok-devices.ensures in
     let long = length-map c.args.ran.logs.items device_of in
-    let many = kept_many g.S.Dev.Pmem.means (map ends_in c.args.ran.threads.items) c.requires.kept.0 c.args.ran.logs.items c.requires.kept.1 in
+    let many = kept_many g.S.Dev.Pmem.means (contents_in c.args.base.now) (map ends_in c.args.ran.threads.items) c.requires.kept.0 c.args.ran.logs.items c.requires.kept.1 in
     let ends = length-map c.args.ran.threads.items ends_in in
     let few = c.requires.few in
     omega (arith, mapped, long, many, ends, few)
@@ -30,9 +35,9 @@ returns-in-Ok g c =
     ended_broken _ _ (g.S.Store.seen c.args.store.now) (g.S.Store.seen c.keep_devices.new.store) c.in_ok-report.report
     (kept_by c.image_laws.ensures.same means _ _ c.requires.kept.0 c.args.ran.logs.items (g.S.Store.seen c.args.store.now) (g.S.Store.seen c.keep_devices.new.store) refl (omega (arith, scripts, some)) (ends ∙ sym scripts) c.requires.kept.1
     c.in_ok-report.ensures.whole c.requires.small c.in_ok-devices.devices.items c.in_ok-devices.ensures (λ on d. c.told_law.ensures d ∙ g.met.S.Store.devices_tell c.keep_devices.new.store on) c.in-Ok.ensures.kept c.in-Ok.ensures.faults c.in-Ok.ensures.devices c.keep_devices.ensures.others)
-    (some_broken means (map ends_in c.args.ran.threads.items) c.requires.kept.0 c.args.ran.logs.items c.requires.kept.1 (ap (list_any (λ (log : LogState _). log.broken)) (sym c.deref.ensures.value) ∙ sym c.is_broken-broken.ensures ∙ c.if-broken.true))
-    c.in_ok-report.ensures.report
-    (others_many means (map ends_in c.args.ran.threads.items) c.requires.kept.0 c.args.ran.logs.items c.args.ran.threads.items c.in_ok-devices.devices.items c.args.logs.now (g.S.Store.seen c.args.store.now) (g.S.Store.seen c.keep_devices.new.store)
+    (some_broken means (contents_in c.args.base.now) (map ends_in c.args.ran.threads.items) c.requires.kept.0 c.args.ran.logs.items c.requires.kept.1 (ap (list_any (λ (log : LogState _). log.broken)) (sym c.deref.ensures.value) ∙ sym c.is_broken-broken.ensures ∙ c.if-broken.true))
+    (rw c.resumed_by-resumed.ensures at c.in_ok-report.ensures.report)
+    (others_many means (contents_in c.args.base.now) (map ends_in c.args.ran.threads.items) c.requires.kept.0 c.args.ran.logs.items c.args.ran.threads.items c.in_ok-devices.devices.items c.args.logs.now (g.S.Store.seen c.args.store.now) (g.S.Store.seen c.keep_devices.new.store)
     script_in ends c.in_ok-devices.ensures c.requires.kept.1 c.keep_devices.ensures.others)
 
 pub returns-in-Ok-2 : goal.returns-in-Ok-2
@@ -44,9 +49,9 @@ returns-in-Ok-2 g c =
     ended_whole _ _ (g.S.Store.seen c.args.store.now) (g.S.Store.seen c.keep_devices.new.store) c.in_ok-report.report
     (kept_by c.image_laws.ensures.same means _ _ c.requires.kept.0 c.args.ran.logs.items (g.S.Store.seen c.args.store.now) (g.S.Store.seen c.keep_devices.new.store) refl (omega (arith, scripts, some)) (ends ∙ sym scripts) c.requires.kept.1
     c.in_ok-report.ensures.whole c.requires.small c.in_ok-devices.devices.items c.in_ok-devices.ensures (λ on d. c.told_law.ensures d ∙ g.met.S.Store.devices_tell c.keep_devices.new.store on) c.in-Ok.ensures.kept c.in-Ok.ensures.faults c.in-Ok.ensures.devices c.keep_devices.ensures.others)
-    (none_broken means (map ends_in c.args.ran.threads.items) c.requires.kept.0 c.args.ran.logs.items c.requires.kept.1 (ap (list_any (λ (log : LogState _). log.broken)) (sym c.deref.ensures.value) ∙ sym c.is_broken-broken.ensures ∙ c.if-broken.false))
-    c.in_ok-report.ensures.report c.in_ok-report.ensures.reads
-    (others_many means (map ends_in c.args.ran.threads.items) c.requires.kept.0 c.args.ran.logs.items c.args.ran.threads.items c.in_ok-devices.devices.items c.args.logs.now (g.S.Store.seen c.args.store.now) (g.S.Store.seen c.keep_devices.new.store)
+    (none_broken means (contents_in c.args.base.now) (map ends_in c.args.ran.threads.items) c.requires.kept.0 c.args.ran.logs.items c.requires.kept.1 (ap (list_any (λ (log : LogState _). log.broken)) (sym c.deref.ensures.value) ∙ sym c.is_broken-broken.ensures ∙ c.if-broken.false))
+    (rw c.resumed_by-resumed.ensures at c.in_ok-report.ensures.report) (rw c.resumed_by-resumed.ensures at c.in_ok-report.ensures.reads)
+    (others_many means (contents_in c.args.base.now) (map ends_in c.args.ran.threads.items) c.requires.kept.0 c.args.ran.logs.items c.args.ran.threads.items c.in_ok-devices.devices.items c.args.logs.now (g.S.Store.seen c.args.store.now) (g.S.Store.seen c.keep_devices.new.store)
     script_in ends c.in_ok-devices.ensures c.requires.kept.1 c.keep_devices.ensures.others)
 
 pub returns : goal.returns
@@ -54,7 +59,7 @@ returns g c =
     let means = g.S.Dev.Pmem.means in
     let devices = c.in_ok-devices.devices.items in
     ended_unkept _ _ (g.S.Store.seen c.args.store.now) (g.S.Store.seen c.keep_devices.new.store) c.in-Err.stop
-    (fails_many means (map ends_in c.args.ran.threads.items) c.requires.kept.0 c.args.ran.logs.items c.args.ran.threads.items devices c.args.logs.now (g.S.Store.seen c.args.store.now) (g.S.Store.seen c.keep_devices.new.store) script_in c.in-Err.stop
+    (fails_many means (contents_in c.args.base.now) (map ends_in c.args.ran.threads.items) c.requires.kept.0 c.args.ran.logs.items c.args.ran.threads.items devices c.args.logs.now (g.S.Store.seen c.args.store.now) (g.S.Store.seen c.keep_devices.new.store) script_in c.in-Err.stop
     (length-map c.args.ran.threads.items ends_in) c.in_ok-devices.ensures c.requires.kept.1 c.in-Err.ensures.stop)
-    (others_many means (map ends_in c.args.ran.threads.items) c.requires.kept.0 c.args.ran.logs.items c.args.ran.threads.items devices c.args.logs.now (g.S.Store.seen c.args.store.now) (g.S.Store.seen c.keep_devices.new.store)
+    (others_many means (contents_in c.args.base.now) (map ends_in c.args.ran.threads.items) c.requires.kept.0 c.args.ran.logs.items c.args.ran.threads.items devices c.args.logs.now (g.S.Store.seen c.args.store.now) (g.S.Store.seen c.keep_devices.new.store)
     script_in (length-map c.args.ran.threads.items ends_in) c.in_ok-devices.ensures c.requires.kept.1 c.in-Err.ensures.others)

@@ -1,12 +1,15 @@
-use Rattle.std.proofs.Common.{subst}
+use Rattle.std.proofs.Common.{rules}
+use Rattle.onll_words.proofs.WordBytes.{Bytes}
 use Rattle.onll_pmem.specs.Pmem.{words_of}
-use Rattle.onll_log.specs.ImageFile.{whole_lines}
-use Rattle.onll_task.specs.Images.{IsFrontOf}
-use Rattle.onll_task.proofs.Staying.{stands_front}
+use Rattle.onll_task.proofs.FileFronts.{used_begin}
+use Rattle.onll_task.proofs.Staying.{used_stand}
 use Rattle.onll_task.proofs.used_lines.used_lines.Goals as goal
 
-pub returns : goal.returns
-returns c =
-    let lines = c.in_ok-lines.lines.items in
-    let front = subst (λ bytes. IsFrontOf (words_of lines) (whole_lines bytes)) c.read_part.ensures c.in_ok-lines.ensures in
-    stands_front (words_of c.cut_to_used.new.lines.items) (words_of lines) _ front c.cut_to_used.ensures
+pub returns-clause-stands : goal.returns-clause-stands
+returns-clause-stands c =
+    used_stand (words_of c.cut_to_used.new.lines.items) (words_of c.in_ok-lines.lines.items) c.args.bytes.now c.read_part.result.now c.read_part.ensures c.in_ok-lines.ensures c.cut_to_used.ensures.stands
+
+pub returns-clause-front : goal.returns-clause-front
+returns-clause-front c =
+    let bytes : Bytes c.args.bytes.now = search rules in
+    used_begin (words_of c.cut_to_used.new.lines.items) (words_of c.in_ok-lines.lines.items) _ c.args.bytes.now c.read_part.result.now c.cut_to_used.ensures.front c.in_ok-lines.ensures c.read_part.ensures bytes

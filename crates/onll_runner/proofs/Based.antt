@@ -1,0 +1,66 @@
+-- How scripts go on from the images of logs that are read, or why they don't.
+
+use Rattle.std.proofs.Common.{Vec, Global, ℕ, List, [], ◌∷◌, ◌≡◌, ◌⊎◌, ⊎_elim, ◌≤◌, length, map, Result, Ok, Err, refl, sym, ap, ◌∙◌, subst}
+use Rattle.std.specs.List.{AllByRecursion, All}
+use Rattle.onll_model.specs.declared.call.Call.{Call}
+use Rattle.onll_model.specs.Object.{Behaviour}
+use Rattle.onll_log.specs.declared.head.LogHead.{LogHead}
+use Rattle.onll_log.specs.Grammar.{content_of}
+use Rattle.onll_core.specs.declared.fault.ResumeFault.{ResumeFault}
+use Rattle.onll_core.specs.declared.fault.ResumeFault.TheVariants.{Images, OldFormat, NotOp, TooMany, NoMemory}
+use Rattle.onll_core.specs.Created.{created_heads}
+use Rattle.onll_core.specs.Resume.{Found, found_logs, with_room, base_in}
+use Rattle.onll_outside.specs.Views.{StoreView}
+use Rattle.onll_text.specs.Kinds.{ObjectKind}
+use Rattle.onll_task.specs.declared.ending.Ending.TheVariants.{Done}
+use Rattle.onll_task.specs.declared.answer.Stop.{Stop}
+use Rattle.onll_task.specs.Job.{Job}
+use Rattle.onll_task.specs.Doing.{Does}
+use Rattle.onll_task.specs.Images.{StandsFor, StandFor, used_in}
+use Rattle.onll_task.specs.Running.{RunPlan, RunLeft}
+use Rattle.onll_task.specs.Stop.{StopSays}
+use Rattle.onll_task.proofs.Stages.{wider, says_does}
+use Rattle.onll_recovery.specs.AgainJob.{resume_ending, resume_text}
+use Rattle.onll_recovery.proofs.Standing.{contents_stand}
+use Rattle.onll_runner.specs.RunJob.{calls_task}
+use Rattle.onll_runner.specs.ResumeJob.{plan_over, based_task}
+
+-- lines that stand for images are no more than decide what they hold
+pub used_all : (lines images : List (List (List ℕ))) → StandFor lines images → AllByRecursion (λ image. length image ≤ used_in (content_of image)) lines
+used_all [] [] s = tt
+used_all [] (image ∷ images) s = absurd s
+used_all (l ∷ lines) [] s = absurd s
+used_all (l ∷ lines) (image ∷ images) s = (subst (λ c. length l ≤ used_in c) (sym s.0.content) s.0.few, used_all lines images s.1)
+
+-- they give what the images give
+pub base_stands : {State Op Query Reply : Type 0} (b : Behaviour State Op Query Reply) (heads : List LogHead) (scripts : List (List (Call State Op Query Reply))) (lines images : List (List (List ℕ))) → StandFor lines images
+    → base_in b heads scripts lines ≡ base_in b heads scripts images
+base_stands b heads scripts lines images s = ap (λ contents. with_room b heads scripts (found_logs b heads contents)) (contents_stand 0 lines images s)
+
+-- no refusal is a good ending
+not_done : (fault : ResumeFault) → resume_ending fault ≡ Done → ⊥
+not_done (TooMany thread) e = cc e
+not_done (Images fault) e = cc e
+not_done (OldFormat log) e = cc e
+not_done (NotOp place) e = cc e
+not_done NoMemory e = cc e
+
+module _ {k : ObjectKind} (threads : RunPlan k → (RunLeft k → Job) → Job) (init logs : List ℕ) (names : List (List ℕ)) (s : k.State) (files : List (List ℕ)) (heads : List LogHead)
+    (scripts : List (List (Call k.State k.Op k.Query k.Reply))) (images : List (List (List ℕ))) (heads_are : heads ≡ created_heads k.code init scripts) where
+  -- scripts go on from what was found
+  pub found_does : {A : Type 0} (old new : StoreView) (r : Result (Vec ℕ A) Stop) (all : Found) → base_in k.means heads scripts images ≡ Ok all → Does files old new (calls_task k threads (plan_over k logs s heads scripts all)) r
+      → Does files old new (based_task k threads init logs names s scripts (base_in k.means (created_heads k.code init scripts) scripts images)) r
+  found_does old new r all is does =
+      let here : base_in k.means (created_heads k.code init scripts) scripts images ≡ Ok all = ap (λ (hs : List LogHead). base_in k.means hs scripts images) (sym heads_are) ∙ is in
+      subst (λ x. Does files old new (based_task k threads init logs names s scripts x) r) (sym here)
+      (subst (λ (hs : List LogHead). Does files old new (calls_task k threads (plan_over k logs s hs scripts all)) r) heads_are does)
+
+  -- or it is said why they don't
+  pub refused_does : {A : Type 0} (store : StoreView) (stop : Stop) (fault : ResumeFault) → base_in k.means heads scripts images ≡ Err fault
+      → StopSays stop (λ end said. (end ≡ resume_ending fault) × (said ≡ resume_text names fault))
+      → Does {A = A} files store store (based_task k threads init logs names s scripts (base_in k.means (created_heads k.code init scripts) scripts images)) (Err stop)
+  refused_does {A} store stop fault is says =
+      let here : base_in k.means (created_heads k.code init scripts) scripts images ≡ Err fault = ap (λ (hs : List LogHead). base_in k.means hs scripts images) (sym heads_are) ∙ is in
+      let does = says_does {A = A} store (resume_ending fault) (resume_text names fault) stop (not_done fault) says in
+      subst (λ x. Does {A = A} files store store (based_task k threads init logs names s scripts x) (Err stop)) (sym here)
+      (record { done = tt; reports = tt; stops = does.stops; files = wider files store store does.files })

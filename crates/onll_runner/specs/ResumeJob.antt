@@ -1,0 +1,78 @@
+-- What `resume INIT LOGS SCRIPT..` does: scripts go on, on threads, from the logs of an earlier generation, and it is said as `run` says it.
+
+use Rattle.std.specs.Prelude.{ℕ, ◌≡◌, ◌≤◌, ◌+◌, ◌*◌, max, true, List, [], ◌∷◌, length, Result, Ok, Err}
+use Rattle.std.specs.List.{All, AllByRecursion}
+use Rattle.onll_model.specs.declared.call.Call.{Call}
+use Rattle.onll_model.specs.Calls.{updates_in}
+use Rattle.onll_log.specs.declared.head.LogHead.{LogHead}
+use Rattle.onll_log.specs.Grammar.{content_of}
+use Rattle.onll_log.specs.ImageFile.{longest_image}
+use Rattle.onll_merge.specs.declared.counts.LogCounts.{LogCounts}
+use Rattle.onll_core.specs.declared.fault.ResumeFault.{ResumeFault}
+use Rattle.onll_core.specs.Created.{created_heads}
+use Rattle.onll_core.specs.Resume.{Found, base_in}
+use Rattle.onll_outside.specs.Views.{StoreView}
+use Rattle.onll_run.specs.Ran.{going_on}
+use Rattle.onll_text.specs.Kinds.{ObjectKind}
+use Rattle.onll_task.specs.Running.{RunPlan, RunLeft}
+use Rattle.onll_task.specs.Job.{Job}
+use Rattle.onll_task.specs.Doing.{Task, after_stage, say_task}
+use Rattle.onll_task.specs.Images.{images_stage, used_in, FilesBegin}
+use Rattle.onll_recovery.specs.AgainJob.{resume_ending, resume_text}
+use Rattle.onll_recovery.specs.ReplayJob.{scripts_stage}
+use Rattle.onll_runner.specs.RunJob.{calls_task}
+
+-- ---- what is run
+-- these scripts on an object in this state, over logs of this name and these heads that hold what was found
+abbrev pub plan_over : (k : ObjectKind) → (logs : List ℕ) → k.State → List LogHead → List (List (Call k.State k.Op k.Query k.Reply)) → Found
+    → RunPlan k
+plan_over k logs s heads scripts found =
+    record { logs = logs; reopens = true; run = going_on s heads found.nodes found.logs scripts }
+
+-- the same of an object of this kind, in the state that these bytes say
+abbrev pub resume_plan : (k : ObjectKind) → (init logs : List ℕ) → k.State → List (List (Call k.State k.Op k.Query k.Reply)) → Found
+    → RunPlan k
+resume_plan k init logs s scripts found = plan_over k logs s (created_heads k.code init scripts) scripts found
+
+-- ---- the devices
+-- What is kept of the images of so many logs: of each no more lines than decide what it holds, with which its file begins, and how
+-- many lines it has, which are no more than are read.
+pub record AreRead (logs : List ℕ) (threads : ℕ) (images : List (List (List ℕ))) (counts : List ℕ) (store : StoreView) : Type 0 where
+  pub many : length images ≡ threads
+  pub counted : length counts ≡ threads
+  pub used : AllByRecursion (λ image. length image ≤ used_in (content_of image)) images
+  pub few : All (λ count. 64 * count ≤ longest_image) counts
+  pub begins : FilesBegin logs 0 images store
+
+-- a log that uses so many lines has room in a file that is read for an entry of so many lines for each update
+abbrev pub FitsIn : (entry used updates : ℕ) → Type 0
+FitsIn entry used updates = 64 * (max 1 used + entry * updates) ≤ longest_image
+
+-- the same of each log
+abbrev pub AreFitting : {State Op Query Reply : Type 0} → ℕ → List LogCounts → List (List (Call State Op Query Reply)) → Type 0
+AreFitting entry [] [] = Unit {0}
+AreFitting entry (log ∷ logs) (script ∷ scripts) = FitsIn entry log.lines (updates_in script) × AreFitting entry logs scripts
+AreFitting entry logs scripts = ⊥
+
+-- The lines of each log's device, among so many threads: those that the log uses, or the header's, and those of the longest entry for
+-- each update; and no fewer than its image has.
+abbrev pub lines_over : {State Op Query Reply : Type 0} → ℕ → List LogCounts → List ℕ → List (List (Call State Op Query Reply)) → List ℕ
+lines_over threads (log ∷ logs) (count ∷ counts) (script ∷ scripts) =
+    max (max 1 log.lines + (threads + 1) * updates_in script) count ∷ lines_over threads logs counts scripts
+lines_over threads logs counts scripts = []
+
+-- ---- the work
+module _ (k : ObjectKind) (threads : RunPlan k → (RunLeft k → Job) → Job) (init logs : List ℕ) (names : List (List ℕ)) (s : k.State) where
+  -- scripts go on from what was found; or it is said why there is nothing to go on from
+  abbrev pub based_task : List (List (Call k.State k.Op k.Query k.Reply)) → Result Found ResumeFault → Task
+  based_task scripts (Ok found) = calls_task k threads (resume_plan k init logs s scripts found)
+  based_task scripts (Err fault) = say_task (resume_ending fault) (resume_text names fault)
+
+  -- the images of the logs are read first
+  abbrev pub reopened_task : List (List (Call k.State k.Op k.Query k.Reply)) → Task
+  reopened_task scripts = after_stage (images_stage logs (length scripts))
+      (λ images. based_task scripts (base_in k.means (created_heads k.code init scripts) scripts images))
+
+  -- and before them the scripts
+  abbrev pub resume_task : Task
+  resume_task = after_stage (scripts_stage k.wording names) reopened_task

@@ -124,6 +124,12 @@ same 'a run ends with' $? 0
 same 'its recovery ends with' $? 0
 same 'a run says' "$(common "$folder/run")" "$(common "$top/examples/tickets/report")"
 same 'its recovery finds' "$(nodes "$folder/found")" "$(nodes "$folder/run")"
+(cd "$folder" && "$top/onll" resume examples/tickets/hall log examples/tickets/door examples/tickets/online) > "$folder/resumed"
+same 'a run that goes on ends with' $? 0
+(cd "$folder" && "$top/onll" recover examples/tickets/hall log 2) > "$folder/more"
+same 'its recovery ends with' $? 0
+same 'it goes on from' "$(nodes "$folder/resumed" | head -n "$(nodes "$folder/found" | wc -l)")" "$(nodes "$folder/found")"
+same 'its recovery finds' "$(nodes "$folder/more")" "$(nodes "$folder/resumed")"
 same 'its report and its logs tell' "$(nodes "$top/examples/tickets/recovered")" "$(nodes "$top/examples/tickets/report")"
 
 usage='usage: onll fold INIT SCRIPT
@@ -131,6 +137,7 @@ usage='usage: onll fold INIT SCRIPT
        onll recover INIT LOGS T
        onll replay INIT SCHEDULE LOGS SCRIPT..
        onll again INIT SCHEDULE LOGS SCRIPT..
+       onll resume INIT LOGS SCRIPT..
        onll run INIT LOGS SCRIPT..
        onll make T N SEED'
 ends 2 "$usage"

@@ -16,17 +16,16 @@ use Rattle.onll_core.specs.Durable.{Begins}
 use Rattle.onll_core.specs.Resume.{Found, found_in, resumed}
 use Rattle.onll_core.proofs.Kept.{steps_consistent}
 use Rattle.onll_core.proofs.Crashed.{picked_images}
-use Rattle.onll_core.proofs.Generations.{refused_only}
 use Rattle.onll_core.proofs.Durable.{begun_starts, always_durable}
 use Rattle.onll_core.proofs.ReachedCores.{reached_consistent}
 use Rattle.onll_text.specs.declared.any_object.AnyObject.{AnyObject}
 use Rattle.onll_text.specs.Init.{init_of}
-use Rattle.onll_text.specs.Kinds.{ObjectKind, kind_at}
+use Rattle.onll_text.specs.declared.any_object.Kind.{Kind}
+use Rattle.onll_text.specs.Kinds.{ObjectKind, kind_at, on_object}
 use Rattle.onll_text.specs.Refusal.{Refusal}
 use Rattle.onll_text.specs.Schedule.{schedule_of}
 use Rattle.onll_text.specs.Script.{script_of}
 use Rattle.onll_text.specs.Wording.{Wording}
-use Rattle.onll_text.proofs.FewCalls.{few_calls}
 use Rattle.onll_text.proofs.EachKind.{IsKnown, kind_goes}
 use Rattle.onll_outside.specs.Views.{StoreView}
 use Rattle.onll_task.specs.declared.ending.Ending.{Ending}
@@ -55,8 +54,11 @@ use Rattle.onll_jobs.specs.Seen.{Seen}
 use Rattle.onll_jobs.proofs.AgainEnds.{image_eight}
 use Rattle.onll_jobs.proofs.ExitCauses.{decided_exactly}
 use Rattle.onll_jobs.proofs.Forms.{few-scripts-again}
-use Rattle.onll_jobs.proofs.RecoverCrashes.{decides_images, left_many}
+use Rattle.onll_jobs.proofs.CrashLeft.{left_many, left_images}
+use Rattle.onll_jobs.proofs.RecoverCrashes.{decides_images}
 use Rattle.onll_jobs.proofs.RecoverRuns.{run_images}
+use Rattle.onll_jobs.proofs.SaidEnds.{many_scripts, few_updates}
+use Rattle.onll_jobs.proofs.Told.{told_read}
 
 -- ---- what told files decide
 module _ (ending : Ending) (text : List ℕ) where
@@ -78,22 +80,9 @@ module _ (ending : Ending) (text : List ℕ) where
   decides_writes store logs i [] next d = d store
   decides_writes store logs i (image ∷ images) next d = decides_writes (written store (image_name logs i) (image_bytes image)) logs (suc i) images next d
 
-told_many : {State Op Query Reply : Type 0} (w : Wording State Op Query Reply) (store : StoreView) (names : List (List ℕ)) (scripts : List (List (Call State Op Query Reply))) → TellScripts w store names scripts → length scripts ≡ length names
-told_many w store [] [] h = refl
-told_many w store [] (script ∷ scripts) h = absurd h
-told_many w store (name ∷ names) [] h = absurd h
-told_many w store (name ∷ names) (script ∷ scripts) h = ap suc (told_many w store names scripts h.1)
-
 told_eight : (store : StoreView) (logs : List ℕ) (i : ℕ) (images : List (List (List ℕ))) → TellImages store logs i images → AllByRecursion AreLines images
 told_eight store logs i [] h = tt
 told_eight store logs i (image ∷ images) h = (subst AreLines (sym h.0.image) (image_eight h.0.bytes), told_eight store logs (suc i) images h.1)
-
-few_told : {State Op Query Reply : Type 0} (w : Wording State Op Query Reply) (store : StoreView) (names : List (List ℕ)) (scripts : List (List (Call State Op Query Reply))) → TellScripts w store names scripts
-    → AllByRecursion (λ (script : List (Call State Op Query Reply)). updates_in script ≤ 4096) scripts
-few_told w store [] [] h = tt
-few_told w store [] (script ∷ scripts) h = absurd h
-few_told w store (name ∷ names) [] h = absurd h
-few_told w store (name ∷ names) (script ∷ scripts) h = ((few_calls w h.0.bytes script h.0.accepted).0, few_told w store names scripts h.1)
 
 -- ---- what a core that goes on, or none, makes of it
 run_decides : {State Op Query Reply : Type 0} (b : Behaviour State Op Query Reply) (w : Wording State Op Query Reply) (store : StoreView) (logs : List ℕ) (on : Option ℕ) (scripts : List (List (Call State Op Query Reply))) (c : CoreState State Op Query Reply) (keep : ℕ) (r : Recovered)
@@ -116,7 +105,7 @@ module _ (seen : Seen) (x : Exit) (says : ExitSays seen x) (init schedule logs b
       (say : (ending : Ending) (text : List ℕ) → Decides seen.store (again_task k bytes schedule logs names s).job ending text → SaysThis seen (exit_status x) ending text)
       (texts : TellsPlan k seen.store schedule names) (images : List (List (List ℕ))) (files : TellImages seen.store logs 0 images) (many : length images ≡ length names) where
     as_many : length images ≡ length texts.scripts
-    as_many = many ∙ sym (told_many k.wording seen.store names texts.scripts texts.tell)
+    as_many = many ∙ sym (many_scripts k.wording seen.store names texts.scripts (told_read k.wording seen.store names texts.scripts texts.tell))
 
     eight : AllByRecursion AreLines images
     eight = told_eight seen.store logs 0 images files
@@ -124,8 +113,8 @@ module _ (seen : Seen) (x : Exit) (says : ExitSays seen x) (init schedule logs b
     within : IsWithinLimits k.code texts.scripts
     within = record {
       code = is;
-      few = subst (λ (n : ℕ). n ≤ 16) (sym (told_many k.wording seen.store names texts.scripts texts.tell)) few;
-      updates = few_told k.wording seen.store names texts.scripts texts.tell;
+      few = subst (λ (n : ℕ). n ≤ 16) (sym (many_scripts k.wording seen.store names texts.scripts (told_read k.wording seen.store names texts.scripts texts.tell))) few;
+      updates = few_updates k.wording seen.store names texts.scripts (told_read k.wording seen.store names texts.scripts texts.tell);
     }
 
     -- what is decided of what goes on from the images is said
@@ -174,53 +163,58 @@ module _ (seen : Seen) (x : Exit) (says : ExitSays seen x) (init schedule logs b
         by (Err (NotOp place)) e h = absurd h
         by (Err NoMemory) e h = absurd h
 
--- ---- the images
--- from images that give nodes, as logs with the heads of as many threads, scripts go on
-gives_on : (k : ObjectKind) (init : List ℕ) (s : k.State) (threads : ℕ) (heads : List LogHead) (images : List (List (List ℕ))) (found : Found) (scripts : List (List (Call k.State k.Op k.Query k.Reply)))
-    → heads ≡ heads_from threads k.code init 0 threads → length scripts ≡ threads → found_in k.means heads images ≡ Ok found → GoesOrMany (resumed k.means k.code init s images scripts)
-gives_on k init s threads heads images found scripts e many gives =
-    let same : heads ≡ created_heads k.code init scripts = e ∙ ap (λ n. heads_from n k.code init 0 n) (sym many) in
-    goes_or_many k.means k.code init s scripts images found (subst (λ hs. found_in k.means hs images ≡ Ok found) same gives)
-
--- so they do from those that crashes left of any number of generations
-crash_on : (k : ObjectKind) (init : List ℕ) (s : k.State) (store : StoreView) (logs : List ℕ) (threads : ℕ) (left : IsLeft k init s store logs threads) (scripts : List (List (Call k.State k.Op k.Query k.Reply)))
-    → length scripts ≡ threads → GoesOrMany (resumed k.means k.code init s left.last.images scripts)
-crash_on k init s store logs threads left scripts many =
-    by (resumed k.means k.code init s left.last.images scripts) (λ e refused. refused_only k.means k.code init s threads left.older left.last scripts e left.generations many refused)
-  where
-    by : (found : Result (CoreState k.State k.Op k.Query k.Reply) ResumeFault) → ((e : ResumeFault) → found ≡ Err e → (thread : ℕ) × (e ≡ TooMany thread)) → GoesOrMany found
-    by (Ok begun) f = tt
-    by (Err fault) f = let only = f fault refl in subst (λ (e : ResumeFault). GoesOrMany {State = k.State} {Op = k.Op} {Query = k.Query} {Reply = k.Reply} (Err e)) (sym only.1) tt
-
 -- ---- what is promised
+module _ (seen : Seen) (x : Exit) (says : ExitSays seen x) (init schedule logs bytes : List ℕ) (names : List (List ℕ)) (object : AnyObject)
+    (form : form_of seen.words ≡ Some (Again init schedule logs names)) (told : IsTold seen.store init bytes) (accepted : init_of bytes ≡ Ok object) (none : NoneRose seen) where
+  -- from images that give nodes, as logs with the heads of as many threads, the scripts go on
+  module _ (k : ObjectKind) (is : IsKnown k) (s : k.State)
+      (say : (ending : Ending) (text : List ℕ) → Decides seen.store (again_task k bytes schedule logs names s).job ending text → SaysThis seen (exit_status x) ending text)
+      (texts : TellsPlan k seen.store schedule names) (images : List (List (List ℕ))) (files : TellImages seen.store logs 0 images) (many : length images ≡ length names)
+      (found : Found) (gives : found_in k.means (heads_from (length names) k.code bytes 0 (length names)) images ≡ Ok found) where
+    gives_on : SaysOn k bytes s seen (exit_status x) logs names texts.scripts texts.plan (resumed k.means k.code bytes s images texts.scripts)
+    gives_on =
+        let count = many_scripts k.wording seen.store names texts.scripts (told_read k.wording seen.store names texts.scripts texts.tell) in
+        let same = subst (λ (n : ℕ). found_in k.means (heads_from n k.code bytes 0 n) images ≡ Ok found) (sym count) gives in
+        says_on seen x says init schedule logs bytes names object form told accepted none k is s (few-scripts-again seen.words init schedule logs names form) say texts images files many
+        (goes_or_many k.means k.code bytes s texts.scripts images found same)
+
+  abbrev Over : ((k : ObjectKind) → k.State → Type 0) → Type 0
+  Over Holds = ((kind : Kind) (s : (kind_at kind).State) → IsKnown (kind_at kind)
+      → ((ending : Ending) (text : List ℕ) → Decides seen.store (again_task (kind_at kind) bytes schedule logs names s).job ending text → SaysThis seen (exit_status x) ending text) → Holds (kind_at kind) s)
+      → on_object Holds object
+
+  over : (Holds : (k : ObjectKind) → k.State → Type 0) → Over Holds
+  over Holds f =
+      kind_goes {A = Task} (λ kind s. over_task (AgainOver schedule logs names) (kind_at kind) (Threads kind) bytes s)
+      (λ task. (ending : Ending) (text : List ℕ) → Decides seen.store task.job ending text → SaysThis seen (exit_status x) ending text) Holds (λ says. says) (λ kind s known say. f kind s known say)
+      object (object_says seen x says init schedule logs bytes names object form told accepted none)
+
+  left_goes_on : on_object (λ k s. GoesOnLeft k bytes s seen (exit_status x) schedule logs names) object
+  left_goes_on = over (λ k s. GoesOnLeft k bytes s seen (exit_status x) schedule logs names)
+      (λ kind s known say texts left.
+      let k = kind_at kind in
+      let leaves = (left_images k bytes s seen.store logs (length names) left).leaves in
+      record {
+        leaves = leaves;
+        says = gives_on k known s say texts left.images left.files (left_many k bytes s seen.store logs (length names) left)
+            (record { logs = leaves.all.recovers.logs; nodes = leaves.all.recovers.nodes }) leaves.gives;
+      })
+
+  run_goes_on : on_object (λ k s. GoesOnRun k bytes s seen (exit_status x) schedule logs names) object
+  run_goes_on = over (λ k s. GoesOnRun k bytes s seen (exit_status x) schedule logs names)
+      (λ kind s known say texts left.
+      let k = kind_at kind in
+      let held = run_images seen bytes logs (length names) k s told.tells left in
+      record {
+        images = held.images;
+        files = held.files;
+        recovers = held.recovers;
+        gives = held.gives;
+        says = gives_on k known s say texts held.images held.files held.many (record { logs = held.recovers.logs; nodes = held.recovers.nodes }) held.gives;
+      })
+
 pub goes_on_left : (seen : Seen) (x : Exit) → ExitSays seen x → GoesOn seen (λ k bytes s schedule logs names. GoesOnLeft k bytes s seen (exit_status x) schedule logs names)
-goes_on_left seen x says init schedule logs bytes names object form told accepted none =
-    let few = few-scripts-again seen.words init schedule logs names form in
-    kind_goes {A = Task} (λ kind s. over_task (AgainOver schedule logs names) (kind_at kind) (Threads kind) bytes s)
-    (λ task. (ending : Ending) (text : List ℕ) → Decides seen.store task.job ending text → SaysThis seen (exit_status x) ending text)
-    (λ k s. GoesOnLeft k bytes s seen (exit_status x) schedule logs names)
-    (λ says. says)
-    (λ kind s known say texts left.
-    let k = kind_at kind in
-    let many = left_many k bytes s seen.store logs (length names) left in
-    says_on seen x says init schedule logs bytes names object form told accepted none k known s few say texts left.last.images left.files many
-    (crash_on k bytes s seen.store logs (length names) left texts.scripts (told_many k.wording seen.store names texts.scripts texts.tell)))
-    object (object_says seen x says init schedule logs bytes names object form told accepted none)
+goes_on_left seen x says init schedule logs bytes names object form told accepted none = left_goes_on seen x says init schedule logs bytes names object form told accepted none
 
 pub goes_on_run : (seen : Seen) (x : Exit) → ExitSays seen x → GoesOn seen (λ k bytes s schedule logs names. GoesOnRun k bytes s seen (exit_status x) schedule logs names)
-goes_on_run seen x says init schedule logs bytes names object form told accepted none =
-    let few = few-scripts-again seen.words init schedule logs names form in
-    kind_goes {A = Task} (λ kind s. over_task (AgainOver schedule logs names) (kind_at kind) (Threads kind) bytes s)
-    (λ task. (ending : Ending) (text : List ℕ) → Decides seen.store task.job ending text → SaysThis seen (exit_status x) ending text)
-    (λ k s. GoesOnRun k bytes s seen (exit_status x) schedule logs names)
-    (λ says. says)
-    (λ kind s known say texts left.
-    let k = kind_at kind in
-    let held = run_images seen bytes logs (length names) k s told.tells left in
-    record {
-      images = held.images;
-      files = held.files;
-      says = says_on seen x says init schedule logs bytes names object form told accepted none k known s few say texts held.images held.files held.many
-          (gives_on k bytes s (length names) held.heads held.images held.found texts.scripts held.heads_are (told_many k.wording seen.store names texts.scripts texts.tell) held.gives);
-    })
-    object (object_says seen x says init schedule logs bytes names object form told accepted none)
+goes_on_run seen x says init schedule logs bytes names object form told accepted none = run_goes_on seen x says init schedule logs bytes names object form told accepted none

@@ -28,13 +28,13 @@ use Rattle.onll_merge.specs.Recovered.{recovered_with}
 use Rattle.onll_recovery.specs.AgainJob.{resume_ending, resumed_task}
 use Rattle.onll_recovery.specs.ReplayJob.{replay_report}
 use Rattle.onll_recovery.proofs.Resumes.{resumed_on, on_recovered}
-use Rattle.onll_jobs.specs.AgainPromises.{HasRead, HasGoneOn, HasBadLogs, AgainPut}
+use Rattle.onll_jobs.specs.AgainPromises.{HasRead, HasGoneOn, HasBadLogs}
 use Rattle.onll_jobs.specs.Command.{form_of, Again}
-use Rattle.onll_jobs.specs.Says.{PutWhole}
+use Rattle.onll_jobs.specs.Says.{PutWhole, PutOverInit}
 use Rattle.onll_jobs.specs.Seen.{Seen}
 use Rattle.onll_jobs.proofs.Forms.{few-scripts-again}
-use Rattle.onll_jobs.proofs.ReplayEnds.{many_scripts, few_updates, crash_ends}
-use Rattle.onll_jobs.proofs.SaidEnds.{IsSaid}
+use Rattle.onll_jobs.proofs.ReplayEnds.{crash_ends}
+use Rattle.onll_jobs.proofs.SaidEnds.{IsSaid, many_scripts, few_updates}
 use Rattle.onll_jobs.proofs.AgainEnds.{AgainRead, again_put}
 
 -- what is said of images from which none goes on, but for a script with too many updates, which is refused
@@ -56,8 +56,8 @@ module _ (after : StoreView) (ending : Ending) (text : List ℕ) (said : IsSaid 
   within : IsWithinLimits k.code scripts
   within = record {
     code = is;
-    few = subst (λ (n : ℕ). n ≤ 16) (sym (many_scripts after ending text said k.means k.wording store names scripts files_read.read)) few;
-    updates = few_updates after ending text said k.means k.wording store names scripts files_read.read;
+    few = subst (λ (n : ℕ). n ≤ 16) (sym (many_scripts k.wording store names scripts files_read.read)) few;
+    updates = few_updates k.wording store names scripts files_read.read;
   }
 
   -- a core goes on, or the images are bad
@@ -115,14 +115,14 @@ module _ (seen : Seen) (init schedule logs : List ℕ) (names : List (List ℕ))
       read.scripts read.plan read.images read.files_read read.many read.eight (resumed k.means k.code bytes s read.images read.scripts) refl read.ends
 
   -- what is done is durable
-  pub again_durable : PutWhole seen Done → AgainPut seen init (λ k bytes s store after text. HasGoneOn k bytes s store schedule logs names after text)
+  pub again_durable : PutWhole seen Done → PutOverInit seen init (λ k bytes s store after text. HasGoneOn k bytes s store schedule logs names after text)
   again_durable h =
       let r = again_put seen init schedule logs names form (λ k bytes s. HasGoneOn k bytes s seen.store schedule logs names seen.store_after h.text) (λ says. says) Done tt h
       (λ k bytes s known read. is_done k bytes s seen.store seen.store_after schedule logs names h.text (ends Done tt h k bytes s known read)) in
       record { bytes = r.bytes; object = r.object; read = r.read; text = h.text; says = r.ends; put = h.put }
 
   -- that logs are bad is said of those that were read
-  pub again_bad : PutWhole seen BadLog → AgainPut seen init (λ k bytes s store after text. HasBadLogs k bytes s store schedule logs names after text)
+  pub again_bad : PutWhole seen BadLog → PutOverInit seen init (λ k bytes s store after text. HasBadLogs k bytes s store schedule logs names after text)
   again_bad h =
       let r = again_put seen init schedule logs names form (λ k bytes s. HasBadLogs k bytes s seen.store schedule logs names seen.store_after h.text) (λ says. says) BadLog tt h
       (λ k bytes s known read. is_bad k bytes s seen.store seen.store_after schedule logs names h.text (ends BadLog tt h k bytes s known read)) in

@@ -42,13 +42,7 @@ use Rattle.onll_jobs.specs.Over.{AgainOver, over_task, object_task, over_work}
 use Rattle.onll_jobs.specs.Says.{job_of, PutWhole}
 use Rattle.onll_jobs.specs.Seen.{Seen}
 use Rattle.onll_jobs.proofs.ReplayEnds.{images_end}
-use Rattle.onll_jobs.proofs.SaidEnds.{IsSaid, can_read, whole_ends, scripts_end}
-
--- images were read, and the job went on
-record ImagesEnd (store after : StoreView) (names : List (List ℕ)) (next : List (List (List ℕ)) → Job) (ending : Ending) (text : List ℕ) : Type 0 where
-  images : List (List (List ℕ))
-  known : AreKnown lines_stage names store images
-  ends : JobEnds store after (next images) ending text
+use Rattle.onll_jobs.proofs.SaidEnds.{IsSaid, said_read, images_read, known_many, whole_ends, scripts_end}
 
 -- all files were read, and the job went on
 pub record AgainRead (k : ObjectKind) (init : List ℕ) (s : k.State) (store after : StoreView) (schedule logs : List ℕ) (names : List (List ℕ)) (ending : Ending) (text : List ℕ) : Type 0 where
@@ -67,14 +61,7 @@ pub record OverEnds (Q : (k : ObjectKind) → List ℕ → k.State → Type 0) (
   pub read : ReadsWhole store init_of init bytes object
   pub ends : R (on_object (λ k s. Q k bytes s) object)
 
--- an image was read for each thread
-known_many : (store : StoreView) (logs : List ℕ) (i n : ℕ) (images : List (List (List ℕ))) → AreKnown lines_stage (image_names logs i n) store images → length images ≡ n
-known_many store logs i zero [] h = refl
-known_many store logs i zero (image ∷ images) h = absurd h
-known_many store logs i (suc n) [] h = absurd h
-known_many store logs i (suc n) (image ∷ images) h = ap suc (known_many store logs (suc i) n images h.1)
-
--- its lines are of eight words
+-- the lines of an image are of eight words
 eight_words : (chunks : List (List ℕ)) → AreLines (map words_of_bytes chunks)
 eight_words [] = tt
 eight_words (chunk ∷ chunks) = (length-words_in low_word 8 chunk, eight_words chunks)
@@ -89,22 +76,15 @@ known_eight store (name ∷ names) [] h = absurd h
 known_eight store (name ∷ names) (image ∷ images) h = (subst AreLines (sym h.0.image) (image_eight h.0.bytes), known_eight store names images h.1)
 
 module _ (after : StoreView) (ending : Ending) (text : List ℕ) (said : IsSaid ending) where
-  images_read : (store : StoreView) (names : List (List ℕ)) (next : List (List (List ℕ)) → Job) → JobEnds store after (each_job lines_stage names next) ending text → ImagesEnd store after names next ending text
-  images_read store [] next h = record { images = []; known = tt; ends = h }
-  images_read store (name ∷ names) next (inl h) = absurd (can_read store after name ending text said h.0)
-  images_read store (name ∷ names) next (inr h) =
-      let rest = images_read store names (λ images. next (image_lines h.0 ∷ images)) h.1.1 in
-      record { images = image_lines h.0 ∷ rest.images; known = (record { bytes = h.0; held = h.1.0; image = refl }, rest.known); ends = rest.ends }
-
   on_read : (k : ObjectKind) (store : StoreView) (init : List ℕ) (s : k.State) (schedule logs : List ℕ) (names : List (List ℕ))
       → JobEnds store after (again_task k init schedule logs names s).job ending text → AgainRead k init s store after schedule logs names ending text
   on_read k store init s schedule logs names h =
-      let read = scripts_end after ending text said k.wording store names (λ scripts. (planned_task k init s schedule logs names scripts).job) h in
+      let read = scripts_end after ending text (said_read ending said) k.wording store names (λ scripts. (planned_task k init s schedule logs names scripts).job) h in
       let scripts = read.scripts in
       let count = length scripts in
-      let planned = whole_ends after ending text said store schedule (schedule_of count) (λ bytes (plan : Schedule). (goes_on_task k init s logs names scripts plan).job) read.ends in
+      let planned = whole_ends after ending text (said_read ending said) store schedule (schedule_of count) (λ bytes (plan : Schedule). (goes_on_task k init s logs names scripts plan).job) read.ends in
       let plan = planned.value in
-      let taken = images_read store (image_names logs 0 count) (λ images. (resumed_task k.means k.wording logs names scripts plan (resumed k.means k.code init s images scripts)).job) planned.ends in
+      let taken = images_read after ending text (said_read ending said).0 store (image_names logs 0 count) (λ images. (resumed_task k.means k.wording logs names scripts plan (resumed k.means k.code init s images scripts)).job) planned.ends in
       record {
         scripts = scripts;
         plan = plan;
@@ -120,7 +100,7 @@ module _ (after : StoreView) (ending : Ending) (text : List ℕ) (said : IsSaid 
       → ((k : ObjectKind) (bytes : List ℕ) (s : k.State) → IsKnown k → AgainRead k bytes s store after schedule logs names ending text → R (Q k bytes s))
       → JobEnds store after (over_work init (AgainOver schedule logs names)).task.job ending text → OverEnds Q R store init
   job_ends Q R store init schedule logs names step h =
-      let read = whole_ends after ending text said store init init_of (λ bytes object. (object_task (AgainOver schedule logs names) bytes object).job) h in
+      let read = whole_ends after ending text (said_read ending said) store init init_of (λ bytes object. (object_task (AgainOver schedule logs names) bytes object).job) h in
       record {
         bytes = read.bytes;
         object = read.value;

@@ -1,4 +1,4 @@
--- What an exit says by its status, and how calls never end: only words of no form get the usage text, only a run a fault line.
+-- What an exit says by its status, and how calls never end: only words of no form get the usage text, only a run, anew or going on, a fault line.
 
 use Rattle.std.proofs.Common.{ℕ, zero, suc, List, ◌≡◌, ◌⊎◌, inl, inr, Option, Some, None, Result, Ok, Err, refl, sym, ap, ◌∙◌, subst, arith, [], ◌∷◌}
 use Rattle.onll_outside.specs.Views.{Puts, StoreView}
@@ -15,7 +15,7 @@ use Rattle.onll_task.specs.declared.ending.Ending.TheVariants.{Done, Usage, Refu
 use Rattle.onll_task.specs.declared.ending.Exit.{Exit}
 use Rattle.onll_task.specs.declared.ending.Exit.TheVariants.{Said, SinkFault, NoMemory}
 use Rattle.onll_jobs.specs.Seen.{Seen}
-use Rattle.onll_jobs.specs.Command.{Form, Fold, Show, Recover, Replay, Again, Run, Make, form_of, usage_text}
+use Rattle.onll_jobs.specs.Command.{Form, OverInit, Show, Make, form_of, usage_text}
 use Rattle.onll_task.specs.Printed.{status_of, exit_status}
 use Rattle.onll_task.specs.Job.{Say, Threads, JobEnds, Never, Decides, Job}
 use Rattle.onll_log.specs.Grammar.{Content, content_of}
@@ -28,17 +28,18 @@ use Rattle.onll_jobs.specs.FoldJob.{script_task}
 use Rattle.onll_jobs.specs.Exits.{PutExits}
 use Rattle.onll_jobs.specs.Says.{job_of, Allows, PutWhole, OutOfMemory, SinkFailed, ExitSays, NothingFailed, NoneRose, SaysThis}
 use Rattle.onll_task.specs.Doing.{Task, lines_stage, each_job}
-use Rattle.onll_jobs.specs.Over.{OverForm, FoldOver, RecoverOver, over_task, object_task, over_work}
+use Rattle.onll_jobs.specs.Over.{OverForm, FoldOver, RecoverOver, ReplayOver, AgainOver, ResumeOver, RunOver, over_task, object_task, over_work}
 use Rattle.onll_task.proofs.Onwards.{ends_cut}
 use Rattle.onll_task.proofs.Jobs.{TellsFault, nothing_failed, decided, never_says, reading_never, reading_whole_never}
 use Rattle.onll_task.proofs.ImageFiles.{reading_images_never}
 use Rattle.onll_text.proofs.EachKind.{each_kind}
 use Rattle.onll_jobs.proofs.AgainEnds.{again_not_usage, again_not_faulty}
 use Rattle.onll_jobs.proofs.ReplayEnds.{replay_not_usage, replay_not_faulty}
+use Rattle.onll_jobs.proofs.ResumeEnds.{resume_not_usage}
 use Rattle.onll_jobs.proofs.RunEnds.{run_not_usage}
 use Rattle.onll_task.specs.ImageNames.{image_names}
 use Rattle.onll_jobs.specs.RunPromises.{IsOfRun}
-use Rattle.onll_jobs.proofs.SaidEnds.{whole_ends}
+use Rattle.onll_jobs.proofs.SaidEnds.{said_read, whole_ends}
 
 ending_at : ℕ → Ending
 ending_at zero = Done
@@ -123,18 +124,19 @@ not_usage : (w : Seen) (form : Form) → form_of w.words ≡ Some form → Never
 not_usage w form e never h = never_says w.store w.store_after (job_of (Some form)) h.text never (subst (λ f. JobEnds w.store w.store_after (job_of f) Usage h.text) e h.allowed)
 
 form_not_usage : (w : Seen) (form : Form) → form_of w.words ≡ Some form → PutWhole w Usage → ⊥
-form_not_usage w (Fold init script) e h =
-    not_usage w (Fold init script) e (over_never init (FoldOver script) (λ kind bytes s. report_never (kind_at kind).means (kind_at kind).wording s script)) h
+form_not_usage w (OverInit init (FoldOver script)) e h =
+    not_usage w (OverInit init (FoldOver script)) e (over_never init (FoldOver script) (λ kind bytes s. report_never (kind_at kind).means (kind_at kind).wording s script)) h
 form_not_usage w (Show image) e h = not_usage w (Show image) e (λ bytes. content_never (content_of (image_lines bytes))) h
-form_not_usage w (Recover init logs threads) e h =
-    not_usage w (Recover init logs threads) e
+form_not_usage w (OverInit init (RecoverOver logs threads)) e h =
+    not_usage w (OverInit init (RecoverOver logs threads)) e
     (over_never init (RecoverOver logs threads)
     (λ kind bytes s. let k = kind_at kind in
     reading_images_never logs threads 0 (λ images. (images_task k bytes s images).job)
     (λ images. recovered_never k.means k.wording s (state_recovered k.means (expected_heads k.code bytes images) images)))) h
-form_not_usage w (Replay init schedule logs scripts) e h = replay_not_usage w init schedule logs scripts e h
-form_not_usage w (Again init schedule logs scripts) e h = again_not_usage w init schedule logs scripts e h
-form_not_usage w (Run init logs scripts) e h = run_not_usage w init logs scripts e h
+form_not_usage w (OverInit init (ReplayOver schedule logs scripts)) e h = replay_not_usage w init schedule logs scripts e h
+form_not_usage w (OverInit init (AgainOver schedule logs scripts)) e h = again_not_usage w init schedule logs scripts e h
+form_not_usage w (OverInit init (ResumeOver logs scripts)) e h = resume_not_usage w init logs scripts e h
+form_not_usage w (OverInit init (RunOver logs scripts)) e h = run_not_usage w init logs scripts e h
 form_not_usage w (Make workload) e h = not_usage w (Make workload) e (λ d. cc d) h
 
 usage_put : (w : Seen) (form : Option Form) → form_of w.words ≡ form → PutWhole w Usage → (form ≡ None) × Puts w.sink w.sink_after usage_text
@@ -185,7 +187,7 @@ decided_exactly w (Said e) ending text d none h =
 decided_exactly w SinkFault ending text d none h = absurd (none.sink h.rose)
 decided_exactly w NoMemory ending text d none h = inr refl
 
--- ---- only a run ends with a fault line
+-- ---- only a run, anew or going on, ends with a fault line
 module _ (store after : StoreView) (text : List ℕ) where
   content_not_faulty : (content : Option Content) → JobEnds store after (shown_task content).job Faulty text → ⊥
   content_not_faulty None h = let e = h.0 in cc
@@ -204,7 +206,7 @@ module _ (store after : StoreView) (text : List ℕ) where
   module _ {State Op Query Reply : Type 0} (b : Behaviour State Op Query Reply) (w : Wording State Op Query Reply) (s : State) where
     fold_not_faulty : (script : List ℕ) → JobEnds store after (script_task b w s script).job Faulty text → ⊥
     fold_not_faulty script h =
-        let read = whole_ends after Faulty text tt store script (script_of w) (λ bytes (calls : List (Call State Op Query Reply)). Say Done (fold_report b w s calls)) h in
+        let read = whole_ends after Faulty text (said_read Faulty tt) store script (script_of w) (λ bytes (calls : List (Call State Op Query Reply)). Say Done (fold_report b w s calls)) h in
         let e = read.ends.0 in
         cc
 
@@ -215,7 +217,7 @@ module _ (store after : StoreView) (text : List ℕ) where
   over_not_faulty : (init : List ℕ) (over : OverForm) → ((kind : Kind) (bytes : List ℕ) (s : (kind_at kind).State) → JobEnds store after (over_task over (kind_at kind) (Threads kind) bytes s).job Faulty text → ⊥)
       → JobEnds store after (over_work init over).task.job Faulty text → ⊥
   over_not_faulty init over never h =
-      let read = whole_ends after Faulty text tt store init init_of (λ bytes object. (object_task over bytes object).job) h in
+      let read = whole_ends after Faulty text (said_read Faulty tt) store init init_of (λ bytes object. (object_task over bytes object).job) h in
       each_kind {A = Task} (λ kind s. over_task over (kind_at kind) (Threads kind) read.bytes s) (λ task. JobEnds store after task.job Faulty text → ⊥) (λ kind s. never kind read.bytes s) read.value read.ends
 
 -- the words of a call that ends so are those of a run
@@ -225,18 +227,19 @@ module _ (seen : Seen) (h : PutWhole seen Faulty) where
 
   of_run : (form : Option Form) → form_of seen.words ≡ form → IsOfRun seen
   of_run None e = absurd (let same = (ends_so None e).0 in cc)
-  of_run (Some (Fold init script)) e =
+  of_run (Some (OverInit init (FoldOver script))) e =
       absurd (over_not_faulty seen.store seen.store_after h.text init (FoldOver script)
-      (λ kind bytes s. fold_not_faulty seen.store seen.store_after h.text (kind_at kind).means (kind_at kind).wording s script) (ends_so (Some (Fold init script)) e))
+      (λ kind bytes s. fold_not_faulty seen.store seen.store_after h.text (kind_at kind).means (kind_at kind).wording s script) (ends_so (Some (OverInit init (FoldOver script))) e))
   of_run (Some (Show image)) e = absurd (show_not_faulty seen.store seen.store_after h.text image (ends_so (Some (Show image)) e))
-  of_run (Some (Recover init logs threads)) e =
+  of_run (Some (OverInit init (RecoverOver logs threads))) e =
       absurd (over_not_faulty seen.store seen.store_after h.text init (RecoverOver logs threads)
       (λ kind bytes s. let k = kind_at kind in
       images_not_faulty seen.store seen.store_after h.text (image_names logs 0 threads) (λ images. (images_task k bytes s images).job)
-      (λ images. recovered_not_faulty seen.store seen.store_after h.text k.means k.wording s (state_recovered k.means (expected_heads k.code bytes images) images))) (ends_so (Some (Recover init logs threads)) e))
-  of_run (Some (Replay init schedule logs scripts)) e = absurd (replay_not_faulty seen init schedule logs scripts e h)
-  of_run (Some (Again init schedule logs scripts)) e = absurd (again_not_faulty seen init schedule logs scripts e h)
-  of_run (Some (Run init logs names)) e = record { init = init; logs = logs; names = names; form = e }
+      (λ images. recovered_not_faulty seen.store seen.store_after h.text k.means k.wording s (state_recovered k.means (expected_heads k.code bytes images) images))) (ends_so (Some (OverInit init (RecoverOver logs threads))) e))
+  of_run (Some (OverInit init (ReplayOver schedule logs scripts))) e = absurd (replay_not_faulty seen init schedule logs scripts e h)
+  of_run (Some (OverInit init (AgainOver schedule logs scripts))) e = absurd (again_not_faulty seen init schedule logs scripts e h)
+  of_run (Some (OverInit init (ResumeOver logs names))) e = record { init = init; logs = logs; names = names; form = inr e }
+  of_run (Some (OverInit init (RunOver logs names))) e = record { init = init; logs = logs; names = names; form = inl e }
   of_run (Some (Make workload)) e = absurd (let same = (ends_so (Some (Make workload)) e).0 in cc)
 
   pub faulty_run : IsOfRun seen

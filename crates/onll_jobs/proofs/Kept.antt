@@ -1,14 +1,15 @@
 -- What is promised of a status is kept where its exit says so.
 
-use Rattle.std.proofs.Common.{ℕ, ◌≡◌, arith, refl, subst, sym}
+use Rattle.std.proofs.Common.{ℕ, ◌≡◌, ◌⊎◌, inl, inr, ⊎_elim, arith, refl, subst, sym}
 use Rattle.onll_task.specs.declared.ending.Exit.{Exit}
-use Rattle.onll_task.specs.declared.ending.Ending.TheVariants.{Done, Refused, BadLog, ReadFault, Faulty}
+use Rattle.onll_task.specs.declared.ending.Ending.TheVariants.{Done, Refused, BadLog, ReadFault, WriteFault, Faulty}
 use Rattle.onll_jobs.specs.Command.{form_of}
 use Rattle.onll_jobs.specs.AgainPromises.{AgainPromises}
 use Rattle.onll_jobs.specs.Durable.{ReplayPromises}
 use Rattle.onll_task.specs.Printed.{exit_status}
 use Rattle.onll_jobs.specs.Promises.{Promises}
-use Rattle.onll_jobs.specs.Says.{writes_of, ExitSays, ExitDetermined}
+use Rattle.onll_jobs.specs.Says.{writes_of, ExitSays, ExitDetermined, PutWhole, SinkFailed}
+use Rattle.onll_jobs.specs.ResumePromises.{ResumePromises}
 use Rattle.onll_jobs.specs.RunPromises.{RunPromises}
 use Rattle.onll_jobs.specs.MakePromises.{MakePromises}
 use Rattle.onll_jobs.specs.Seen.{Seen}
@@ -18,7 +19,9 @@ use Rattle.onll_jobs.proofs.FormsDetermined.{exit_done}
 use Rattle.onll_jobs.proofs.AgainDurable.{again_durable, again_bad}
 use Rattle.onll_jobs.proofs.AgainDone.{goes_on_left, goes_on_run}
 use Rattle.onll_jobs.proofs.ReplayEnds.{replay_not_bad, replay_durable}
-use Rattle.onll_jobs.proofs.RunEnds.{run_whole, run_broken, run_not_bad}
+use Rattle.onll_jobs.proofs.ResumeDone.{resumes_left, resumes_run}
+use Rattle.onll_jobs.proofs.ResumeEnds.{resume_whole, resume_broken, resume_no_device, resume_refused, resume_bad}
+use Rattle.onll_jobs.proofs.RunEnds.{run_whole, run_broken, run_no_device, run_not_bad}
 use Rattle.onll_jobs.proofs.RecoverCrashes.{recovers_crashes}
 use Rattle.onll_jobs.proofs.RecoverRuns.{recovers_runs}
 use Rattle.onll_jobs.proofs.RunDone.{run_done}
@@ -32,6 +35,10 @@ replay_kept seen x says = record {
       replay_not_bad seen init schedule logs names form (said_of seen x BadLog (λ e. omega arith) e says);
 }
 
+-- the sink failed, or a device of which this is said
+device_kept : {A : Type 0} (seen : Seen) (x : Exit) → exit_status x ≡ 6 → ExitSays seen x → (PutWhole seen WriteFault → A) → SinkFailed seen ⊎ A
+device_kept {A} seen x e says f = ⊎_elim (λ (sink : SinkFailed seen). inl sink) (λ (h : PutWhole seen WriteFault). inr (f h)) (failed_of seen x e says)
+
 again_kept : (seen : Seen) (x : Exit) → ExitSays seen x → AgainPromises seen (exit_status x)
 again_kept seen x says = record {
   durable = λ init schedule logs names form e. again_durable seen init schedule logs names form (said_of seen x Done (λ e. omega arith) e says);
@@ -40,10 +47,22 @@ again_kept seen x says = record {
   run = goes_on_run seen x says;
 }
 
+resume_kept : (seen : Seen) (x : Exit) → ExitSays seen x → ResumePromises seen (exit_status x)
+resume_kept seen x says = record {
+  whole = λ init logs names form e. resume_whole seen init logs names form (said_of seen x Done (λ e. omega arith) e says);
+  broken = λ init logs names form e. resume_broken seen init logs names form (said_of seen x Faulty (λ e. omega arith) e says);
+  device = λ init logs names form e. device_kept seen x e says (resume_no_device seen init logs names form);
+  refused = λ init logs names form e. resume_refused seen init logs names form (said_of seen x Refused (λ e. omega arith) e says);
+  bad_logs = λ init logs names form e. resume_bad seen init logs names form (said_of seen x BadLog (λ e. omega arith) e says);
+  left = resumes_left seen x says;
+  run = resumes_run seen x says;
+}
+
 run_kept : (seen : Seen) (x : Exit) → ExitSays seen x → RunPromises seen (exit_status x)
 run_kept seen x says = record {
   whole = λ init logs names form e. run_whole seen init logs names form (said_of seen x Done (λ e. omega arith) e says);
   broken = λ init logs names form e. run_broken seen init logs names form (said_of seen x Faulty (λ e. omega arith) e says);
+  device = λ init logs names form e. device_kept seen x e says (run_no_device seen init logs names form);
   only = λ e. faulty_run seen (said_of seen x Faulty (λ e. omega arith) e says);
   recovers = λ init logs names form e. run_not_bad seen init logs names form (said_of seen x BadLog (λ e. omega arith) e says);
   done = λ init logs names form tells none. run_done seen x init logs names form tells none says;
@@ -76,6 +95,7 @@ kept_of seen x says determined files = record {
   recover = record { crashes = recovers_crashes seen x says };
   replay = replay_kept seen x says;
   again = again_kept seen x says;
+  resume = resume_kept seen x says;
   run = run_kept seen x says;
   recover_run = recovers_runs seen x says;
   make = make_kept seen x says;

@@ -6,8 +6,12 @@ pub mod ReplayEnds
 pub mod AgainEnds
 pub mod AgainDurable
 pub mod AgainDone
+pub mod ResumeEnds
+pub mod ResumeDone
 pub mod RunEnds
+pub mod CrashLeft
 pub mod SaidEnds
+pub mod Told
 pub mod RecoverCrashes
 pub mod RecoverRuns
 pub mod RunDone

@@ -1,12 +1,6 @@
 use Rattle.std.proofs.Common.{ℕ, suc, List, [], ◌∷◌, ◌≡◌, length, Result, Ok, refl, sym, ap, ◌∙◌, subst, Some}
-use Rattle.std.proofs.lemmas.List.{length-map}
 use Rattle.onll_model.specs.Object.{Behaviour}
 use Rattle.onll_log.specs.ImageFile.{image_lines}
-use Rattle.onll_core.specs.Step.{steps_of}
-use Rattle.onll_core.specs.Outcomes.{script_of}
-use Rattle.onll_core.proofs.Generations.{generation_starts, generations_leave}
-use Rattle.onll_core.proofs.Crashed.{images_many}
-use Rattle.onll_core.proofs.Stays.{steps_stay}
 use Rattle.onll_text.specs.declared.any_object.AnyObject.{AnyObject}
 use Rattle.onll_text.specs.Refusal.{Refusal}
 use Rattle.onll_text.specs.Wording.{Wording}
@@ -30,8 +24,8 @@ use Rattle.onll_merge.specs.Recovered.{Recovered, recovered_with, expected_heads
 use Rattle.onll_jobs.specs.Durable.{TellImages, IsLeft, RecoversLeft, RecoversCrashes}
 use Rattle.onll_jobs.specs.Over.{RecoverOver, over_task, object_task, over_work}
 use Rattle.onll_task.specs.Doing.{Task}
-use Rattle.onll_recovery.proofs.Crashes.{generation_recovered}
 use Rattle.onll_text.proofs.EachKind.{kind_goes}
+use Rattle.onll_jobs.proofs.CrashLeft.{left_many, left_images}
 use Rattle.onll_jobs.proofs.ExitCauses.{decided_exactly}
 
 -- What a crash left in told files is recovered.
@@ -53,14 +47,6 @@ pub recovered_decides : {State Op Query Reply : Type 0} (b : Behaviour State Op 
     → Decides store (recovered_task b w s recovered).job Done (recover_report b w s r)
 recovered_decides b w store s recovered r e = subst (λ (x : Result Recovered StateFault). Decides store (recovered_task b w s x).job Done (recover_report b w s r)) (sym e) (refl, refl)
 
--- there is an image for each thread
-pub left_many : (k : ObjectKind) (init : List ℕ) (s : k.State) (store : StoreView) (logs : List ℕ) (threads : ℕ) (left : IsLeft k init s store logs threads) → length left.last.images ≡ threads
-left_many k init s store logs threads left =
-    let g = left.last in
-    let is = left.generations.0 in
-    let starts = (generation_starts k.means k.code init s threads left.older g is left.generations.1).starts in
-    images_many (steps_of k.means is.core g.steps).threads g.images is.left ∙ ((steps_stay k.means is.core g.steps).all_threads ∙ (sym (length-map is.core.threads script_of) ∙ (ap length starts.scripts_are ∙ is.many)))
-
 -- the call says what the told files decide
 module _ (seen : Seen) (x : Exit) (says : ExitSays seen x) (init logs bytes : List ℕ) (threads : ℕ) (object : AnyObject)
     (form : form_of seen.words ≡ Some (Recover init logs threads)) (told : IsTold seen.store init bytes) (accepted : init_of bytes ≡ Ok object) (none : NoneRose seen) where
@@ -78,14 +64,14 @@ module _ (seen : Seen) (x : Exit) (says : ExitSays seen x) (init logs bytes : Li
   left_recovers k s say left =
       let b = k.means in
       let w = k.wording in
-      let images = left.last.images in
-      let leaves = generations_leave b k.code bytes s threads left.older left.last left.generations.0 left.generations.1 in
+      let held = left_images k bytes s seen.store logs threads left in
+      let leaves = held.leaves in
       let r : Recovered = recovered_with leaves.all.recovers.logs leaves.all.recovers.nodes in
-      let recovered = recovered_decides b w seen.store s (state_recovered b (expected_heads k.code bytes images) images) r (generation_recovered b k.code bytes s threads left.older left.last left.generations.0 left.generations.1 leaves) in
+      let recovered = recovered_decides b w seen.store s (state_recovered b (expected_heads k.code bytes left.images) left.images) r held.recovered in
       record {
         leaves = leaves;
         says = say (recover_report b w s r) (subst (λ (n : ℕ). Decides seen.store (each_job lines_stage (image_names logs 0 n) (λ images. (images_task k bytes s images).job)) Done (recover_report b w s r)) (left_many k bytes s seen.store logs threads left)
-            (decides_images seen.store logs 0 images (λ images. (images_task k bytes s images).job) Done (recover_report b w s r) left.files recovered));
+            (decides_images seen.store logs 0 left.images (λ images. (images_task k bytes s images).job) Done (recover_report b w s r) left.files recovered));
       }
 
 pub recovers_crashes : (seen : Seen) (x : Exit) → ExitSays seen x → RecoversCrashes seen (exit_status x)

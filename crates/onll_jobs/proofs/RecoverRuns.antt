@@ -1,4 +1,4 @@
--- What a run kept in told files is recovered.
+-- What a run kept in told files is recovered, also one that went on.
 
 use Rattle.std.proofs.Common.{ℕ, suc, true, List, [], ◌∷◌, ◌≡◌, ⊎_elim, length, map, Result, Ok, Option, Some, None, refl, sym, ap, ◌∙◌, subst, arith}
 use Rattle.std.specs.List.{AllByRecursion}
@@ -17,6 +17,7 @@ use Rattle.onll_merge.specs.Merge.{merge}
 use Rattle.onll_merge.specs.Recovered.{Recovered, recovered_with, expected_heads, state_recovered}
 use Rattle.onll_merge.proofs.Images.{their_contents}
 use Rattle.onll_core.specs.Created.{heads_from, created_heads}
+use Rattle.onll_core.proofs.Based.{base_is}
 use Rattle.onll_core.proofs.Created.{length-heads_from}
 use Rattle.onll_core.proofs.Operations.{AllOperations}
 use Rattle.onll_run.specs.Outcomes.{failed_in, fault_in}
@@ -30,21 +31,21 @@ use Rattle.onll_task.specs.FileLines.{FitFile}
 use Rattle.onll_task.specs.ImageNames.{image_name, image_names}
 use Rattle.onll_task.specs.Job.{Threads, Decides}
 use Rattle.onll_task.specs.Printed.{exit_status}
-use Rattle.onll_task.specs.Running.{HoldsLog, HoldsLogs, broken_threads}
+use Rattle.onll_task.specs.Running.{RunPlan, HoldsLog, HoldsLogs, broken_threads}
 use Rattle.onll_task.proofs.FileLines.{image_lines-image_bytes, mixed_fit, fenced_fit}
 use Rattle.onll_core.specs.Resume.{Found, found_in}
 use Rattle.onll_recovery.specs.RecoverJob.{recover_report, images_task}
 use Rattle.onll_recovery.proofs.Resumes.{found_is}
 use Rattle.onll_recovery.proofs.Crashes.{format_by, format_tested, HaveFormat2, AreFormat2, format_is, heads_have_format, heads_expected, take_operations, recovered_is}
-use Rattle.onll_runner.specs.RunJob.{run_plan}
 use Rattle.onll_runner.proofs.FaultLines.{length-fault_lines}
-use Rattle.onll_runner.proofs.RunRecovers.{run_told, run_operations}
+use Rattle.onll_runner.proofs.RunRecovers.{AreTold, run_told, run_operations}
 use Rattle.onll_jobs.specs.Durable.{TellsImage, TellImages}
 use Rattle.onll_jobs.specs.Over.{RecoverOver, over_task}
-use Rattle.onll_jobs.specs.RunPromises.{fault_count}
+use Rattle.onll_jobs.specs.RunPromises.{fault_count, plan_from, BeginsFrom}
 use Rattle.onll_jobs.specs.RunRecovers.{IsLeftByRun, RecoversRun, RecoversRuns}
 use Rattle.onll_jobs.specs.Says.{ExitSays, SaysThis}
 use Rattle.onll_jobs.specs.Seen.{Seen}
+use Rattle.onll_jobs.proofs.SaidEnds.{known_many}
 use Rattle.onll_text.proofs.EachKind.{kind_goes}
 use Rattle.onll_jobs.proofs.RecoverCrashes.{decides_images, recovered_decides, object_says}
 
@@ -166,63 +167,91 @@ same_lists (x ∷ xs) (y ∷ ys) e =
 same_nodes : (v : Result (List Node) RecoverFault) (x y : List Node) → v ≡ Ok x → v ≡ Ok y → x ≡ y
 same_nodes v x y g h = (cc)
 
+-- ---- what was gone on from
+-- what the files give is operations
+begun_operations : (from : Option Found) (k : ObjectKind) (init : List ℕ) (s : k.State) (store : StoreView) (logs : List ℕ) (scripts : List (List (Call k.State k.Op k.Query k.Reply))) → BeginsFrom from k init store logs scripts
+    → AllOperations k.means (plan_from from k init logs s scripts).run.base.nodes
+begun_operations None k init s store logs scripts h = tt
+begun_operations (Some found) k init s store logs scripts h =
+    (base_is k.means (created_heads k.code init scripts) scripts h.images found (known_many store logs 0 (length scripts) h.images h.held) h.gives).operations
+
+-- the plan's scripts and heads are these
+plan_heads : (from : Option Found) (k : ObjectKind) (init logs : List ℕ) (s : k.State) (scripts : List (List (Call k.State k.Op k.Query k.Reply))) → (plan_from from k init logs s scripts).run.heads ≡ created_heads k.code init scripts
+plan_heads None k init logs s scripts = refl
+plan_heads (Some found) k init logs s scripts = refl
+
+plan_scripts : (from : Option Found) (k : ObjectKind) (init logs : List ℕ) (s : k.State) (scripts : List (List (Call k.State k.Op k.Query k.Reply))) → (plan_from from k init logs s scripts).run.scripts ≡ scripts
+plan_scripts None k init logs s scripts = refl
+plan_scripts (Some found) k init logs s scripts = refl
+
+plan_logs : (from : Option Found) (k : ObjectKind) (init logs : List ℕ) (s : k.State) (scripts : List (List (Call k.State k.Op k.Query k.Reply))) → (plan_from from k init logs s scripts).logs ≡ logs
+plan_logs None k init logs s scripts = refl
+plan_logs (Some found) k init logs s scripts = refl
+
 -- ---- what the files hold
 module _ (seen : Seen) (init logs : List ℕ) (threads : ℕ) (k : ObjectKind) (s : k.State) (tells : seen.store.tells ≡ true) (left : IsLeftByRun k init s seen.store logs threads) where
-  abbrev heads : List LogHead
-  heads = created_heads k.code init left.reported.scripts
+  abbrev plan : RunPlan k
+  plan = plan_from left.from k init logs s left.reported.scripts
 
   many : length left.reported.scripts ≡ threads
   many = left.reported.many ∙ left.many
 
+  plan_many : length plan.run.scripts ≡ threads
+  plan_many = ap length (plan_scripts left.from k init logs s left.reported.scripts) ∙ many
+
+  heads_are : plan.run.heads ≡ heads_from threads k.code init 0 threads
+  heads_are = plan_heads left.from k init logs s left.reported.scripts ∙ ap (λ n. heads_from n k.code init 0 n) many
+
+  told : AreTold plan.run.heads left.reported.left.logs
+  told = run_told k.means plan.run left.reported.left left.reported.run
+
+  all_operations : AllOperations k.means left.reported.left.nodes
+  all_operations = run_operations k.means plan.run left.reported.left left.reported.run (begun_operations left.from k init s left.before logs left.reported.scripts left.reported.begins)
+
   files : FilesLeft seen.store logs 0 left.reported.left.logs left.reported.left.ends
   files =
-      let count = length left.reported.scripts in
-      files_left k.means seen.store left.after tells left.tells logs 0 heads _ left.reported.scripts left.reported.left.ends left.reported.left.logs left.reported.run.logs (heads_have_format count k.code init 0 count) left.reported.kept.files left.reported.kept.fit
-      (subst (λ n. SameNames seen.store left.after (image_names logs 0 n)) (sym many) left.same)
+      files_left k.means seen.store left.after tells left.tells logs 0 plan.run.heads plan.run.base.logs plan.run.scripts left.reported.left.ends left.reported.left.logs left.reported.run.logs
+      (subst HaveFormat2 (sym heads_are) (heads_have_format threads k.code init 0 threads))
+      (subst (λ (name : List ℕ). HoldsLogs left.after name 0 left.reported.left.logs left.reported.left.ends) (plan_logs left.from k init logs s left.reported.scripts) left.reported.kept.files) left.reported.kept.fit
+      (subst (λ n. SameNames seen.store left.after (image_names logs 0 n)) (sym plan_many) left.same)
 
-  recovers : Recovers k.means (run_plan k init logs s left.reported.scripts).run left.reported.left files.images
+  recovers : Recovers k.means plan.run left.reported.left files.images
   recovers = left.reported.run.crash files.images files.are_left
 
-  images_many : length files.images ≡ length left.reported.scripts
-  images_many =
-      let told = run_told k.means s heads left.reported.scripts left.reported.left left.reported.run in
-      files.many ∙ sym told.many ∙ length-heads_from (length left.reported.scripts) k.code init 0 (length left.reported.scripts)
+  images_many : length files.images ≡ threads
+  images_many = files.many ∙ sym told.many ∙ ap length heads_are ∙ length-heads_from threads k.code init 0 threads
 
   operations : AllOperations k.means recovers.nodes
-  operations = subst (AllOperations k.means) recovers.front (take_operations k.means (length recovers.nodes) left.reported.left.nodes (run_operations k.means s heads left.reported.scripts left.reported.left left.reported.run))
+  operations = subst (AllOperations k.means) recovers.front (take_operations k.means (length recovers.nodes) left.reported.left.nodes all_operations)
 
   is_recovered : state_recovered k.means (expected_heads k.code init files.images) files.images ≡ Ok (recovered_with recovers.logs recovers.nodes)
   is_recovered =
-      let expected : expected_heads k.code init files.images ≡ heads = heads_expected (length files.images) k.code init 0 files.images files.formats ∙ ap (λ n. heads_from n k.code init 0 n) images_many in
+      let expected : expected_heads k.code init files.images ≡ plan.run.heads = heads_expected (length files.images) k.code init 0 files.images files.formats ∙ ap (λ n. heads_from n k.code init 0 n) images_many ∙ sym heads_are in
       ap (λ hs. state_recovered k.means hs files.images) expected
-      ∙ recovered_is k.means files.images heads recovers.logs recovers.nodes (their_contents 0 files.images recovers.logs recovers.contents) recovers.recovered operations
+      ∙ recovered_is k.means files.images plan.run.heads recovers.logs recovers.nodes (their_contents 0 files.images recovers.logs recovers.contents) recovers.recovered operations
 
   whole : fault_count left.reported.left.ends ≡ 0 → (recovers.logs ≡ map content_in left.reported.left.logs) × (recovers.nodes ≡ left.reported.left.nodes)
   whole none =
-      let told = run_told k.means s heads left.reported.scripts left.reported.left left.reported.run in
       let images = whole_images left.reported.left.logs left.reported.left.ends files.images files.are_left (sym (length-fault_lines 0 left.reported.left.ends) ∙ none) in
       let contents = same_lists recovers.logs (map content_in left.reported.left.logs) (sym recovers.contents ∙ ap (map content_of) images ∙ told.contents) in
-      (contents, same_nodes (merge heads recovers.logs) recovers.nodes left.reported.left.nodes recovers.recovered (ap (merge heads) contents ∙ left.reported.run.merged))
+      (contents, same_nodes (merge plan.run.heads recovers.logs) recovers.nodes left.reported.left.nodes recovers.recovered (ap (merge plan.run.heads) contents ∙ left.reported.run.merged))
 
-  -- images of that run's logs, from which as many scripts can go on
+  -- images of that run's logs, and what they give to as many scripts
   pub record RunImages : Type 0 where
     pub images : List (List (List ℕ))
     pub files : TellImages seen.store logs 0 images
     pub many : length images ≡ threads
-    pub heads : List LogHead
-    pub heads_are : heads ≡ heads_from threads k.code init 0 threads
-    pub found : Found
-    pub gives : found_in k.means heads images ≡ Ok found
+    pub recovers : Recovers k.means plan.run left.reported.left images
+    pub gives : found_in k.means (heads_from threads k.code init 0 threads) images ≡ Ok (record { logs = recovers.logs; nodes = recovers.nodes })
 
   pub run_images : RunImages
   run_images = record {
     images = files.images;
     files = files.tell;
-    many = images_many ∙ many;
-    heads = heads;
-    heads_are = ap (λ n. heads_from n k.code init 0 n) many;
-    found = record { logs = recovers.logs; nodes = recovers.nodes };
-    gives = found_is k.means heads files.images recovers.logs recovers.nodes recovers.contents files.formats recovers.recovered operations;
+    many = images_many;
+    recovers = recovers;
+    gives = ap (λ (heads : List LogHead). found_in k.means heads files.images) (sym heads_are)
+        ∙ found_is k.means plan.run.heads files.images recovers.logs recovers.nodes recovers.contents files.formats recovers.recovered operations;
   }
 
   -- ---- the call
@@ -238,7 +267,7 @@ module _ (seen : Seen) (init logs : List ℕ) (threads : ℕ) (k : ObjectKind) (
         recovers = recovers;
         whole = whole;
         says = say (recover_report k.means k.wording s r)
-            (subst (λ (n : ℕ). Decides seen.store (each_job lines_stage (image_names logs 0 n) (λ images. (images_task k init s images).job)) Done (recover_report k.means k.wording s r)) (images_many ∙ many)
+            (subst (λ (n : ℕ). Decides seen.store (each_job lines_stage (image_names logs 0 n) (λ images. (images_task k init s images).job)) Done (recover_report k.means k.wording s r)) images_many
             (decides_images seen.store logs 0 files.images (λ images. (images_task k init s images).job) Done (recover_report k.means k.wording s r) files.tell recovered));
       }
 

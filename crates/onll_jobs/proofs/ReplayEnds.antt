@@ -36,7 +36,7 @@ use Rattle.onll_jobs.specs.Durable.{with_images, HasReplayed, HasReplayedAny, Re
 use Rattle.onll_jobs.specs.Over.{ReplayOver, over_task, object_task, over_work}
 use Rattle.onll_task.specs.Doing.{Task}
 use Rattle.onll_recovery.proofs.Crashes.{crash_recovered}
-use Rattle.onll_jobs.proofs.SaidEnds.{IsSaid, can_write, whole_ends, scripts_end}
+use Rattle.onll_jobs.proofs.SaidEnds.{IsSaid, said_read, can_write, many_scripts, few_updates, whole_ends, scripts_end}
 use Rattle.onll_text.proofs.EachKind.{IsKnown, kind_goes}
 use Rattle.onll_jobs.proofs.Forms.{few-scripts}
 
@@ -57,18 +57,6 @@ module _ (after : StoreView) (ending : Ending) (text : List ℕ) (said : IsSaid 
   images_end store logs i (image ∷ images) next (inr h) = images_end (written store (image_name logs i) (image_bytes image)) logs (suc i) images next h
 
   module _ {State Op Query Reply : Type 0} (b : Behaviour State Op Query Reply) (w : Wording State Op Query Reply) (store : StoreView) where
-    pub many_scripts : (names : List (List ℕ)) (scripts : List (List (Call State Op Query Reply))) → ReadScripts w store names scripts → length scripts ≡ length names
-    many_scripts [] [] h = refl
-    many_scripts [] (script ∷ scripts) h = absurd h
-    many_scripts (name ∷ names) [] h = absurd h
-    many_scripts (name ∷ names) (script ∷ scripts) h = ap suc (many_scripts names scripts h.1)
-
-    pub few_updates : (names : List (List ℕ)) (scripts : List (List (Call State Op Query Reply))) → ReadScripts w store names scripts → AllByRecursion (λ (script : List (Call State Op Query Reply)). updates_in script ≤ 4096) scripts
-    few_updates [] [] h = tt
-    few_updates [] (script ∷ scripts) h = absurd h
-    few_updates (name ∷ names) [] h = absurd h
-    few_updates (name ∷ names) (script ∷ scripts) h = ((few_calls w h.0.bytes script h.0.accepted).0, few_updates names scripts h.1)
-
     -- what a crash says of a core whose images recover
     pub crash_ends : (logs : List ℕ) (resumed : Option ℕ) (scripts : List (List (Call State Op Query Reply))) (c : CoreState State Op Query Reply) (keep : ℕ) (r : Recovered) → state_recovered b (heads_of c.threads) (images_of keep c.threads) ≡ Ok r
         → JobEnds store after (crash_task b w logs resumed scripts c keep).job ending text
@@ -85,14 +73,14 @@ module _ (after : StoreView) (ending : Ending) (text : List ℕ) (said : IsSaid 
   on_ends k is store init s schedule logs names few h =
       let b = k.means in
       let w = k.wording in
-      let read = scripts_end after ending text said w store names (λ scripts. (schedule_task k init s schedule logs scripts).job) h in
+      let read = scripts_end after ending text (said_read ending said) w store names (λ scripts. (schedule_task k init s schedule logs scripts).job) h in
       let scripts = read.scripts in
       let count = length scripts in
-      let planned = whole_ends after ending text said store schedule (schedule_of count) (λ bytes (plan : Schedule). (crash_task b w logs None scripts (played b k.code init s scripts plan.turns) plan.keep).job) read.ends in
+      let planned = whole_ends after ending text (said_read ending said) store schedule (schedule_of count) (λ bytes (plan : Schedule). (crash_task b w logs None scripts (played b k.code init s scripts plan.turns) plan.keep).job) read.ends in
       let plan = planned.value in
       let core = played b k.code init s scripts plan.turns in
       let images = images_of plan.keep core.threads in
-      let within : IsWithinLimits k.code scripts = record { code = is; few = subst (λ (n : ℕ). n ≤ 16) (sym (many_scripts b w store names scripts read.read)) few; updates = few_updates b w store names scripts read.read } in
+      let within : IsWithinLimits k.code scripts = record { code = is; few = subst (λ (n : ℕ). n ≤ 16) (sym (many_scripts w store names scripts read.read)) few; updates = few_updates w store names scripts read.read } in
       let durable = always_durable b k.code init s scripts (created_core s k.code init scripts) within (inl refl) in
       let left = picked_images count core plan.keep (steps_consistent b count (created_core s k.code init scripts) (turns_of plan.turns) (created_consistent s k.code init scripts within)) in
       let crash = (durable (turns_of plan.turns)).crash images left in
@@ -124,7 +112,7 @@ module _ (after : StoreView) (ending : Ending) (text : List ℕ) (said : IsSaid 
   job_ends : (store : StoreView) (init schedule logs : List ℕ) (names : List (List ℕ)) → length names ≤ 16
       → JobEnds store after (over_work init (ReplayOver schedule logs names)).task.job ending text → ReplayEnds store after init schedule logs names ending text
   job_ends store init schedule logs names few h =
-      let read = whole_ends after ending text said store init init_of (λ bytes object. (object_task (ReplayOver schedule logs names) bytes object).job) h in
+      let read = whole_ends after ending text (said_read ending said) store init init_of (λ bytes object. (object_task (ReplayOver schedule logs names) bytes object).job) h in
       let end = any_ends store read.bytes schedule logs names read.value few read.ends in
       record { done = end.0; bytes = read.bytes; object = read.value; read = read.read; replayed = end.1 }
 

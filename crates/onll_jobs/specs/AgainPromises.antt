@@ -5,12 +5,13 @@ use Rattle.onll_model.specs.declared.call.Call.{Call}
 use Rattle.onll_core.specs.declared.fault.ResumeFault.{ResumeFault}
 use Rattle.onll_core.specs.declared.fault.ResumeFault.TheVariants.{TooMany}
 use Rattle.onll_core.specs.Core.{CoreState}
-use Rattle.onll_core.specs.Created.{created_heads}
+use Rattle.onll_core.specs.Created.{heads_from, created_heads}
 use Rattle.onll_core.specs.Crash.{images_of, RecoversAll}
 use Rattle.onll_core.specs.Durable.{AlwaysDurable}
-use Rattle.onll_core.specs.Resume.{resumed}
+use Rattle.onll_core.specs.Resume.{found_in, resumed}
 use Rattle.onll_core.specs.Step.{steps_of}
 use Rattle.onll_core.specs.Turns.{turns_of}
+use Rattle.onll_run.specs.Left.{Recovers}
 use Rattle.onll_text.specs.declared.any_object.AnyObject.{AnyObject}
 use Rattle.onll_text.specs.declared.schedule.Schedule.{Schedule}
 use Rattle.onll_text.specs.Init.{init_of}
@@ -19,18 +20,19 @@ use Rattle.onll_text.specs.Schedule.{schedule_of}
 use Rattle.onll_text.specs.Script.{script_of}
 use Rattle.onll_text.specs.Kinds.{ObjectKind, on_object}
 use Rattle.onll_text.specs.Wording.{Wording}
-use Rattle.onll_outside.specs.Views.{StoreView, Puts}
+use Rattle.onll_outside.specs.Views.{StoreView}
 use Rattle.onll_task.specs.declared.ending.Ending.TheVariants.{Done, Refused, BadLog}
 use Rattle.onll_task.specs.Images.{images_stage}
-use Rattle.onll_task.specs.Reading.{IsTold, Reads, ReadsWhole}
+use Rattle.onll_task.specs.Reading.{IsTold, Reads}
 use Rattle.onll_task.specs.Writing.{FilesStay}
 use Rattle.onll_merge.specs.Recovered.{recovered_with}
 use Rattle.onll_recovery.specs.AgainJob.{resume_ending, resume_text}
 use Rattle.onll_recovery.specs.ReplayJob.{ReadScripts, replay_report}
 use Rattle.onll_jobs.specs.Command.{Again, form_of}
-use Rattle.onll_jobs.specs.Durable.{TellImages, IsLeft, with_images}
+use Rattle.onll_jobs.specs.Durable.{TellImages, IsLeft, LeavesAll, with_images}
+use Rattle.onll_jobs.specs.RunPromises.{plan_from}
 use Rattle.onll_jobs.specs.RunRecovers.{IsLeftByRun}
-use Rattle.onll_jobs.specs.Says.{NoneRose, SaysThis}
+use Rattle.onll_jobs.specs.Says.{NoneRose, SaysThis, PutOverInit}
 use Rattle.onll_jobs.specs.Seen.{Seen}
 
 -- ---- what is printed
@@ -73,16 +75,6 @@ module _ (k : ObjectKind) (init : List ℕ) (s : k.State) (store : StoreView) (s
     pub bad : resume_ending fault ≡ BadLog
     pub said : text ≡ resume_text names fault
 
--- over the initial state that a file holds such a text was put
-pub record AgainPut (seen : Seen) (init : List ℕ)
-    (Says : (k : ObjectKind) → List ℕ → k.State → StoreView → StoreView → List ℕ → Type 0) : Type 0 where
-  pub bytes : List ℕ
-  pub object : AnyObject
-  pub read : ReadsWhole seen.store init_of init bytes object
-  pub text : List ℕ
-  pub says : on_object (λ k s. Says k bytes s seen.store seen.store_after text) object
-  pub put : Puts seen.sink seen.sink_after text
-
 -- ---- when it is done
 -- the named file is told, and its text is accepted as this value
 pub record TellsValue {A : Type 0} (store : StoreView) (grammar : List ℕ → Result A Refusal) (name : List ℕ) (value : A) : Type 0 where
@@ -120,19 +112,31 @@ module _ (k : ObjectKind) (init : List ℕ) (s : k.State) (seen : Seen) (status 
   SaysOn (Err fault) = ⊥
 
 module _ (k : ObjectKind) (init : List ℕ) (s : k.State) (seen : Seen) (status : ℕ) (schedule logs : List ℕ) (names : List (List ℕ)) where
-  -- from the files of the logs, whatever crashes left them, of any number of generations, these scripts go on
-  abbrev pub GoesOnLeft : Type 0
-  GoesOnLeft = (texts : TellsPlan k seen.store schedule names) (left : IsLeft k init s seen.store logs (length names))
-      → SaysOn k init s seen status logs names texts.scripts texts.plan (resumed k.means k.code init s left.last.images texts.scripts)
+  -- From the files of the logs, whatever a crash left of them after any number of generations, these scripts go on: from what the core
+  -- went on from, every returned update and all that returned reads saw.
+  pub record SaysOnLeft (texts : TellsPlan k seen.store schedule names)
+      (left : IsLeft k init s seen.store logs (length names)) : Type 0 where
+    pub leaves : LeavesAll k init s seen.store logs (length names) left
+    pub says : SaysOn k init s seen status logs names texts.scripts texts.plan (resumed k.means k.code init s left.images texts.scripts)
 
-  -- so they do from the logs that a run on threads kept
-  pub record SaysOnRun (texts : TellsPlan k seen.store schedule names) : Type 0 where
+  abbrev pub GoesOnLeft : Type 0
+  GoesOnLeft = (texts : TellsPlan k seen.store schedule names)
+      → (left : IsLeft k init s seen.store logs (length names)) → SaysOnLeft texts left
+
+  -- So they do from the logs that a run on threads kept, which give the front of its trace that they recover to, with all that the run
+  -- went on from, every answered update and the place of every answered read.
+  pub record SaysOnRun (texts : TellsPlan k seen.store schedule names)
+      (left : IsLeftByRun k init s seen.store logs (length names)) : Type 0 where
     pub images : List (List (List ℕ))
     pub files : TellImages seen.store logs 0 images
+    pub recovers : Recovers k.means (plan_from left.from k init logs s left.reported.scripts).run left.reported.left images
+    pub gives : found_in k.means (heads_from (length names) k.code init 0 (length names)) images
+        ≡ Ok (record { logs = recovers.logs; nodes = recovers.nodes })
     pub says : SaysOn k init s seen status logs names texts.scripts texts.plan (resumed k.means k.code init s images texts.scripts)
 
   abbrev pub GoesOnRun : Type 0
-  GoesOnRun = (texts : TellsPlan k seen.store schedule names) → IsLeftByRun k init s seen.store logs (length names) → SaysOnRun texts
+  GoesOnRun = (texts : TellsPlan k seen.store schedule names)
+      → (left : IsLeftByRun k init s seen.store logs (length names)) → SaysOnRun texts left
 
 -- a run that goes on, by the words, over the initial state that a file tells, where no call of the store or of the sink failed
 abbrev pub GoesOn : Seen
@@ -147,8 +151,8 @@ GoesOn seen Holds = (init schedule logs bytes : List ℕ) (names : List (List �
 -- that a crash or a run on threads left it goes on, unless a script has too many updates.
 pub record AgainPromises (seen : Seen) (status : ℕ) : Type 0 where
   pub durable : (init schedule logs : List ℕ) (names : List (List ℕ)) → form_of seen.words ≡ Some (Again init schedule logs names)
-      → status ≡ 0 → AgainPut seen init (λ k bytes s store after text. HasGoneOn k bytes s store schedule logs names after text)
+      → status ≡ 0 → PutOverInit seen init (λ k bytes s store after text. HasGoneOn k bytes s store schedule logs names after text)
   pub bad_logs : (init schedule logs : List ℕ) (names : List (List ℕ)) → form_of seen.words ≡ Some (Again init schedule logs names)
-      → status ≡ 4 → AgainPut seen init (λ k bytes s store after text. HasBadLogs k bytes s store schedule logs names after text)
+      → status ≡ 4 → PutOverInit seen init (λ k bytes s store after text. HasBadLogs k bytes s store schedule logs names after text)
   pub left : GoesOn seen (λ k bytes s schedule logs names. GoesOnLeft k bytes s seen status schedule logs names)
   pub run : GoesOn seen (λ k bytes s schedule logs names. GoesOnRun k bytes s seen status schedule logs names)

@@ -1,24 +1,40 @@
 -- The forms of the program's words, and the commands that they are read as.
 
-use Rattle.std.specs.Prelude.{ℕ, Bool, true, List, [], ◌∷◌, ◌++◌, Option, Some, None, if◌then◌else◌, codes, nat_le, ◌&&◌, ◌≤◌, length, map, string_bytes}
+use Rattle.std.specs.Prelude.{ℕ, Bool, true, List, [], ◌∷◌, ◌++◌, Option, Some, None, if◌then◌else◌, codes, nat_le, ◌&&◌}
 use Rattle.std.specs.Option.{option_map}
-use Rattle.onll_model.specs.Limits.{most_threads, most_updates}
 use Rattle.std.specs.Str.{bytes_eq}
+use Rattle.onll_model.specs.Limits.{most_threads, most_updates}
 use Rattle.onll_words.specs.Numbers.{number_of}
 use Rattle.onll_workload.specs.declared.workload.Workload.{Workload}
 use Rattle.onll_workload.specs.Workload.{IsWorkload}
 use Rattle.onll_jobs.specs.declared.command.Command.{Command}
 use Rattle.onll_jobs.specs.declared.command.Command.TheVariants as commands
+use Rattle.onll_jobs.specs.Over.{OverForm, FoldOver, RecoverOver, ReplayOver, AgainOver, ResumeOver, RunOver, over_in, is_over, IsOver}
 
--- A form of the program's words: a command and its names.
+-- A form of the program's words: a command over the object whose initial state a file holds, or one of an image, or a workload.
 pub data Form : Type 0 where
-  Fold : (init script : List ℕ) → Form
+  OverInit : (init : List ℕ) (over : OverForm) → Form
   Show : (image : List ℕ) → Form
-  Recover : (init logs : List ℕ) (threads : ℕ) → Form
-  Replay : (init schedule logs : List ℕ) (scripts : List (List ℕ)) → Form
-  Again : (init schedule logs : List ℕ) (scripts : List (List ℕ)) → Form
-  Run : (init logs : List ℕ) (scripts : List (List ℕ)) → Form
   Make : (workload : Workload) → Form
+
+-- ---- the commands over an object
+abbrev pub Fold : (init script : List ℕ) → Form
+Fold init script = OverInit init (FoldOver script)
+
+abbrev pub Recover : (init logs : List ℕ) → (threads : ℕ) → Form
+Recover init logs threads = OverInit init (RecoverOver logs threads)
+
+abbrev pub Replay : (init schedule logs : List ℕ) → (scripts : List (List ℕ)) → Form
+Replay init schedule logs scripts = OverInit init (ReplayOver schedule logs scripts)
+
+abbrev pub Again : (init schedule logs : List ℕ) → (scripts : List (List ℕ)) → Form
+Again init schedule logs scripts = OverInit init (AgainOver schedule logs scripts)
+
+abbrev pub Resume : (init logs : List ℕ) → (scripts : List (List ℕ)) → Form
+Resume init logs scripts = OverInit init (ResumeOver logs scripts)
+
+abbrev pub Run : (init logs : List ℕ) → (scripts : List (List ℕ)) → Form
+Run init logs scripts = OverInit init (RunOver logs scripts)
 
 -- ---- what the names after a command's word say
 abbrev pub fold_of : List (List ℕ) → Option Form
@@ -42,6 +58,10 @@ abbrev pub again_of : List (List ℕ) → Option Form
 again_of (init ∷ schedule ∷ logs ∷ scripts) = Some (Again init schedule logs scripts)
 again_of names = None
 
+abbrev pub resume_of : List (List ℕ) → Option Form
+resume_of (init ∷ logs ∷ scripts) = Some (Resume init logs scripts)
+resume_of names = None
+
 abbrev pub run_of : List (List ℕ) → Option Form
 run_of (init ∷ logs ∷ scripts) = Some (Run init logs scripts)
 run_of names = None
@@ -63,20 +83,17 @@ named_form command names =
     else if bytes_eq command (codes "recover") then recover_of names
     else if bytes_eq command (codes "replay") then replay_of names
     else if bytes_eq command (codes "again") then again_of names
+    else if bytes_eq command (codes "resume") then resume_of names
     else if bytes_eq command (codes "run") then run_of names
     else if bytes_eq command (codes "make") then make_of names
     else None
 
 -- ---- the form of words
--- a recovery is from the logs of 1 to 16 threads, a replay, one that goes on and a run are of 1 to 16 scripts, and a workload is of as
--- many threads and of 1 to 4,096 updates of each
+-- what is done over an object is within its limits, and a workload is of 1 to 16 threads and of 1 to 4,096 updates of each
 abbrev pub is_within : Form → Bool
-is_within (Recover init logs threads) = nat_le 1 threads && nat_le threads most_threads
-is_within (Replay init schedule logs scripts) = nat_le 1 (length scripts) && nat_le (length scripts) most_threads
-is_within (Again init schedule logs scripts) = nat_le 1 (length scripts) && nat_le (length scripts) most_threads
-is_within (Run init logs scripts) = nat_le 1 (length scripts) && nat_le (length scripts) most_threads
+is_within (OverInit init over) = is_over over
+is_within (Show image) = true
 is_within (Make w) = nat_le 1 w.threads && (nat_le w.threads most_threads && (nat_le 1 w.updates && nat_le w.updates most_updates))
-is_within form = true
 
 abbrev pub within_limits : Option Form → Option Form
 within_limits None = None
@@ -89,23 +106,15 @@ form_of (command ∷ names) = within_limits (named_form command names)
 
 -- the form of a command that was read
 abbrev pub form_in : Command → Form
-form_in (commands.Fold init script) = Fold init.now script.now
+form_in (commands.OverInit init over) = OverInit init.now (over_in over)
 form_in (commands.Show image) = Show image.now
-form_in (commands.Recover init logs threads) = Recover init.now logs.now threads
-form_in (commands.Replay init schedule logs scripts) = Replay init.now schedule.now logs.now (map string_bytes scripts.now)
-form_in (commands.Again init schedule logs scripts) = Again init.now schedule.now logs.now (map string_bytes scripts.now)
-form_in (commands.Run init logs scripts) = Run init.now logs.now (map string_bytes scripts.now)
 form_in (commands.Make workload) = Make workload
 
--- a recovery is from the logs of 1 to 16 threads, a replay, one that goes on and a run are of 1 to 16 scripts, and a workload is of as
--- many threads and of 1 to 4,096 updates of each
+-- it is within the limits
 abbrev pub IsCommand : Command → Type 0
-IsCommand (commands.Recover init logs threads) = (1 ≤ threads) × (threads ≤ most_threads)
-IsCommand (commands.Replay init schedule logs scripts) = (1 ≤ length scripts.now) × (length scripts.now ≤ most_threads)
-IsCommand (commands.Again init schedule logs scripts) = (1 ≤ length scripts.now) × (length scripts.now ≤ most_threads)
-IsCommand (commands.Run init logs scripts) = (1 ≤ length scripts.now) × (length scripts.now ≤ most_threads)
+IsCommand (commands.OverInit init over) = IsOver over
+IsCommand (commands.Show image) = Unit {0}
 IsCommand (commands.Make workload) = IsWorkload workload
-IsCommand command = Unit {0}
 
 -- the text that is put where words have no form
 abbrev pub usage_text : List ℕ
@@ -115,5 +124,6 @@ usage_text =
     ++ codes "       onll recover INIT LOGS T\n"
     ++ codes "       onll replay INIT SCHEDULE LOGS SCRIPT..\n"
     ++ codes "       onll again INIT SCHEDULE LOGS SCRIPT..\n"
+    ++ codes "       onll resume INIT LOGS SCRIPT..\n"
     ++ codes "       onll run INIT LOGS SCRIPT..\n"
     ++ codes "       onll make T N SEED\n"

@@ -1,13 +1,14 @@
 -- What `replay` and `recover` say of crashes.
 
-use Rattle.std.specs.Prelude.{ℕ, suc, ◌≡◌, List, [], ◌∷◌, length, Some, None, Ok}
+use Rattle.std.specs.Prelude.{ℕ, suc, ◌≡◌, List, [], ◌∷◌, length, take, Some, None, Ok}
 use Rattle.onll_model.specs.declared.call.Call.{Call}
 use Rattle.onll_log.specs.ImageFile.{image_lines}
 use Rattle.onll_core.specs.Core.{CoreState}
-use Rattle.onll_core.specs.Created.{created_heads, created_core}
-use Rattle.onll_core.specs.Crash.{images_of, RecoversAll}
-use Rattle.onll_core.specs.Durable.{AlwaysDurable}
-use Rattle.onll_core.specs.Generations.{Generation, AreGenerations, LeavesAll}
+use Rattle.onll_core.specs.Created.{heads_from, created_heads, created_core, IsWithinLimits}
+use Rattle.onll_core.specs.Crash.{images_of, AreImages, RecoversAll}
+use Rattle.onll_core.specs.Durable.{AlwaysDurable, Begins}
+use Rattle.onll_core.specs.Resume.{found_in}
+use Rattle.onll_core.specs.Step.{steps_of}
 use Rattle.onll_text.specs.declared.any_object.AnyObject.{AnyObject}
 use Rattle.onll_text.specs.declared.schedule.Schedule.{Schedule}
 use Rattle.onll_text.specs.Init.{init_of}
@@ -80,19 +81,32 @@ abbrev pub TellImages : StoreView → List ℕ → ℕ → List (List (List ℕ)
 TellImages store logs i [] = Unit {0}
 TellImages store logs i (image ∷ images) = TellsImage store (image_name logs i) image × TellImages store logs (suc i) images
 
--- Crashes left the files of the logs: any number of generations ran some scripts within the limits, by any steps of their threads, each
--- from what a crash left of the one before, and each file holds any of the images that the newest one's device may have.
+-- A crash left the files of the logs: a core ran some scripts within the limits, by any steps of its threads, anew or going on from any
+-- images, and so after any number of generations; each file holds any of the images that its device may have.
 pub record IsLeft (k : ObjectKind) (init : List ℕ) (s : k.State) (store : StoreView) (logs : List ℕ) (threads : ℕ) : Type 0 where
-  pub last : Generation k.State k.Op k.Query k.Reply
-  pub older : List (Generation k.State k.Op k.Query k.Reply)
-  pub generations : AreGenerations k.means k.code init s threads (last ∷ older)
-  pub files : TellImages store logs 0 last.images
+  pub scripts : List (List (Call k.State k.Op k.Query k.Reply))
+  pub within : IsWithinLimits k.code scripts
+  pub many : length scripts ≡ threads
+  pub first : CoreState k.State k.Op k.Query k.Reply
+  pub begins : Begins k.means k.code init s scripts first
+  pub steps : List ℕ
+  pub images : List (List (List ℕ))
+  pub left : AreImages (steps_of k.means first steps).threads images
+  pub files : TellImages store logs 0 images
 
--- What is printed is the front of the newest generation's trace which holds all that those before it recovered, every returned
--- update and all that returned reads saw, and the state after it; or memory could not be had.
+-- Its images recover to the front of the core's trace which holds all that it went on from, every returned update and all that returned
+-- reads saw; and that is what they give to as many scripts.
+pub record LeavesAll (k : ObjectKind) (init : List ℕ) (s : k.State) (store : StoreView) (logs : List ℕ) (threads : ℕ)
+    (left : IsLeft k init s store logs threads) : Type 0 where
+  pub all : RecoversAll k.means (created_heads k.code init left.scripts) (steps_of k.means left.first left.steps) left.images
+  pub front : take (length left.first.trace) all.recovers.nodes ≡ left.first.trace
+  pub gives : found_in k.means (heads_from threads k.code init 0 threads) left.images
+      ≡ Ok (record { logs = all.recovers.logs; nodes = all.recovers.nodes })
+
+-- What is printed is that front, and the state after it; or memory could not be had.
 pub record RecoversLeft (k : ObjectKind) (init : List ℕ) (s : k.State) (seen : Seen) (status : ℕ) (logs : List ℕ) (threads : ℕ)
     (left : IsLeft k init s seen.store logs threads) : Type 0 where
-  pub leaves : LeavesAll k.means k.code init s threads left.older left.last left.generations.0
+  pub leaves : LeavesAll k init s seen.store logs threads left
   pub says : SaysThis seen status Done (recover_report k.means k.wording s
       (recovered_with leaves.all.recovers.logs leaves.all.recovers.nodes))
 
@@ -107,7 +121,7 @@ RecoversCrashes seen status = (init logs bytes : List ℕ) (threads : ℕ) (obje
     → form_of seen.words ≡ Some (Recover init logs threads)
     → IsTold seen.store init bytes → init_of bytes ≡ Ok object → NoneRose seen → RecoversLeftAny bytes seen status logs threads object
 
--- What a recovery promises beside: from the files of the logs, whatever crashes of whatever generations left them, it prints that
+-- What a recovery promises beside: from the files of the logs, whatever a crash left of them after whatever generations, it prints that
 -- front, or the status is 9.
 pub record RecoverPromises (seen : Seen) (status : ℕ) : Type 0 where
   pub crashes : RecoversCrashes seen status

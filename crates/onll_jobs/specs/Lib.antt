@@ -9,6 +9,7 @@ pub mod ShowJob
 pub mod Durable
 pub mod Promises
 pub mod AgainPromises
+pub mod ResumePromises
 pub mod RunPromises
 pub mod RunRecovers
 pub mod MakeJob

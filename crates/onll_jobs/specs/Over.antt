@@ -1,6 +1,6 @@
 -- What the commands over an object do, of whatever kind it is, once its initial state is read.
 
-use Rattle.std.specs.Prelude.{ℕ, List, [], ◌≤◌, Result, length, map, string_bytes}
+use Rattle.std.specs.Prelude.{ℕ, Bool, true, List, [], ◌≤◌, nat_le, ◌&&◌, Result, length, map, string_bytes}
 use Rattle.std.specs.declared.vec.Vec.{Vec}
 use Rattle.onll_outside.specs.Views.{StoreView}
 use Rattle.onll_model.specs.Limits.{most_threads}
@@ -19,15 +19,17 @@ use Rattle.onll_task.specs.ImageNames.{image_names}
 use Rattle.onll_recovery.specs.RecoverJob.{logs_task}
 use Rattle.onll_recovery.specs.ReplayJob.{scripts_task}
 use Rattle.onll_recovery.specs.AgainJob.{again_task}
+use Rattle.onll_runner.specs.ResumeJob.{resume_task}
 use Rattle.onll_runner.specs.RunJob.{run_task}
 
 -- What is done over an object: a script is folded, the logs of so many threads are recovered, scripts are replayed, anew or going on
--- from the logs of an earlier generation, or scripts are run on threads.
+-- from the logs of an earlier generation, or scripts are run on threads, going on or anew.
 pub data OverForm : Type 0 where
   FoldOver : (script : List ℕ) → OverForm
   RecoverOver : (logs : List ℕ) (threads : ℕ) → OverForm
   ReplayOver : (schedule logs : List ℕ) (names : List (List ℕ)) → OverForm
   AgainOver : (schedule logs : List ℕ) (names : List (List ℕ)) → OverForm
+  ResumeOver : (logs : List ℕ) (names : List (List ℕ)) → OverForm
   RunOver : (logs : List ℕ) (names : List (List ℕ)) → OverForm
 
 -- what the code's words for it stand for
@@ -36,14 +38,25 @@ over_in (overs.Fold script) = FoldOver script.now
 over_in (overs.Recover logs threads) = RecoverOver logs.now threads
 over_in (overs.Replay schedule logs scripts) = ReplayOver schedule.now logs.now (map string_bytes scripts.now)
 over_in (overs.Again schedule logs scripts) = AgainOver schedule.now logs.now (map string_bytes scripts.now)
+over_in (overs.Resume logs scripts) = ResumeOver logs.now (map string_bytes scripts.now)
 over_in (overs.Run logs scripts) = RunOver logs.now (map string_bytes scripts.now)
 
--- there are 1 to 16 logs to be recovered, and 1 to 16 scripts to be replayed or run
+-- a recovery is from the logs of 1 to 16 threads, and 1 to 16 scripts are replayed or run
+abbrev pub is_over : OverForm → Bool
+is_over (FoldOver script) = true
+is_over (RecoverOver logs threads) = nat_le 1 threads && nat_le threads most_threads
+is_over (ReplayOver schedule logs names) = nat_le 1 (length names) && nat_le (length names) most_threads
+is_over (AgainOver schedule logs names) = nat_le 1 (length names) && nat_le (length names) most_threads
+is_over (ResumeOver logs names) = nat_le 1 (length names) && nat_le (length names) most_threads
+is_over (RunOver logs names) = nat_le 1 (length names) && nat_le (length names) most_threads
+
+-- the same of the code's words
 abbrev pub IsOver : Over → Type 0
 IsOver (overs.Fold script) = Unit {0}
 IsOver (overs.Recover logs threads) = (1 ≤ threads) × (threads ≤ most_threads)
 IsOver (overs.Replay schedule logs scripts) = (1 ≤ length scripts.now) × (length scripts.now ≤ most_threads)
 IsOver (overs.Again schedule logs scripts) = (1 ≤ length scripts.now) × (length scripts.now ≤ most_threads)
+IsOver (overs.Resume logs scripts) = (1 ≤ length scripts.now) × (length scripts.now ≤ most_threads)
 IsOver (overs.Run logs scripts) = (1 ≤ length scripts.now) × (length scripts.now ≤ most_threads)
 
 -- the task over a state of this kind, which these bytes say; a part of its job that runs scripts on threads is made so
@@ -52,6 +65,7 @@ over_task (FoldOver script) k threads init s = script_task k.means k.wording s s
 over_task (RecoverOver logs count) k threads init s = logs_task k init logs count s
 over_task (ReplayOver schedule logs names) k threads init s = scripts_task k init schedule logs names s
 over_task (AgainOver schedule logs names) k threads init s = again_task k init schedule logs names s
+over_task (ResumeOver logs names) k threads init s = resume_task k threads init logs names s
 over_task (RunOver logs names) k threads init s = run_task k threads init logs names s
 
 -- the task over an object, whose initial state these bytes say
@@ -64,6 +78,7 @@ over_writes (FoldOver script) = []
 over_writes (RecoverOver logs threads) = []
 over_writes (ReplayOver schedule logs names) = image_names logs 0 (length names)
 over_writes (AgainOver schedule logs names) = image_names logs 0 (length names)
+over_writes (ResumeOver logs names) = image_names logs 0 (length names)
 over_writes (RunOver logs names) = image_names logs 0 (length names)
 
 -- What a function does over a state of a kind, which these bytes say: the task, whatever stands for the runs of that kind in it.

@@ -9,6 +9,7 @@ use Rattle.onll_jobs.specs.Command.{form_of, usage_text}
 use Rattle.onll_jobs.specs.Durable.{RecoverPromises, ReplayPromises}
 use Rattle.onll_task.specs.Job.{Decides}
 use Rattle.onll_jobs.specs.Says.{job_of, writes_of, Ended, IsDetermined, NoneRose, NothingFailed, OutOfMemory, PutWhole, SaysThis, SinkFailed}
+use Rattle.onll_jobs.specs.ResumePromises.{ResumePromises}
 use Rattle.onll_jobs.specs.RunPromises.{RunPromises}
 use Rattle.onll_jobs.specs.RunRecovers.{RecoversRuns}
 use Rattle.onll_jobs.specs.MakePromises.{MakePromises}
@@ -43,7 +44,8 @@ pub record Promises (seen : Seen) (status : ℕ) : Type 0 where
   pub recover : RecoverPromises seen status
   pub replay : ReplayPromises seen status
   pub again : AgainPromises seen status
+  pub resume : ResumePromises seen status
   pub run : RunPromises seen status
-  -- and `recover` of what `run` keeps
+  -- and `recover` of what `run` and `resume` keep
   pub recover_run : RecoversRuns seen status
   pub make : MakePromises seen status

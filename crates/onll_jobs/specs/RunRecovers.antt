@@ -1,7 +1,8 @@
--- What `recover` says of the logs that a run kept.
+-- What `recover` says of the logs that a run kept, which began anew or went on.
 
-use Rattle.std.specs.Prelude.{ℕ, ◌≡◌, List, true, length, map, Some, Ok}
+use Rattle.std.specs.Prelude.{ℕ, ◌≡◌, List, true, length, map, Option, Some, Ok}
 use Rattle.std.specs.List.{AllByRecursion}
+use Rattle.onll_core.specs.Resume.{Found}
 use Rattle.onll_run.specs.Left.{Recovers, content_in}
 use Rattle.onll_merge.specs.Recovered.{recovered_with}
 use Rattle.onll_text.specs.declared.any_object.AnyObject.{AnyObject}
@@ -12,10 +13,9 @@ use Rattle.onll_task.specs.declared.ending.Ending.TheVariants.{Done}
 use Rattle.onll_task.specs.ImageNames.{image_names}
 use Rattle.onll_task.specs.Reading.{IsTold}
 use Rattle.onll_recovery.specs.RecoverJob.{recover_report}
-use Rattle.onll_runner.specs.RunJob.{run_plan}
 use Rattle.onll_jobs.specs.Command.{Recover, form_of}
 use Rattle.onll_jobs.specs.Durable.{TellImages}
-use Rattle.onll_jobs.specs.RunPromises.{HasReported, fault_count}
+use Rattle.onll_jobs.specs.RunPromises.{HasReported, plan_from, fault_count}
 use Rattle.onll_jobs.specs.Says.{NoneRose, SaysThis}
 use Rattle.onll_jobs.specs.Seen.{Seen}
 
@@ -24,26 +24,27 @@ abbrev pub SameLogs : StoreView → StoreView → List ℕ → ℕ → Type 0
 SameLogs store other logs threads = AllByRecursion (λ name. store.file name ≡ other.file name) (image_names logs 0 threads)
 
 module _ (k : ObjectKind) (init : List ℕ) (s : k.State) where
-  -- A run left the files of the logs: so many scripts were run from this initial state, and reported, and a store that tells its files
-  -- keeps the logs of that run. The files are as they were there.
+  -- A run left the files of the logs: so many scripts were run from this initial state, anew or going on from what files gave, and
+  -- reported, and a store that tells its files keeps the logs of that run. The files are as they were there.
   pub record IsLeftByRun (store : StoreView) (logs : List ℕ) (threads : ℕ) : Type 0 where
     pub before : StoreView
     pub after : StoreView
     pub names : List (List ℕ)
     pub text : List ℕ
-    pub reported : HasReported k init s before after logs names text
+    pub from : Option Found
+    pub reported : HasReported from k init s before after logs names text
     pub many : length names ≡ threads
     pub tells : after.tells ≡ true
     pub same : SameLogs store after logs threads
 
-  -- The files are images of that run's logs, and what is printed is the front of its trace that they recover to, with every answered
-  -- update and the place of every answered read, and the state after it; or memory could not be had. Where the run's report has no
-  -- fault line, that is the whole trace, from the whole logs.
+  -- The files are images of that run's logs, and what is printed is the front of its trace that they recover to, with all that it went
+  -- on from, every answered update and the place of every answered read, and the state after it; or memory could not be had. Where the
+  -- run's report has no fault line, that is the whole trace, from the whole logs.
   pub record RecoversRun (seen : Seen) (status : ℕ) (logs : List ℕ) (threads : ℕ)
       (left : IsLeftByRun seen.store logs threads) : Type 0 where
     pub images : List (List (List ℕ))
     pub files : TellImages seen.store logs 0 images
-    pub recovers : Recovers k.means (run_plan k init logs s left.reported.scripts).run left.reported.left images
+    pub recovers : Recovers k.means (plan_from left.from k init logs s left.reported.scripts).run left.reported.left images
     pub whole : fault_count left.reported.left.ends ≡ 0
         → (recovers.logs ≡ map content_in left.reported.left.logs) × (recovers.nodes ≡ left.reported.left.nodes)
     pub says : SaysThis seen status Done (recover_report k.means k.wording s (recovered_with recovers.logs recovers.nodes))

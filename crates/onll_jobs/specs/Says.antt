@@ -1,29 +1,29 @@
 -- What a call does by its words, and what it says of that by its exit.
 
 use Rattle.std.specs.Prelude.{ℕ, List, [], ◌≡◌, ◌⊎◌, Option, Some, None}
-use Rattle.onll_outside.specs.Views.{SameFaults, Puts, PutsFront, Rose}
+use Rattle.onll_text.specs.declared.any_object.AnyObject.{AnyObject}
+use Rattle.onll_text.specs.Init.{init_of}
+use Rattle.onll_text.specs.Kinds.{ObjectKind, on_object}
+use Rattle.onll_outside.specs.Views.{StoreView, SameFaults, Puts, PutsFront, Rose}
 use Rattle.onll_task.specs.declared.ending.Ending.{Ending}
 use Rattle.onll_task.specs.declared.ending.Ending.TheVariants.{Done, Usage}
 use Rattle.onll_task.specs.declared.ending.Exit.{Exit}
 use Rattle.onll_task.specs.declared.ending.Exit.TheVariants.{Said, SinkFault, NoMemory}
 use Rattle.onll_jobs.specs.Seen.{Seen}
-use Rattle.onll_jobs.specs.Command.{Form, Fold, Show, Recover, Replay, Again, Run, Make, form_of, usage_text}
+use Rattle.onll_jobs.specs.Command.{Form, OverInit, Show, Make, form_of, usage_text}
 use Rattle.onll_task.specs.Printed.{status_of, exit_status}
+use Rattle.onll_task.specs.Reading.{ReadsWhole}
 use Rattle.onll_task.specs.Job.{Job, JobEnds, JobCut}
 use Rattle.onll_task.specs.Doing.{Work, say_task}
-use Rattle.onll_jobs.specs.Over.{FoldOver, RecoverOver, ReplayOver, AgainOver, RunOver, over_work}
+use Rattle.onll_jobs.specs.Over.{over_work}
 use Rattle.onll_jobs.specs.ShowJob.{show_work}
 use Rattle.onll_jobs.specs.MakeJob.{make_work}
 
 -- what a call does by its words: those of no form get the usage text
 abbrev pub work_of : Option Form → Work
 work_of None = record { task = say_task Usage usage_text; writes = [] }
-work_of (Some (Fold init script)) = over_work init (FoldOver script)
+work_of (Some (OverInit init over)) = over_work init over
 work_of (Some (Show image)) = show_work image
-work_of (Some (Recover init logs threads)) = over_work init (RecoverOver logs threads)
-work_of (Some (Replay init schedule logs scripts)) = over_work init (ReplayOver schedule logs scripts)
-work_of (Some (Again init schedule logs scripts)) = over_work init (AgainOver schedule logs scripts)
-work_of (Some (Run init logs scripts)) = over_work init (RunOver logs scripts)
 work_of (Some (Make workload)) = make_work workload
 
 -- its job, with all its endings
@@ -93,6 +93,16 @@ pub record NoneRose (seen : Seen) : Type 0 where
 -- this ending's status, and its text whole; or memory could not be had
 abbrev pub SaysThis : Seen → ℕ → Ending → List ℕ → Type 0
 SaysThis seen status ending text = ((status ≡ status_of ending) × Puts seen.sink seen.sink_after text) ⊎ (status ≡ 9)
+
+-- over the initial state that a file holds such a text was put
+pub record PutOverInit (seen : Seen) (init : List ℕ)
+    (Says : (k : ObjectKind) → List ℕ → k.State → StoreView → StoreView → List ℕ → Type 0) : Type 0 where
+  pub bytes : List ℕ
+  pub object : AnyObject
+  pub read : ReadsWhole seen.store init_of init bytes object
+  pub text : List ℕ
+  pub says : on_object (λ k s. Says k bytes s seen.store seen.store_after text) object
+  pub put : Puts seen.sink seen.sink_after text
 
 -- ---- what the text of a command that is done says of the files
 -- a text that says so was put

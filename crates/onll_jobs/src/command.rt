@@ -1,9 +1,10 @@
 //! The words of the program, read as a command.
 
 ghost use Rattle.std.specs.Prelude.{◌≡◌, true, map, string_bytes, Some, None, MatchOption, IfSome};
-ghost use Rattle.onll_jobs.specs.Command.{fold_of, show_of, recover_of, replay_of, again_of, run_of, make_of, named_form, form_of, form_in, is_within, usage_text, IsCommand};
+ghost use Rattle.onll_jobs.specs.Command.{fold_of, show_of, recover_of, replay_of, again_of, resume_of, run_of, make_of, named_form, form_of, form_in, is_within, usage_text, IsCommand};
 ghost use Rattle.onll_task.specs.Stop.{StopSays};
 
+use crate::objects::Over;
 use onll_model::{MOST_THREADS, MOST_UPDATES};
 use onll_task::{Ending, Stop};
 use onll_words::whole_number;
@@ -16,6 +17,7 @@ const USAGE: &[u8] = b"usage: onll fold INIT SCRIPT\n       \
       onll recover INIT LOGS T\n       \
       onll replay INIT SCHEDULE LOGS SCRIPT..\n       \
       onll again INIT SCHEDULE LOGS SCRIPT..\n       \
+      onll resume INIT LOGS SCRIPT..\n       \
       onll run INIT LOGS SCRIPT..\n       \
       onll make T N SEED\n";
 
@@ -29,38 +31,9 @@ pub(crate) fn usage(alloc: Global) -> Stop
 /// A command and its names, as the program's words say it.
 #[derive(Clone, Copy, Debug)]
 pub(crate) enum Command<'a> {
-    Fold {
-        init: &'a str,
-        script: &'a str,
-    },
-    Show {
-        image: &'a str,
-    },
-    Recover {
-        init: &'a str,
-        logs: &'a str,
-        threads: u64,
-    },
-    Replay {
-        init: &'a str,
-        schedule: &'a str,
-        logs: &'a str,
-        scripts: &'a [String],
-    },
-    Again {
-        init: &'a str,
-        schedule: &'a str,
-        logs: &'a str,
-        scripts: &'a [String],
-    },
-    Run {
-        init: &'a str,
-        logs: &'a str,
-        scripts: &'a [String],
-    },
-    Make {
-        workload: Workload,
-    },
+    OverInit { init: &'a str, over: Over<'a> },
+    Show { image: &'a str },
+    Make { workload: Workload },
 }
 
 /// The fold of a script.
@@ -69,7 +42,10 @@ fn fold<'a>(names: &'a [String]) -> Option<Command<'a>>
         MatchOption result (form ≡ None) (λ command. form ≡ Some (form_in command)) }
 {
     match names {
-        [init, script] => Some(Command::Fold { init, script }),
+        [init, script] => Some(Command::OverInit {
+            init,
+            over: Over::Fold { script },
+        }),
         _ => None,
     }
 }
@@ -91,11 +67,13 @@ fn recover<'a>(names: &'a [String]) -> Option<Command<'a>>
         MatchOption result (form ≡ None) (λ command. form ≡ Some (form_in command)) }
 {
     match names {
-        [init, logs, threads] => Some(Command::Recover {
-            init,
-            logs,
-            threads: whole_number(threads.as_bytes())?,
-        }),
+        [init, logs, threads] => {
+            let threads = whole_number(threads.as_bytes())?;
+            Some(Command::OverInit {
+                init,
+                over: Over::Recover { logs, threads },
+            })
+        }
         _ => None,
     }
 }
@@ -106,11 +84,13 @@ fn replay<'a>(names: &'a [String]) -> Option<Command<'a>>
         MatchOption result (form ≡ None) (λ command. form ≡ Some (form_in command)) }
 {
     match names {
-        [init, schedule, logs, scripts @ ..] => Some(Command::Replay {
+        [init, schedule, logs, scripts @ ..] => Some(Command::OverInit {
             init,
-            schedule,
-            logs,
-            scripts,
+            over: Over::Replay {
+                schedule,
+                logs,
+                scripts,
+            },
         }),
         _ => None,
     }
@@ -122,11 +102,27 @@ fn again<'a>(names: &'a [String]) -> Option<Command<'a>>
         MatchOption result (form ≡ None) (λ command. form ≡ Some (form_in command)) }
 {
     match names {
-        [init, schedule, logs, scripts @ ..] => Some(Command::Again {
+        [init, schedule, logs, scripts @ ..] => Some(Command::OverInit {
             init,
-            schedule,
-            logs,
-            scripts,
+            over: Over::Again {
+                schedule,
+                logs,
+                scripts,
+            },
+        }),
+        _ => None,
+    }
+}
+
+/// The run of scripts on threads that goes on from the logs of an earlier one.
+fn resume<'a>(names: &'a [String]) -> Option<Command<'a>>
+    ensures { let form = resume_of (map string_bytes names.now) in
+        MatchOption result (form ≡ None) (λ command. form ≡ Some (form_in command)) }
+{
+    match names {
+        [init, logs, scripts @ ..] => Some(Command::OverInit {
+            init,
+            over: Over::Resume { logs, scripts },
         }),
         _ => None,
     }
@@ -138,10 +134,9 @@ fn run<'a>(names: &'a [String]) -> Option<Command<'a>>
         MatchOption result (form ≡ None) (λ command. form ≡ Some (form_in command)) }
 {
     match names {
-        [init, logs, scripts @ ..] => Some(Command::Run {
+        [init, logs, scripts @ ..] => Some(Command::OverInit {
             init,
-            logs,
-            scripts,
+            over: Over::Run { logs, scripts },
         }),
         _ => None,
     }
@@ -179,6 +174,8 @@ fn named<'a>(command: &str, names: &'a [String]) -> Option<Command<'a>>
         replay(names)
     } else if command == "again" {
         again(names)
+    } else if command == "resume" {
+        resume(names)
     } else if command == "run" {
         run(names)
     } else if command == "make" {
@@ -210,19 +207,14 @@ impl<'a> Command<'a> {
         ensures command { result ≡ true → IsCommand self.now }
     {
         match self {
-            Command::Recover { threads, .. } => 1 <= *threads && *threads <= MOST_THREADS,
-            Command::Replay { scripts, .. }
-            | Command::Again { scripts, .. }
-            | Command::Run { scripts, .. } => {
-                !scripts.is_empty() && scripts.len() as u64 <= MOST_THREADS
-            }
+            Command::OverInit { over, .. } => over.is_within(),
+            Command::Show { .. } => true,
             Command::Make { workload } => {
                 1 <= workload.threads
                     && workload.threads <= MOST_THREADS
                     && 1 <= workload.updates
                     && workload.updates <= MOST_UPDATES
             }
-            _ => true,
         }
     }
 }

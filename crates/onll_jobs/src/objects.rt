@@ -1,13 +1,15 @@
 //! The commands over an object: one dispatch over the kinds of object, for all of them.
 
+ghost use Rattle.std.specs.Prelude.{◌≡◌, true};
 ghost use Rattle.onll_text.specs.Kinds.{kind_by, on_object};
 ghost use Rattle.onll_task.specs.Doing.{Does};
-ghost use Rattle.onll_jobs.specs.Over.{over_in, IsOver, DoesOver, over_work};
+ghost use Rattle.onll_jobs.specs.Over.{over_in, is_over, IsOver, DoesOver, over_work};
 
 use crate::fold;
+use onll_model::MOST_THREADS;
 use onll_outside::{Gate, Store};
 use onll_recovery::{again_on, recover_logs, replay_on};
-use onll_runner::run_on;
+use onll_runner::{resume_on, run_on};
 use onll_task::{Stop, init_file};
 use onll_text::{AnyObject, Texted};
 use std::alloc::Global;
@@ -34,10 +36,33 @@ pub(crate) enum Over<'a> {
         logs: &'a str,
         scripts: &'a [String],
     },
+    Resume {
+        logs: &'a str,
+        scripts: &'a [String],
+    },
     Run {
         logs: &'a str,
         scripts: &'a [String],
     },
+}
+
+impl Over<'_> {
+    /// Whether its numbers are within the limits.
+    pub(crate) fn is_within(&self) -> bool
+        ensures form { result ≡ is_over (over_in self.now) }
+        ensures over { result ≡ true → IsOver self.now }
+    {
+        match self {
+            Over::Fold { .. } => true,
+            Over::Recover { threads, .. } => 1 <= *threads && *threads <= MOST_THREADS,
+            Over::Replay { scripts, .. }
+            | Over::Again { scripts, .. }
+            | Over::Resume { scripts, .. }
+            | Over::Run { scripts, .. } => {
+                !scripts.is_empty() && scripts.len() as u64 <= MOST_THREADS
+            }
+        }
+    }
 }
 
 /// Does it over an object, whose initial state these bytes say.
@@ -69,6 +94,9 @@ fn over_one<R: Threads + Wait + Sync, O: Texted + Drop + Send + Sync, S: Store, 
             logs,
             scripts,
         } => again_on(alloc, object, init, schedule, logs, scripts, store),
+        Over::Resume { logs, scripts } => {
+            resume_on(rt, alloc, object, init, logs, scripts, gate, store)
+        }
         Over::Run { logs, scripts } => {
             run_on(rt, alloc, object, init, logs, scripts, gate, store)
         }

@@ -10,7 +10,6 @@ ghost use Rattle.onll_jobs.specs.Promises.{Promises};
 ghost use Rattle.onll_task.specs.Doing.{Does};
 
 use crate::command::{Command, usage};
-use crate::objects::Over;
 use crate::{make, objects, show};
 use onll_outside::{Gate, OutsideFault, Sink, Store};
 use onll_task::{Ending, Exit, Stop};
@@ -31,61 +30,8 @@ fn command_answer<R: Threads + Wait + Sync, S: Store, G: Gate + Sync>(
         Does work.writes (S.seen store.old) (S.seen store.new) work.task result }
 {
     match command {
-        Command::Fold { init, script } => {
-            objects::answer(rt, alloc, init, Over::Fold { script }, gate, store)
-        }
+        Command::OverInit { init, over } => objects::answer(rt, alloc, init, over, gate, store),
         Command::Show { image } => show::answer(alloc, image, store),
-        Command::Recover {
-            init,
-            logs,
-            threads,
-        } => objects::answer(
-            rt,
-            alloc,
-            init,
-            Over::Recover { logs, threads },
-            gate,
-            store,
-        ),
-        Command::Replay {
-            init,
-            schedule,
-            logs,
-            scripts,
-        } => objects::answer(
-            rt,
-            alloc,
-            init,
-            Over::Replay {
-                schedule,
-                logs,
-                scripts,
-            },
-            gate,
-            store,
-        ),
-        Command::Again {
-            init,
-            schedule,
-            logs,
-            scripts,
-        } => objects::answer(
-            rt,
-            alloc,
-            init,
-            Over::Again {
-                schedule,
-                logs,
-                scripts,
-            },
-            gate,
-            store,
-        ),
-        Command::Run {
-            init,
-            logs,
-            scripts,
-        } => objects::answer(rt, alloc, init, Over::Run { logs, scripts }, gate, store),
         Command::Make { workload } => make::answer(rt, alloc, workload, gate),
     }
 }

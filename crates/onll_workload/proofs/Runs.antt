@@ -8,6 +8,7 @@ use Rattle.onll_model.specs.declared.call.CallEnd.{CallEnd}
 use Rattle.onll_model.specs.Trace.{state_after, after_row}
 use Rattle.onll_pmem.specs.Device.{DeviceState}
 use Rattle.onll_log.specs.declared.head.LogHead.{LogHead}
+use Rattle.onll_log.specs.Grammar.{Content}
 use Rattle.onll_log.specs.Log.{LogState}
 use Rattle.onll_bank.specs.declared.operation.BankOp.{BankOp}
 use Rattle.onll_bank.specs.declared.operation.BankQuery.{BankQuery}
@@ -33,13 +34,12 @@ no_failure : (failed : Option ℕ) → 0 ≡ fault_in failed → failed ≡ None
 no_failure None e = refl
 no_failure (Some place) e = absurd (omega (arith, e))
 
-pub kept_whole : (ends : List (List BankEnd)) (devices : List DeviceState) (logs : List (LogState DeviceState)) → AreKept faultless_view ends devices logs → AllByRecursion (NoneFailed bank) ends
-kept_whole [] [] [] h = tt
-kept_whole [] [] (log ∷ logs) h = absurd h
-kept_whole [] (device ∷ devices) logs h = absurd h
-kept_whole (es ∷ ends) [] logs h = absurd h
-kept_whole (es ∷ ends) (device ∷ devices) [] h = absurd h
-kept_whole (es ∷ ends) (device ∷ devices) (log ∷ logs) h = (no_failure (failed_in es) h.0.faults, kept_whole ends devices logs h.1)
+pub kept_whole : (befores : List Content) (ends : List (List BankEnd)) (devices : List DeviceState) (logs : List (LogState DeviceState)) → AreKept faultless_view befores ends devices logs → AllByRecursion (NoneFailed bank) ends
+kept_whole befores [] devices logs h = tt
+kept_whole [] (es ∷ ends) devices logs h = absurd h
+kept_whole (before ∷ befores) (es ∷ ends) [] logs h = absurd h
+kept_whole (before ∷ befores) (es ∷ ends) (device ∷ devices) [] h = absurd h
+kept_whole (before ∷ befores) (es ∷ ends) (device ∷ devices) (log ∷ logs) h = (no_failure (failed_in es) h.0.faults, kept_whole befores ends devices logs h.1)
 
 no_faults : (devices : List DeviceState) → faults_of faultless_view devices ≡ 0
 no_faults [] = refl
@@ -49,8 +49,8 @@ no_faults (device ∷ devices) =
     omega (arith, one, rest)
 
 -- so no header's fence did
-pub header_made : (heads : List LogHead) (old new : List DeviceState) (thread : ℕ) → HeaderFailed faultless_view heads old thread new → ⊥
-header_made heads old new thread h = omega (arith, h.faults, no_faults new)
+pub header_made : (heads : List LogHead) (befores : List Content) (old new : List DeviceState) (thread : ℕ) → HeaderFailed faultless_view heads befores old thread new → ⊥
+header_made heads befores old new thread h = omega (arith, h.faults, no_faults new)
 
 -- ---- what it left
 total_stays : (nodes : List Node) (s : List ℕ) → AllByRecursion (λ (n : Node). KeepsTotal n.row) nodes → sum (state_after bank s nodes) ≡ sum s

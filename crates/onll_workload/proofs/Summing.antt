@@ -8,6 +8,7 @@ use Rattle.onll_model.specs.Calls.{updates_in, reads_in}
 use Rattle.onll_model.specs.Trace.{state_after}
 use Rattle.onll_pmem.specs.Device.{DeviceState}
 use Rattle.onll_log.specs.declared.head.LogHead.{LogHead}
+use Rattle.onll_log.specs.Grammar.{Content}
 use Rattle.onll_log.specs.Log.{LogState}
 use Rattle.onll_bank.specs.declared.operation.BankOp.{BankOp}
 use Rattle.onll_bank.specs.declared.operation.BankQuery.{BankQuery}
@@ -36,15 +37,15 @@ below : (n m : ℕ) → n ≡ m → m ≤ 65536 → n < 2 ^ 64
 below n m e h = omega (arith, e, h)
 
 -- the run of a workload's scripts, over devices whose fences never fail
-module _ (w : Workload) (valid : IsWorkload w) (heads : List LogHead) (object : List ℕ) (scripts : List (List BankCall)) (devices : List DeviceState) (ran : BankRan)
+module _ (w : Workload) (valid : IsWorkload w) (heads : List LogHead) (object : List ℕ) (scripts : List (List BankCall)) (befores : List Content) (devices : List DeviceState) (ran : BankRan)
     (first : object ≡ first_bank) (made : scripts ≡ scripts_of w) (done : map script_in ran.threads.items ≡ scripts)
-    (run : HasRun bank (anew object heads scripts) (left_in faultless_view ran)) (kept : AreKept faultless_view (map ends_in ran.threads.items) devices ran.logs.items) where
+    (run : HasRun bank (anew object heads scripts) (left_in faultless_view ran)) (kept : AreKept faultless_view befores (map ends_in ran.threads.items) devices ran.logs.items) where
   what : HasMade w (left_in faultless_view ran)
   what =
       has_made w heads (left_in faultless_view ran)
       (subst (λ (s : List ℕ). HasRun bank (anew s heads (scripts_of w)) (left_in faultless_view ran)) first
       (subst (λ (ss : List (List BankCall)). HasRun bank (anew object heads ss) (left_in faultless_view ran)) made run))
-      (kept_whole (map ends_in ran.threads.items) devices ran.logs.items kept)
+      (kept_whole befores (map ends_in ran.threads.items) devices ran.logs.items kept)
 
   all : map script_in ran.threads.items ≡ scripts_of w
   all = done ∙ made

@@ -25,10 +25,10 @@ all_mapped {A} P g [] h = All-nil (λ (x : A). P (g x))
 all_mapped {A} P g (x ∷ xs) h = All-cons (λ (y : A). P (g y)) x xs h.0 (all_mapped P g xs h.1)
 
 -- few updates
-abbrev IsShort : List BankCall → Type 0
+abbrev pub IsShort : List BankCall → Type 0
 IsShort calls = updates_in calls ≤ most_updates
 
-scripts_short : (w : Workload) (left t : ℕ) → IsWorkload w → AllByRecursion IsShort (scripts_from w left t)
+pub scripts_short : (w : Workload) (left t : ℕ) → IsWorkload w → AllByRecursion IsShort (scripts_from w left t)
 scripts_short w zero t h = tt
 scripts_short w (suc left) t h = (subst (λ n. n ≤ most_updates) (sym (updates_of_script w t)) h.few_updates, scripts_short w left (t + 1) h)
 

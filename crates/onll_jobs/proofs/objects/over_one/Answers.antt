@@ -16,6 +16,10 @@ pub returns-in-Again : goal.returns-in-Again
 returns-in-Again g c =
     record { by = λ threads stands. rw (c.in-Again.is, length-map c.in-Again.scripts.now string_bytes) c.again_on.ensures }
 
+pub returns-in-Resume : goal.returns-in-Resume
+returns-in-Resume g c =
+    record { by = λ threads stands. rw (c.in-Resume.is, length-map c.in-Resume.scripts.now string_bytes) (c.resume_on.ensures threads stands) }
+
 pub returns-in-Run : goal.returns-in-Run
 returns-in-Run g c =
     record { by = λ threads stands. rw (c.in-Run.is, length-map c.in-Run.scripts.now string_bytes) (c.run_on.ensures threads stands) }

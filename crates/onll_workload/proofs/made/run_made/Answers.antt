@@ -1,5 +1,6 @@
 use Rattle.std.proofs.Common.{sym, ap, ◌∙◌, subst, length}
 use Rattle.onll_core.proofs.Created.{length-heads_from}
+use Rattle.onll_run.specs.Left.{no_base}
 use Rattle.onll_run.specs.Making.{AreHeads}
 use Rattle.onll_workload.proofs.Begun.{can_run}
 use Rattle.onll_workload.proofs.Runs.{header_made}
@@ -15,31 +16,31 @@ run_scripts-requires-after_bounds g c κs within =
 
 pub summarize-requires-clause-each : goal.summarize-requires-clause-each
 summarize-requires-clause-each g c =
-    run_short c.args.workload c.requires c.deref-2.result.now c.in_ok-bank.bank _ c.in_ok-devices.devices.items c.in-Ok.ran
+    run_short c.args.workload c.requires c.deref-2.result.now c.in_ok-bank.bank _ (no_base (length c.deref-2.result.now)).logs c.in_ok-devices.devices.items c.in-Ok.ran
     c.in_ok-bank.ensures c.in_ok-scripts.ensures c.in-Ok.ensures.scripts c.in-Ok.ensures.run c.in-Ok.ensures.kept
 
 pub summarize-requires-clause-updates : goal.summarize-requires-clause-updates
 summarize-requires-clause-updates g c =
-    run_updates c.args.workload c.requires c.deref-2.result.now c.in_ok-bank.bank _ c.in_ok-devices.devices.items c.in-Ok.ran
+    run_updates c.args.workload c.requires c.deref-2.result.now c.in_ok-bank.bank _ (no_base (length c.deref-2.result.now)).logs c.in_ok-devices.devices.items c.in-Ok.ran
     c.in_ok-bank.ensures c.in_ok-scripts.ensures c.in-Ok.ensures.scripts c.in-Ok.ensures.run c.in-Ok.ensures.kept
 
 pub summarize-requires-clause-reads : goal.summarize-requires-clause-reads
 summarize-requires-clause-reads g c =
-    run_reads c.args.workload c.requires c.deref-2.result.now c.in_ok-bank.bank _ c.in_ok-devices.devices.items c.in-Ok.ran
+    run_reads c.args.workload c.requires c.deref-2.result.now c.in_ok-bank.bank _ (no_base (length c.deref-2.result.now)).logs c.in_ok-devices.devices.items c.in-Ok.ran
     c.in_ok-bank.ensures c.in_ok-scripts.ensures c.in-Ok.ensures.scripts c.in-Ok.ensures.run c.in-Ok.ensures.kept
 
 pub summarize-requires-clause-fences : goal.summarize-requires-clause-fences
 summarize-requires-clause-fences g c =
-    run_fences c.args.workload c.requires c.deref-2.result.now c.in_ok-bank.bank _ c.in_ok-devices.devices.items c.in-Ok.ran
+    run_fences c.args.workload c.requires c.deref-2.result.now c.in_ok-bank.bank _ (no_base (length c.deref-2.result.now)).logs c.in_ok-devices.devices.items c.in-Ok.ran
     c.in_ok-bank.ensures c.in_ok-scripts.ensures c.in-Ok.ensures.scripts c.in-Ok.ensures.run c.in-Ok.ensures.kept
 
 pub returns-in-Ok : goal.returns-in-Ok
 returns-in-Ok g c =
-    summed_ok c.args.workload c.requires c.deref-2.result.now c.in_ok-bank.bank _ c.in_ok-devices.devices.items c.in-Ok.ran
+    summed_ok c.args.workload c.requires c.deref-2.result.now c.in_ok-bank.bank _ (no_base (length c.deref-2.result.now)).logs c.in_ok-devices.devices.items c.in-Ok.ran
     c.in_ok-bank.ensures c.in_ok-scripts.ensures c.in-Ok.ensures.scripts c.in-Ok.ensures.run c.in-Ok.ensures.kept
     c.in_ok-first.first c.in_ok-first.ensures c.summarize.result c.summarize.ensures
 
 pub unreachable-requires : goal.unreachable-requires
 unreachable-requires g c =
-    header_made c.deref-2.result.now c.in_ok-devices.devices.items c.in-Err-HeaderFailed.field-0-1.items c.in-Err-HeaderFailed.field-0-0
+    header_made c.deref-2.result.now (no_base (length c.deref-2.result.now)).logs c.in_ok-devices.devices.items c.in-Err-HeaderFailed.field-0-1.items c.in-Err-HeaderFailed.field-0-0
     (rw c.in-Err-HeaderFailed.field-0-is at c.in-Err-HeaderFailed.ensures.refused)

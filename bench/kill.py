@@ -7,7 +7,7 @@ Each run has four threads of 1,000 updates, each update another one, and is kill
 the time that a whole run takes; a run that ends before that is done again. Where every log has its first line, `recover` must answer 0,
 and of each thread its nodes must be the first updates of the thread's script in their order: as many as its log has entries, or
 one more, which another thread has logged. A run that is killed before every log has a line is counted apart: a log may then be
-missing, or be no log yet, but nothing else is recovered of it than nothing."""
+missing, or be no log yet, but nothing else is recovered of it than nothing. `bench/chains.py` goes on from what a kill leaves."""
 import os
 import random
 import subprocess
@@ -18,39 +18,57 @@ import time
 TOP = os.path.dirname(os.path.dirname(os.path.abspath(__file__)))
 PROGRAM = os.path.join(TOP, "crates", "onll_main", "out", "onll_main")
 THREADS, UPDATES = 4, 1000
+LOGS = [f"log.{thread}" for thread in range(THREADS)]
 SCRIPTS = [[f"deposit {thread} {number}" for number in range(1, UPDATES + 1)] for thread in range(THREADS)]
 
 
-def make_inputs():
+def asked():
+    """The arguments of a script of this kind, and what stands for those that aren't there: how many, the random choices, the program."""
+    count = int(sys.argv[1]) if len(sys.argv) > 1 else None
+    rng = random.Random(int(sys.argv[2]) if len(sys.argv) > 2 else 1)
+    return count, rng, os.path.abspath(sys.argv[3]) if len(sys.argv) > 3 else PROGRAM
+
+
+def make_bank():
     with open("bank", "w") as file:
         file.write(f"bank {THREADS}\n")
-    for thread, script in enumerate(SCRIPTS):
-        with open(f"script{thread}", "w") as file:
+
+
+def make_scripts(name, scripts):
+    """Writes the scripts of all threads, and gives the names of their files."""
+    names = [f"{name}{thread}" for thread in range(THREADS)]
+    for file_name, script in zip(names, scripts):
+        with open(file_name, "w") as file:
             file.writelines(call + "\n" for call in script)
+    return names
 
 
-def start(program):
-    """Starts a run over no files of earlier logs."""
-    for thread in range(THREADS):
-        if os.path.exists(f"log.{thread}"):
-            os.remove(f"log.{thread}")
+def remove_logs():
+    for log in LOGS:
+        if os.path.exists(log):
+            os.remove(log)
+
+
+def start(program, command, scripts):
+    """Starts a run of these scripts, by `run` or by `resume`, over the logs that are there."""
     with open("report", "w") as report:
-        return subprocess.Popen([program, "run", "bank", "log", *(f"script{t}" for t in range(THREADS))], stdout=report)
+        return subprocess.Popen([program, command, "bank", "log", *scripts], stdout=report)
 
 
-def whole_time(program):
+def whole_time(program, command, scripts):
     """How many seconds a run takes that isn't killed."""
     begin = time.monotonic()
-    assert start(program).wait() == 0
+    assert start(program, command, scripts).wait() == 0
     return time.monotonic() - begin
 
 
-def killed(program, seconds):
-    """Whether a run was killed after so many seconds, and had not ended before."""
-    run = start(program)
+def killed(run, seconds):
+    """Whether a run is killed after so many seconds, and has not ended before, which it does with 0 alone."""
     time.sleep(seconds)
     run.kill()
-    return run.wait() == -9
+    status = run.wait()
+    assert status in (0, -9), status
+    return status == -9
 
 
 def has_first_line(name):
@@ -65,33 +83,61 @@ def recover(program):
     return done.returncode, done.stdout.decode()
 
 
-def recovered_of(report):
-    """How many updates of each thread were recovered, which are its first ones."""
+def nodes_of(report):
+    """The thread and the call of each node of a recovery, by place. Each has its place, and the next number of its thread."""
+    counts, nodes = [0] * THREADS, []
+    for line in report.splitlines():
+        if line.startswith("node "):
+            _, at, thread, number, call = line.split(maxsplit=4)
+            thread = int(thread)
+            counts[thread] += 1
+            nodes.append((thread, call))
+            assert int(at) == len(nodes) and int(number) == counts[thread], report
+    assert f"recovered {len(nodes)}" in report.splitlines(), report
+    return nodes
+
+
+def entries_of(report):
+    """How many entries each log of a recovery has."""
+    entries = []
+    for thread, line in enumerate(report.splitlines()[:THREADS]):
+        words = line.split()
+        assert words[:2] == ["log", str(thread)] and words[2] in ("entries", "empty"), report
+        entries.append(int(words[3]) if words[2] == "entries" else 0)
+    return entries
+
+
+def counts_of(nodes, scripts):
+    """How many nodes each thread has, which are the first updates of its script in their order."""
     counts = [0] * THREADS
-    nodes = [line.split(maxsplit=4) for line in report.splitlines() if line.startswith("node ")]
-    for place, (_, at, thread, number, call) in enumerate(nodes, 1):
-        thread = int(thread)
+    for thread, call in nodes:
+        assert counts[thread] < len(scripts[thread]) and call == scripts[thread][counts[thread]], (thread, counts[thread] + 1, call)
         counts[thread] += 1
-        assert int(at) == place and int(number) == counts[thread], report
-        assert call == SCRIPTS[thread][counts[thread] - 1], report
-    assert f"recovered {sum(counts)}" in report.splitlines(), report
     return counts
+
+
+def expect_balances(report, nodes):
+    """Each thread deposits into the account of its number, and the balance is the sum."""
+    balances = [0] * THREADS
+    for thread, call in nodes:
+        balances[thread] += int(call.split()[2])
+    for thread, balance in enumerate(balances):
+        assert f"account {thread} {balance}" in report.splitlines(), report
 
 
 def expect_recovered(report):
     """Asserts what is said of logs that have all begun, and gives how many updates were recovered."""
-    counts = recovered_of(report)
-    for thread, count in enumerate(counts):
-        words = report.splitlines()[thread].split()
-        assert words[:3] == ["log", str(thread), "entries"] and 0 <= count - int(words[3]) <= 1, report
-        assert f"account {thread} {count * (count + 1) // 2}" in report.splitlines(), report
-    return sum(counts)
+    nodes = nodes_of(report)
+    for count, entries in zip(counts_of(nodes, SCRIPTS), entries_of(report)):
+        assert 0 <= count - entries <= 1, report
+    expect_balances(report, nodes)
+    return len(nodes)
 
 
 def expect_early(status, report):
     """Asserts what is said where a log has no line yet, and gives its name."""
     if status == 0:
-        assert recovered_of(report) == [0] * THREADS, report
+        assert nodes_of(report) == [], report
         return "nothing recovered"
     if status == 5:
         assert report.startswith("read fault log."), report
@@ -100,19 +146,28 @@ def expect_early(status, report):
     return "not a log"
 
 
+def tell_early(early):
+    for found, count in sorted(early.items()):
+        print(f"{count} before that: {found}")
+
+
 def main():
-    kills = int(sys.argv[1]) if len(sys.argv) > 1 else 200
-    rng = random.Random(int(sys.argv[2]) if len(sys.argv) > 2 else 1)
-    program = os.path.abspath(sys.argv[3]) if len(sys.argv) > 3 else PROGRAM
+    kills, rng, program = asked()
+    kills = 200 if kills is None else kills
     recovered, early = [], {}
     with tempfile.TemporaryDirectory() as folder:
         os.chdir(folder)
-        make_inputs()
-        longest = min(whole_time(program) for _ in range(3))
+        make_bank()
+        scripts = make_scripts("script", SCRIPTS)
+        times = []
+        for _ in range(3):
+            remove_logs()
+            times.append(whole_time(program, "run", scripts))
         while len(recovered) + sum(early.values()) < kills:
-            if not killed(program, rng.uniform(0, longest)):
+            remove_logs()
+            if not killed(start(program, "run", scripts), rng.uniform(0, min(times))):
                 continue
-            begun = all(has_first_line(f"log.{thread}") for thread in range(THREADS))
+            begun = all(has_first_line(log) for log in LOGS)
             status, report = recover(program)
             if begun:
                 assert status == 0, report
@@ -121,12 +176,12 @@ def main():
                 found = expect_early(status, report)
                 early[found] = early.get(found, 0) + 1
     recovered.sort()
-    print(f"{kills} kills within {longest:.2f} seconds, none failing")
+    print(f"{kills} kills within {min(times):.2f} seconds, none failing")
     if recovered:
         print(f"{len(recovered)} once every log had a line: of {THREADS * UPDATES} updates {recovered[0]} to {recovered[-1]} recovered, "
               f"{recovered[len(recovered) // 2]} in the middle")
-    for found, count in sorted(early.items()):
-        print(f"{count} before that: {found}")
+    tell_early(early)
 
 
-main()
+if __name__ == "__main__":
+    main()

@@ -1,4 +1,4 @@
-//! Two calls of the store that fail, of which the first decides, and a call of the store that fails beside a put that fails, for each command.
+//! For each command two calls of the store that fail, of which the first decides, and a call that fails beside a put that fails.
 
 use onll_calls::Program;
 use onll_outside::MemStore;

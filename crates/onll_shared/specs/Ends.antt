@@ -1,12 +1,12 @@
 -- A shared object at its end.
 use Rattle.std.specs.Prelude.{ℕ, false, List, [], ◌∷◌, ◌≡◌, ◌≤◌, ◌↔◌, length, map, Option, Some, Ok}
 use Rattle.std.specs.List.{Contains}
-use Rattle.onll_model.specs.declared.node.Node.{Node}
 use Rattle.onll_model.specs.Frames.{is_available}
 use Rattle.onll_log.specs.Log.{LogState}
 use Rattle.onll_log.specs.Grammar.{Content}
 use Rattle.onll_merge.specs.Merge.{merge}
 use Rattle.onll_trace.specs.declared.trace.Ended.{Ended}
+use Rattle.onll_trace.specs.declared.trace.Post.{Post}
 use Rattle.onll_trace.specs.Spots.{SpotView, TraceView}
 use Rattle.onll_trace.specs.Closing.{HasEnded}
 use Rattle.onll_shared.specs.Passes.{PassView, IsReady, spot_of}
@@ -20,7 +20,7 @@ pub record RestView (State Device : Type 0) : Type 0 where
   pub room : ℕ
   pub broken : Option ℕ
   pub seen : ℕ
-  pub list : List Node
+  pub list : List Post
   pub list_room : ℕ
 
 abbrev pub log_in : {State Device : Type 0} → RestView State Device → LogState Device

@@ -1,13 +1,13 @@
 -- What contracts see of a shared object and of a pass.
 use Rattle.std.specs.Prelude.{ℕ, List, [], ◌≡◌, ◌+◌, ◌*◌, ◌≤◌, ◌⊎◌, length, take, Option, Some, None, is_some}
 use Rattle.onll_model.specs.Object.{Behaviour}
-use Rattle.onll_model.specs.declared.node.Node.{Node}
 use Rattle.onll_model.specs.Trace.{state_after}
 use Rattle.onll_model.specs.Segment.{Segment, nodes_between}
 use Rattle.onll_model.specs.Frames.{Thread, Rest, Logging, segments_of}
 use Rattle.onll_pmem.specs.Pmem.{DeviceView, ToldSettled}
 use Rattle.onll_log.specs.Log.{LogState, HoldsLog, free_of}
 use Rattle.onll_log.specs.Torn.{log_image}
+use Rattle.onll_trace.specs.declared.trace.Post.{Post}
 use Rattle.onll_trace.specs.Rule.{count_of}
 use Rattle.onll_trace.specs.Spots.{TraceView, SpotView, IsOf, IsLawful, base_of}
 
@@ -58,7 +58,7 @@ pub record IsTied {State Op Query Reply Device : Type 0} (b : Behaviour State Op
   pub above : base_of pass.spot ≤ pass.at
 
 -- what a pass keeps beside: the list for its walks is empty, and has room for every node
-pub record IsReady (spot : SpotView) (seen : ℕ) (list : List Node) (list_room : ℕ) : Type 0 where
+pub record IsReady (spot : SpotView) (seen : ℕ) (list : List Post) (list_room : ℕ) : Type 0 where
   pub seen_is : seen ≡ spot.me.part.seen
   pub empty : list ≡ []
   pub nodes : spot.plan.nodes * spot.plan.threads ≤ list_room

@@ -12,7 +12,7 @@ use arrayvec::ArrayVec;
 use onll_log::ThreadLog;
 use onll_model::{Node, Object};
 use onll_pmem::Pmem;
-use onll_trace::{Ended, NotClosed, Spot};
+use onll_trace::{Ended, NotClosed, Post, Spot};
 use std::alloc::Global;
 use std::marker::Model;
 
@@ -39,7 +39,7 @@ struct Rest<O: Object, P: Pmem> {
     room: u64,
     seen: u64,
     broken: Option<u64>,
-    list: Vec<Node>,
+    list: Vec<Post>,
     window: ArrayVec<Node, 16>,
 }
 

@@ -29,8 +29,8 @@ pub struct Pass<O: Object, P: Pmem> {
     pub(crate) seen: u64,
     /// The place of the update whose fence failed.
     pub(crate) broken: Option<u64>,
-    /// For the nodes that the replica has still to do; empty between calls.
-    pub(crate) list: Vec<Node>,
+    /// For the posts of nodes that the replica has still to do; empty between calls.
+    pub(crate) list: Vec<Post>,
     /// For the nodes of a window.
     pub(crate) window: ArrayVec<Node, 16>,
 }
@@ -99,7 +99,7 @@ impl<O: Object, P: Pmem> Pass<O, P> {
     {
         self.spot.facts();
         collect(trace, &mut self.spot, &mut self.list, self.at, to);
-        apply_listed(&mut self.replica, &mut self.list);
+        apply_listed(trace, &mut self.spot, &mut self.replica, &mut self.list);
         self.at = to.place;
     }
 

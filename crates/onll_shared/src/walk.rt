@@ -1,10 +1,11 @@
 //! The walks over the trace, each down from a node that the spot has met.
 
 ghost use Rattle.std.specs.Prelude.{◌≡◌, ◌+◌, ◌-◌, ◌*◌, ◌<◌, ◌≤◌, ℕ, [], length, reverse, vec_capacity};
+ghost use Rattle.std.specs.List.{AllByRecursion};
 ghost use Rattle.onll_model.specs.Segment.{nodes_between};
 ghost use Rattle.onll_model.specs.Trace.{state_after, after_row};
 ghost use Rattle.onll_trace.specs.Spots.{IsOf, base_of};
-ghost use Rattle.onll_shared.specs.Walks.{BeginsWalk, IsWalked, Asks, Found, Met};
+ghost use Rattle.onll_shared.specs.Walks.{BeginsWalk, IsWalked, Asks, Found, Met, MetAbove, nodes_at};
 
 use arrayvec::ArrayVec;
 use onll_model::{Node, Object};
@@ -48,9 +49,9 @@ pub(crate) fn find_set(trace: &Trace, spot: &mut Spot, front: Post) -> Post
     post
 }
 
-#[tactic(auto, using(crate::proofs::Between::between_none, crate::proofs::Between::reversed_down))]
-/// Puts the nodes above a place, up to another, into the list, the highest first.
-pub(crate) fn collect(trace: &Trace, spot: &mut Spot, list: &mut Vec<Node>, above: u64, to: Post)
+#[tactic(auto, using(crate::proofs::Between::between_none, crate::proofs::Between::posts_down))]
+/// Puts the posts above a place, up to another, into the list, the highest first.
+pub(crate) fn collect(trace: &Trace, spot: &mut Spot, list: &mut Vec<Post>, above: u64, to: Post)
     requires of { IsOf trace.now spot.old }
     requires met { Met spot.old to }
     requires base { base_of spot.old ≤ above }
@@ -58,12 +59,13 @@ pub(crate) fn collect(trace: &Trace, spot: &mut Spot, list: &mut Vec<Node>, abov
     requires empty { list.old.items ≡ [] }
     requires room { length spot.old.known ≤ vec_capacity list.old }
     ensures spot { spot.new ≡ spot.old }
-    ensures nodes { reverse list.new.items ≡ nodes_between spot.old.known above to.place }
+    ensures met { AllByRecursion (λ post. MetAbove spot.old post) list.new.items }
+    ensures nodes { reverse (nodes_at spot.old.known list.new.items) ≡ nodes_between spot.old.known above to.place }
     ensures room { vec_capacity list.new ≡ vec_capacity list.old }
 {
     let mut post = to;
     while post.place > above {
-        list.push_reserved(trace.node(spot, post));
+        list.push_reserved(post);
         post = trace.before(spot, post);
     }
 }
@@ -77,14 +79,22 @@ pub(crate) fn apply_row<O: Object>(object: &mut O, row: OpRow)
     }
 }
 
-#[tactic(auto, using(crate::proofs::Between::applied_last))]
-/// Applies the nodes of a list, the last of it first, and empties it.
-pub(crate) fn apply_listed<O: Object>(object: &mut O, list: &mut Vec<Node>)
-    ensures object { object.new ≡ state_after O.means object.old (reverse list.old.items) }
+#[tactic(auto, using(crate::proofs::Between::applied_post))]
+/// Applies the nodes at the posts of a list, the last of it first, and empties it.
+pub(crate) fn apply_listed<O: Object>(
+    trace: &Trace,
+    spot: &mut Spot,
+    object: &mut O,
+    list: &mut Vec<Post>,
+)
+    requires of { IsOf trace.now spot.old }
+    requires met { AllByRecursion (λ post. MetAbove spot.old post) list.old.items }
+    ensures spot { spot.new ≡ spot.old }
+    ensures object { object.new ≡ state_after O.means object.old (reverse (nodes_at spot.old.known list.old.items)) }
     ensures empty { list.new.items ≡ [] }
     ensures room { vec_capacity list.new ≡ vec_capacity list.old }
 {
-    while let Some(node) = list.pop() {
-        apply_row(object, node.row);
+    while let Some(post) = list.pop() {
+        apply_row(object, trace.node(spot, post).row);
     }
 }

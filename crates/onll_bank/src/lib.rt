@@ -13,8 +13,6 @@
 mod bank;
 mod laws;
 mod operation;
-#[cfg(test)]
-mod tests;
 
 pub use bank::Bank;
 pub use laws::bank_laws;

@@ -33,8 +33,6 @@ mod entry;
 mod laws;
 mod lease;
 mod operation;
-#[cfg(test)]
-mod tests;
 
 pub use entry::LeaseEntry;
 pub use laws::{held_law, stale_law, token_law, zero_law};

@@ -35,8 +35,6 @@ mod image_file;
 mod laws;
 mod log;
 mod mask;
-#[cfg(test)]
-mod tests;
 
 pub use cause::MakeCause;
 pub use cursor::{EntryView, LogCursor};

@@ -15,8 +15,6 @@
 mod laws;
 mod map;
 mod operation;
-#[cfg(test)]
-mod tests;
 
 pub use laws::map_laws;
 pub use map::Map;

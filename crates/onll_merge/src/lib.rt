@@ -28,8 +28,6 @@ mod merge;
 mod numbers;
 mod recovery;
 mod second_pass;
-#[cfg(test)]
-mod tests;
 
 pub use counts::LogCounts;
 pub use fault::{ImagesFault, RecoverFault, StateFault};

@@ -13,8 +13,6 @@
 mod laws;
 mod operation;
 mod queue;
-#[cfg(test)]
-mod tests;
 
 pub use laws::queue_laws;
 pub use operation::{QueueOp, QueueQuery, QueueReply};

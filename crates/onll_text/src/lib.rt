@@ -14,8 +14,6 @@ mod report;
 mod report_laws;
 mod schedule;
 mod script;
-#[cfg(test)]
-mod tests;
 mod texted;
 mod words;
 

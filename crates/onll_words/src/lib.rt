@@ -15,8 +15,6 @@
 mod line;
 mod number;
 mod short;
-#[cfg(test)]
-mod tests;
 mod text;
 
 pub use line::{Line, OpRow, line_bytes, line_of_bytes};

@@ -3,7 +3,7 @@ use Rattle.onll_words.specs.declared.line.OpRow.{OpRow}
 use Rattle.onll_words.proofs.RowWords.{one_argument}
 use Rattle.onll_model.specs.Object.{Behaviour}
 
--- The object of this crate's own tests: a register, whose operations each set it and reply what it held.
+-- A register, whose operations each set it and reply what it held.
 
 abbrev pub register_row : ℕ → OpRow
 register_row x = record { w = 1 ∷ x ∷ 0 ∷ 0 ∷ 0 ∷ 0 ∷ 0 ∷ [] }

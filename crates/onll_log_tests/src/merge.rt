@@ -1,7 +1,7 @@
 //! Tests of the merge.
 
-use super::*;
 use onll_log::{Decoded, Entries, Entry, LogHead, Nodes, entry_head};
+use onll_merge::{ImagesFault, RecoverFault, merge_images, recover};
 use onll_model::{Node, node_line};
 use onll_words::OpRow;
 use std::alloc::{AllocError, Global};

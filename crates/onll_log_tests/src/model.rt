@@ -1,9 +1,9 @@
 //! Tests of names, node lines and recovered rows against values from the rules of a log, over a register.
 
 ghost use Rattle.std.proofs.Common.{rules};
-ghost use Rattle.onll_model.specs.Register.{register};
+ghost use Rattle.onll_log_tests.specs.Register.{register};
 
-use crate::{Node, NotOp, Object, fold_nodes, node_line};
+use onll_model::{Node, NotOp, Object, fold_nodes, node_line};
 use onll_words::{NoMemory, OpRow};
 use std::alloc::Global;
 use std::marker::Model;

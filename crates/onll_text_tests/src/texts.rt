@@ -1,8 +1,8 @@
 //! Tests of the readers and of the lines of reports.
 
-use crate::{AnyObject, Piece, Reason, Report, TextFault, read_init, read_schedule, read_script};
 use onll_bank::{Bank, BankOp, BankQuery, BankReply};
 use onll_model::{Call, CallEnd, Node, Object, Turn};
+use onll_text::{AnyObject, Piece, Reason, Report, TextFault, read_init, read_schedule, read_script};
 use onll_words::NoMemory;
 use std::alloc::Global;
 use std::test::Fail;

@@ -1,6 +1,6 @@
 //! Tests of a bank.
 
-use crate::{Bank, BankOp, BankQuery, BankReply};
+use onll_bank::{Bank, BankOp, BankQuery, BankReply};
 use onll_model::{Object, capacity_kept, op_of_its_row, row_of_its_op, undone};
 use onll_words::OpRow;
 use std::test::Fail;

@@ -1,6 +1,6 @@
 //! Tests of a lease table.
 
-use crate::{Lease, LeaseEntry, LeaseOp, LeaseQuery, LeaseReply};
+use onll_lease::{Lease, LeaseEntry, LeaseOp, LeaseQuery, LeaseReply};
 use onll_model::{Object, capacity_kept, op_of_its_row, row_of_its_op, undone};
 use onll_words::OpRow;
 use std::test::Fail;

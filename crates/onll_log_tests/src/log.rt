@@ -3,7 +3,7 @@
 ghost use Rattle.std.specs.Prelude.{◌≡◌, ◌≤◌, ◌<◌, length};
 ghost use Rattle.onll_log.specs.Head.{FitsHead};
 
-use super::*;
+use onll_log::{DecodeFault, LogHead, MakeCause, ThreadLog, decode, entry_head, format_of};
 use onll_model::{Node, node_line};
 use onll_pmem::{FenceFailed, MemPmem, Pmem};
 use onll_words::{Line, OpRow};

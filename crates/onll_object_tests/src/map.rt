@@ -1,6 +1,6 @@
 //! Tests of a map.
 
-use crate::{Map, MapOp, MapQuery, MapReply};
+use onll_map::{Map, MapOp, MapQuery, MapReply};
 use onll_model::{Object, capacity_kept, op_of_its_row, row_of_its_op, undone};
 use onll_words::{OpRow, Short};
 use std::test::Fail;

@@ -1,5 +1,5 @@
 -- Where a cursor stands, and where it goes.
-use Rattle.std.proofs.Common.{◌≡◌, ℕ, zero, suc, ◌+◌, ◌*◌, ◌<◌, ◌≤◌, Bool, true, false, List, [], ◌∷◌, ◌++◌, length, get_or, take, drop, map, sym, refl, ap, ◌∙◌, subst, arith, append-nil, ◌⊎◌, inl, inr, Option, Some, None}
+use Rattle.std.proofs.Common.{◌≡◌, ℕ, zero, suc, ◌+◌, ◌*◌, ◌<◌, ◌≤◌, true, false, List, [], ◌∷◌, ◌++◌, length, get_or, take, drop, map, sym, refl, ap, ◌∙◌, subst, arith, append-nil, ◌⊎◌, inl, inr, Option, Some, None}
 use Rattle.std.specs.List.{slice_get}
 use Rattle.std.proofs.lemmas.Bool.{leb-true, cases_Bool}
 use Rattle.std.proofs.lemmas.List.{drop-drop, length-map, length-drop, length-take-le, drop_more, take_more, take-append-drop, drop-map, get_or-take, get_or-drop}
@@ -204,12 +204,28 @@ pub all_gone : (es : List Segment) (n : ℕ) → drop n es ≡ [] → take n es 
 all_gone es n d = sym (append-nil (take n es)) ∙ (ap (λ (l : List Segment). take n es ++ l) (sym d) ∙ take-append-drop n es)
 
 -- ---- by what the calls answer
+-- the lines from one on begin with this line
+at_line : (head : LogHead) (before at : ℕ) (lines left rest : List Line) (line : Line) → left ≡ drop at lines → left ≡ line ∷ rest → entries_from head before 0 (drop at (words_of lines)) ≡ entries_from head before 0 (line.w ∷ words_of rest)
+at_line head before at lines left rest line there split = ap (entries_from head before 0) (drop-map (λ (l : Line). l.w) at lines ∙ ap words_of (sym there ∙ split))
+
 -- an entry that is accepted at a line
-pub entry_seen : (head : LogHead) (before at : ℕ) (lines left rest : List Line) (line : Line) (answer : Bool) → left ≡ drop at lines → left ≡ line ∷ rest → answer ≡ is_entry head before line.w (words_of rest) → answer ≡ true
+pub entry_seen : (head : LogHead) (before at : ℕ) (lines left rest : List Line) (line : Line) → left ≡ drop at lines → left ≡ line ∷ rest → is_entry head before line.w (words_of rest) ≡ true
     → Some (record { line = at; place = word line.w 3; count = word line.w 4 }) ≡ first_view at (entries_from head before 0 (drop at (words_of lines)))
-entry_seen head before at lines left rest line answer there split says accepted =
-    sym (ap (λ (ls : List (List ℕ)). first_view at (entries_from head before 0 ls)) (drop-map (λ (l : Line). l.w) at lines ∙ ap words_of (sym there ∙ split))
-    ∙ accepted_view head before at line.w (words_of rest) (sym says ∙ accepted))
+entry_seen head before at lines left rest line there split accepted =
+    sym (ap (first_view at) (at_line head before at lines left rest line there split) ∙ accepted_view head before at line.w (words_of rest) accepted)
+
+-- where there is an entry, it is accepted at the first line
+accepted_first : (head : LogHead) (before : ℕ) (line : List ℕ) (rest : List (List ℕ)) → 1 ≤ length (entries_from head before 0 (line ∷ rest)) → is_entry head before line rest ≡ true
+accepted_first head before line rest some = by_test (cases_Bool (is_entry head before line rest))
+  where
+    by_test : (is_entry head before line rest ≡ true) ⊎ (is_entry head before line rest ≡ false) → is_entry head before line rest ≡ true
+    by_test (inl t) = t
+    by_test (inr f) = absurd (omega (arith, some, ap length (entries_from-none head before line rest f)))
+
+pub entry_known : (head : LogHead) (before at : ℕ) (lines left rest : List Line) (line : Line) → left ≡ drop at lines → left ≡ line ∷ rest → 1 ≤ length (entries_from head before 0 (drop at (words_of lines)))
+    → is_entry head before line.w (words_of rest) ≡ true
+entry_known head before at lines left rest line there split some =
+    accepted_first head before line.w (words_of rest) (subst (λ (ss : List Segment). 1 ≤ length ss) (at_line head before at lines left rest line there split) some)
 
 -- where the cursor stands after the entry that it looked at
 pub further : (head : Option LogHead) (lines : List (List ℕ)) (passed at : ℕ) (next : Option EntryView) (h : LogHead) (e : EntryView) (found : Option EntryView) → StandsAt head lines passed at next → head ≡ Some h → next ≡ Some e
@@ -222,6 +238,17 @@ pub within_further : (head : Option LogHead) (lines : List (List ℕ)) (passed a
     → at + (1 + e.count) ≤ length lines
 within_further head lines passed at next h e s is looked =
     (further head lines passed at next h e (first_view (at + (1 + e.count)) (entries_from h (passed + 1) 0 (drop (at + (1 + e.count)) lines))) s is looked refl).within
+
+-- an entry that is known to be accepted is left
+pub known_further : (head : Option LogHead) (lines : List (List ℕ)) (passed at : ℕ) (next : Option EntryView) (h : LogHead) (e : EntryView) → StandsAt head lines passed at next → head ≡ Some h → next ≡ Some e
+    → passed + 1 < length (entries_under head lines) → 1 ≤ length (entries_from h (passed + 1) 0 (drop (at + (1 + e.count)) lines))
+known_further head lines passed at next h e s is looked l =
+    let es = entries_from h 0 0 (drop 1 lines) in
+    let there : passed + 1 < length es = subst (λ (x : Option LogHead). passed + 1 < length (entries_under x lines)) is l in
+    let stands : StandsAt (Some h) lines passed at (Some e) =
+        subst (λ (x : Option LogHead). StandsAt x lines passed at (Some e)) is (subst (λ (x : Option EntryView). StandsAt head lines passed at x) looked s) in
+    let on = goes_on h lines passed at e (first_view (at + (1 + e.count)) (entries_from h (passed + 1) 0 (drop (at + (1 + e.count)) lines))) stands refl in
+    omega (arith, there, ap length on.left, length-drop (passed + 1) es)
 
 -- where none is shown
 pub all_shown : (c : CursorState) → first_view (lines_passed c) (entries_left c) ≡ None → (entries_passed c ≡ c.content.entries) × (lines_passed c ≡ used_by c.content)

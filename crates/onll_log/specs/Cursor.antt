@@ -36,6 +36,10 @@ first_nodes (s ∷ ss) = s.nodes
 abbrev pub one_further : CursorState → CursorState
 one_further c = record { content = c.content; passed = c.passed + 1 }
 
+-- before the first entry
+abbrev pub before_all : CursorState → CursorState
+before_all c = record { content = c.content; passed = 0 }
+
 -- ---- how a cursor stands on lines
 -- the entries of lines that begin with this head, and none without a head
 abbrev pub entries_under : Option LogHead → List (List ℕ) → List Segment
@@ -56,3 +60,8 @@ pub record StandsAt (head : Option LogHead) (lines : List (List ℕ)) (passed at
   pub gone : at ≡ used_with head (take passed (entries_under head lines))
   pub left : drop passed (entries_under head lines) ≡ entries_after head passed (drop at lines)
   pub looked : next ≡ first_view at (entries_after head passed (drop at lines))
+
+-- so it stands, and this many entries are known to be accepted
+pub record StandsOver (head : Option LogHead) (lines : List (List ℕ)) (known passed at : ℕ) (next : Option EntryView) : Type 0 where
+  pub stands : StandsAt head lines passed at next
+  pub accepted : known ≤ length (entries_under head lines)

@@ -4,7 +4,7 @@ ghost use Rattle.std.specs.Prelude.{◌≡◌, ℕ, ◌+◌, ◌-◌, ◌<◌, �
 ghost use Rattle.onll_model.specs.Limits.{most_threads};
 ghost use Rattle.onll_pmem.specs.Pmem.{words_of};
 ghost use Rattle.onll_log.specs.Grammar.{content_of, entries_from};
-ghost use Rattle.onll_log.specs.Cursor.{entries_left, lines_passed, first_view, first_nodes, one_further};
+ghost use Rattle.onll_log.specs.Cursor.{entries_left, lines_passed, first_view, first_nodes, one_further, before_all};
 
 use crate::entry::is_entry;
 use crate::head::LogHead;
@@ -21,12 +21,14 @@ pub struct EntryView {
     pub count: u64,
 }
 
-/// Goes over the accepted entries of an image, one after the other. It reads each line once as it goes past it, and takes no
-/// memory.
+/// Goes over the accepted entries of an image, one after the other. It tests an entry when it first reaches it, and not again
+/// when it goes over the image once more; it takes no memory.
 #[derive(Drop)]
 pub struct LogCursor<'a> {
     lines: &'a [Line],
     head: Option<LogHead>,
+    /// How many entries were gone past, now or before: these are accepted.
+    known: u64,
     passed: u64,
     at: usize,
     next: Option<EntryView>,
@@ -34,7 +36,7 @@ pub struct LogCursor<'a> {
 
 impl<'a> Model for LogCursor<'a> {
     ghost use Rattle.onll_pmem.specs.Pmem.{words_of};
-    ghost use Rattle.onll_log.specs.Cursor.{CursorState, StandsAt, entries_under};
+    ghost use Rattle.onll_log.specs.Cursor.{CursorState, StandsOver, entries_under};
 
     ghost Value = { CursorState };
 
@@ -44,19 +46,27 @@ impl<'a> Model for LogCursor<'a> {
       passed = s.passed;
     } };
 
-    ghost invariant = { λ s. StandsAt s.head (words_of s.lines.now) s.passed s.at s.next };
+    ghost invariant = { λ s. StandsOver s.head (words_of s.lines.now) s.known s.passed s.at s.next };
 }
 
-/// The entry that begins at this line, after this many entries of the log, None where none is accepted there.
-fn entry_at(head: &LogHead, before: u64, at: usize, lines: &[Line]) -> Option<EntryView>
+/// The entry that begins at this line, after this many entries of the log, None where none is accepted there. The first `known`
+/// entries of the log are accepted, and not tested.
+fn entry_at(
+    head: &LogHead,
+    known: u64,
+    before: u64,
+    at: usize,
+    lines: &[Line],
+) -> Option<EntryView>
     requires threads { head.now.threads ≤ most_threads }
     requires before { before < 2 ^ 64 - 1 }
     requires within { at ≤ length lines.now }
+    requires known { before < known → 1 ≤ length (entries_from head.now before 0 (drop at (words_of lines.now))) }
     ensures { result ≡ first_view at (entries_from head.now before 0 (drop at (words_of lines.now))) }
 {
     let (_, left) = lines.split_at(at);
     let (line, rest) = left.split_first()?;
-    if is_entry(head, before, line, rest) {
+    if before < known || is_entry(head, before, line, rest) {
         Some(EntryView {
             line: at as u64,
             place: line.w[3],
@@ -75,10 +85,11 @@ impl<'a> LogCursor<'a> {
     {
         let first = lines.first()?;
         if let Some(head) = LogHead::of_line(first) {
-            let next = entry_at(&head, 0, 1, lines);
+            let next = entry_at(&head, 0, 0, 1, lines);
             return Some(LogCursor {
                 lines,
                 head: Some(head),
+                known: 0,
                 passed: 0,
                 at: 1,
                 next,
@@ -90,6 +101,7 @@ impl<'a> LogCursor<'a> {
         Some(LogCursor {
             lines,
             head: None,
+            known: 0,
             passed: 0,
             at: 0,
             next: None,
@@ -126,9 +138,21 @@ impl<'a> LogCursor<'a> {
         if let Some(head) = self.head {
             if let Some(entry) = self.next {
                 self.passed += 1;
+                self.known = self.known.max(self.passed);
                 self.at += 1 + entry.count as usize;
-                self.next = entry_at(&head, self.passed, self.at, self.lines);
+                self.next = entry_at(&head, self.known, self.passed, self.at, self.lines);
             }
+        }
+    }
+
+    /// Goes back before the first entry.
+    pub fn rewind(&mut self)
+        ensures { self.new ≡ before_all self.old }
+    {
+        if let Some(head) = self.head {
+            self.passed = 0;
+            self.at = 1;
+            self.next = entry_at(&head, self.known, 0, 1, self.lines);
         }
     }
 

@@ -42,9 +42,9 @@ fn first_lines<P: Pmem>(alloc: Global, device: &P, count: u64) -> Result<Vec<Lin
     requires { count ≤ length (P.means device.now).read }
     ensures { IfOk result (λ lines. words_of lines.items ≡ take count (P.means device.now).read) }
 {
-    let mut lines = Vec::new(alloc);
+    let mut lines = Vec::with_capacity(alloc, count as usize)?;
     for line in 0..count {
-        lines.push(device.read(line))?;
+        lines.push_reserved(device.read(line));
     }
     Ok(lines)
 }

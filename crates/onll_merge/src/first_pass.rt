@@ -5,6 +5,7 @@ ghost use Rattle.std.specs.Option.{option_or};
 ghost use Rattle.std.specs.List.{AllByRecursion};
 ghost use Rattle.onll_model.specs.Segment.{Rises};
 ghost use Rattle.onll_pmem.specs.Pmem.{words_of};
+ghost use Rattle.onll_log.specs.Cursor.{before_all};
 ghost use Rattle.onll_merge.specs.Merge.{AllRise, foreign, disorder_in, disorder, top_in_log, top_of};
 ghost use Rattle.onll_merge.specs.Recovered.{contents_from, log_counts};
 ghost use Rattle.onll_merge.specs.Standing.{contents_under};
@@ -63,14 +64,16 @@ fn check_heads(cursors: &[LogCursor<'_>], heads: &[LogHead]) -> Result<(), Recov
     Ok(())
 }
 
-/// What a log holds whose entries rise. It refuses the first entry that does not begin above the one before it.
-fn measure(log: u64, mut cursor: LogCursor<'_>) -> Result<Measured, RecoverFault>
-    requires { cursor.passed ≡ 0 }
-    ensures order { let found = disorder_in log 0 0 cursor.entry.content.entries in
+/// What a log holds whose entries rise. It refuses the first entry that does not begin above the one before it. The cursor ends
+/// where it began, before the first entry.
+fn measure(log: u64, cursor: &mut LogCursor<'_>) -> Result<Measured, RecoverFault>
+    requires { cursor.old.passed ≡ 0 }
+    ensures order { let found = disorder_in log 0 0 cursor.old.content.entries in
         MatchResult result (λ _. found ≡ None) (λ e. found ≡ Some e) }
-    ensures rises { OnOk result (Rises 0 cursor.entry.content.entries) }
-    ensures counts { IfOk result (λ m. m.counts ≡ log_counts cursor.entry.content) }
-    ensures top { IfOk result (λ m. m.top ≡ top_in_log cursor.entry.content.entries) }
+    ensures rises { OnOk result (Rises 0 cursor.old.content.entries) }
+    ensures counts { IfOk result (λ m. m.counts ≡ log_counts cursor.old.content) }
+    ensures top { IfOk result (λ m. m.top ≡ top_in_log cursor.old.content.entries) }
+    ensures again { OnOk result (cursor.new ≡ before_all cursor.old) }
 {
     let mut last = 0;
     let mut top = 0;
@@ -85,51 +88,54 @@ fn measure(log: u64, mut cursor: LogCursor<'_>) -> Result<Measured, RecoverFault
         top = entry.place.max(top);
         cursor.advance();
     }
-    Ok(Measured {
-        counts: LogCounts {
-            head: cursor.head().is_some(),
-            entries: cursor.passed(),
-            lines: cursor.used(),
-        },
-        top,
-    })
+    let counts = LogCounts {
+        head: cursor.head().is_some(),
+        entries: cursor.passed(),
+        lines: cursor.used(),
+    };
+    cursor.rewind();
+    Ok(Measured { counts, top })
 }
 
-/// What logs hold whose entries rise. It refuses the first entry of the first log that is out of order.
-fn measure_all(alloc: Global, cursors: Vec<LogCursor<'_>>) -> Result<Survey, RecoverFault>
-    requires { AllByRecursion (λ c. c.passed ≡ 0) cursors.items }
-    ensures order { let found = disorder 0 (contents_under cursors.entry.items) in
+/// What logs hold whose entries rise. It refuses the first entry of the first log that is out of order. The cursors end where they
+/// began.
+fn measure_all(alloc: Global, cursors: &mut [LogCursor<'_>]) -> Result<Survey, RecoverFault>
+    requires { AllByRecursion (λ c. c.passed ≡ 0) cursors.old }
+    ensures order { let found = disorder 0 (contents_under cursors.old) in
         MatchResult result (λ _. found ≡ None) (λ e. (e ≡ OutOfMemory) ⊎ (found ≡ Some e)) }
-    ensures rise { OnOk result (AllRise (contents_under cursors.entry.items)) }
-    ensures counts { IfOk result (λ s. s.logs.items ≡ map log_counts (contents_under cursors.entry.items)) }
-    ensures top { IfOk result (λ s. s.top ≡ top_of (contents_under cursors.entry.items)) }
+    ensures rise { OnOk result (AllRise (contents_under cursors.old)) }
+    ensures counts { IfOk result (λ s. s.logs.items ≡ map log_counts (contents_under cursors.old)) }
+    ensures top { IfOk result (λ s. s.top ≡ top_of (contents_under cursors.old)) }
+    ensures same { OnOk result (contents_under cursors.new ≡ contents_under cursors.old) }
+    ensures first { OnOk result (AllByRecursion (λ c. c.passed ≡ 0) cursors.new) }
 {
     let mut logs = Vec::new(alloc);
     let mut top = 0;
-    let mut log = 0;
-    for cursor in cursors {
-        let found = measure(log, cursor)?;
+    for log in 0..cursors.len() {
+        let found = measure(log as u64, &mut cursors[log])?;
         top = found.top.max(top);
         logs.push(found.counts)?;
-        log += 1;
     }
     Ok(Survey { logs, top })
 }
 
-/// What logs of one run with these heads hold. It refuses a head that is not the expected one, and then entries out of order.
+/// What logs of one run with these heads hold. It refuses a head that is not the expected one, and then entries out of order. The
+/// cursors end where they began.
 pub fn survey_logs(
     alloc: Global,
-    cursors: Vec<LogCursor<'_>>,
+    cursors: &mut [LogCursor<'_>],
     heads: &[LogHead],
 ) -> Result<Survey, RecoverFault>
-    requires heads { length heads.now ≡ length cursors.items }
-    requires first { AllByRecursion (λ c. c.passed ≡ 0) cursors.items }
-    ensures refused { let logs = contents_under cursors.entry.items in let found = option_or (foreign 0 logs heads.now) (disorder 0 logs) in
+    requires heads { length heads.now ≡ length cursors.old }
+    requires first { AllByRecursion (λ c. c.passed ≡ 0) cursors.old }
+    ensures refused { let logs = contents_under cursors.old in let found = option_or (foreign 0 logs heads.now) (disorder 0 logs) in
         MatchResult result (λ _. found ≡ None) (λ e. (e ≡ OutOfMemory) ⊎ (found ≡ Some e)) }
-    ensures rise { OnOk result (AllRise (contents_under cursors.entry.items)) }
-    ensures counts { IfOk result (λ s. s.logs.items ≡ map log_counts (contents_under cursors.entry.items)) }
-    ensures top { IfOk result (λ s. s.top ≡ top_of (contents_under cursors.entry.items)) }
+    ensures rise { OnOk result (AllRise (contents_under cursors.old)) }
+    ensures counts { IfOk result (λ s. s.logs.items ≡ map log_counts (contents_under cursors.old)) }
+    ensures top { IfOk result (λ s. s.top ≡ top_of (contents_under cursors.old)) }
+    ensures same { OnOk result (contents_under cursors.new ≡ contents_under cursors.old) }
+    ensures first { OnOk result (AllByRecursion (λ c. c.passed ≡ 0) cursors.new) }
 {
-    check_heads(&cursors, heads)?;
+    check_heads(cursors, heads)?;
     measure_all(alloc, cursors)
 }

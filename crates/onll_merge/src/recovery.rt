@@ -61,8 +61,9 @@ pub fn recover_images(
         MatchResult result (λ r. recovered ≡ Ok (recovered_in r)) (λ e. (e ≡ Recover OutOfMemory) ⊎ (recovered ≡ Err e)) }
     ensures count { IfOk result (λ r. length r.logs.items ≡ length images.now) }
 {
-    let found = survey_logs(alloc, open_all(alloc, images)?, heads)?;
-    let nodes = merge_places(alloc, open_all(alloc, images)?, found.top)?;
+    let mut cursors = open_all(alloc, images)?;
+    let found = survey_logs(alloc, &mut cursors, heads)?;
+    let nodes = merge_places(alloc, cursors, found.top)?;
     Ok(Recovery {
         logs: found.logs,
         nodes,

@@ -10,7 +10,7 @@ use Rattle.onll_merge.proofs.first_pass.measure.Goals as goal
 
 pub loop-entry-preserved : goal.loop-entry-preserved
 loop-entry-preserved c =
-    let es = c.args.cursor.content.entries in
+    let es = c.args.cursor.now.content.entries in
     let cur = c.loop-entry.cursor in
     let log = c.args.log in
     let last = c.loop-entry.last in
@@ -40,4 +40,4 @@ pub returns-clause-counts : goal.returns-clause-counts
 returns-clause-counts c =
     let cur = c.loop-entry.cursor in
     let none = not_viewed (lines_passed cur) (entries_left cur) (sym c.in_default.is ∙ c.peek.ensures) in
-    counted_all cur c.args.cursor.content (record { head = c.is_some.result; entries = c.passed-2.result; lines = c.used.result }) c.loop-entry.invariant.same none c.loop-entry.invariant.most (c.is_some.ensures ∙ ap is_some c.head.ensures) c.passed-2.ensures.count c.used.ensures
+    counted_all cur c.args.cursor.now.content (record { head = c.is_some.result; entries = c.passed-2.result; lines = c.used.result }) c.loop-entry.invariant.same none c.loop-entry.invariant.most (c.is_some.ensures ∙ ap is_some c.head.ensures) c.passed-2.ensures.count c.used.ensures

@@ -11,14 +11,14 @@ pub bounds-self-inside-self-inside : goal.bounds-self-inside-self-inside
 bounds-self-inside-self-inside c =
     let s = c.self.inside in
     let there = rw (← c.self.view_is) at c.requires in
-    let h = line_of s.head (words_of s.lines.now) s.passed s.at s.next c.args.i c.self.invariant there in
+    let h = line_of s.head (words_of s.lines.now) s.passed s.at s.next c.args.i c.self.invariant.stands there in
     omega (arith, h.within, length-map s.lines.now (λ (l : Line). l.w))
 
 pub node_of-requires : goal.node_of-requires
 node_of-requires c =
     let s = c.self.inside in
     let there = rw (← c.self.view_is) at c.requires in
-    let h = line_of s.head (words_of s.lines.now) s.passed s.at s.next c.args.i c.self.invariant there in
+    let h = line_of s.head (words_of s.lines.now) s.passed s.at s.next c.args.i c.self.invariant.stands there in
     let none : Line = record { w = [] } in
     let here = words_at s.lines.now (s.at + 1 + c.args.i) none in
     (subst (λ (l : List ℕ). 1 ≤ word l 0) here (h.low []), subst (λ (l : List ℕ). word l 0 ≤ 65536) here (h.high []))
@@ -27,7 +27,7 @@ pub returns : goal.returns
 returns c =
     let s = c.self.inside in
     let there = rw (← c.self.view_is) at c.requires in
-    let h = line_of s.head (words_of s.lines.now) s.passed s.at s.next c.args.i c.self.invariant there in
+    let h = line_of s.head (words_of s.lines.now) s.passed s.at s.next c.args.i c.self.invariant.stands there in
     let none : Line = record { w = [] } in
     let here = words_at s.lines.now (s.at + 1 + c.args.i) none in
     rw (← c.self.view_is) (h.node [] ∙ (ap (λ (l : List ℕ). Some (node_of_line l)) here ∙ ap Some (sym c.node_of.ensures)))
@@ -36,12 +36,12 @@ pub overflow_add-self-inside-2 : goal.overflow_add-self-inside-2
 overflow_add-self-inside-2 c =
     let s = c.self.inside in
     let there = rw (← c.self.view_is) at c.requires in
-    let h = line_of s.head (words_of s.lines.now) s.passed s.at s.next c.args.i c.self.invariant there in
+    let h = line_of s.head (words_of s.lines.now) s.passed s.at s.next c.args.i c.self.invariant.stands there in
     omega (arith, h.within, length-map s.lines.now (λ (l : Line). l.w))
 
 pub offset_bounds-self-inside-self-inside : goal.offset_bounds-self-inside-self-inside
 offset_bounds-self-inside-self-inside c =
     let s = c.self.inside in
     let there = rw (← c.self.view_is) at c.requires in
-    let h = line_of s.head (words_of s.lines.now) s.passed s.at s.next c.args.i c.self.invariant there in
+    let h = line_of s.head (words_of s.lines.now) s.passed s.at s.next c.args.i c.self.invariant.stands there in
     omega (arith, h.within, length-map s.lines.now (λ (l : Line). l.w))

@@ -1,11 +1,10 @@
 //! Devices that stores hand out, over files beside one in memory that takes the same calls.
 
-use crate::checks::{EMPTY, FULL, holds, must};
+use crate::checks::{EMPTY, FULL, Found, holds, make_folder, remove, remove_folder};
 use onll_outside::{FenceAt, FileStore, MemStore, Store};
 use onll_pmem::{MemPmem, Pmem};
 use onll_words::Line;
 use std::alloc::Global;
-use std::fs;
 use std::test::Fail;
 
 /// A call of a device. A line is written where it reads as empty.
@@ -57,17 +56,19 @@ fn take_both<P: Pmem>(
     device: &mut P,
     same: &mut MemPmem,
     call: Call,
-) -> Result<bool, Fail> {
+) -> bool {
     if !take(device, call) || !take(same, call) {
-        return Ok(false);
+        return false;
     }
-    let image = same.image(rt.alloc(), 0)?;
-    holds(rt, name, &image)
+    match same.image(rt.alloc(), 0) {
+        Ok(image) => holds(rt, name, &image),
+        Err(_) => false,
+    }
 }
 
 // Neighbours in one fence, lines apart in one fence, a fence with nothing handed over, a line that is handed over and not
 // fenced at once, and one that no fence makes durable.
-const CALLS: [Call; 15] = [
+const CALLS: &[Call] = &[
     Call::Fence,
     Call::Write(2),
     Call::Back(2),
@@ -86,9 +87,13 @@ const CALLS: [Call; 15] = [
 ];
 
 /// What the calls make durable, and what then reads.
-const FENCED: [Line; 9] = [FULL, EMPTY, FULL, FULL, EMPTY, EMPTY, EMPTY, EMPTY, FULL];
+const FENCED: &[Line] = &[FULL, EMPTY, FULL, FULL, EMPTY, EMPTY, EMPTY, EMPTY, FULL];
 
-const READ: [Line; 9] = [FULL, EMPTY, FULL, FULL, EMPTY, FULL, EMPTY, EMPTY, FULL];
+const READ: &[Line] = &[FULL, EMPTY, FULL, FULL, EMPTY, FULL, EMPTY, EMPTY, FULL];
+
+const ZEROS: &[Line] = &[EMPTY; 9];
+
+const HUNDRED: &[Line] = &[FULL; 100];
 
 const FOLDER: &str = "onll_outside_test_folder";
 
@@ -97,71 +102,79 @@ const NAME: &str = "onll_outside_test_folder/log.0";
 const COPY: &str = "onll_outside_test_folder/copy";
 
 /// Makes all calls of both devices.
-fn take_all<P: Pmem>(rt: &HostRuntime, device: &mut P, same: &mut MemPmem) -> Result<(), Fail> {
+fn take_all<P: Pmem>(rt: &HostRuntime, found: &mut Found, device: &mut P, same: &mut MemPmem) {
     for call in CALLS {
-        must(
-            take_both(rt, NAME, device, same, call)?,
+        found.must(
+            take_both(rt, NAME, device, same, *call),
             "not what memory holds",
-        )?;
+        );
     }
-    must(
+    found.must(
         device.fences() == 5 && device.faults() == 0,
         "not five fences",
-    )
+    );
 }
 
-/// A device over a file that took all calls, beside one in memory.
-fn called<S: Store>(rt: &HostRuntime, store: &mut S) -> Result<S::Dev, Fail> {
+/// Makes all calls of a device over a file, beside one in memory.
+fn take_as_memory<P: Pmem>(rt: &HostRuntime, found: &mut Found, device: &mut P) {
+    match MemPmem::new(rt.alloc(), 9, Vec::new(rt.alloc())) {
+        Ok(mut same) => take_all(rt, found, device, &mut same),
+        Err(_) => found.must(false, "no memory"),
+    }
+}
+
+/// Makes a device over a file, which holds zeros, and keeps it under this name after it took all calls.
+fn keep_called<S: Store>(rt: &HostRuntime, found: &mut Found, store: &mut S, copy: &str) {
     let Ok(mut device) = store.device(rt.alloc(), NAME, 9) else {
-        return Err("no device".into());
+        return found.must(false, "no device");
     };
-    must(holds(rt, NAME, &[EMPTY; 9])?, "not of zeros")?;
-    let mut same = MemPmem::new(rt.alloc(), 9, Vec::new(rt.alloc()))?;
-    take_all(rt, &mut device, &mut same)?;
-    Ok(device)
+    found.must(holds(rt, NAME, ZEROS), "not of zeros");
+    take_as_memory(rt, found, &mut device);
+    found.must(store.keep(rt.alloc(), copy, device).is_ok(), "not kept");
 }
 
 /// A device over a file is kept under this name.
-fn kept_as(rt: &HostRuntime, copy: &str, kept: &[Line]) -> Result<(), Fail> {
+fn kept_as(rt: &HostRuntime, found: &mut Found, copy: &str, kept: &[Line]) {
     let mut store = FileStore::new(rt);
-    let device = called(rt, &mut store)?;
-    must(store.keep(rt.alloc(), copy, device).is_ok(), "not kept")?;
-    must(holds(rt, copy, kept)?, "not an image")
+    keep_called(rt, found, &mut store, copy);
+    found.must(holds(rt, copy, kept), "not an image");
 }
 
 #[test]
 fn a_device_over_a_file(rt: HostRuntime) -> Result<(), Fail> {
-    fs::create_dir(&rt, FOLDER)?;
-    kept_as(&rt, NAME, &FENCED)?;
+    let mut found = Found::new();
+    make_folder(&rt, &mut found, FOLDER);
+    kept_as(&rt, &mut found, NAME, FENCED);
     // Another file gets the lines as they read.
-    kept_as(&rt, COPY, &READ)?;
-    fs::remove_file(&rt, COPY)?;
-    fs::remove_file(&rt, NAME)?;
-    fs::remove_dir(&rt, FOLDER)?;
-    Ok(())
+    kept_as(&rt, &mut found, COPY, READ);
+    remove(&rt, &mut found, COPY);
+    remove(&rt, &mut found, NAME);
+    remove_folder(&rt, &mut found, FOLDER);
+    found.ended()
 }
 
 /// Makes a device of a store, and each of its lines durable by a fence of its own: how many calls did not fail.
-fn fence_new<S: Store>(alloc: Global, store: &mut S, name: &str) -> Result<u64, Fail> {
-    let Ok(mut device) = store.device(alloc, name, 100) else {
-        return Err("no device".into());
-    };
+fn fence_new<S: Store>(alloc: Global, store: &mut S, name: &str) -> Option<u64> {
+    let mut device = store.device(alloc, name, 100).ok()?;
     let done = fence_each(&mut device, 100);
     store.give_up(device);
-    Ok(done)
+    Some(done)
+}
+
+/// All calls of a new device of a hundred lines over a file are made.
+fn fence_file(rt: &HostRuntime, name: &str) -> bool {
+    let mut store = FileStore::new(rt);
+    fence_new(rt.alloc(), &mut store, name) == Some(300)
 }
 
 #[test]
 fn fences_of_a_device(rt: HostRuntime) -> Result<(), Fail> {
     let name = "onll_outside_test_fences";
-    let mut store = FileStore::new(&rt);
-    must(
-        fence_new(rt.alloc(), &mut store, name)? == 300,
-        "a call failed",
-    )?;
-    must(holds(&rt, name, &[FULL; 100])?, "not fenced")?;
-    fs::remove_file(&rt, name)?;
-    Ok(())
+    let mut found = Found::new();
+    found.must(fence_file(&rt, name), "a call failed");
+    found.must(holds(&rt, name, HUNDRED), "not fenced");
+    remove(&rt, &mut found, name);
+    found.ended()
 }
 
 const SECOND: FenceAt = FenceAt {
@@ -192,13 +205,11 @@ fn fences_that_fail_are_counted(rt: HostRuntime) -> Result<(), Fail> {
     let alloc = rt.alloc();
     let fences = Vec::from_slice(alloc, &[SECOND, FIRST])?;
     let mut store = MemStore::new(Vec::new(alloc), Vec::new(alloc), fences);
-    must(
-        faults_of(alloc, &mut store, "log.0", true) == Some((8, 1)),
-        "not kept",
-    )?;
-    must(
-        faults_of(alloc, &mut store, "log.1", false) == Some((8, 1)),
-        "not given up",
-    )?;
-    must(store.faults() == 0, "counted as faults of the store")
+    let mut found = Found::new();
+    let kept = faults_of(alloc, &mut store, "log.0", true);
+    found.must(kept == Some((8, 1)), "not kept");
+    let given_up = faults_of(alloc, &mut store, "log.1", false);
+    found.must(given_up == Some((8, 1)), "not given up");
+    found.must(store.faults() == 0, "counted as faults of the store");
+    found.ended()
 }

@@ -1,9 +1,8 @@
 //! Calls of stores that fail, and what they leave.
 
-use crate::checks::must;
+use crate::checks::{Found, remove};
 use onll_outside::{FileStore, MemStore, OutsideFault, Store};
 use std::alloc::Global;
-use std::fs;
 use std::test::Fail;
 
 /// A call of a store.
@@ -56,29 +55,36 @@ fn is_no_file(rt: &HostRuntime, name: &str) -> bool {
 
 #[test]
 fn names_that_are_no_files(rt: HostRuntime) -> Result<(), Fail> {
+    let mut found = Found::new();
     for name in NO_FILES {
-        must(is_no_file(&rt, name), name)?;
+        found.must(is_no_file(&rt, name), name);
     }
-    Ok(())
+    found.ended()
 }
 
-/// Makes a device of a file, and keeps it under another name, where it can't be kept.
+/// Makes a device of a store, and keeps it under another name, where it can't be kept.
 fn keep_elsewhere<S: Store>(alloc: Global, store: &mut S, name: &str) -> Option<OutsideFault> {
     let device = store.device(alloc, name, 2).ok()?;
     store.keep(alloc, NO_FILES[0], device).err()
 }
 
+/// Whether the outside fails where a device of a file of the system is kept elsewhere.
+fn keep_fails(rt: &HostRuntime, name: &str) -> bool {
+    let mut store = FileStore::new(rt);
+    keep_elsewhere(rt.alloc(), &mut store, name) == Some(OutsideFault::Failed)
+}
+
 #[test]
 fn a_device_is_not_kept(rt: HostRuntime) -> Result<(), Fail> {
     let name = "onll_outside_test_kept";
-    let mut store = FileStore::new(&rt);
-    let fault = keep_elsewhere(rt.alloc(), &mut store, name);
-    must(fault == Some(OutsideFault::Failed), "kept")?;
-    fs::remove_file(&rt, name)?;
-    must(reopen_fails(&rt, name), "reopened")
+    let mut found = Found::new();
+    found.must(keep_fails(&rt, name), "kept");
+    remove(&rt, &mut found, name);
+    found.must(reopen_fails(&rt, name), "reopened");
+    found.ended()
 }
 
-const CALLS: [Call; 4] = [Call::Write, Call::Device, Call::Reopen, Call::Keep];
+const CALLS: &[Call] = &[Call::Write, Call::Device, Call::Reopen, Call::Keep];
 
 /// Whether the file is the text.
 fn is_text(store: &MemStore) -> bool {
@@ -88,13 +94,12 @@ fn is_text(store: &MemStore) -> bool {
     }
 }
 
-/// Makes each call, and asserts that it fails and leaves the file.
-fn fail_each(alloc: Global, store: &mut MemStore) -> Result<(), Fail> {
+/// Makes each call, which fails and leaves the file.
+fn fail_each(alloc: Global, found: &mut Found, store: &mut MemStore) {
     for call in CALLS {
-        must(fails(alloc, store, "log.0", call), "did not fail")?;
-        must(is_text(store), "changed the file")?;
+        found.must(fails(alloc, store, "log.0", *call), "did not fail");
+        found.must(is_text(store), "changed the file");
     }
-    Ok(())
 }
 
 /// The first call writes the file, the fourth one that of which a device is then made, and the sixth one makes the device that
@@ -104,7 +109,9 @@ fn a_call_that_fails_changes_no_file(rt: HostRuntime) -> Result<(), Fail> {
     let alloc = rt.alloc();
     let failing = Vec::from_slice(alloc, &[2, 3, 5, 7])?;
     let mut store = MemStore::new(Vec::new(alloc), failing, Vec::new(alloc));
-    must(store.write(alloc, "log.0", b"text").is_ok(), "not written")?;
-    fail_each(alloc, &mut store)?;
-    must(store.faults() == 4, "not four faults")
+    let mut found = Found::new();
+    found.must(store.write(alloc, "log.0", b"text").is_ok(), "not written");
+    fail_each(alloc, &mut found, &mut store);
+    found.must(store.faults() == 4, "not four faults");
+    found.ended()
 }

@@ -1,6 +1,6 @@
 //! Files of which devices are made again.
 
-use crate::checks::{EMPTY, FULL, bytes_of, holds, must};
+use crate::checks::{EMPTY, FULL, Found, bytes_of, holds, make_folder, remove, remove_folder};
 use onll_outside::{FileStore, Store};
 use onll_pmem::Pmem;
 use onll_words::Line;
@@ -10,6 +10,8 @@ use std::test::Fail;
 const FOLDER: &str = "onll_outside_test_reopened";
 
 const NAME: &str = "onll_outside_test_reopened/log.0";
+
+const FIVE: &[Line] = &[FULL; 5];
 
 /// A front of the file, so many lines after it, and what the file then holds.
 struct Case {
@@ -36,36 +38,46 @@ const CASES: &[Case] = &[
     },
 ];
 
-/// Reopens the file, and makes a fence of the device.
-fn reopen(rt: &HostRuntime, front: &[Line], lines: u64) -> Result<(), Fail> {
-    let mut store = FileStore::new(rt);
+/// Reopens the file, and tells whether the device is as long and makes a fence.
+fn is_reopened(rt: &HostRuntime, front: &[Line], lines: u64) -> bool {
     if front.len() as u64 > lines || lines > 10 {
-        return Err("too many lines".into());
+        return false;
     }
+    let mut store = FileStore::new(rt);
     let Ok(mut device) = store.reopen(rt.alloc(), NAME, front, lines) else {
-        return Err("not reopened".into());
+        return false;
     };
     let fenced = device.lines() == lines && device.fence().is_ok();
     store.give_up(device);
-    must(fenced, "not as long, or not fenced")
+    fenced
 }
 
 /// Reopens the file in each way, one after the other.
-fn reopen_each(rt: &HostRuntime) -> Result<(), Fail> {
+fn reopen_each(rt: &HostRuntime, found: &mut Found) {
     for case in CASES {
-        reopen(rt, case.front, case.lines)?;
-        must(holds(rt, NAME, case.left)?, "other lines are left")?;
+        found.must(
+            is_reopened(rt, case.front, case.lines),
+            "not reopened, not as long, or not fenced",
+        );
+        found.must(holds(rt, NAME, case.left), "other lines are left");
     }
-    Ok(())
+}
+
+/// Makes the file of full lines.
+fn write_file(rt: &HostRuntime, lines: &[Line]) -> bool {
+    match bytes_of(rt.alloc(), lines) {
+        Ok(bytes) => fs::write(rt, NAME, bytes.as_slice()).is_ok(),
+        Err(_) => false,
+    }
 }
 
 #[test]
 fn a_file_is_reopened(rt: HostRuntime) -> Result<(), Fail> {
-    fs::create_dir(&rt, FOLDER)?;
-    let bytes = bytes_of(rt.alloc(), &[FULL; 5])?;
-    fs::write(&rt, NAME, bytes.as_slice())?;
-    reopen_each(&rt)?;
-    fs::remove_file(&rt, NAME)?;
-    fs::remove_dir(&rt, FOLDER)?;
-    Ok(())
+    let mut found = Found::new();
+    make_folder(&rt, &mut found, FOLDER);
+    found.must(write_file(&rt, FIVE), "no file");
+    reopen_each(&rt, &mut found);
+    remove(&rt, &mut found, NAME);
+    remove_folder(&rt, &mut found, FOLDER);
+    found.ended()
 }

@@ -1,6 +1,6 @@
 //! Sinks in memory, over streams, and over the system.
 
-use crate::checks::must;
+use crate::checks::{Found, is_file, remove};
 use onll_outside::{MemSink, OutSink, OutsideFault, Sink};
 use std::cell::Cell;
 use std::io::{BufWriter, ErrorKind, Write};
@@ -15,11 +15,13 @@ fn refuses<K: Sink>(sink: &mut K, bytes: &[u8]) -> bool {
 #[test]
 fn a_sink_in_memory(rt: HostRuntime) -> Result<(), Fail> {
     let mut sink = MemSink::new(rt.alloc(), Vec::from_slice(rt.alloc(), &[2])?);
-    must(sink.put(b"one ").is_ok(), "the first")?;
-    must(refuses(&mut sink, b"two "), "the second")?;
-    must(sink.put(b"three").is_ok(), "the third")?;
-    must(sink.taken() == b"one three".as_slice(), "other bytes")?;
-    must(sink.faults() == 1, "not one fault")
+    let mut found = Found::new();
+    found.must(sink.put(b"one ").is_ok(), "the first");
+    found.must(refuses(&mut sink, b"two "), "the second");
+    found.must(sink.put(b"three").is_ok(), "the third");
+    found.must(sink.taken() == b"one three".as_slice(), "other bytes");
+    found.must(sink.faults() == 1, "not one fault");
+    found.ended()
 }
 
 /// A stream that counts what reaches it, and has room for so many bytes.
@@ -46,61 +48,97 @@ impl Write for Narrow<'_> {
     }
 }
 
+/// Puts bytes into a sink: how many have then reached its stream, or the fault.
+fn put_one<K: Sink>(
+    sink: &mut K,
+    bytes: &[u8],
+    reached: &Cell<usize>,
+) -> Result<usize, OutsideFault> {
+    match sink.put(bytes) {
+        Ok(()) => Ok(reached.get()),
+        Err(fault) => Err(fault),
+    }
+}
+
 /// Puts four bytes and then more into a sink whose stream has room for six: how many have then reached it, and the fault.
 /// The writer keeps bytes back, and the sink has them reach the stream.
-fn put_more<K: Sink>(sink: &mut K, reached: &Cell<usize>) -> [Result<usize, OutsideFault>; 3] {
-    let first = sink.put(b"four").map(|()| reached.get());
-    let second = sink.put(b"more").map(|()| reached.get());
-    let third = sink.put(b"more").map(|()| reached.get());
-    [first, second, third]
+fn put_more<K: Sink>(found: &mut Found, sink: &mut K, reached: &Cell<usize>, fault: OutsideFault) {
+    found.must(put_one(sink, b"four", reached) == Ok(4), "the first answer");
+    let second = put_one(sink, b"more", reached);
+    found.must(second == Err(fault), "the second answer");
+    let third = put_one(sink, b"more", reached);
+    found.must(third == Err(fault), "the third answer");
 }
 
 /// A stream that fills in this way has the sink answer this fault.
-fn fills_with(rt: &HostRuntime, full: ErrorKind, fault: OutsideFault) -> Result<(), Fail> {
+fn fills_with(rt: &HostRuntime, found: &mut Found, full: ErrorKind, fault: OutsideFault) {
     let reached = Cell::new(0);
     let narrow = Narrow {
         reached: &reached,
         room: 6,
         full,
     };
-    let mut sink = OutSink::new(BufWriter::new(rt.alloc(), narrow)?);
-    let answers = put_more(&mut sink, &reached);
-    must(answers == [Ok(4), Err(fault), Err(fault)], "other answers")?;
-    must(reached.get() == 6, "not all that has room")
+    let Ok(writer) = BufWriter::new(rt.alloc(), narrow) else {
+        return found.must(false, "no memory");
+    };
+    let mut sink = OutSink::new(writer);
+    put_more(found, &mut sink, &reached, fault);
+    found.must(reached.get() == 6, "not all that has room");
 }
 
 #[test]
 fn a_stream_that_fills(rt: HostRuntime) -> Result<(), Fail> {
-    fills_with(&rt, ErrorKind::StorageFull, OutsideFault::Failed)?;
-    fills_with(&rt, ErrorKind::OutOfMemory, OutsideFault::NoMemory)
+    let mut found = Found::new();
+    fills_with(
+        &rt,
+        &mut found,
+        ErrorKind::StorageFull,
+        OutsideFault::Failed,
+    );
+    fills_with(
+        &rt,
+        &mut found,
+        ErrorKind::OutOfMemory,
+        OutsideFault::NoMemory,
+    );
+    found.ended()
 }
 
 /// Puts two pieces into a file of this name.
-fn put_two(rt: &HostRuntime, name: &str) -> Result<(), Fail> {
-    let mut sink = OutSink::new(fs::create(rt, name)?);
-    must(sink.put(b"fault thread 1 ").is_ok(), "the first piece")?;
-    must(sink.put(b"place 0\n").is_ok(), "the second piece")
+fn put_two(rt: &HostRuntime, found: &mut Found, name: &str) {
+    let Ok(file) = fs::create(rt, name) else {
+        return found.must(false, "no file");
+    };
+    let mut sink = OutSink::new(file);
+    found.must(sink.put(b"fault thread 1 ").is_ok(), "the first piece");
+    found.must(sink.put(b"place 0\n").is_ok(), "the second piece");
 }
 
 /// A file opened to be read takes no bytes.
-fn put_none(rt: &HostRuntime, name: &str) -> Result<(), Fail> {
-    let mut sink = OutSink::new(fs::open(rt, name)?);
-    must(refuses(&mut sink, b"place 0\n"), "bytes were taken")
+fn put_none(rt: &HostRuntime, found: &mut Found, name: &str) {
+    let Ok(file) = fs::open(rt, name) else {
+        return found.must(false, "no file to read");
+    };
+    let mut sink = OutSink::new(file);
+    found.must(refuses(&mut sink, b"place 0\n"), "bytes were taken");
+}
+
+/// Whether the output takes bytes.
+fn puts_out(rt: &HostRuntime) -> bool {
+    OutSink::new(io::writer(rt)).put(b"put\n").is_ok()
 }
 
 #[test]
 fn streams_of_the_system(rt: HostRuntime) -> Result<(), Fail> {
-    must(
-        OutSink::new(io::writer(&rt)).put(b"put\n").is_ok(),
-        "no output",
-    )?;
     let name = "onll_outside_test_stream";
-    put_two(&rt, name)?;
-    must(
-        fs::read(&rt, name)?.as_slice() == b"fault thread 1 place 0\n".as_slice(),
+    let mut found = Found::new();
+    found.must(puts_out(&rt), "no output");
+    put_two(&rt, &mut found, name);
+    found.must(
+        is_file(&rt, name, b"fault thread 1 place 0\n"),
         "another text",
-    )?;
-    put_none(&rt, name)?;
-    fs::remove_file(&rt, name)?;
-    Ok(())
+    );
+    put_none(&rt, &mut found, name);
+    remove(&rt, &mut found, name);
+    found.ended()
 }

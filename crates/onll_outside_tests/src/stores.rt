@@ -1,20 +1,37 @@
 //! Stores in memory and of the system's files, and what they give and take.
 
-use crate::checks::must;
+use crate::checks::{Found, is_file, remove};
 use onll_outside::{FileStore, MemSink, MemStore, Named, OutsideFault, Sink, Store};
 use std::alloc::{AllocError, Global};
 use std::fs;
 use std::test::Fail;
 
+/// A file of that name and text.
+fn file_of(alloc: Global, name: &str, text: &str) -> Result<Named, AllocError> {
+    let name = String::from_str(alloc, name)?;
+    Ok(Named {
+        name,
+        bytes: Vec::from_slice(alloc, text.as_bytes())?,
+    })
+}
+
 fn files_of(alloc: Global, texts: &[(&str, &str)]) -> Result<Vec<Named>, AllocError> {
     let mut files = Vec::new(alloc);
     for (name, text) in texts {
-        files.push(Named {
-            name: String::from_str(alloc, name)?,
-            bytes: Vec::from_slice(alloc, text.as_bytes())?,
-        })?;
+        files.push(file_of(alloc, name, text)?)?;
     }
     Ok(files)
+}
+
+/// A store in memory of these files, whose calls of these numbers fail.
+fn store_of(
+    alloc: Global,
+    texts: &[(&str, &str)],
+    failing: &[u64],
+) -> Result<MemStore, AllocError> {
+    let files = files_of(alloc, texts)?;
+    let failing = Vec::from_slice(alloc, failing)?;
+    Ok(MemStore::new(files, failing, Vec::new(alloc)))
 }
 
 /// Puts what a file gives.
@@ -30,7 +47,6 @@ fn copy<S: Store, K: Sink>(
 }
 
 /// A read of a store: the file, the limit, whether it fails, and what the sink has taken then.
-#[derive(Clone, Copy)]
 struct Read {
     name: &'static str,
     limit: u64,
@@ -41,27 +57,31 @@ struct Read {
 /// Makes one read, and checks what came of it.
 fn make_read<S: Store>(
     alloc: Global,
+    found: &mut Found,
     store: &mut S,
     sink: &mut MemSink,
-    read: Read,
-) -> Result<(), Fail> {
+    read: &Read,
+) {
     let answer = copy(alloc, store, read.name, read.limit, sink);
-    must(answer.is_err() == read.fails, read.name)?;
-    must(sink.taken() == read.taken.as_bytes(), read.taken)
+    found.must(answer.is_err() == read.fails, read.name);
+    found.must(sink.taken() == read.taken.as_bytes(), read.taken);
 }
 
 /// Makes reads in turn.
 fn read_each<S: Store>(
     alloc: Global,
+    found: &mut Found,
     store: &mut S,
     sink: &mut MemSink,
     reads: &[Read],
-) -> Result<(), Fail> {
+) {
     for each in reads {
-        make_read(alloc, store, sink, *each)?;
+        make_read(alloc, found, store, sink, each);
     }
-    Ok(())
 }
+
+/// The files of a store in memory, of which the third has the first one's name.
+const TEXTS: &[(&str, &str)] = &[("i", "balances 3"), ("s", "deposit"), ("i", "other")];
 
 /// Of a store in memory whose first two calls fail.
 const READS: &[Read] = &[
@@ -112,15 +132,14 @@ const READS: &[Read] = &[
 #[test]
 fn a_store_in_memory(rt: HostRuntime) -> Result<(), Fail> {
     let alloc = rt.alloc();
-    let texts = [("i", "balances 3"), ("s", "deposit"), ("i", "other")];
-    let files = files_of(alloc, &texts)?;
-    let failing = Vec::from_slice(alloc, &[1, 2])?;
-    let mut store = MemStore::new(files, failing, Vec::new(alloc));
+    let mut store = store_of(alloc, TEXTS, &[1, 2])?;
     let mut sink = MemSink::new(alloc, Vec::new(alloc));
-    read_each(alloc, &mut store, &mut sink, READS)?;
-    must(store.file("i") == Some(b"balances 3".as_slice()), "changed")?;
-    must(store.file("t").is_none(), "made by a read")?;
-    must(store.faults() == 3 && sink.faults() == 0, "other faults")
+    let mut found = Found::new();
+    read_each(alloc, &mut found, &mut store, &mut sink, READS);
+    found.must(store.file("i") == Some(b"balances 3".as_slice()), "changed");
+    found.must(store.file("t").is_none(), "made by a read");
+    found.must(store.faults() == 3 && sink.faults() == 0, "other faults");
+    found.ended()
 }
 
 const NAME: &str = "onll_outside_test_file";
@@ -159,18 +178,23 @@ const FILE_READS: &[Read] = &[
     },
 ];
 
+/// Makes the reads of the system's files.
+fn read_files(rt: &HostRuntime, found: &mut Found) {
+    let mut store = FileStore::new(rt);
+    let mut sink = MemSink::new(rt.alloc(), Vec::new(rt.alloc()));
+    read_each(rt.alloc(), found, &mut store, &mut sink, FILE_READS);
+}
+
 #[test]
 fn files_of_the_system(rt: HostRuntime) -> Result<(), Fail> {
-    fs::write(&rt, NAME, "balances 3\n")?;
-    let mut store = FileStore::new(&rt);
-    let mut sink = MemSink::new(rt.alloc(), Vec::new(rt.alloc()));
-    read_each(rt.alloc(), &mut store, &mut sink, FILE_READS)?;
-    fs::remove_file(&rt, NAME)?;
-    Ok(())
+    let mut found = Found::new();
+    found.must(fs::write(&rt, NAME, "balances 3\n").is_ok(), "no file");
+    read_files(&rt, &mut found);
+    remove(&rt, &mut found, NAME);
+    found.ended()
 }
 
 /// A write of a store in memory: the file, its text, whether it fails, and what the file is then.
-#[derive(Clone, Copy)]
 struct Write {
     name: &'static str,
     text: &'static str,
@@ -201,28 +225,24 @@ const WRITES: &[Write] = &[
 ];
 
 /// Makes one write, and checks what it left.
-fn make_write(alloc: Global, store: &mut MemStore, write: Write) -> Result<(), Fail> {
+fn make_write(alloc: Global, found: &mut Found, store: &mut MemStore, write: &Write) {
     let answer = store.write(alloc, write.name, write.text.as_bytes());
-    must(answer.is_err() == write.fails, write.text)?;
-    must(
-        store.file(write.name) == Some(write.left.as_bytes()),
-        write.left,
-    )
+    found.must(answer.is_err() == write.fails, write.text);
+    let left = store.file(write.name);
+    found.must(left == Some(write.left.as_bytes()), write.left);
 }
 
 #[test]
 fn files_are_written(rt: HostRuntime) -> Result<(), Fail> {
     let alloc = rt.alloc();
-    let files = files_of(alloc, &[("i", "balances 3")])?;
-    let failing = Vec::from_slice(alloc, &[2])?;
-    let mut store = MemStore::new(files, failing, Vec::new(alloc));
+    let mut store = store_of(alloc, &[("i", "balances 3")], &[2])?;
+    let mut found = Found::new();
     for each in WRITES {
-        make_write(alloc, &mut store, *each)?;
+        make_write(alloc, &mut found, &mut store, each);
     }
-    must(
-        store.file("out.0") == Some(b"one".as_slice()),
-        "changed by another",
-    )
+    let first = store.file("out.0");
+    found.must(first == Some(b"one".as_slice()), "changed by another");
+    found.ended()
 }
 
 /// Whether the system takes a text as the file of that name.
@@ -234,13 +254,12 @@ fn is_written(rt: &HostRuntime, name: &str, text: &str) -> bool {
 #[test]
 fn files_of_the_system_are_written(rt: HostRuntime) -> Result<(), Fail> {
     let name = "onll_outside_test_written";
-    must(is_written(&rt, name, "a longer text"), "not written")?;
-    must(is_written(&rt, name, "short"), "not written again")?;
-    must(
-        fs::read(&rt, name)?.as_slice() == b"short".as_slice(),
-        "another text",
-    )?;
-    fs::remove_file(&rt, name)?;
+    let mut found = Found::new();
+    found.must(is_written(&rt, name, "a longer text"), "not written");
+    found.must(is_written(&rt, name, "short"), "not written again");
+    found.must(is_file(&rt, name, b"short"), "another text");
+    remove(&rt, &mut found, name);
     // A folder is no file to be written.
-    must(!is_written(&rt, ".", "text"), "a folder was written")
+    found.must(!is_written(&rt, ".", "text"), "a folder was written");
+    found.ended()
 }

@@ -1,11 +1,22 @@
 //! Two threads that a gate holds so that they overlap. Run one after the other, a hold would run out of turns.
-use crate::{new_device, run_bank};
-use onll_bank::{BankOp, BankQuery, BankReply};
-use onll_model::{Call, CallEnd};
+ghost use Rattle.std.specs.Prelude.{◌≡◌, length, IfOk};
+
+use crate::found::Found;
+use crate::runs::{End, counts, deposit, ends_are, flags_are, run_two, threads_are};
+use onll_bank::{Bank, BankOp, BankQuery, BankReply};
+use onll_model::Call;
 use onll_outside::{Hold, HoldGate, Point};
+use onll_pmem::MemPmem;
 use onll_run::Ran;
-use std::alloc::Global;
+use std::alloc::{AllocError, Global};
+use std::sync::Wait;
 use std::test::Fail;
+use std::thread::Threads;
+
+/// One update, at the first place and at the second.
+const DONE_FIRST: &[End] = &[End::Answered(1, BankReply::Done)];
+
+const DONE_SECOND: &[End] = &[End::Answered(2, BankReply::Done)];
 
 /// How often a held thread loads the mark that it awaits.
 const TURNS: u64 = 1000000000;
@@ -35,108 +46,91 @@ fn first_ordered_last_fenced(alloc: Global, held: Point) -> Result<HoldGate, Fai
     )
 }
 
+/// Thread 0 deposits 5, and thread 1 deposits 7 into the other account.
+fn run_deposits<R: Threads + Wait + Sync>(
+    rt: &R,
+    alloc: Global,
+    failing: &[u64],
+    gate: &HoldGate,
+) -> Option<Ran<Bank, MemPmem>> {
+    let first = deposit(alloc, 0, 5).ok()?;
+    let second = deposit(alloc, 1, 7).ok()?;
+    run_two(rt, alloc, first, second, failing, gate)
+}
+
+/// The window of the second thread's entry has the node of the first one too.
+fn has_window(found: &mut Found, ran: &Ran<Bank, MemPmem>) {
+    let [first, second] = ran.logs.as_slice() else {
+        return found.must(false, "other logs");
+    };
+    found.must(first.entries() == 1 && first.free_lines() == 38, "log 0");
+    found.must(second.entries() == 1 && second.free_lines() == 37, "log 1");
+}
+
 #[test]
 fn a_window_helps_a_held_update(rt: HostRuntime) -> Result<(), Fail> {
-    let first = vec![in rt.alloc(); Call::Update(BankOp::Deposit { a: 0, x: 5 })]?;
-    let second = vec![in rt.alloc(); Call::Update(BankOp::Deposit { a: 1, x: 7 })]?;
-    let scripts = vec![in rt.alloc(); first, second]?;
-    let devices = vec![in rt.alloc();
-        new_device(rt.alloc(), vec![in rt.alloc();]?)?,
-        new_device(rt.alloc(), vec![in rt.alloc();]?)?,
-    ]?;
     let gate = first_ordered_last_fenced(rt.alloc(), Point::Ordered)?;
-    let Ok(
-        Ran {
-            threads,
-            trace,
-            logs,
-        },
-    ) = run_bank(&rt, rt.alloc(), scripts, devices, &gate)
-    else {
-        panic!(rt; "not run")
+    let Some(ran) = run_deposits(&rt, rt.alloc(), &[], &gate) else {
+        return Err("not run".into());
     };
-    assert!(rt; !gate.expired());
-    assert!(rt; threads.len() == 2 && trace.len() == 2 && logs.len() == 2);
-    assert!(rt; threads[0].ends.len() == 1 && threads[1].ends.len() == 1);
-    assert!(rt;
-        matches!(
-            threads[0].ends[0],
-            CallEnd::Answered {
-                place: 1,
-                reply: BankReply::Done
-            }
-        )
+    let mut found = Found::new();
+    found.must(!gate.expired(), "a hold ran out of turns");
+    found.must(counts(&ran) == (2, 2, 2), "other counts");
+    found.must(ends_are(&ran, 0, DONE_FIRST), "other ends of thread 0");
+    found.must(ends_are(&ran, 1, DONE_SECOND), "other ends of thread 1");
+    found.must(threads_are(&ran, &[0, 1]), "another order");
+    found.must(flags_are(&ran, &[true, true]), "other flags");
+    has_window(&mut found, &ran);
+    found.ended()
+}
+
+const FENCE_FAILED: &[End] = &[End::FenceFailed(1)];
+
+/// The log of the held thread is broken, and the other one's entry has the nodes of both.
+fn has_broken_log(found: &mut Found, ran: &Ran<Bank, MemPmem>) {
+    let [first, second] = ran.logs.as_slice() else {
+        return found.must(false, "other logs");
+    };
+    found.must(
+        first.entries() == 1 && first.fences() == 1 && first.broken(),
+        "log 0",
     );
-    assert!(rt;
-        matches!(
-            threads[1].ends[0],
-            CallEnd::Answered {
-                place: 2,
-                reply: BankReply::Done
-            }
-        )
+    found.must(
+        second.entries() == 1 && second.lines() - second.free_lines() == 4,
+        "log 1",
     );
-    assert!(rt;
-        trace[0].node.thread == 0 && trace[0].flag && trace[1].node.thread == 1 && trace[1].flag
-    );
-    assert!(rt; logs[0].entries() == 1 && logs[0].free_lines() == 38);
-    assert!(rt; logs[1].entries() == 1 && logs[1].free_lines() == 37);
-    Ok(())
 }
 
 #[test]
 fn a_held_update_whose_fence_fails(rt: HostRuntime) -> Result<(), Fail> {
-    let first = vec![in rt.alloc(); Call::Update(BankOp::Deposit { a: 0, x: 5 })]?;
-    let second = vec![in rt.alloc(); Call::Update(BankOp::Deposit { a: 1, x: 7 })]?;
-    let scripts = vec![in rt.alloc(); first, second]?;
-    let devices = vec![in rt.alloc();
-        new_device(rt.alloc(), vec![in rt.alloc(); 2]?)?,
-        new_device(rt.alloc(), vec![in rt.alloc();]?)?,
-    ]?;
     let gate = first_ordered_last_fenced(rt.alloc(), Point::Walked)?;
-    let Ok(
-        Ran {
-            threads,
-            trace,
-            logs,
-        },
-    ) = run_bank(&rt, rt.alloc(), scripts, devices, &gate)
-    else {
-        panic!(rt; "not run")
+    let Some(ran) = run_deposits(&rt, rt.alloc(), &[2], &gate) else {
+        return Err("not run".into());
     };
-    assert!(rt; !gate.expired());
-    assert!(rt; threads.len() == 2 && trace.len() == 2 && logs.len() == 2);
-    assert!(rt; threads[0].ends.len() == 1 && threads[1].ends.len() == 1);
-    assert!(rt; matches!(threads[0].ends[0], CallEnd::FenceFailed { place: 1 }));
-    assert!(rt;
-        matches!(
-            threads[1].ends[0],
-            CallEnd::Answered {
-                place: 2,
-                reply: BankReply::Done
-            }
-        )
-    );
-    assert!(rt; !trace[0].flag && trace[1].flag);
-    assert!(rt; logs[0].entries() == 1 && logs[0].fences() == 1 && logs[0].broken());
-    assert!(rt; logs[1].entries() == 1 && logs[1].lines() - logs[1].free_lines() == 4);
-    Ok(())
+    let mut found = Found::new();
+    found.must(!gate.expired(), "a hold ran out of turns");
+    found.must(counts(&ran) == (2, 2, 2), "other counts");
+    found.must(ends_are(&ran, 0, FENCE_FAILED), "other ends of thread 0");
+    found.must(ends_are(&ran, 1, DONE_SECOND), "other ends of thread 1");
+    found.must(flags_are(&ran, &[false, true]), "other flags");
+    has_broken_log(&mut found, &ran);
+    found.ended()
 }
 
-#[test]
-fn a_read_that_has_to_look(rt: HostRuntime) -> Result<(), Fail> {
-    let first = vec![in rt.alloc(); Call::Update(BankOp::Deposit { a: 0, x: 5 })]?;
-    let second = vec![in rt.alloc();
+/// A deposit into the second account, and a question for the first one's balance.
+fn deposits_and_asks(alloc: Global) -> Result<Vec<Call<Bank>>, AllocError>
+    ensures { IfOk result (λ script. length script.items ≡ 2) }
+{
+    Ok(vec![in alloc;
         Call::Update(BankOp::Deposit { a: 1, x: 7 }),
         Call::Ask(BankQuery::Balance { a: 0 }),
-    ]?;
-    let scripts = vec![in rt.alloc(); first, second]?;
-    let devices = vec![in rt.alloc();
-        new_device(rt.alloc(), vec![in rt.alloc();]?)?,
-        new_device(rt.alloc(), vec![in rt.alloc();]?)?,
-    ]?;
-    let gate = two_holds(
-        rt.alloc(),
+    ]?)
+}
+
+/// Thread 0 begins once thread 1 is answered, which is then held until thread 0 is.
+fn second_first(alloc: Global) -> Result<HoldGate, Fail> {
+    two_holds(
+        alloc,
         Hold {
             thread: 0,
             point: Point::Begin,
@@ -149,40 +143,36 @@ fn a_read_that_has_to_look(rt: HostRuntime) -> Result<(), Fail> {
             until_thread: 0,
             until_point: Point::Answered,
         },
-    )?;
-    let Ok(Ran { threads, trace, .. }) = run_bank(&rt, rt.alloc(), scripts, devices, &gate) else {
-        panic!(rt; "not run")
+    )
+}
+
+/// Thread 0 deposits, and thread 1 deposits and asks.
+fn run_asking<R: Threads + Wait + Sync>(
+    rt: &R,
+    alloc: Global,
+    gate: &HoldGate,
+) -> Option<Ran<Bank, MemPmem>> {
+    let first = deposit(alloc, 0, 5).ok()?;
+    let second = deposits_and_asks(alloc).ok()?;
+    run_two(rt, alloc, first, second, &[], gate)
+}
+
+const ASKED: &[End] = &[
+    End::Answered(1, BankReply::Done),
+    End::Answered(2, BankReply::Amount(5)),
+];
+
+#[test]
+fn a_read_that_has_to_look(rt: HostRuntime) -> Result<(), Fail> {
+    let gate = second_first(rt.alloc())?;
+    let Some(ran) = run_asking(&rt, rt.alloc(), &gate) else {
+        return Err("not run".into());
     };
-    assert!(rt; !gate.expired());
-    assert!(rt; threads.len() == 2 && trace.len() == 2);
-    assert!(rt; threads[0].ends.len() == 1 && threads[1].ends.len() == 2);
-    assert!(rt;
-        matches!(
-            threads[0].ends[0],
-            CallEnd::Answered {
-                place: 2,
-                reply: BankReply::Done
-            }
-        )
-    );
-    assert!(rt;
-        matches!(
-            threads[1].ends[0],
-            CallEnd::Answered {
-                place: 1,
-                reply: BankReply::Done
-            }
-        )
-    );
-    assert!(rt;
-        matches!(
-            threads[1].ends[1],
-            CallEnd::Answered {
-                place: 2,
-                reply: BankReply::Amount(5)
-            }
-        )
-    );
-    assert!(rt; trace[0].node.thread == 1 && trace[1].node.thread == 0);
-    Ok(())
+    let mut found = Found::new();
+    found.must(!gate.expired(), "a hold ran out of turns");
+    found.must(ran.threads.len() == 2, "other threads");
+    found.must(ends_are(&ran, 0, DONE_SECOND), "other ends of thread 0");
+    found.must(ends_are(&ran, 1, ASKED), "other ends of thread 1");
+    found.must(threads_are(&ran, &[1, 0]), "another order");
+    found.ended()
 }

@@ -5,7 +5,11 @@
 mod faults;
 mod fixture;
 #[cfg(test)]
+mod found;
+#[cfg(test)]
 mod held;
+#[cfg(test)]
+mod runs;
 #[cfg(test)]
 mod whole;
 

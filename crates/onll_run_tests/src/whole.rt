@@ -1,104 +1,112 @@
 //! Runs in which no fence fails.
-use crate::{new_device, run_bank};
-use onll_bank::{BankOp, BankQuery, BankReply};
-use onll_model::{Call, CallEnd};
-use onll_outside::FreeGate;
-use onll_pmem::Pmem;
-use onll_run::Ran;
-use std::test::Fail;
+ghost use Rattle.std.specs.Prelude.{◌≡◌, length, IfOk};
 
-#[test]
-fn one_thread_transfers_and_asks(rt: HostRuntime) -> Result<(), Fail> {
-    let script = vec![in rt.alloc();
+use crate::found::Found;
+use crate::runs::{End, counts, ends_are, flags_are, run_one, run_two};
+use onll_bank::{Bank, BankOp, BankQuery, BankReply};
+use onll_log::ThreadLog;
+use onll_model::Call;
+use onll_outside::FreeGate;
+use onll_pmem::{MemPmem, Pmem};
+use onll_run::Ran;
+use std::alloc::{AllocError, Global};
+use std::sync::Wait;
+use std::test::Fail;
+use std::thread::Threads;
+
+/// A deposit, a transfer, and a question.
+fn transfers_and_asks(alloc: Global) -> Result<Vec<Call<Bank>>, AllocError>
+    ensures { IfOk result (λ script. length script.items ≡ 3) }
+{
+    Ok(vec![in alloc;
         Call::Update(BankOp::Deposit { a: 0, x: 100 }),
         Call::Update(BankOp::Transfer { a: 0, b: 1, x: 30 }),
         Call::Ask(BankQuery::Balance { a: 1 }),
-    ]?;
-    let scripts = vec![in rt.alloc(); script]?;
-    let devices = vec![in rt.alloc(); new_device(rt.alloc(), vec![in rt.alloc();]?)?]?;
-    let Ok(
-        Ran {
-            threads,
-            trace,
-            logs,
-        },
-    ) = run_bank(&rt, rt.alloc(), scripts, devices, &FreeGate)
-    else {
-        panic!(rt; "not run")
+    ]?)
+}
+
+const ENDS: &[End] = &[
+    End::Answered(1, BankReply::Done),
+    End::Answered(2, BankReply::Done),
+    End::Answered(2, BankReply::Amount(30)),
+];
+
+/// The one log has two entries, made with a fence each.
+fn has_two_entries(found: &mut Found, ran: &Ran<Bank, MemPmem>) {
+    let [log] = ran.logs.as_slice() else {
+        return found.must(false, "other logs");
     };
-    assert!(rt; threads.len() == 1 && trace.len() == 2 && logs.len() == 1);
-    let ends = &threads[0].ends;
-    assert!(rt; ends.len() == 3);
-    assert!(rt;
-        matches!(
-            ends[0],
-            CallEnd::Answered {
-                place: 1,
-                reply: BankReply::Done
-            }
-        )
+    found.must(log.entries() == 2 && log.fences() == 2, "other entries");
+    found.must(log.lines() - log.free_lines() == 5, "other lines");
+    let device = log.device();
+    found.must(
+        device.fences() == 3 && device.faults() == 0,
+        "another device",
     );
-    assert!(rt;
-        matches!(
-            ends[1],
-            CallEnd::Answered {
-                place: 2,
-                reply: BankReply::Done
-            }
-        )
-    );
-    assert!(rt;
-        matches!(
-            ends[2],
-            CallEnd::Answered {
-                place: 2,
-                reply: BankReply::Amount(30)
-            }
-        )
-    );
-    assert!(rt; trace[0].flag && trace[1].flag);
-    assert!(rt;
-        logs[0].entries() == 2
-            && logs[0].fences() == 2
-            && logs[0].lines() - logs[0].free_lines() == 5
-    );
-    assert!(rt; logs[0].device().fences() == 3 && logs[0].device().faults() == 0);
-    Ok(())
 }
 
 #[test]
-fn two_threads_keep_the_sum(rt: HostRuntime) -> Result<(), Fail> {
-    let first = vec![in rt.alloc();
+fn one_thread_transfers_and_asks(rt: HostRuntime) -> Result<(), Fail> {
+    let script = transfers_and_asks(rt.alloc())?;
+    let Some(ran) = run_one(&rt, rt.alloc(), script, &[]) else {
+        return Err("not run".into());
+    };
+    let mut found = Found::new();
+    found.must(counts(&ran) == (1, 2, 1), "other counts");
+    found.must(ends_are(&ran, 0, ENDS), "other ends");
+    found.must(flags_are(&ran, &[true, true]), "other flags");
+    has_two_entries(&mut found, &ran);
+    found.ended()
+}
+
+/// A deposit, and two transfers to the second account.
+fn transfers_there(alloc: Global) -> Result<Vec<Call<Bank>>, AllocError>
+    ensures { IfOk result (λ script. length script.items ≡ 3) }
+{
+    Ok(vec![in alloc;
         Call::Update(BankOp::Deposit { a: 0, x: 100 }),
         Call::Update(BankOp::Transfer { a: 0, b: 1, x: 30 }),
         Call::Update(BankOp::Transfer { a: 0, b: 1, x: 30 }),
-    ]?;
-    let second = vec![in rt.alloc();
+    ]?)
+}
+
+/// Three transfers to the first account, and a question for the sum.
+fn transfers_back(alloc: Global) -> Result<Vec<Call<Bank>>, AllocError>
+    ensures { IfOk result (λ script. length script.items ≡ 4) }
+{
+    Ok(vec![in alloc;
         Call::Update(BankOp::Transfer { a: 1, b: 0, x: 10 }),
         Call::Update(BankOp::Transfer { a: 1, b: 0, x: 10 }),
         Call::Update(BankOp::Transfer { a: 1, b: 0, x: 10 }),
         Call::Ask(BankQuery::Total),
-    ]?;
-    let scripts = vec![in rt.alloc(); first, second]?;
-    let devices = vec![in rt.alloc();
-        new_device(rt.alloc(), vec![in rt.alloc();]?)?,
-        new_device(rt.alloc(), vec![in rt.alloc();]?)?,
-    ]?;
-    let Ok(
-        Ran {
-            threads,
-            trace,
-            logs,
-        },
-    ) = run_bank(&rt, rt.alloc(), scripts, devices, &FreeGate)
-    else {
-        panic!(rt; "not run")
+    ]?)
+}
+
+/// Two threads that transfer there and back.
+fn there_and_back<R: Threads + Wait + Sync>(rt: &R, alloc: Global) -> Option<Ran<Bank, MemPmem>> {
+    let first = transfers_there(alloc).ok()?;
+    let second = transfers_back(alloc).ok()?;
+    run_two(rt, alloc, first, second, &[], &FreeGate)
+}
+
+/// Whether each log has three entries, made with a fence each.
+fn have_three(logs: &[ThreadLog<MemPmem>]) -> bool {
+    for log in logs {
+        if log.entries() != 3 || log.fences() != 3 {
+            return false;
+        }
+    }
+    true
+}
+
+#[test]
+fn two_threads_keep_the_sum(rt: HostRuntime) -> Result<(), Fail> {
+    let Some(ran) = there_and_back(&rt, rt.alloc()) else {
+        return Err("not run".into());
     };
-    assert!(rt; threads.len() == 2 && trace.len() == 6 && logs.len() == 2);
-    assert!(rt; trace.iter().all(|end| end.flag));
-    assert!(rt;
-        logs.iter()
-            .all(|log| log.entries() == 3 && log.fences() == 3)
-    );
-    Ok(())
+    let mut found = Found::new();
+    found.must(counts(&ran) == (2, 6, 2), "other counts");
+    found.must(flags_are(&ran, &[true; 6]), "other flags");
+    found.must(have_three(&ran.logs), "other entries or fences");
+    found.ended()
 }

@@ -5,8 +5,6 @@ mod ends;
 mod laws;
 mod locked;
 mod progress;
-#[cfg(test)]
-mod tests;
 
 pub use ends::{LockedEnd, Next};
 pub use laws::{answer_law, first_log_law, whole_laws};

@@ -5,8 +5,8 @@ ghost use Rattle.onll_model.specs.Calls.{updates_in};
 ghost use Rattle.onll_locked.specs.DoNext.{IsLogOf};
 ghost use Rattle.std.proofs.Props.{props};
 
-use super::*;
 use onll_bank::{Bank, BankOp, BankQuery, BankReply};
+use onll_locked::{Locked, LockedEnd, Next};
 use onll_log::{LogHead, ThreadLog, decode};
 use onll_merge::recover;
 use onll_model::{Call, Node, Object};

@@ -142,6 +142,45 @@ impl<'a> Program<'a> {
         let mut store = self.store(alloc)?;
         self.run_over(rt, alloc, &mut store)
     }
+
+    /// Runs the program over this store, and fails unless the status and the whole text are these.
+    pub fn expect_over<R: Threads + Wait + Sync>(
+        &self,
+        rt: &R,
+        alloc: Global,
+        store: &mut MemStore,
+        case: &str,
+        status: u8,
+        text: &str,
+    ) -> Result<(), Fail> {
+        self.run_over(rt, alloc, store)?.expect(case, status, text)
+    }
+
+    /// Runs the program over this store, and fails unless the status is this and the output has this line.
+    pub fn expect_line_over<R: Threads + Wait + Sync>(
+        &self,
+        rt: &R,
+        alloc: Global,
+        store: &mut MemStore,
+        case: &str,
+        status: u8,
+        line: &str,
+    ) -> Result<(), Fail> {
+        self.run_over(rt, alloc, store)?
+            .expect_line(case, status, line)
+    }
+
+    /// Runs the program over a store of its own, and fails unless the status and the whole text are these.
+    pub fn expect<R: Threads + Wait + Sync>(
+        &self,
+        rt: &R,
+        alloc: Global,
+        case: &str,
+        status: u8,
+        text: &str,
+    ) -> Result<(), Fail> {
+        self.run(rt, alloc)?.expect(case, status, text)
+    }
 }
 
 /// Runs `fold i s` over these two files, where nothing fails.

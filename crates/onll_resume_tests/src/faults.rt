@@ -179,9 +179,7 @@ fn expect_call<R: Abort + Threads + Wait + Sync>(
     };
     let mut store = program.store(alloc)?;
     put_logs(alloc, &mut store)?;
-    program
-        .run_over(rt, alloc, &mut store)?
-        .expect(case.output, case.status, case.output)?;
+    program.expect_over(rt, alloc, &mut store, case.output, case.status, case.output)?;
     expect_logs(rt, alloc, &store, case.first, case.second, case.output)
 }
 
@@ -208,12 +206,8 @@ fn a_header_whose_fence_fails(rt: HostRuntime) -> Result<(), Fail> {
     let mut store = program.store_with(alloc, &[HEADER])?;
     put_logs(alloc, &mut store)?;
     let line = "fault thread 1 place 0\n";
-    program
-        .run_over(&rt, alloc, &mut store)?
-        .expect(line, 7, line)?;
+    program.expect_over(&rt, alloc, &mut store, line, 7, line)?;
     expect_logs(&rt, alloc, &store, WIPED, EMPTY, line)?;
-    program
-        .run_over(&rt, alloc, &mut store)?
-        .expect("the same again", 0, REPORT)?;
+    program.expect_over(&rt, alloc, &mut store, "the same again", 0, REPORT)?;
     expect_logs(&rt, alloc, &store, KEPT, BEGUN, "the same again")
 }

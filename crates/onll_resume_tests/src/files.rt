@@ -61,8 +61,7 @@ fn expect_both<R: Abort + Threads + Wait + Sync, S: Store>(
         .expect_line("the run", 0, "recovered 1")?;
     Program::new(RESUME, &[])
         .call(rt, alloc, store, &FreeGate)?
-        .expect("the next generation", 0, WENT_ON)?;
-    Ok(())
+        .expect("the next generation", 0, WENT_ON)
 }
 
 #[test]

@@ -1,6 +1,6 @@
 //! Ten generations, and as many updates as there can be over two of them.
 
-use crate::stories::{FILES, REPLAY, RESUME, RETURNED};
+use crate::stories::{REPLAY, RESUME, RETURNED, store_with};
 use onll_calls::{Program, repeated};
 use onll_outside::{MemStore, Store};
 use std::alloc::Global;
@@ -26,14 +26,24 @@ const BALANCES: &[&str] = &[
 #[test]
 fn one_thread(rt: HostRuntime) -> Result<(), Fail> {
     let alloc = rt.alloc();
-    let mut store = Program::new(&[], FILES).store(alloc)?;
-    Program::new(REPLAY, &[])
-        .run_over(&rt, alloc, &mut store)?
-        .expect("the first generation", 0, RETURNED)?;
+    let mut store = store_with(alloc, &[])?;
+    Program::new(REPLAY, &[]).expect_over(
+        &rt,
+        alloc,
+        &mut store,
+        "the first generation",
+        0,
+        RETURNED,
+    )?;
     for line in BALANCES {
-        Program::new(RESUME, &[])
-            .run_over(&rt, alloc, &mut store)?
-            .expect_line("one generation more", 0, line)?;
+        Program::new(RESUME, &[]).expect_line_over(
+            &rt,
+            alloc,
+            &mut store,
+            "one generation more",
+            0,
+            line,
+        )?;
     }
     Ok(())
 }
@@ -49,13 +59,20 @@ const RUN_TWO: &[&str] = &["run", "b2", "out", "s0", "s1"];
 
 const RESUME_TWO: &[&str] = &["resume", "b2", "out", "s0", "s1"];
 
-/// What each of ten generations is, and lines that it prints whatever the order of its updates: how many nodes there are, and the balances.
-const TWO: &[(&[&str], &[&str])] = &[
+/// One generation, and lines that it prints whatever the order of its updates.
+type Generation<'a> = (&'a [&'a str], &'a [&'a str]);
+
+/// What each of ten generations is, and how many nodes there are and the balances. Here are the first five.
+const TWO: &[Generation<'static>] = &[
     (RUN_TWO, &["trace 4", "account 0 4", "account 1 6"]),
     (RESUME_TWO, &["resumed 4", "account 0 8", "account 1 12"]),
     (RESUME_TWO, &["resumed 8", "account 0 12", "account 1 18"]),
     (RESUME_TWO, &["resumed 12", "account 0 16", "account 1 24"]),
     (RESUME_TWO, &["resumed 16", "account 0 20", "account 1 30"]),
+];
+
+/// The later five.
+const LATER_TWO: &[Generation<'static>] = &[
     (RESUME_TWO, &["resumed 20", "account 0 24", "account 1 36"]),
     (RESUME_TWO, &["resumed 24", "account 0 28", "account 1 42"]),
     (RESUME_TWO, &["resumed 28", "account 0 32", "account 1 48"]),
@@ -78,17 +95,33 @@ fn generation<R: Abort + Threads + Wait + Sync>(
     Ok(())
 }
 
+/// Runs these generations, one after the other.
+fn expect_generations<R: Abort + Threads + Wait + Sync>(
+    rt: &R,
+    alloc: Global,
+    store: &mut MemStore,
+    generations: &[Generation<'_>],
+) -> Result<(), Fail> {
+    for (words, lines) in generations {
+        generation(rt, alloc, store, words, lines)?;
+    }
+    Ok(())
+}
+
 #[test]
 fn two_threads(rt: HostRuntime) -> Result<(), Fail> {
     let alloc = rt.alloc();
     let mut store = Program::new(&[], TWO_FILES).store(alloc)?;
-    for (words, lines) in TWO {
-        generation(&rt, alloc, &mut store, words, lines)?;
-    }
-    Program::new(&["recover", "b2", "out", "2"], &[])
-        .run_over(&rt, alloc, &mut store)?
-        .expect_line("all of them", 0, "recovered 40")?;
-    Ok(())
+    expect_generations(&rt, alloc, &mut store, TWO)?;
+    expect_generations(&rt, alloc, &mut store, LATER_TWO)?;
+    Program::new(&["recover", "b2", "out", "2"], &[]).expect_line_over(
+        &rt,
+        alloc,
+        &mut store,
+        "all of them",
+        0,
+        "recovered 40",
+    )
 }
 
 /// How many updates a script has, how going on with it ends, and a line that is printed. All are beside one update that is recovered.
@@ -101,16 +134,26 @@ const LONG: &[(usize, u8, &str)] = &[
 #[test]
 fn as_many_updates_as_there_can_be(rt: HostRuntime) -> Result<(), Fail> {
     let alloc = rt.alloc();
-    let mut store = Program::new(&[], FILES).store(alloc)?;
-    Program::new(&["run", "b1", "out", "s0"], &[])
-        .run_over(&rt, alloc, &mut store)?
-        .expect_line("one update", 0, "trace 1")?;
+    let mut store = store_with(alloc, &[])?;
+    Program::new(&["run", "b1", "out", "s0"], &[]).expect_line_over(
+        &rt,
+        alloc,
+        &mut store,
+        "one update",
+        0,
+        "trace 1",
+    )?;
     for (updates, status, line) in LONG {
         let script = repeated(alloc, b"deposit 0 0\n", *updates)?;
         store.write(alloc, "s", &script)?;
-        Program::new(RESUME, &[])
-            .run_over(&rt, alloc, &mut store)?
-            .expect_line("a long script", *status, line)?;
+        Program::new(RESUME, &[]).expect_line_over(
+            &rt,
+            alloc,
+            &mut store,
+            "a long script",
+            *status,
+            line,
+        )?;
     }
     Ok(())
 }

@@ -1,8 +1,8 @@
 //! Runs that go on from what a replay, a run or another of them left, each beside the whole report that is expected.
 
 use onll_calls::Program;
-use onll_outside::FenceAt;
-use std::alloc::Global;
+use onll_outside::{FenceAt, MemStore};
+use std::alloc::{AllocError, Global};
 use std::process::Abort;
 use std::sync::Wait;
 use std::test::Fail;
@@ -19,7 +19,7 @@ struct Story<'a> {
 }
 
 /// The files of all stories.
-pub(crate) const FILES: &[(&str, &[u8])] = &[
+const FILES: &[(&str, &[u8])] = &[
     ("b1", b"bank 1\n"),
     ("b2", b"bank 2\n"),
     ("c", b"0 8\ncrash 0\n"),
@@ -258,13 +258,10 @@ const TWO_THREADS: Story<'static> = Story {
     ],
 };
 
-const STORIES: &[Story<'static>] = &[
-    ONE_UPDATE,
-    TORN_TAIL,
-    FAILED_BEFORE,
-    FAILS_AGAIN,
-    TWO_THREADS,
-];
+/// A store of the files, on whose devices these fences fail.
+pub(crate) fn store_with(alloc: Global, fences: &[FenceAt]) -> Result<MemStore, AllocError> {
+    Program::new(&[], FILES).store_with(alloc, fences)
+}
 
 /// Makes these calls over one store.
 fn told<R: Abort + Threads + Wait + Sync>(
@@ -272,11 +269,9 @@ fn told<R: Abort + Threads + Wait + Sync>(
     alloc: Global,
     story: &Story<'_>,
 ) -> Result<(), Fail> {
-    let mut store = Program::new(&[], FILES).store_with(alloc, story.fences)?;
+    let mut store = store_with(alloc, story.fences)?;
     for (words, status, output) in story.calls {
-        Program::new(words, &[])
-            .run_over(rt, alloc, &mut store)?
-            .expect(story.name, *status, output)?;
+        Program::new(words, &[]).expect_over(rt, alloc, &mut store, story.name, *status, output)?;
     }
     Ok(())
 }
@@ -284,8 +279,9 @@ fn told<R: Abort + Threads + Wait + Sync>(
 #[test]
 fn stories(rt: HostRuntime) -> Result<(), Fail> {
     let alloc = rt.alloc();
-    for story in STORIES {
-        told(&rt, alloc, story)?;
-    }
-    Ok(())
+    told(&rt, alloc, &ONE_UPDATE)?;
+    told(&rt, alloc, &TORN_TAIL)?;
+    told(&rt, alloc, &FAILED_BEFORE)?;
+    told(&rt, alloc, &FAILS_AGAIN)?;
+    told(&rt, alloc, &TWO_THREADS)
 }

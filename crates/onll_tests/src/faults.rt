@@ -1,7 +1,10 @@
 //! Calls of the program whose reads, writes or puts fail.
 
 use onll_calls::Program;
+use std::alloc::Global;
+use std::sync::Wait;
 use std::test::Fail;
+use std::thread::Threads;
 
 const FILES: &[(&str, &[u8])] = &[
     ("i", b"bank 2\naccount 0 100\n"),
@@ -27,7 +30,8 @@ struct FaultCase<'a> {
     output: &'a str,
 }
 
-const CASES: &[FaultCase<'static>] = &[
+/// Files that are not there.
+const MISSING: &[FaultCase<'static>] = &[
     FaultCase {
         name: "nothing fails",
         words: &["fold", "i", "s"],
@@ -68,6 +72,10 @@ const CASES: &[FaultCase<'static>] = &[
         status: 5,
         output: "read fault my script\n",
     },
+];
+
+/// Files that are refused before another call is made.
+const REFUSED: &[FaultCase<'static>] = &[
     FaultCase {
         name: "one file for both",
         words: &["fold", "i", "i"],
@@ -92,6 +100,10 @@ const CASES: &[FaultCase<'static>] = &[
         status: 3,
         output: "refused s 1 unknown object\n",
     },
+];
+
+/// Calls of the store that fail.
+const CALLS: &[FaultCase<'static>] = &[
     FaultCase {
         name: "the first call fails",
         words: &["fold", "i", "s"],
@@ -140,6 +152,10 @@ const CASES: &[FaultCase<'static>] = &[
         status: 0,
         output: REPORT,
     },
+];
+
+/// The put of a text fails.
+const PUTS: &[FaultCase<'static>] = &[
     FaultCase {
         name: "the put of a report fails",
         words: &["fold", "i", "s"],
@@ -172,6 +188,10 @@ const CASES: &[FaultCase<'static>] = &[
         status: 6,
         output: "",
     },
+];
+
+/// The put fails after a call, of the usage, and each put.
+const LATER_PUTS: &[FaultCase<'static>] = &[
     FaultCase {
         name: "the put of a first call that fails fails",
         words: &["fold", "i", "s"],
@@ -206,17 +226,30 @@ const CASES: &[FaultCase<'static>] = &[
     },
 ];
 
-#[test]
-fn files_and_puts_that_fail(rt: HostRuntime) -> Result<(), Fail> {
-    for case in CASES {
+/// Each case ends as it says.
+fn expect_cases<R: Threads + Wait + Sync>(
+    rt: &R,
+    alloc: Global,
+    cases: &[FaultCase<'_>],
+) -> Result<(), Fail> {
+    for case in cases {
         let program = Program {
             words: case.words,
             files: FILES,
             failing_calls: case.failing_calls,
             failing_puts: case.failing_puts,
         };
-        let outcome = program.run(&rt, rt.alloc())?;
+        let outcome = program.run(rt, alloc)?;
         outcome.expect(case.name, case.status, case.output)?;
     }
     Ok(())
+}
+
+#[test]
+fn files_and_puts_that_fail(rt: HostRuntime) -> Result<(), Fail> {
+    expect_cases(&rt, rt.alloc(), MISSING)?;
+    expect_cases(&rt, rt.alloc(), REFUSED)?;
+    expect_cases(&rt, rt.alloc(), CALLS)?;
+    expect_cases(&rt, rt.alloc(), PUTS)?;
+    expect_cases(&rt, rt.alloc(), LATER_PUTS)
 }

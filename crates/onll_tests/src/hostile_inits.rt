@@ -1,9 +1,11 @@
 //! Initial states at the edge of their grammar and beyond it.
 
-use onll_calls::{Case, LONGEST, LongCase, fold};
+use crate::folds::{expect_inits, expect_long_inits};
+use onll_calls::{Case, LONGEST, LongCase};
 use std::test::Fail;
 
-const REFUSED: &[Case<'static>] = &[
+/// First lines that name no object.
+const REFUSED_NAMES: &[Case<'static>] = &[
     ("an empty file", b"", "refused i 0 missing\n"),
     ("a comment alone", b"# only", "refused i 0 missing\n"),
     (
@@ -46,6 +48,10 @@ const REFUSED: &[Case<'static>] = &[
         b"ba\xFFnk 1\n",
         "refused i 1 unknown object\n",
     ),
+];
+
+/// Banks with no number of accounts.
+const REFUSED_ROOMS: &[Case<'static>] = &[
     (
         "a bank without a number",
         b"bank\n",
@@ -97,6 +103,10 @@ const REFUSED: &[Case<'static>] = &[
         b"bank 1\x0C\n",
         "refused i 1 bad number\n",
     ),
+];
+
+/// Banks of too many accounts or none, and lines of no account.
+const REFUSED_RANGES: &[Case<'static>] = &[
     ("no accounts", b"bank 0\n", "refused i 1 out of range\n"),
     (
         "4,097 accounts",
@@ -139,6 +149,10 @@ const REFUSED: &[Case<'static>] = &[
         b"bank 1\naccount\xFF 0 1\n",
         "refused i 2 unknown word\n",
     ),
+];
+
+/// Accounts with a wrong count of words, or with no numbers.
+const REFUSED_ACCOUNTS: &[Case<'static>] = &[
     (
         "an account without a balance",
         b"bank 1\naccount 0\n",
@@ -184,6 +198,10 @@ const REFUSED: &[Case<'static>] = &[
         b"bank 1\naccount 0 000000000000000000005\n",
         "refused i 2 bad number\n",
     ),
+];
+
+/// Accounts out of range, named twice, or with too much.
+const REFUSED_BALANCES: &[Case<'static>] = &[
     (
         "an account out of range",
         b"bank 1\naccount 1 5\n",
@@ -231,6 +249,7 @@ const REFUSED: &[Case<'static>] = &[
     ),
 ];
 
+/// Initial states that are accepted.
 const ACCEPTED: &[Case<'static>] = &[
     (
         "a line end after each line",
@@ -262,6 +281,10 @@ const ACCEPTED: &[Case<'static>] = &[
         b"#\n# bank 2\n\nbank 1\n\t #\xFF\0 account 0 1\n\naccount 0 5\n\n#",
         "trace 0\nstate\nbank 1\naccount 0 5\n",
     ),
+];
+
+/// Further ones.
+const ALSO_ACCEPTED: &[Case<'static>] = &[
     (
         "20 digits",
         b"bank 00000000000000000001\naccount 00000000000000000000 00000000000000000005\n",
@@ -394,34 +417,25 @@ const LONG_LINES: &[LongCase<'static>] = &[
 
 #[test]
 fn refused_initial_states(rt: HostRuntime) -> Result<(), Fail> {
-    for (case, init, output) in REFUSED {
-        fold(&rt, rt.alloc(), init, b"")?.expect(case, 3, output)?;
-    }
-    Ok(())
+    expect_inits(&rt, rt.alloc(), 3, REFUSED_NAMES)?;
+    expect_inits(&rt, rt.alloc(), 3, REFUSED_ROOMS)?;
+    expect_inits(&rt, rt.alloc(), 3, REFUSED_RANGES)?;
+    expect_inits(&rt, rt.alloc(), 3, REFUSED_ACCOUNTS)?;
+    expect_inits(&rt, rt.alloc(), 3, REFUSED_BALANCES)
 }
 
 #[test]
 fn accepted_initial_states(rt: HostRuntime) -> Result<(), Fail> {
-    for (case, init, output) in ACCEPTED {
-        fold(&rt, rt.alloc(), init, b"")?.expect(case, 0, output)?;
-    }
-    Ok(())
+    expect_inits(&rt, rt.alloc(), 0, ACCEPTED)?;
+    expect_inits(&rt, rt.alloc(), 0, ALSO_ACCEPTED)
 }
 
 #[test]
 fn longest_initial_states(rt: HostRuntime) -> Result<(), Fail> {
-    for case in LONGEST_TEXTS {
-        let init = case.text(rt.alloc())?;
-        fold(&rt, rt.alloc(), &init, b"")?.expect(case.name, case.status, case.output)?;
-    }
-    Ok(())
+    expect_long_inits(&rt, rt.alloc(), LONGEST_TEXTS)
 }
 
 #[test]
 fn long_lines_of_initial_states(rt: HostRuntime) -> Result<(), Fail> {
-    for case in LONG_LINES {
-        let init = case.text(rt.alloc())?;
-        fold(&rt, rt.alloc(), &init, b"")?.expect(case.name, case.status, case.output)?;
-    }
-    Ok(())
+    expect_long_inits(&rt, rt.alloc(), LONG_LINES)
 }

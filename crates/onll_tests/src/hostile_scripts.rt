@@ -1,9 +1,11 @@
 //! Scripts at the edge of their grammar and beyond it.
 
-use onll_calls::{Case, LONGEST, LongCase, fold};
+use crate::folds::{expect_long_scripts, expect_scripts};
+use onll_calls::{Case, LONGEST, LongCase};
 use std::test::Fail;
 
-const REFUSED: &[Case<'static>] = &[
+/// Lines that begin with no call.
+const REFUSED_NAMES: &[Case<'static>] = &[
     (
         "no such call",
         b"depositt 0 1\n",
@@ -55,6 +57,10 @@ const REFUSED: &[Case<'static>] = &[
         b"depositt 0\n",
         "refused s 1 unknown word\n",
     ),
+];
+
+/// Calls with a wrong count of words.
+const REFUSED_COUNTS: &[Case<'static>] = &[
     (
         "a deposit of nothing",
         b"deposit 0\n",
@@ -110,6 +116,10 @@ const REFUSED: &[Case<'static>] = &[
         b"deposit x\n",
         "refused s 1 wrong count\n",
     ),
+];
+
+/// Calls with no numbers, and which line is refused.
+const REFUSED_NUMBERS: &[Case<'static>] = &[
     (
         "a negative number",
         b"deposit 0 -1\n",
@@ -168,6 +178,7 @@ const REFUSED: &[Case<'static>] = &[
     ),
 ];
 
+/// Scripts that are accepted.
 const ACCEPTED: &[Case<'static>] = &[
     (
         "a line end after each line",
@@ -235,6 +246,10 @@ const ACCEPTED: &[Case<'static>] = &[
          bank 1\n\
          account 0 5\n",
     ),
+];
+
+/// Further ones.
+const ALSO_ACCEPTED: &[Case<'static>] = &[
     (
         "20 digits",
         b"deposit 00000000000000000000 00000000000000000005\nbalance 00000000000000000000\n",
@@ -471,43 +486,28 @@ const CROWDED: &[LongCase<'static>] = &[
 
 #[test]
 fn refused_scripts(rt: HostRuntime) -> Result<(), Fail> {
-    for (case, script, output) in REFUSED {
-        fold(&rt, rt.alloc(), b"bank 1\n", script)?.expect(case, 3, output)?;
-    }
-    Ok(())
+    expect_scripts(&rt, rt.alloc(), b"bank 1\n", 3, REFUSED_NAMES)?;
+    expect_scripts(&rt, rt.alloc(), b"bank 1\n", 3, REFUSED_COUNTS)?;
+    expect_scripts(&rt, rt.alloc(), b"bank 1\n", 3, REFUSED_NUMBERS)
 }
 
 #[test]
 fn accepted_scripts(rt: HostRuntime) -> Result<(), Fail> {
-    for (case, script, output) in ACCEPTED {
-        fold(&rt, rt.alloc(), b"bank 1\n", script)?.expect(case, 0, output)?;
-    }
-    Ok(())
+    expect_scripts(&rt, rt.alloc(), b"bank 1\n", 0, ACCEPTED)?;
+    expect_scripts(&rt, rt.alloc(), b"bank 1\n", 0, ALSO_ACCEPTED)
 }
 
 #[test]
 fn longest_scripts(rt: HostRuntime) -> Result<(), Fail> {
-    for case in LONGEST_TEXTS {
-        let script = case.text(rt.alloc())?;
-        fold(&rt, rt.alloc(), b"bank 1\n", &script)?.expect(case.name, case.status, case.output)?;
-    }
-    Ok(())
+    expect_long_scripts(&rt, rt.alloc(), LONGEST_TEXTS)
 }
 
 #[test]
 fn long_lines_of_scripts(rt: HostRuntime) -> Result<(), Fail> {
-    for case in LONG_LINES {
-        let script = case.text(rt.alloc())?;
-        fold(&rt, rt.alloc(), b"bank 1\n", &script)?.expect(case.name, case.status, case.output)?;
-    }
-    Ok(())
+    expect_long_scripts(&rt, rt.alloc(), LONG_LINES)
 }
 
 #[test]
 fn one_call_too_many(rt: HostRuntime) -> Result<(), Fail> {
-    for case in CROWDED {
-        let script = case.text(rt.alloc())?;
-        fold(&rt, rt.alloc(), b"bank 1\n", &script)?.expect(case.name, case.status, case.output)?;
-    }
-    Ok(())
+    expect_long_scripts(&rt, rt.alloc(), CROWDED)
 }

@@ -22,8 +22,7 @@ fn as_many_updates_as_there_can_be(rt: HostRuntime) -> Result<(), Fail> {
     report.push_str("state\nbank 1\naccount 0 8192\n")?;
     let script = repeated(alloc, b"deposit 0 2\n", 4096)?;
     let outcome = fold(&rt, alloc, b"bank 1\n", &script)?;
-    outcome.expect("4,096 deposits", 0, &report)?;
-    Ok(())
+    outcome.expect("4,096 deposits", 0, &report)
 }
 
 #[test]
@@ -36,8 +35,7 @@ fn as_many_reads_as_there_can_be(rt: HostRuntime) -> Result<(), Fail> {
     report.push_str("trace 0\nstate\nbank 1\naccount 0 7\n")?;
     let script = repeated(alloc, b"total\n", 4096)?;
     let outcome = fold(&rt, alloc, b"bank 1\naccount 0 7\n", &script)?;
-    outcome.expect("4,096 totals", 0, &report)?;
-    Ok(())
+    outcome.expect("4,096 totals", 0, &report)
 }
 
 /// A bank of all its accounts: account 5 has 15, and so on.
@@ -102,6 +100,5 @@ fn as_many_of_all_as_there_can_be(rt: HostRuntime) -> Result<(), Fail> {
     let mut report = full_calls(alloc)?;
     report.push_str(&full_rest(alloc)?)?;
     let outcome = fold(&rt, alloc, init.as_bytes(), script.as_bytes())?;
-    outcome.expect("4,096 updates, reads and accounts", 0, &report)?;
-    Ok(())
+    outcome.expect("4,096 updates, reads and accounts", 0, &report)
 }

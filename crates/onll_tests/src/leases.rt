@@ -1,12 +1,13 @@
 //! Folds of lease tables.
 
+use crate::folds::{Report, expect_inits, expect_reports, expect_scripts};
 use onll_calls::{Case, fold};
 use std::alloc::{AllocError, Global};
 use std::fmt::Write;
 use std::test::Fail;
 
-/// The name of a case, an initial state, a script and its report.
-const REPORTS: &[(&str, &[u8], &[u8], &str)] = &[
+/// Leases that are granted and end.
+const REPORTS: &[Report<'static>] = &[
     (
         "a lease that ends, a new token, and the old one",
         b"lease 1\n",
@@ -117,6 +118,10 @@ const REPORTS: &[(&str, &[u8], &[u8], &str)] = &[
          held 0 1 7 18446744073709551615\n\
          held 1 1 7 18446744073709551615\n",
     ),
+];
+
+/// Tokens that are spent, and calls that nothing is held for.
+const LATER_REPORTS: &[Report<'static>] = &[
     (
         "a resource whose tokens are spent",
         b"lease 1\nheld 0 18446744073709551615 5 9\n",
@@ -251,13 +256,12 @@ const REPORTS: &[(&str, &[u8], &[u8], &str)] = &[
 
 #[test]
 fn reports_of_leases(rt: HostRuntime) -> Result<(), Fail> {
-    for (case, init, script, report) in REPORTS {
-        fold(&rt, rt.alloc(), init, script)?.expect(case, 0, report)?;
-    }
-    Ok(())
+    expect_reports(&rt, rt.alloc(), REPORTS)?;
+    expect_reports(&rt, rt.alloc(), LATER_REPORTS)
 }
 
-const REFUSED_INITS: &[Case<'static>] = &[
+/// Lines of an initial state with a wrong word or count.
+const REFUSED_LINES: &[Case<'static>] = &[
     (
         "a lease table without a number",
         b"lease\n",
@@ -303,6 +307,10 @@ const REFUSED_INITS: &[Case<'static>] = &[
         b"lease 1\nheld 0 1 9 5 5\n",
         "refused i 2 wrong count\n",
     ),
+];
+
+/// Resources with no numbers.
+const REFUSED_NUMBERS: &[Case<'static>] = &[
     (
         "three words that are no numbers",
         b"lease 1\nheld x y z\n",
@@ -343,6 +351,10 @@ const REFUSED_INITS: &[Case<'static>] = &[
         b"lease 1\nheld 0 0 0 0\n",
         "refused i 2 out of range\n",
     ),
+];
+
+/// Resources out of range or named twice.
+const REFUSED_REPEATS: &[Case<'static>] = &[
     (
         "a resource out of range",
         b"lease 1\nheld 1 1 1 9\n",
@@ -375,7 +387,8 @@ const REFUSED_INITS: &[Case<'static>] = &[
     ),
 ];
 
-const REFUSED_SCRIPTS: &[Case<'static>] = &[
+/// Lines of a script that are refused.
+const REFUSED_GRANTS: &[Case<'static>] = &[
     ("a call of a queue", b"pop\n", "refused s 1 unknown word\n"),
     (
         "a line of an initial state",
@@ -412,6 +425,10 @@ const REFUSED_SCRIPTS: &[Case<'static>] = &[
         b"grant 0 1 2 18446744073709551616\n",
         "refused s 1 bad number\n",
     ),
+];
+
+/// Further ones.
+const REFUSED_CALLS: &[Case<'static>] = &[
     (
         "a renewal without its time",
         b"renew 0 1 2\n",
@@ -456,13 +473,11 @@ const REFUSED_SCRIPTS: &[Case<'static>] = &[
 
 #[test]
 fn refused_leases(rt: HostRuntime) -> Result<(), Fail> {
-    for (case, init, line) in REFUSED_INITS {
-        fold(&rt, rt.alloc(), init, b"")?.expect(case, 3, line)?;
-    }
-    for (case, script, line) in REFUSED_SCRIPTS {
-        fold(&rt, rt.alloc(), b"lease 1\n", script)?.expect(case, 3, line)?;
-    }
-    Ok(())
+    expect_inits(&rt, rt.alloc(), 3, REFUSED_LINES)?;
+    expect_inits(&rt, rt.alloc(), 3, REFUSED_NUMBERS)?;
+    expect_inits(&rt, rt.alloc(), 3, REFUSED_REPEATS)?;
+    expect_scripts(&rt, rt.alloc(), b"lease 1\n", 3, REFUSED_GRANTS)?;
+    expect_scripts(&rt, rt.alloc(), b"lease 1\n", 3, REFUSED_CALLS)
 }
 
 /// The greatest number of resources.
@@ -511,6 +526,5 @@ fn as_many_resources_as_there_can_be(rt: HostRuntime) -> Result<(), Fail> {
         init.as_bytes(),
         b"holder 4094 0\nholder 4095 5\n",
     )?;
-    outcome.expect("4,096 resources", 0, &report)?;
-    Ok(())
+    outcome.expect("4,096 resources", 0, &report)
 }

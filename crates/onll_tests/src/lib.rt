@@ -5,6 +5,8 @@
 #[cfg(test)]
 mod faults;
 #[cfg(test)]
+mod folds;
+#[cfg(test)]
 mod hostile_inits;
 #[cfg(test)]
 mod hostile_scripts;

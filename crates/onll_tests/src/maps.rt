@@ -1,12 +1,12 @@
 //! Folds of ordered maps.
 
+use crate::folds::{Report, expect_inits, expect_reports, expect_scripts};
 use onll_calls::{Case, fold};
 use std::alloc::{AllocError, Global};
 use std::fmt::Write;
 use std::test::Fail;
 
-/// The name of a case, an initial state, a script and its report.
-const REPORTS: &[(&str, &[u8], &[u8], &str)] = &[
+const REPORTS: &[Report<'static>] = &[
     (
         "a map of one pair: replaced, full, and a key of 23 letters",
         b"map 1\n",
@@ -97,13 +97,11 @@ const REPORTS: &[(&str, &[u8], &[u8], &str)] = &[
 
 #[test]
 fn reports_of_maps(rt: HostRuntime) -> Result<(), Fail> {
-    for (case, init, script, report) in REPORTS {
-        fold(&rt, rt.alloc(), init, script)?.expect(case, 0, report)?;
-    }
-    Ok(())
+    expect_reports(&rt, rt.alloc(), REPORTS)
 }
 
-const REFUSED_INITS: &[Case<'static>] = &[
+/// Initial states of maps that are refused.
+const REFUSED_MAPS: &[Case<'static>] = &[
     (
         "a map without a number",
         b"map\n",
@@ -130,6 +128,10 @@ const REFUSED_INITS: &[Case<'static>] = &[
         b"map 1\npair a\n",
         "refused i 2 wrong count\n",
     ),
+];
+
+/// Further ones, whose pairs are refused.
+const REFUSED_PAIRS: &[Case<'static>] = &[
     (
         "a pair with two values",
         b"map 1\npair a b c\n",
@@ -207,13 +209,9 @@ const REFUSED_SCRIPTS: &[Case<'static>] = &[
 
 #[test]
 fn refused_maps(rt: HostRuntime) -> Result<(), Fail> {
-    for (case, init, line) in REFUSED_INITS {
-        fold(&rt, rt.alloc(), init, b"")?.expect(case, 3, line)?;
-    }
-    for (case, script, line) in REFUSED_SCRIPTS {
-        fold(&rt, rt.alloc(), b"map 1\n", script)?.expect(case, 3, line)?;
-    }
-    Ok(())
+    expect_inits(&rt, rt.alloc(), 3, REFUSED_MAPS)?;
+    expect_inits(&rt, rt.alloc(), 3, REFUSED_PAIRS)?;
+    expect_scripts(&rt, rt.alloc(), b"map 1\n", 3, REFUSED_SCRIPTS)
 }
 
 /// The greatest number of pairs.
@@ -266,6 +264,5 @@ fn as_many_pairs_as_there_can_be(rt: HostRuntime) -> Result<(), Fail> {
     let mut report = put_lines(alloc)?;
     report.push_str(&pair_lines(alloc)?)?;
     let outcome = fold(&rt, alloc, b"map 4096\n", script.as_bytes())?;
-    outcome.expect("4,096 pairs", 0, &report)?;
-    Ok(())
+    outcome.expect("4,096 pairs", 0, &report)
 }

@@ -1,12 +1,12 @@
 //! Folds of queues.
 
+use crate::folds::{Report, expect_inits, expect_reports, expect_scripts};
 use onll_calls::{Case, fold};
 use std::alloc::{AllocError, Global};
 use std::fmt::Write;
 use std::test::Fail;
 
-/// The name of a case, an initial state, a script and its report.
-const REPORTS: &[(&str, &[u8], &[u8], &str)] = &[
+const REPORTS: &[Report<'static>] = &[
     (
         "a queue of two items: full, emptied, and empty",
         b"queue 2\nitem 4\n",
@@ -85,13 +85,11 @@ const REPORTS: &[(&str, &[u8], &[u8], &str)] = &[
 
 #[test]
 fn reports_of_queues(rt: HostRuntime) -> Result<(), Fail> {
-    for (case, init, script, report) in REPORTS {
-        fold(&rt, rt.alloc(), init, script)?.expect(case, 0, report)?;
-    }
-    Ok(())
+    expect_reports(&rt, rt.alloc(), REPORTS)
 }
 
-const REFUSED_INITS: &[Case<'static>] = &[
+/// Initial states of queues that are refused.
+const REFUSED_QUEUES: &[Case<'static>] = &[
     (
         "a queue without a number",
         b"queue\n",
@@ -127,6 +125,10 @@ const REFUSED_INITS: &[Case<'static>] = &[
         b"queue 1\nitem\n",
         "refused i 2 wrong count\n",
     ),
+];
+
+/// Further ones, whose items are refused.
+const REFUSED_ITEMS: &[Case<'static>] = &[
     (
         "two items on one line",
         b"queue 2\nitem 1 2\n",
@@ -225,13 +227,9 @@ const REFUSED_SCRIPTS: &[Case<'static>] = &[
 
 #[test]
 fn refused_queues(rt: HostRuntime) -> Result<(), Fail> {
-    for (case, init, line) in REFUSED_INITS {
-        fold(&rt, rt.alloc(), init, b"")?.expect(case, 3, line)?;
-    }
-    for (case, script, line) in REFUSED_SCRIPTS {
-        fold(&rt, rt.alloc(), b"queue 1\n", script)?.expect(case, 3, line)?;
-    }
-    Ok(())
+    expect_inits(&rt, rt.alloc(), 3, REFUSED_QUEUES)?;
+    expect_inits(&rt, rt.alloc(), 3, REFUSED_ITEMS)?;
+    expect_scripts(&rt, rt.alloc(), b"queue 1\n", 3, REFUSED_SCRIPTS)
 }
 
 /// How often the one place of the queue is filled and emptied.
@@ -275,8 +273,7 @@ fn one_place_filled_a_thousand_times(rt: HostRuntime) -> Result<(), Fail> {
     let script = rounds(alloc)?;
     let report = round_lines(alloc)?;
     let outcome = fold(&rt, alloc, b"queue 1\n", script.as_bytes())?;
-    outcome.expect("a thousand rounds", 0, &report)?;
-    Ok(())
+    outcome.expect("a thousand rounds", 0, &report)
 }
 
 /// The greatest number of items.
@@ -302,8 +299,7 @@ fn as_many_items_as_there_can_be(rt: HostRuntime) -> Result<(), Fail> {
     )?;
     report.push_str(&init)?;
     let outcome = fold(&rt, alloc, init.as_bytes(), b"push 3\nlength\n")?;
-    outcome.expect("4,096 items", 0, &report)?;
-    Ok(())
+    outcome.expect("4,096 items", 0, &report)
 }
 
 #[test]
@@ -312,6 +308,5 @@ fn one_item_too_many_for_the_greatest_room(rt: HostRuntime) -> Result<(), Fail> 
     let mut init = full_queue(alloc)?;
     init.push_str("item 0\n")?;
     let outcome = fold(&rt, alloc, init.as_bytes(), b"")?;
-    outcome.expect("4,097 items", 3, "refused i 4098 too many\n")?;
-    Ok(())
+    outcome.expect("4,097 items", 3, "refused i 4098 too many\n")
 }

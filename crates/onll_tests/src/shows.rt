@@ -4,8 +4,11 @@ use onll_calls::images::{
     BOTH_AT_2, DEPOSIT_5, DEPOSIT_7, FULL, HEAD_1, Image, LEASE_HEAD, OLD_BOTH_AT_2, OLD_HEAD_1,
     ONE_AT_2, ONE_HEAD, ONE_MAP_HEAD, ONES, PUT, PUT_AT_1, QUEUE_HEAD, SECOND, SECOND_AT_2, ZERO,
 };
-use onll_calls::{Program, repeated};
+use onll_calls::{Outcome, Program, repeated};
+use std::alloc::{AllocError, Global};
+use std::sync::Wait;
 use std::test::Fail;
+use std::thread::Threads;
 
 /// An image, and how `show` of it ends.
 struct Shown<'a> {
@@ -15,7 +18,8 @@ struct Shown<'a> {
     output: &'a str,
 }
 
-const SHOWS: &[Shown<'static>] = &[
+/// Logs of a bank.
+const SHOWN_LOGS: &[Shown<'static>] = &[
     Shown {
         name: "a log of two updates",
         image: Image {
@@ -84,6 +88,10 @@ const SHOWS: &[Shown<'static>] = &[
                  row 2 1 1 1 1 7 0 0 0 0\n\
                  entries 1 lines 4\n",
     },
+];
+
+/// Two entries, and logs of the other objects.
+const SHOWN_OBJECTS: &[Shown<'static>] = &[
     Shown {
         name: "two entries",
         image: Image {
@@ -132,6 +140,10 @@ const SHOWS: &[Shown<'static>] = &[
         status: 0,
         output: "log thread 0 threads 1 object lease\nentries 0 lines 1\n",
     },
+];
+
+/// Images that are no logs, and zeros.
+const NO_LOGS: &[Shown<'static>] = &[
     Shown {
         name: "zeros",
         image: Image {
@@ -174,21 +186,40 @@ const SHOWS: &[Shown<'static>] = &[
     },
 ];
 
-#[test]
-fn images_of_logs(rt: HostRuntime) -> Result<(), Fail> {
-    for case in SHOWS {
-        let bytes = case.image.bytes(rt.alloc())?;
-        let program = Program {
-            words: &["show", "out.1"],
-            files: &[("out.1", &bytes)],
-            failing_calls: &[],
-            failing_puts: &[],
-        };
-        program
-            .run(&rt, rt.alloc())?
-            .expect(case.name, case.status, case.output)?;
+/// What `show` prints of the case's image, where these puts fail.
+fn show<R: Threads + Wait + Sync>(
+    rt: &R,
+    alloc: Global,
+    case: &Shown<'_>,
+    failing_puts: &[u64],
+) -> Result<Outcome, AllocError> {
+    let bytes = case.image.bytes(alloc)?;
+    let program = Program {
+        words: &["show", "out.1"],
+        files: &[("out.1", &bytes)],
+        failing_calls: &[],
+        failing_puts,
+    };
+    program.run(rt, alloc)
+}
+
+/// Each image is shown as it says.
+fn expect_shown<R: Threads + Wait + Sync>(
+    rt: &R,
+    alloc: Global,
+    cases: &[Shown<'_>],
+) -> Result<(), Fail> {
+    for case in cases {
+        show(rt, alloc, case, &[])?.expect(case.name, case.status, case.output)?;
     }
     Ok(())
+}
+
+#[test]
+fn images_of_logs(rt: HostRuntime) -> Result<(), Fail> {
+    expect_shown(&rt, rt.alloc(), SHOWN_LOGS)?;
+    expect_shown(&rt, rt.alloc(), SHOWN_OBJECTS)?;
+    expect_shown(&rt, rt.alloc(), NO_LOGS)
 }
 
 #[test]
@@ -199,25 +230,26 @@ fn an_image_that_is_not_there(rt: HostRuntime) -> Result<(), Fail> {
         failing_calls: &[],
         failing_puts: &[],
     };
-    program
-        .run(&rt, rt.alloc())?
-        .expect("no image", 5, "read fault out.1\n")?;
+    program.expect(&rt, rt.alloc(), "no image", 5, "read fault out.1\n")
+}
+
+/// Of no image anything is shown where the put fails.
+fn expect_unput<R: Threads + Wait + Sync>(
+    rt: &R,
+    alloc: Global,
+    cases: &[Shown<'_>],
+) -> Result<(), Fail> {
+    for case in cases {
+        show(rt, alloc, case, &[1])?.expect(case.name, 6, "")?;
+    }
     Ok(())
 }
 
 #[test]
 fn the_put_of_an_image_fails(rt: HostRuntime) -> Result<(), Fail> {
-    for case in SHOWS {
-        let bytes = case.image.bytes(rt.alloc())?;
-        let program = Program {
-            words: &["show", "out.1"],
-            files: &[("out.1", &bytes)],
-            failing_calls: &[],
-            failing_puts: &[1],
-        };
-        program.run(&rt, rt.alloc())?.expect(case.name, 6, "")?;
-    }
-    Ok(())
+    expect_unput(&rt, rt.alloc(), SHOWN_LOGS)?;
+    expect_unput(&rt, rt.alloc(), SHOWN_OBJECTS)?;
+    expect_unput(&rt, rt.alloc(), NO_LOGS)
 }
 
 /// How many lines of zeros stand before a line of other bytes, and how `show` of that image ends. Of an
@@ -231,9 +263,13 @@ fn images_that_are_too_long(rt: HostRuntime) -> Result<(), Fail> {
         bytes.extend_from_slice(&[1; 64])?;
         let files: &[(&str, &[u8])] = &[("out.1", &bytes)];
         let program = Program::new(&["show", "out.1"], files);
-        program
-            .run(&rt, rt.alloc())?
-            .expect("zeros and then other bytes", *status, output)?;
+        program.expect(
+            &rt,
+            rt.alloc(),
+            "zeros and then other bytes",
+            *status,
+            output,
+        )?;
     }
     Ok(())
 }

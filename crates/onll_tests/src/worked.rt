@@ -1,5 +1,6 @@
 //! The worked cases of a bank, and words that are no command.
 
+use crate::folds::{Report, expect_reports};
 use onll_calls::{Program, USAGE, fold};
 use std::test::Fail;
 
@@ -16,8 +17,7 @@ const TRANSFER_REPORT: &str = "call 0 1 transfer 0 1 30 -> ok at 1\n\
      account 0 70\n\
      account 1 30\n";
 
-/// The name of a case, an initial state, a script and its report.
-const REPORTS: &[(&str, &[u8], &[u8], &str)] = &[
+const REPORTS: &[Report<'static>] = &[
     (
         "a transfer, and the balance of the other account",
         TRANSFER_INIT,
@@ -107,17 +107,13 @@ const REPORTS: &[(&str, &[u8], &[u8], &str)] = &[
 
 #[test]
 fn reports_of_scripts(rt: HostRuntime) -> Result<(), Fail> {
-    for (case, init, script, report) in REPORTS {
-        fold(&rt, rt.alloc(), init, script)?.expect(case, 0, report)?;
-    }
-    Ok(())
+    expect_reports(&rt, rt.alloc(), REPORTS)
 }
 
 #[test]
 fn ample_memory_is_enough(rt: HostRuntime) -> Result<(), Fail> {
     let outcome = fold(&rt, rt.alloc(), TRANSFER_INIT, TRANSFER_SCRIPT)?;
-    outcome.expect("status 0 and not 9", 0, TRANSFER_REPORT)?;
-    Ok(())
+    outcome.expect("status 0 and not 9", 0, TRANSFER_REPORT)
 }
 
 /// The name of a case, and the words.
@@ -141,7 +137,7 @@ fn words_of_no_command(rt: HostRuntime) -> Result<(), Fail> {
             failing_calls: &[],
             failing_puts: &[],
         };
-        program.run(&rt, rt.alloc())?.expect(case, 2, USAGE)?;
+        program.expect(&rt, rt.alloc(), case, 2, USAGE)?;
     }
     Ok(())
 }

@@ -70,9 +70,7 @@ fn a_log_that_a_thread_wrote(rt: HostRuntime) -> Result<(), Fail> {
         let image = device_of_both(alloc, failing)?.image(alloc, *keep)?;
         let bytes = bytes_of(alloc, &image)?;
         let files: &[(&str, &[u8])] = &[("x", &bytes)];
-        Program::new(&["show", "x"], files)
-            .run(&rt, alloc)?
-            .expect("a thread's log", 0, output)?;
+        Program::new(&["show", "x"], files).expect(&rt, alloc, "a thread's log", 0, output)?;
     }
     Ok(())
 }
@@ -88,14 +86,13 @@ fn a_log_of_format_1(rt: HostRuntime) -> Result<(), Fail> {
     ];
     let bytes = bytes_of(alloc, &image)?;
     let files: &[(&str, &[u8])] = &[("i", b"bank 1\n"), ("out.0", &bytes)];
-    Program::new(&["recover", "i", "out", "1"], files)
-        .run(&rt, alloc)?
-        .expect(
-            "a log of format 1",
-            0,
-            "log 0 entries 1 lines 3\nrecovered 1\nnode 1 0 1 deposit 0 5\nstate\nbank 1\naccount 0 5\n",
-        )?;
-    Ok(())
+    Program::new(&["recover", "i", "out", "1"], files).expect(
+        &rt,
+        alloc,
+        "a log of format 1",
+        0,
+        "log 0 entries 1 lines 3\nrecovered 1\nnode 1 0 1 deposit 0 5\nstate\nbank 1\naccount 0 5\n",
+    )
 }
 
 /// One thread whose first update returned, and of whose second update one word is kept, the entry's
@@ -122,9 +119,7 @@ fn replayed<R: Abort + Threads + Wait + Sync>(
 ) -> Result<Vec<u8>, Fail> {
     let program = Program::new(&["replay", "i", "c", "out", "s"], files);
     let mut store = program.store(alloc)?;
-    program
-        .run_over(rt, alloc, &mut store)?
-        .expect("a replay", 0, output)?;
+    program.expect_over(rt, alloc, &mut store, "a replay", 0, output)?;
     let image = Vec::from_slice(alloc, store.file("out.0").unwrap_or(b""))?;
     Ok(image)
 }
@@ -137,10 +132,7 @@ fn recovers<R: Abort + Threads + Wait + Sync>(
     output: &str,
 ) -> Result<(), Fail> {
     let files: &[(&str, &[u8])] = &[("i", b"bank 1\n"), ("out.0", image)];
-    Program::new(&["recover", "i", "out", "1"], files)
-        .run(rt, alloc)?
-        .expect("a recovery", 0, output)?;
-    Ok(())
+    Program::new(&["recover", "i", "out", "1"], files).expect(rt, alloc, "a recovery", 0, output)
 }
 
 #[test]

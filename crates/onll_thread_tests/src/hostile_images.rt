@@ -1,6 +1,6 @@
 //! Images with one wrong bit, word or line, shown and recovered.
 
-use crate::recovers::{Recovery, recover, store_of};
+use crate::recovers::{Recovery, expect_recoveries, store_of};
 use onll_calls::images::{
     COUNT_0_ENTRY, COUNT_2_ENTRY, DEPOSIT_5, FORMAT_0_HEAD, FORMAT_9_HEAD, FULL, Image,
     MAGIC_ENTRY, MAGIC_HEAD, NAME_0_LINE, NAME_0_OF, NAME_4097_LINE, NAME_4097_OF, NUMBER_2_ENTRY,
@@ -14,8 +14,8 @@ use std::sync::Wait;
 use std::test::Fail;
 use std::thread::Threads;
 
-/// Images in format 1 with one change each, where the digest is that of the changed entry.
-const HOSTILE_IMAGES: &[Recovery<'static>] = &[
+/// Images in format 1 with one change each, here of the head.
+const HOSTILE_HEADS: &[Recovery<'static>] = &[
     Recovery {
         name: "a head of another magic",
         init: b"bank 1\n",
@@ -64,6 +64,10 @@ const HOSTILE_IMAGES: &[Recovery<'static>] = &[
         status: 4,
         output: "log 0 not a log\n",
     },
+];
+
+/// Heads of other runs.
+const HEADS_OF_OTHERS: &[Recovery<'static>] = &[
     Recovery {
         name: "a head of 17 threads",
         init: b"bank 1\n",
@@ -112,6 +116,10 @@ const HOSTILE_IMAGES: &[Recovery<'static>] = &[
         status: 4,
         output: "log 0 not of this run\n",
     },
+];
+
+/// Changes of the entry, where the digest is that of the changed entry.
+const HOSTILE_ENTRIES: &[Recovery<'static>] = &[
     Recovery {
         name: "an entry of another magic",
         init: b"bank 1\n",
@@ -160,6 +168,10 @@ const HOSTILE_IMAGES: &[Recovery<'static>] = &[
         status: 0,
         output: "log 0 entries 0 lines 1\nrecovered 0\nstate\nbank 1\naccount 0 0\n",
     },
+];
+
+/// The same of its count and its place.
+const HOSTILE_PLACES: &[Recovery<'static>] = &[
     Recovery {
         name: "an entry of more operations than threads",
         init: b"bank 1\n",
@@ -196,6 +208,10 @@ const HOSTILE_IMAGES: &[Recovery<'static>] = &[
         status: 0,
         output: "log 0 entries 0 lines 1\nrecovered 0\nstate\nbank 1\naccount 0 0\n",
     },
+];
+
+/// Changes of the node, another digest, and other ends.
+const HOSTILE_NODES: &[Recovery<'static>] = &[
     Recovery {
         name: "a node of name 0",
         init: b"bank 1\n",
@@ -260,10 +276,11 @@ const HOSTILE_IMAGES: &[Recovery<'static>] = &[
 
 #[test]
 fn hostile_images(rt: HostRuntime) -> Result<(), Fail> {
-    for case in HOSTILE_IMAGES {
-        recover(&rt, rt.alloc(), case)?.expect(case.name, case.status, case.output)?;
-    }
-    Ok(())
+    expect_recoveries(&rt, rt.alloc(), HOSTILE_HEADS)?;
+    expect_recoveries(&rt, rt.alloc(), HEADS_OF_OTHERS)?;
+    expect_recoveries(&rt, rt.alloc(), HOSTILE_ENTRIES)?;
+    expect_recoveries(&rt, rt.alloc(), HOSTILE_PLACES)?;
+    expect_recoveries(&rt, rt.alloc(), HOSTILE_NODES)
 }
 
 /// Bits of the masks of an entry in format 2 that are wrong: what they are, the word, and its bits.

@@ -66,9 +66,7 @@ fn calls_that_fail(rt: HostRuntime) -> Result<(), Fail> {
             failing_puts: &[],
         };
         let mut store = program.store(alloc)?;
-        program
-            .run_over(&rt, alloc, &mut store)?
-            .expect("a call fails", *status, output)?;
+        program.expect_over(&rt, alloc, &mut store, "a call fails", *status, output)?;
         expect_images(&rt, alloc, &store, *images)?;
     }
     Ok(())
@@ -84,9 +82,7 @@ fn the_put_of_a_replay_fails(rt: HostRuntime) -> Result<(), Fail> {
         failing_puts: &[1],
     };
     let mut store = program.store(alloc)?;
-    program
-        .run_over(&rt, alloc, &mut store)?
-        .expect("the put of a report fails", 6, "")?;
+    program.expect_over(&rt, alloc, &mut store, "the put of a report fails", 6, "")?;
     expect_images(&rt, alloc, &store, 2)?;
     Ok(())
 }
@@ -115,10 +111,7 @@ fn recovers<R: Abort + Threads + Wait + Sync>(
 ) -> Result<(), Fail> {
     let files: &[(&str, &[u8])] = &[("i", init), ("out.0", images.0), ("out.1", images.1)];
     let program = Program::new(&["recover", "i", "out", "2"], files);
-    program
-        .run(rt, alloc)?
-        .expect("a recovery", status, output)?;
-    Ok(())
+    program.expect(rt, alloc, "a recovery", status, output)
 }
 
 #[test]
@@ -127,7 +120,9 @@ fn what_a_crash_left_is_recovered(rt: HostRuntime) -> Result<(), Fail> {
     let second = image(&rt, rt.alloc(), HELPED_FILES, "out.1")?;
     let files: &[(&str, &[u8])] = &[("x", &second)];
     let shown = Program::new(&["show", "x"], files);
-    shown.run(&rt, rt.alloc())?.expect(
+    shown.expect(
+        &rt,
+        rt.alloc(),
         "the second log",
         0,
         "log thread 1 threads 2 object bank\n\
@@ -207,10 +202,14 @@ fn sixteen_logs_are_recovered(rt: HostRuntime) -> Result<(), Fail> {
     let mut store = replay.store(rt.alloc())?;
     let _ = replay.run_over(&rt, rt.alloc(), &mut store)?;
     let recovery = Program::new(&["recover", "i", "out", "16"], &[]);
-    recovery
-        .run_over(&rt, rt.alloc(), &mut store)?
-        .expect("sixteen logs", 0, SIXTEEN_RECOVERED)?;
-    Ok(())
+    recovery.expect_over(
+        &rt,
+        rt.alloc(),
+        &mut store,
+        "sixteen logs",
+        0,
+        SIXTEEN_RECOVERED,
+    )
 }
 
 /// Two threads, each of which logs its own update.

@@ -55,10 +55,7 @@ fn expect<R: Threads + Wait + Sync + Abort>(
     status: u8,
     text: &str,
 ) -> Result<(), Fail> {
-    Program::new(words, &[])
-        .run(rt, alloc)?
-        .expect("make", status, text)?;
-    Ok(())
+    Program::new(words, &[]).expect(rt, alloc, "make", status, text)
 }
 
 /// What is said of workloads of one update, of the most threads, and of seeds that go past the greatest number.

@@ -40,7 +40,7 @@ pub(crate) fn store_of(
 }
 
 /// The outcome of a recovery.
-pub(crate) fn recover<R: Threads + Wait + Sync>(
+fn recover<R: Threads + Wait + Sync>(
     rt: &R,
     alloc: Global,
     case: &Recovery<'_>,
@@ -50,8 +50,8 @@ pub(crate) fn recover<R: Threads + Wait + Sync>(
     Program::new(words, &[]).run_over(rt, alloc, &mut store)
 }
 
-/// Recoveries from the logs of one or two threads.
-const RECOVERIES: &[Recovery<'static>] = &[
+/// Logs of two updates, of both formats.
+const WHOLE_LOGS: &[Recovery<'static>] = &[
     Recovery {
         name: "an update that stands only in the other log",
         init: b"bank 2\n",
@@ -160,6 +160,10 @@ const RECOVERIES: &[Recovery<'static>] = &[
                  account 0 5\n\
                  account 1 7\n",
     },
+];
+
+/// Logs of which much is missing, and logs of one update each.
+const CUT_LOGS: &[Recovery<'static>] = &[
     Recovery {
         name: "an image of zeros",
         init: b"bank 1\n",
@@ -250,6 +254,10 @@ const RECOVERIES: &[Recovery<'static>] = &[
                  account 0 5\n\
                  account 1 7\n",
     },
+];
+
+/// Logs with one byte that is another, and two that clash.
+const CHANGED_LOGS: &[Recovery<'static>] = &[
     Recovery {
         name: "a changed byte in format 1",
         init: b"bank 2\n",
@@ -334,6 +342,10 @@ const RECOVERIES: &[Recovery<'static>] = &[
         status: 4,
         output: "place 1 differs in logs 0 and 1\n",
     },
+];
+
+/// Other initial states, and what is logged twice.
+const TWICE_LOGGED: &[Recovery<'static>] = &[
     Recovery {
         name: "another initial state",
         init: b"bank 2\naccount 0 1\n",
@@ -403,6 +415,10 @@ const RECOVERIES: &[Recovery<'static>] = &[
         status: 4,
         output: "log 0 entry 2 disorder\n",
     },
+];
+
+/// Logs of something else.
+const FOREIGN_LOGS: &[Recovery<'static>] = &[
     Recovery {
         name: "a row that is no operation",
         init: b"bank 1\n",
@@ -465,6 +481,10 @@ const RECOVERIES: &[Recovery<'static>] = &[
         status: 4,
         output: "log 1 not a log\n",
     },
+];
+
+/// Logs of other threads, and logs that are not there.
+const LOGS_OF_OTHERS: &[Recovery<'static>] = &[
     Recovery {
         name: "the logs the other way round",
         init: b"bank 2\n",
@@ -528,6 +548,10 @@ const RECOVERIES: &[Recovery<'static>] = &[
         status: 3,
         output: "refused i 1 unknown object\n",
     },
+];
+
+/// Logs of the other objects.
+const LOGS_OF_OBJECTS: &[Recovery<'static>] = &[
     Recovery {
         name: "a map",
         init: b"map 1\n",
@@ -566,12 +590,31 @@ const RECOVERIES: &[Recovery<'static>] = &[
     },
 ];
 
-#[test]
-fn recoveries_from_logs(rt: HostRuntime) -> Result<(), Fail> {
-    for case in RECOVERIES {
-        recover(&rt, rt.alloc(), case)?.expect(case.name, case.status, case.output)?;
+/// Each recovery ends as it says.
+pub(crate) fn expect_recoveries<R: Threads + Wait + Sync>(
+    rt: &R,
+    alloc: Global,
+    cases: &[Recovery<'_>],
+) -> Result<(), Fail> {
+    for case in cases {
+        recover(rt, alloc, case)?.expect(case.name, case.status, case.output)?;
     }
     Ok(())
+}
+
+#[test]
+fn recoveries_from_logs(rt: HostRuntime) -> Result<(), Fail> {
+    expect_recoveries(&rt, rt.alloc(), WHOLE_LOGS)?;
+    expect_recoveries(&rt, rt.alloc(), CUT_LOGS)?;
+    expect_recoveries(&rt, rt.alloc(), CHANGED_LOGS)?;
+    expect_recoveries(&rt, rt.alloc(), TWICE_LOGGED)
+}
+
+#[test]
+fn recoveries_from_other_logs(rt: HostRuntime) -> Result<(), Fail> {
+    expect_recoveries(&rt, rt.alloc(), FOREIGN_LOGS)?;
+    expect_recoveries(&rt, rt.alloc(), LOGS_OF_OTHERS)?;
+    expect_recoveries(&rt, rt.alloc(), LOGS_OF_OBJECTS)
 }
 
 /// Recoveries of one thread whose only put fails.
@@ -629,9 +672,7 @@ fn the_put_of_a_recovery_fails(rt: HostRuntime) -> Result<(), Fail> {
     };
     for case in PUTS {
         let mut store = store_of(alloc, case.init, case.images)?;
-        program
-            .run_over(&rt, alloc, &mut store)?
-            .expect(case.name, case.status, case.output)?;
+        program.expect_over(&rt, alloc, &mut store, case.name, case.status, case.output)?;
     }
     Ok(())
 }
@@ -653,9 +694,7 @@ const NO_FORMS: &[&[&str]] = &[
 #[test]
 fn words_of_no_form(rt: HostRuntime) -> Result<(), Fail> {
     for words in NO_FORMS {
-        Program::new(words, &[("i", b"bank 1\n")])
-            .run(&rt, rt.alloc())?
-            .expect("no form", 2, USAGE)?;
+        Program::new(words, &[("i", b"bank 1\n")]).expect(&rt, rt.alloc(), "no form", 2, USAGE)?;
     }
     Ok(())
 }

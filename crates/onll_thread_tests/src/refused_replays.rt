@@ -1,6 +1,6 @@
 //! Replays that are refused, and what is refused first.
 
-use crate::replays::{HELPED_FILES, ONE, Replay, TWO};
+use crate::replays::{HELPED_FILES, ONE, Replay, TWO, expect_replays};
 use onll_calls::{Program, USAGE};
 use std::test::Fail;
 
@@ -94,6 +94,10 @@ const REFUSED_BEFORE: &[Replay<'static>] = &[
         status: 3,
         output: "refused s1 1 unknown word\n",
     },
+];
+
+/// What is missing before the schedule is refused.
+const NOT_READ: &[Replay<'static>] = &[
     Replay {
         name: "no second script",
         words: TWO,
@@ -108,6 +112,10 @@ const REFUSED_BEFORE: &[Replay<'static>] = &[
         status: 5,
         output: "read fault c\n",
     },
+];
+
+/// Words of no replay.
+const NO_FORMS: &[Replay<'static>] = &[
     Replay {
         name: "no script",
         words: &["replay", "i", "c", "out"],
@@ -137,17 +145,14 @@ fn schedules_that_are_refused(rt: HostRuntime) -> Result<(), Fail> {
             ("s1", b"deposit 1 7\n"),
         ];
         let program = Program::new(TWO, files);
-        program.run(&rt, rt.alloc())?.expect(name, 3, output)?;
+        program.expect(&rt, rt.alloc(), name, 3, output)?;
     }
     Ok(())
 }
 
 #[test]
 fn what_is_refused_first(rt: HostRuntime) -> Result<(), Fail> {
-    for case in REFUSED_BEFORE {
-        case.program()
-            .run(&rt, rt.alloc())?
-            .expect(case.name, case.status, case.output)?;
-    }
-    Ok(())
+    expect_replays(&rt, rt.alloc(), REFUSED_BEFORE)?;
+    expect_replays(&rt, rt.alloc(), NOT_READ)?;
+    expect_replays(&rt, rt.alloc(), NO_FORMS)
 }

@@ -68,7 +68,8 @@ pub(crate) const SIXTEEN_FILES: &[(&str, &[u8])] = &[
     ("s0", b"deposit 0 1\n"),
 ];
 
-const REPLAYS: &[Replay<'static>] = &[
+/// One thread that is cut off before its fence.
+const FIRST_STEPS: &[Replay<'static>] = &[
     Replay {
         name: "no step",
         words: ONE,
@@ -136,6 +137,10 @@ const REPLAYS: &[Replay<'static>] = &[
                  bank 1\n\
                  account 0 5\n",
     },
+];
+
+/// One thread that is cut off at its fence and later.
+const LAST_STEPS: &[Replay<'static>] = &[
     Replay {
         name: "the same, and the entry's magic is kept",
         words: ONE,
@@ -212,6 +217,10 @@ const REPLAYS: &[Replay<'static>] = &[
                  bank 1\n\
                  account 0 5\n",
     },
+];
+
+/// Threads that meet.
+const THREADS: &[Replay<'static>] = &[
     Replay {
         name: "an update that stands only in the other log",
         words: TWO,
@@ -300,12 +309,15 @@ const REPLAYS: &[Replay<'static>] = &[
                  bank 1\n\
                  account 0 7\n",
     },
-    Replay {
-        name: "the greatest window",
-        words: SIXTEEN,
-        files: SIXTEEN_FILES,
-        status: 0,
-        output: "call 0 1 deposit 0 1 -> ordered at 1\n\
+];
+
+/// Sixteen threads.
+const GREATEST_WINDOW: &[Replay<'static>] = &[Replay {
+    name: "the greatest window",
+    words: SIXTEEN,
+    files: SIXTEEN_FILES,
+    status: 0,
+    output: "call 0 1 deposit 0 1 -> ordered at 1\n\
                  call 1 1 deposit 0 1 -> ordered at 2\n\
                  call 2 1 deposit 0 1 -> ordered at 3\n\
                  call 3 1 deposit 0 1 -> ordered at 4\n\
@@ -359,7 +371,10 @@ const REPLAYS: &[Replay<'static>] = &[
                  state\n\
                  bank 1\n\
                  account 0 16\n",
-    },
+}];
+
+/// The other objects.
+const OBJECTS: &[Replay<'static>] = &[
     Replay {
         name: "a map",
         words: TWO,
@@ -426,14 +441,30 @@ const REPLAYS: &[Replay<'static>] = &[
     },
 ];
 
-#[test]
-fn schedules_that_crash(rt: HostRuntime) -> Result<(), Fail> {
-    for case in REPLAYS {
+/// Each replay ends as it says.
+pub(crate) fn expect_replays<R: Threads + Wait + Sync>(
+    rt: &R,
+    alloc: Global,
+    cases: &[Replay<'_>],
+) -> Result<(), Fail> {
+    for case in cases {
         case.program()
-            .run(&rt, rt.alloc())?
-            .expect(case.name, case.status, case.output)?;
+            .expect(rt, alloc, case.name, case.status, case.output)?;
     }
     Ok(())
+}
+
+#[test]
+fn schedules_that_crash(rt: HostRuntime) -> Result<(), Fail> {
+    expect_replays(&rt, rt.alloc(), FIRST_STEPS)?;
+    expect_replays(&rt, rt.alloc(), LAST_STEPS)?;
+    expect_replays(&rt, rt.alloc(), THREADS)
+}
+
+#[test]
+fn sixteen_threads_and_other_objects(rt: HostRuntime) -> Result<(), Fail> {
+    expect_replays(&rt, rt.alloc(), GREATEST_WINDOW)?;
+    expect_replays(&rt, rt.alloc(), OBJECTS)
 }
 
 /// Turns of two threads, and how many updates are recovered where no word is kept, and where all are.
@@ -473,8 +504,7 @@ fn crashes<R: Abort + Threads + Wait + Sync>(
     let program = Program::new(TWO, files);
     program
         .run(rt, alloc)?
-        .expect_line("a cut schedule", 0, line)?;
-    Ok(())
+        .expect_line("a cut schedule", 0, line)
 }
 
 #[test]

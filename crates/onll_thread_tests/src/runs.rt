@@ -37,12 +37,10 @@ fn what_was_run_is_recovered(rt: HostRuntime) -> Result<(), Fail> {
     let alloc = rt.alloc();
     let run = Program::new(ONE, FILES);
     let mut store = run.store(alloc)?;
-    run.run_over(&rt, alloc, &mut store)?
-        .expect("one thread", 0, REPORT)?;
-    Program::new(&["recover", "i", "out", "1"], &[])
-        .run_over(&rt, alloc, &mut store)?
-        .expect("its log", 0, RECOVERED)?;
-    Ok(())
+    run.expect_over(&rt, alloc, &mut store, "one thread", 0, REPORT)?;
+    Program::new(&["recover", "i", "out", "1"], &[]).expect_over(
+        &rt, alloc, &mut store, "its log", 0, RECOVERED,
+    )
 }
 
 /// What a run of two threads prints, the second of which has no call.
@@ -60,10 +58,13 @@ const TWO_REPORT: &str = "call 0 1 transfer 0 1 30 -> ok at 1\n\
 
 #[test]
 fn a_thread_with_no_call(rt: HostRuntime) -> Result<(), Fail> {
-    Program::new(&["run", "i", "out", "s", "none"], FILES)
-        .run(&rt, rt.alloc())?
-        .expect("two threads", 0, TWO_REPORT)?;
-    Ok(())
+    Program::new(&["run", "i", "out", "s", "none"], FILES).expect(
+        &rt,
+        rt.alloc(),
+        "two threads",
+        0,
+        TWO_REPORT,
+    )
 }
 
 /// The lines of a script, the status of a run of it, and a line that is printed.
@@ -98,9 +99,7 @@ const NO_FORMS: &[&[&str]] = &[
 #[test]
 fn words_of_no_run(rt: HostRuntime) -> Result<(), Fail> {
     for words in NO_FORMS {
-        Program::new(words, FILES)
-            .run(&rt, rt.alloc())?
-            .expect("no form", 2, USAGE)?;
+        Program::new(words, FILES).expect(&rt, rt.alloc(), "no form", 2, USAGE)?;
     }
     Ok(())
 }

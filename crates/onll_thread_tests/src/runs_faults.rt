@@ -117,9 +117,14 @@ fn fences_that_fail(rt: HostRuntime) -> Result<(), Fail> {
         };
         let program = Program::new(case.words, FILES);
         let mut store = program.store_with(rt.alloc(), &[fence])?;
-        program
-            .run_over(&rt, rt.alloc(), &mut store)?
-            .expect(case.name, case.status, case.output)?;
+        program.expect_over(
+            &rt,
+            rt.alloc(),
+            &mut store,
+            case.name,
+            case.status,
+            case.output,
+        )?;
         let kept = store.file("out.0") != Some(b"first");
         assert_eq!(rt; kept, case.fence != 1, "{}: kept", case.name);
     }
@@ -155,9 +160,7 @@ fn what_a_failed_fence_leaves(rt: HostRuntime) -> Result<(), Fail> {
         "not zeros behind the head"
     );
     for (words, output) in LEFT {
-        Program::new(words, &[])
-            .run_over(&rt, alloc, &mut store)?
-            .expect("what was kept", 0, output)?;
+        Program::new(words, &[]).expect_over(&rt, alloc, &mut store, "what was kept", 0, output)?;
     }
     Ok(())
 }
@@ -277,9 +280,7 @@ fn expect_logs<R: Abort + Threads + Wait + Sync>(
         let held = store.file(name).unwrap_or(b"");
         if index < kept {
             let shown = SHOWN.get(index).unwrap_or(&"");
-            Program::new(&["show", *name], &[(*name, held)])
-                .run(rt, alloc)?
-                .expect(name, 0, shown)?;
+            Program::new(&["show", *name], &[(*name, held)]).expect(rt, alloc, name, 0, shown)?;
         } else {
             assert!(rt; held == *before, "{name} is not as it was");
         }

@@ -83,8 +83,7 @@ fn expect_run<R: Abort + Threads + Wait + Sync, S: Store>(
     assert!(rt; !gate.expired());
     Program::new(RECOVER, &[])
         .call(rt, alloc, store, &FreeGate)?
-        .expect("its logs", 0, RECOVERED)?;
-    Ok(())
+        .expect("its logs", 0, RECOVERED)
 }
 
 #[test]

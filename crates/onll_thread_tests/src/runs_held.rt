@@ -157,8 +157,12 @@ fn a_window_keeps_what_a_failed_fence_lost(rt: HostRuntime) -> Result<(), Fail> 
     };
     let mut store = Program::new(TWO, FILES).store_with(alloc, &[fence])?;
     expect_held(&rt, alloc, TWO, &mut store, WALKED, 7, BROKEN_REPORT)?;
-    Program::new(&["recover", "b2", "out", "2"], &[])
-        .run_over(&rt, alloc, &mut store)?
-        .expect("what was kept", 0, BROKEN_RECOVERED)?;
-    Ok(())
+    Program::new(&["recover", "b2", "out", "2"], &[]).expect_over(
+        &rt,
+        alloc,
+        &mut store,
+        "what was kept",
+        0,
+        BROKEN_RECOVERED,
+    )
 }

@@ -40,9 +40,19 @@ impl<R: Files + Drop> Model for FileStore<R> {
     } };
 }
 
-/// The first `limit` bytes of a file.
+/// How many of the first `limit` bytes a file has; none where it does not tell.
+fn length_of<R: Files>(files: &R, name: &str, limit: u64) -> u64 {
+    match fs::metadata(files, name) {
+        Ok(data) => data.len().min(limit),
+        Err(_) => 0,
+    }
+}
+
+/// The first `limit` bytes of a file. Room for them is taken before they are read, and for one more, so that nothing is copied
+/// where the file ends.
 fn read_file<R: Files>(files: &R, alloc: Global, name: &str, limit: u64) -> io::Result<Vec<u8>> {
-    let mut bytes = Vec::new(alloc);
+    let room = length_of(files, name, limit).saturating_add(1);
+    let mut bytes = Vec::with_capacity(alloc, room as usize)?;
     fs::open(files, name)?.take(limit).read_to_end(&mut bytes)?;
     Ok(bytes)
 }

@@ -1,14 +1,19 @@
 -- The parts of a replay, one after the other.
 
-use Rattle.std.proofs.Common.{Vec, Global, ℕ, suc, ◌≡◌, ◌+◌, ◌<◌, List, [], ◌∷◌, Option, None, IsSome, length, drop, get_or, map, Result, Ok, Err, refl, sym, ap, ◌∙◌, subst}
-use Rattle.std.proofs.lemmas.List.{drop_more}
-use Rattle.std.specs.List.{AllByRecursion}
+use Rattle.std.proofs.Common.{Vec, Global, ℕ, zero, suc, ◌≡◌, ◌+◌, ◌<◌, List, [], ◌∷◌, Option, None, IsSome, length, drop, get_or, map, Result, Ok, Err, refl, sym, ap, ◌∙◌, subst, arith}
+use Rattle.std.proofs.lemmas.List.{drop_more, length-map}
+use Rattle.std.specs.List.{AllByRecursion, slice_get}
+use Rattle.std.specs.Option.{IfSome}
+use Rattle.std.specs.Result.{IfOk}
 use Rattle.onll_words.specs.declared.line.Line.{Line}
+use Rattle.onll_pmem.specs.Device.{image_of}
+use Rattle.onll_pmem.specs.Memory.{MemoryState}
+use Rattle.onll_pmem.specs.Pmem.{words_of}
 use Rattle.onll_model.specs.declared.node.Node.{Node}
 use Rattle.onll_model.specs.declared.call.Call.{Call}
 use Rattle.onll_model.specs.declared.turn.Turn.{Turn}
 use Rattle.onll_model.specs.Object.{Behaviour}
-use Rattle.onll_core.specs.Core.{CoreState}
+use Rattle.onll_core.specs.Core.{CoreThread, CoreState}
 use Rattle.onll_core.specs.Step.{steps_of}
 use Rattle.onll_core.specs.Turns.{turns_of}
 use Rattle.onll_core.specs.First.{first_threads}
@@ -25,9 +30,10 @@ use Rattle.onll_text.specs.Schedule.{schedule_of}
 use Rattle.onll_outside.specs.Views.{StoreView}
 use Rattle.onll_task.specs.declared.answer.Stop.{Stop}
 use Rattle.onll_task.specs.ImageNames.{image_names}
-use Rattle.onll_task.specs.Images.{images_in, writing_stage}
-use Rattle.onll_task.specs.Doing.{Task, after_stage, text_stage, Does, Begins}
+use Rattle.onll_task.specs.Images.{StandFor, writing_stage}
+use Rattle.onll_task.specs.Doing.{text_stage, Does, Begins}
 use Rattle.onll_recovery.specs.ReplayJob.{played, run_task, crash_task, schedule_task}
+use Rattle.onll_recovery.proofs.Standing.{crash_stands}
 use Rattle.onll_task.proofs.Stages.{wrote_does, stop_does, read_does}
 
 -- ---- scripts
@@ -46,31 +52,44 @@ played_scripts b code init s scripts turns =
     steps_scripts b (created_core s code init scripts) (turns_of turns) ∙ made_scripts (length scripts) code init 0 scripts
 
 -- ---- the crash
-module _ {State Op Query Reply : Type 0} (b : Behaviour State Op Query Reply) (w : Wording State Op Query Reply) (logs : List ℕ) (resumed : Option ℕ) where
-  -- the same over any images
-  abbrev crash_over : List (List (Call State Op Query Reply)) → CoreState State Op Query Reply → ℕ → List (List (List ℕ)) → Task
-  crash_over scripts c keep images = after_stage (writing_stage logs images) (λ _. run_task b w resumed scripts c keep (state_recovered b (heads_of c.threads) images))
+-- an image for each thread
+pub images_count : {State Op Query Reply : Type 0} (c : CoreState State Op Query Reply) (keep : ℕ) → length (images_of keep c.threads) ≡ length c.threads
+images_count {State} {Op} {Query} {Reply} c keep = length-map c.threads (λ (th : CoreThread State Op Query Reply). image_of th.device keep)
 
-  -- the images were written, and the rest is said
-  pub crash_does : {V A : Type 0} (scripts : List (List (Call State Op Query Reply))) (c : CoreState State Op Query Reply) (keep : ℕ) {store mid : StoreView} (images : List (Vec Line Global)) {value : V → Unit {0}} {v : V} (r : Result (Vec ℕ A) Stop)
-      → images_in images ≡ images_of keep c.threads → length images ≡ length c.threads
-      → Begins (image_names logs 0 (length images)) store mid (writing_stage logs (images_in images)) value (Ok v)
-      → ((any : StoreView) → Does [] any any (run_task b w resumed scripts c keep (state_recovered b (heads_of c.threads) (images_in images))) r)
+-- the image of a thread's device is the one at its place
+image_found : {State Op Query Reply : Type 0} (keep : ℕ) (ths : List (CoreThread State Op Query Reply)) (t : ℕ) (m : MemoryState) (lines : List (List ℕ)) → t < length ths
+    → IfSome (slice_get ths t) (λ th. m ≡ record { device = th.device; failing = [] }) → lines ≡ image_of m.device keep → lines ≡ get_or (images_of keep ths) t []
+image_found keep [] t m lines less same is = absurd (omega (arith, less))
+image_found keep (th ∷ ths) zero m lines less same is = is ∙ ap (λ (x : MemoryState). image_of x.device keep) same
+image_found keep (th ∷ ths) (suc t) m lines less same is = image_found keep ths t m lines (omega (arith, less)) same is
+
+pub image_is : {State Op Query Reply E : Type 0} (keep : ℕ) (ths : List (CoreThread State Op Query Reply)) (t : ℕ) (m : MemoryState) (r : Result (Vec Line Global) E) → t < length ths
+    → IfSome (slice_get ths t) (λ th. m ≡ record { device = th.device; failing = [] }) → IfOk r (λ image. words_of image.items ≡ image_of m.device keep)
+    → IfOk r (λ image. words_of image.items ≡ get_or (images_of keep ths) t [])
+image_is keep ths t m (Ok image) less same is = image_found keep ths t m (words_of image.items) less same is
+image_is keep ths t m (Err e) less same is = tt
+
+module _ {State Op Query Reply : Type 0} (b : Behaviour State Op Query Reply) (w : Wording State Op Query Reply) (logs : List ℕ) (resumed : Option ℕ) where
+  -- the images were written, and the rest is said by lines that stand for them
+  pub crash_does : {V A : Type 0} (scripts : List (List (Call State Op Query Reply))) (c : CoreState State Op Query Reply) (keep : ℕ) {store mid : StoreView} (lines : List (List (List ℕ))) {value : V → Unit {0}} {v : V} (r : Result (Vec ℕ A) Stop)
+      → StandFor lines (images_of keep c.threads)
+      → Begins (image_names logs 0 (length (images_of keep c.threads))) store mid (writing_stage logs (images_of keep c.threads)) value (Ok v)
+      → ((any : StoreView) → Does [] any any (run_task b w resumed scripts c keep (state_recovered b (heads_of c.threads) lines)) r)
       → Does (image_names logs 0 (length c.threads)) store mid (crash_task b w logs resumed scripts c keep) r
-  crash_does scripts c keep {store} {mid} images r e n first says =
-      subst (λ images. Does (image_names logs 0 (length c.threads)) store mid (crash_over scripts c keep images) r) e
-      (subst (λ m. Does (image_names logs 0 m) store mid (crash_over scripts c keep (images_in images)) r) n
-      (wrote_does (λ _. run_task b w resumed scripts c keep (state_recovered b (heads_of c.threads) (images_in images))) first says))
+  crash_does scripts c keep {store} {mid} lines r stand first says =
+      let heads = heads_of c.threads in
+      let images = images_of keep c.threads in
+      subst (λ m. Does (image_names logs 0 m) store mid (crash_task b w logs resumed scripts c keep) r) (images_count c keep)
+      (wrote_does (λ _. run_task b w resumed scripts c keep (state_recovered b heads images)) first
+      (λ any. subst (λ recovered. Does [] any any (run_task b w resumed scripts c keep recovered) r) (crash_stands b heads lines images stand) (says any)))
 
   -- one was not written
-  pub crash_stops : {V A : Type 0} (scripts : List (List (Call State Op Query Reply))) (c : CoreState State Op Query Reply) (keep : ℕ) {store after : StoreView} (images : List (Vec Line Global)) {value : V → Unit {0}} (s : Stop)
-      → images_in images ≡ images_of keep c.threads → length images ≡ length c.threads
-      → Begins (image_names logs 0 (length images)) store after (writing_stage logs (images_in images)) value (Err s)
+  pub crash_stops : {V A : Type 0} (scripts : List (List (Call State Op Query Reply))) (c : CoreState State Op Query Reply) (keep : ℕ) {store after : StoreView} {value : V → Unit {0}} (s : Stop)
+      → Begins (image_names logs 0 (length (images_of keep c.threads))) store after (writing_stage logs (images_of keep c.threads)) value (Err s)
       → Does {A = A} (image_names logs 0 (length c.threads)) store after (crash_task b w logs resumed scripts c keep) (Err s)
-  crash_stops {V} {A} scripts c keep {store} {after} images s e n first =
-      subst (λ images. Does {A = A} (image_names logs 0 (length c.threads)) store after (crash_over scripts c keep images) (Err s)) e
-      (subst (λ m. Does {A = A} (image_names logs 0 m) store after (crash_over scripts c keep (images_in images)) (Err s)) n
-      (stop_does (λ _. run_task b w resumed scripts c keep (state_recovered b (heads_of c.threads) (images_in images))) first))
+  crash_stops {V} {A} scripts c keep {store} {after} s first =
+      subst (λ m. Does {A = A} (image_names logs 0 m) store after (crash_task b w logs resumed scripts c keep) (Err s)) (images_count c keep)
+      (stop_does (λ _. run_task b w resumed scripts c keep (state_recovered b (heads_of c.threads) (images_of keep c.threads))) first)
 
 -- ---- the schedule
 module _ {State Op Query Reply : Type 0} (b : Behaviour State Op Query Reply) (w : Wording State Op Query Reply) (logs : List ℕ) where

@@ -1,6 +1,7 @@
 -- Lines that stand for images are recovered as these are.
 
-use Rattle.std.proofs.Common.{ℕ, suc, List, [], ◌∷◌, ◌≡◌, ◌+◌, length, Option, Some, None, Result, Ok, Err, ap, refl, ◌∙◌}
+use Rattle.std.proofs.Common.{ℕ, suc, List, [], ◌∷◌, ◌++◌, ◌≡◌, ◌+◌, ◌<◌, ◌≤◌, length, take, get_or, Option, Some, None, Result, Ok, Err, ap, refl, sym, subst, ◌∙◌}
+use Rattle.std.proofs.lemmas.List.{take_more, take_all}
 use Rattle.std.specs.Prelude.{IsSome}
 use Rattle.onll_model.specs.Object.{Behaviour}
 use Rattle.onll_log.specs.declared.head.LogHead.{LogHead}
@@ -8,10 +9,11 @@ use Rattle.onll_log.specs.Head.{head_for}
 use Rattle.onll_log.specs.Grammar.{Content, content_of, format_in}
 use Rattle.onll_merge.specs.declared.fault.ImagesFault.{ImagesFault}
 use Rattle.onll_merge.specs.Recovered.{content_before, contents_from, heads_for, expected_heads, merged, with_operations, state_recovered}
-use Rattle.onll_task.specs.Images.{StandFor}
+use Rattle.onll_task.specs.Images.{StandsFor, StandFor}
+use Rattle.onll_task.proofs.ImageFiles.{standing_more}
 
 -- as many
-stand_many : (lines images : List (List (List ℕ))) → StandFor lines images → length lines ≡ length images
+pub stand_many : (lines images : List (List (List ℕ))) → StandFor lines images → length lines ≡ length images
 stand_many [] [] s = refl
 stand_many [] (image ∷ images) s = absurd s
 stand_many (l ∷ lines) [] s = absurd s
@@ -56,3 +58,18 @@ state_stands b code init lines images s =
     ap (λ n. with_operations b (merged (heads_for code init n 0 lines) (contents_from 0 lines))) (stand_many lines images s)
     ∙ (ap (λ cs. with_operations b (merged (heads_for code init (length images) 0 lines) cs)) (contents_stand 0 lines images s)
     ∙ ap (with_operations b) (same_merged (heads_for code init (length images) 0 lines) all (contents_from 0 images) (heads_stand code (length images) 0 init lines images s)))
+
+-- images of a crash, with the heads of its logs
+pub crash_stands : {State Op Query Reply : Type 0} (b : Behaviour State Op Query Reply) (heads : List LogHead) (lines images : List (List (List ℕ))) → StandFor lines images
+    → state_recovered b heads lines ≡ state_recovered b heads images
+crash_stands b heads lines images s = ap (λ contents. with_operations b (merged heads contents)) (contents_stand 0 lines images s)
+
+-- lines that stand for one image more
+pub stand_next : (lines more images : List (List (List ℕ))) (l : List (List ℕ)) (i : ℕ) → i < length images → StandFor lines (take i images) → StandsFor l (get_or images i []) → more ≡ lines ++ l ∷ []
+    → StandFor more (take (i + 1) images)
+stand_next lines more images l i less so one e =
+    subst (λ ls. StandFor ls (take (i + 1) images)) (sym e)
+    (subst (StandFor (lines ++ l ∷ [])) (sym (take_more images i [] less)) (standing_more lines (take i images) l (get_or images i []) so one))
+
+pub all_stand : (lines images : List (List (List ℕ))) (i : ℕ) → length images ≤ i → StandFor lines (take i images) → StandFor lines images
+all_stand lines images i most so = subst (StandFor lines) (take_all i images most) so

@@ -1,6 +1,6 @@
 //! A core that crashes: its images are written, and its run and what they give are said.
 
-ghost use Rattle.std.specs.Prelude.{[], IfOk, ◌≡◌, ◌++◌, ◌<◌, ◌≤◌, ◌^◌, length, slice_get, true, IsSome, IfSome, OnOk, All, map};
+ghost use Rattle.std.specs.Prelude.{[], IfOk, ◌≡◌, ◌++◌, ◌<◌, ◌≤◌, ◌^◌, length, slice_get, true, IsSome, IfSome, IfErr, OnOk, All, map, get_or};
 ghost use Rattle.onll_model.specs.Limits.{most_threads};
 ghost use Rattle.std.specs.List.{AllByRecursion};
 ghost use Rattle.onll_words.specs.Texts.{line_text};
@@ -8,14 +8,17 @@ ghost use Rattle.onll_model.specs.Trace.{state_after};
 ghost use Rattle.onll_text.specs.Bytes.{begins_line, with_lines};
 ghost use Rattle.onll_text.specs.Lines.{call_lines};
 ghost use Rattle.onll_text.specs.Reports.{EndsRead, NodeReads, StateReads};
-ghost use Rattle.onll_core.specs.Crash.{heads_of};
+ghost use Rattle.onll_core.specs.Crash.{heads_of, images_of};
 ghost use Rattle.onll_core.specs.Outcomes.{returned_end, current_ends, ends_of, script_of};
 ghost use Rattle.onll_merge.specs.Recovered.{recovered_in, state_recovered};
-ghost use Rattle.onll_task.specs.ImageNames.{image_names};
-ghost use Rattle.onll_task.specs.Images.{images_in};
+ghost use Rattle.onll_pmem.specs.Pmem.{words_of};
+ghost use Rattle.onll_task.specs.ImageNames.{image_name, image_names};
+ghost use Rattle.onll_task.specs.Images.{StandsFor, StandFor, images_in, image_bytes, writing_stage};
+ghost use Rattle.onll_task.specs.Stop.{StopSays};
+ghost use Rattle.onll_task.specs.Writing.{HasWritten, CannotWrite, WriteStops};
 ghost use Rattle.onll_recovery.specs.ReplayJob.{begun_lines, flagged_lines, resumed_lines, crash_line, fenced_lines, run_lines, crash_lines, replay_report, EachReads, LogReads, RunReads, counts_of, replay_data, run_task, crash_task};
-ghost use Rattle.onll_task.specs.Doing.{Does};
-ghost use Rattle.onll_outside.specs.Views.{StoreView};
+ghost use Rattle.onll_task.specs.Doing.{Does, Begins};
+ghost use Rattle.onll_outside.specs.Views.{StoreView, SameOthers};
 
 use crate::bad_logs::bad_logs;
 use crate::recover::put_count;
@@ -24,7 +27,7 @@ use onll_log::LogHead;
 use onll_merge::{LogCounts, Recovery, StateFault, recover_state};
 use onll_model::{Call, CallEnd, Node};
 use onll_outside::Store;
-use onll_task::{Stop, write_images};
+use onll_task::{Stop, write_image};
 use onll_text::{Piece, Report, Texted};
 use onll_words::{Line, NoMemory};
 use std::alloc::Global;
@@ -238,7 +241,7 @@ fn answer_from<O: Texted + Drop>(
     }
 }
 
-/// What is said of a core that crashed, whose images these are.
+/// What is said of a core that crashed, from these images.
 fn crash_answer<O: Texted + Drop>(
     alloc: Global,
     core: &Core<O>,
@@ -256,6 +259,65 @@ fn crash_answer<O: Texted + Drop>(
     answer_from(alloc, core, resumed, keep, &heads, images)
 }
 
+/// The image of a thread's device that this number picks.
+fn image_at<O: Texted + Drop>(
+    alloc: Global,
+    core: &Core<O>,
+    keep: u64,
+    thread: u64,
+) -> Result<Vec<Line>, NoMemory>
+    requires { thread < length core.now.threads }
+    ensures { IfOk result (λ image. words_of image.items ≡ get_or (images_of keep core.now.threads) thread []) }
+{
+    core.device(thread).image(alloc, keep)
+}
+
+/// Writes the image of a thread's device that this number picks, and gives the lines that decide what it holds.
+fn write_at<O: Texted + Drop, S: Store>(
+    alloc: Global,
+    core: &Core<O>,
+    keep: u64,
+    thread: u64,
+    logs: &str,
+    store: &mut S,
+) -> Result<Vec<Line>, Stop>
+    requires { thread < length core.now.threads }
+    ensures written { let image = get_or (images_of keep core.now.threads) thread [] in
+        OnOk result (HasWritten (S.seen store.old) (S.seen store.new) (image_name logs.now thread) (image_bytes image)) }
+    ensures stands { let image = get_or (images_of keep core.now.threads) thread [] in
+        IfOk result (λ lines. StandsFor (words_of lines.items) image) }
+    ensures stop { IfErr result (λ stop. StopSays stop
+        (CannotWrite (S.seen store.old) (S.seen store.new) (image_name logs.now thread))) }
+    ensures cut { IfErr result (λ stop. WriteStops (S.seen store.old) (S.seen store.new) (image_name logs.now thread)) }
+    ensures others { SameOthers (image_name logs.now thread) (S.seen store.old) (S.seen store.new) }
+{
+    let image = image_at(alloc, core, keep, thread)?;
+    write_image(alloc, logs, thread, image, store)
+}
+
+/// Writes the images that this number picks, one after the other, and gives of each the lines that decide what it holds.
+fn write_all<O: Texted + Drop, S: Store>(
+    alloc: Global,
+    core: &Core<O>,
+    keep: u64,
+    logs: &str,
+    store: &mut S,
+) -> Result<Vec<Vec<Line>>, Stop>
+    ensures begins { let images = images_of keep core.now.threads in
+        let names = image_names logs.now 0 (length images) in
+        Begins names (S.seen store.old) (S.seen store.new) (writing_stage logs.now images) (λ _. tt) result }
+    ensures stand { IfOk result (λ kept. StandFor (images_in kept.items) (images_of keep core.now.threads)) }
+{
+    let mut kept = Vec::new(alloc);
+    for thread in 0..core.threads() {
+        match write_at(alloc, core, keep, thread, logs, store) {
+            Ok(lines) => kept.push(lines)?,
+            Err(stop) => return Err(stop),
+        }
+    }
+    Ok(kept)
+}
+
 /// Crashes a core: writes the images that this number picks, and says the run and what they give.
 pub(crate) fn crash<O: Texted + Drop, S: Store>(
     alloc: Global,
@@ -271,9 +333,8 @@ pub(crate) fn crash<O: Texted + Drop, S: Store>(
         let task = crash_task O.means O.wording logs.now resumed scripts core.now keep in
         Does (image_names logs.now 0 (length core.now.threads)) (S.seen store.old) (S.seen store.new) task result }
 {
-    let images = core.crash(alloc, keep)?;
-    match write_images(alloc, logs, &images, store) {
-        Ok(()) => crash_answer(alloc, core, resumed, keep, &images),
+    match write_all(alloc, core, keep, logs, store) {
+        Ok(images) => crash_answer(alloc, core, resumed, keep, &images),
         Err(stop) => Err(stop),
     }
 }

@@ -39,7 +39,7 @@ reading_images_never logs (suc threads) i next f =
 
 -- ---- lines that stand for the images that were read
 -- lines that stand for one image more
-standing_more : (lines images : List (List (List ℕ))) (l image : List (List ℕ)) → StandFor lines images → StandsFor l image → StandFor (lines ++ l ∷ []) (images ++ image ∷ [])
+pub standing_more : (lines images : List (List (List ℕ))) (l image : List (List ℕ)) → StandFor lines images → StandsFor l image → StandFor (lines ++ l ∷ []) (images ++ image ∷ [])
 standing_more [] [] l image h k = (k, tt)
 standing_more [] (i ∷ images) l image h k = absurd h
 standing_more (x ∷ lines) [] l image h k = absurd h

@@ -1,13 +1,11 @@
 -- How jobs that read and write go on.
 
-use Rattle.std.proofs.Common.{Vec, Global, ℕ, zero, suc, true, false, List, [], ◌∷◌, ◌≡◌, inl, inr, ⊎_elim, Option, Some, cond, ◌+◌, ◌<◌, length, take, drop, get_or, Bool, true≢false, Result, refl, sym, ap, ◌∙◌, subst, arith}
+use Rattle.std.proofs.Common.{ℕ, zero, suc, true, false, List, [], ◌∷◌, ◌≡◌, inl, inr, ⊎_elim, Option, Some, cond, ◌+◌, ◌<◌, length, take, drop, get_or, Bool, true≢false, Result, refl, sym, ap, ◌∙◌, subst, arith}
 use Rattle.std.proofs.lemmas.List.{drop_more}
 use Rattle.std.proofs.lemmas.Bool.{cases_Bool}
 use Rattle.std.proofs.lemmas.Slice.Eq.{bytes_eq-Decides}
 use Rattle.std.specs.List.{AllByRecursion}
 use Rattle.std.specs.Str.{bytes_eq}
-use Rattle.onll_words.specs.declared.line.Line.{Line}
-use Rattle.onll_pmem.specs.Pmem.{words_of}
 use Rattle.onll_log.specs.ImageFile.{image_lines}
 use Rattle.onll_outside.specs.Views.{StoreView, SameFiles, SameOthers, SameFaults, Rose, Holds, MayWipe, counted}
 use Rattle.onll_text.specs.Refusal.{Refusal}
@@ -15,7 +13,7 @@ use Rattle.onll_task.specs.declared.ending.Ending.{Ending}
 use Rattle.onll_task.specs.declared.ending.Ending.TheVariants.{Done, Usage, Refused, BadLog, ReadFault, WriteFault, Faulty}
 use Rattle.onll_task.specs.Reading.{Reads, ReadsWhole, HoldsImage, Stops}
 use Rattle.onll_task.specs.ImageNames.{image_name, image_names}
-use Rattle.onll_task.specs.Images.{images_in, image_bytes, writing_images}
+use Rattle.onll_task.specs.Images.{image_bytes, writing_images}
 use Rattle.onll_text.specs.Kinds.{ObjectKind}
 use Rattle.onll_log.specs.Grammar.{Content}
 use Rattle.onll_run.specs.Left.{begun_logs}
@@ -246,9 +244,13 @@ others_stay name old new h = record { tells = h.tells; file = λ tells. h.file }
 
 -- ---- images
 -- so many images were written, and the rest is left
-pub record WroteSo (store mid : StoreView) (logs : List ℕ) (images : List (Vec Line Global)) (i : ℕ) : Type 0 where
-  pub on : (next : Job) → GoesOn store mid (writing_images logs 0 (images_in images) next) (writing_images logs i (images_in (drop i images)) next)
+pub record WroteSo (store mid : StoreView) (logs : List ℕ) (images : List (List (List ℕ))) (i : ℕ) : Type 0 where
+  pub on : (next : Job) → GoesOn store mid (writing_images logs 0 images next) (writing_images logs i (drop i images) next)
   pub others : SameBut (image_names logs 0 (length images)) store mid
+
+-- none was yet
+pub none_wrote : (store : StoreView) (logs : List ℕ) (images : List (List (List ℕ))) → WroteSo store store logs images 0
+none_wrote store logs images = record { on = λ next. goes_same store (writing_images logs 0 images next); others = record { tells = refl; file = λ other differs. refl } }
 
 names_at : (P : List ℕ → Type 0) (logs : List ℕ) (i n k : ℕ) → k < n → AllByRecursion P (image_names logs i n) → P (image_name logs (i + k))
 names_at P logs i zero k h a = absurd (omega arith)
@@ -260,16 +262,16 @@ others_on store mid new logs n i h before after =
     record { tells = after.tells ∙ before.tells; file = λ other differs. after.file other (let e : 0 + i ≡ i = omega arith in subst (λ m. other ≡ image_name logs m → ⊥) e (names_at (λ name. other ≡ name → ⊥) logs 0 n i h differs)) ∙ before.file other differs }
 
 -- one image more
-pub wrote_next : (store mid new : StoreView) (logs : List ℕ) (images : List (Vec Line Global)) (image : Vec Line Global) (i : ℕ) → i < length images → image ≡ get_or images i image
-    → WroteSo store mid logs images i → HasWritten mid new (image_name logs i) (image_bytes (words_of image.items)) → SameOthers (image_name logs i) mid new → WroteSo store new logs images (i + 1)
+pub wrote_next : (store mid new : StoreView) (logs : List ℕ) (images : List (List (List ℕ))) (image : List (List ℕ)) (i : ℕ) → i < length images → image ≡ get_or images i []
+    → WroteSo store mid logs images i → HasWritten mid new (image_name logs i) (image_bytes image) → SameOthers (image_name logs i) mid new → WroteSo store new logs images (i + 1)
 wrote_next store mid new logs images image i h same so w others = record {
   on = λ next.
-      let rest : Job = writing_images logs (suc i) (images_in (drop (i + 1) images)) next in
+      let rest : Job = writing_images logs (suc i) (drop (i + 1) images) next in
       let e : i + 1 ≡ suc i = omega arith in
-      goes_after store mid new (writing_images logs 0 (images_in images) next) (writing_images logs i (images_in (drop i images)) next) (writing_images logs (i + 1) (images_in (drop (i + 1) images)) next) (so.on next)
-      (subst (λ l. GoesOn mid new (writing_images logs i (images_in l) next) (writing_images logs (i + 1) (images_in (drop (i + 1) images)) next)) (sym (drop_more images i image h))
-      (subst (λ (x : Vec Line Global). GoesOn mid new (Write (image_name logs i) (image_bytes (words_of x.items)) rest) (writing_images logs (i + 1) (images_in (drop (i + 1) images)) next)) same
-      (subst (λ j. GoesOn mid new (Write (image_name logs i) (image_bytes (words_of image.items)) rest) (writing_images logs j (images_in (drop (i + 1) images)) next)) (sym e)
-      (on_write mid new (image_name logs i) (image_bytes (words_of image.items)) rest w))));
+      goes_after store mid new (writing_images logs 0 images next) (writing_images logs i (drop i images) next) (writing_images logs (i + 1) (drop (i + 1) images) next) (so.on next)
+      (subst (λ l. GoesOn mid new (writing_images logs i l next) (writing_images logs (i + 1) (drop (i + 1) images) next)) (sym (drop_more images i [] h))
+      (subst (λ x. GoesOn mid new (Write (image_name logs i) (image_bytes x) rest) (writing_images logs (i + 1) (drop (i + 1) images) next)) same
+      (subst (λ j. GoesOn mid new (Write (image_name logs i) (image_bytes image) rest) (writing_images logs j (drop (i + 1) images) next)) (sym e)
+      (on_write mid new (image_name logs i) (image_bytes image) rest w))));
   others = others_on store mid new logs (length images) i h so.others others;
 }

@@ -1,10 +1,8 @@
 -- How the functions of a command do a task, one stage after the other.
 
-use Rattle.std.proofs.Common.{Vec, Global, ℕ, suc, ◌+◌, ◌<◌, ◌≤◌, List, [], ◌∷◌, ◌++◌, ◌≡◌, length, drop, get_or, Result, Ok, Err, inl, refl, sym, ap, ◌∙◌, subst, append_assoc, append-nil}
+use Rattle.std.proofs.Common.{Vec, ℕ, suc, ◌+◌, ◌<◌, ◌≤◌, List, [], ◌∷◌, ◌++◌, ◌≡◌, length, drop, get_or, Result, Ok, Err, inl, refl, sym, ap, ◌∙◌, subst, append_assoc, append-nil}
 use Rattle.std.specs.Result.{IsErrAnd}
 use Rattle.std.proofs.lemmas.List.{drop_more, drop_all}
-use Rattle.onll_words.specs.declared.line.Line.{Line}
-use Rattle.onll_pmem.specs.Pmem.{words_of}
 use Rattle.std.proofs.lemmas.Result.{err_from_is_err_and}
 use Rattle.onll_outside.specs.Views.{StoreView, SameFiles, SameOthers}
 use Rattle.onll_text.specs.Refusal.{Refusal}
@@ -16,7 +14,7 @@ use Rattle.onll_task.specs.Doing.{Task, Stage, after_stage, report_task, say_tas
 use Rattle.onll_task.specs.Job.{Job, Say, Read, Write, JobEnds, GoesOn, reading, reading_whole}
 use Rattle.onll_task.specs.Reading.{Reads, ReadsWhole, HoldsImage, CannotRead, Stops}
 use Rattle.onll_task.specs.ImageNames.{image_name, image_names}
-use Rattle.onll_task.specs.Images.{images_in, image_bytes, writing_images, writing_stage}
+use Rattle.onll_task.specs.Images.{image_bytes, writing_images, writing_stage}
 use Rattle.onll_task.specs.Stop.{StopSays}
 use Rattle.onll_task.specs.Writing.{FilesStay, SameBut, SameCounts, CannotWrite, WriteStops}
 use Rattle.onll_task.proofs.Onwards.{on_whole, on_text, on_image, stay_cut, stay_more, stopped_ends, goes_same, goes_after, WroteSo, others_on}
@@ -219,29 +217,40 @@ unwritten_stops store after name bytes next (Says ending text) stop cut = (unwri
 unwritten_stops store after name bytes next NoMemory stop cut = inl cut
 
 -- all images were written
-pub wrote_begins : {V : Type 0} (v : V) (store new : StoreView) (logs : List ℕ) (images : List (Vec Line Global)) (i : ℕ) → length images ≤ i → WroteSo store new logs images i
-    → Begins (image_names logs 0 (length images)) store new (writing_stage logs (images_in images)) (λ (v : V). tt) (Ok v)
+pub wrote_begins : {V : Type 0} (v : V) (store new : StoreView) (logs : List ℕ) (images : List (List (List ℕ))) (i : ℕ) → length images ≤ i → WroteSo store new logs images i
+    → Begins (image_names logs 0 (length images)) store new (writing_stage logs images) (λ (v : V). tt) (Ok v)
 wrote_begins v store new logs images i most so = record {
-  goes = λ next. subst (λ (l : List (Vec Line Global)). GoesOn store new (writing_images logs 0 (images_in images) (next tt)) (writing_images logs i (images_in l) (next tt))) (drop_all i images most) (so.on (next tt));
+  goes = λ next. subst (λ l. GoesOn store new (writing_images logs 0 images (next tt)) (writing_images logs i l (next tt))) (drop_all i images most) (so.on (next tt));
   gives = λ before same. tt;
   stops = tt;
   files = so.others;
 }
 
 -- the next image is not written
-pub unwritten_begins : {V : Type 0} (store mid new : StoreView) (logs : List ℕ) (images : List (Vec Line Global)) (image : Vec Line Global) (i : ℕ) (s : Stop) → i < length images → image ≡ get_or images i image
+pub unwritten_begins : {V : Type 0} (store mid new : StoreView) (logs : List ℕ) (images : List (List (List ℕ))) (i : ℕ) (s : Stop) → i < length images
     → WroteSo store mid logs images i → StopSays s (CannotWrite mid new (image_name logs i)) → WriteStops mid new (image_name logs i) → SameOthers (image_name logs i) mid new
-    → Begins (image_names logs 0 (length images)) store new (writing_stage logs (images_in images)) (λ (v : V). tt) (Err s)
-unwritten_begins store mid new logs images image i s less same so stop cut others = record {
+    → Begins (image_names logs 0 (length images)) store new (writing_stage logs images) (λ (v : V). tt) (Err s)
+unwritten_begins store mid new logs images i s less so stop cut others = record {
   goes = tt;
   gives = tt;
   stops = λ next.
       let last = next tt in
-      StopsSo-on store mid new (writing_images logs 0 (images_in images) last) (writing_images logs i (images_in (drop i images)) last) s (so.on last)
-      (subst (λ (l : List (Vec Line Global)). StopsSo mid new (writing_images logs i (images_in l) last) s) (sym (drop_more images i image less))
-      (unwritten_stops mid new (image_name logs i) (image_bytes (words_of (get_or images i image).items)) (writing_images logs (suc i) (images_in (drop (i + 1) images)) last) s stop cut));
+      StopsSo-on store mid new (writing_images logs 0 images last) (writing_images logs i (drop i images) last) s (so.on last)
+      (subst (λ l. StopsSo mid new (writing_images logs i l last) s) (sym (drop_more images i [] less))
+      (unwritten_stops mid new (image_name logs i) (image_bytes (get_or images i [])) (writing_images logs (suc i) (drop (i + 1) images) last) s stop cut));
   files = others_on store mid new logs (length images) i less so.others others;
 }
+
+-- memory could not be had after so many
+pub cut_begins : {V : Type 0} {r : Result V Stop} (store mid : StoreView) (logs : List ℕ) (images : List (List (List ℕ))) (i : ℕ) → WroteSo store mid logs images i → IsErrAnd r (λ stop. stop ≡ NoMemory)
+    → Begins (image_names logs 0 (length images)) store mid (writing_stage logs images) (λ (v : V). tt) r
+cut_begins {V} {r} store mid logs images i so h =
+    let p = err_from_is_err_and r h in
+    let names = image_names logs 0 (length images) in
+    let stage = writing_stage logs images in
+    let stops : (next : Unit {0} → Job) → StopsSo store mid (stage.job next) p.0 =
+    λ next. subst (StopsSo store mid (stage.job next)) (sym p.2) ((so.on (next tt)).cut mid (stay_cut mid mid (writing_images logs i (drop i images) (next tt)) (stay_same mid))) in
+    subst (Begins names store mid stage (λ (v : V). tt)) (sym p.1) (record { goes = tt; gives = tt; stops = stops; files = so.others })
 
 -- ---- one stage after the other
 -- Stages were done and gave these values: what does all of them goes on to those that are left, and has the values before theirs.

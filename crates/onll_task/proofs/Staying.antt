@@ -3,7 +3,7 @@
 use Rattle.std.proofs.Common.{ℕ, zero, suc, ◌≡◌, ◌+◌, ◌-◌, ◌*◌, ◌≤◌, ◌<◌, ◌&&◌, Bool, true, false, true≢false, List, [], ◌∷◌, ◌++◌, length, map, max, take, cond, Option, Some, None, refl, sym, ap, ◌∙◌, subst, arith, ⊎_elim, append_assoc, nat_le, get_or}
 use Rattle.std.specs.Prelude.{IsSome}
 use Rattle.std.proofs.lemmas.Bool.{cases_Bool}
-use Rattle.std.proofs.lemmas.List.{take-append-le, length-take, length-take-le, length-map, length-append, map-append, append-nil, take_more, take-map, replicate-append-replicate}
+use Rattle.std.proofs.lemmas.List.{take-append-le, length-take, length-take-le, length-map, length-append, map-append, take_more, take-map}
 use Rattle.onll_words.specs.declared.line.Line.{Line}
 use Rattle.onll_words.specs.Lines.{words_of_bytes}
 use Rattle.onll_pmem.specs.Device.{zero_line, zero_lines}
@@ -218,47 +218,34 @@ stands_front lines front image f s =
     }
 
 -- ---- lines as they are read
--- one line of zeros more
-pub zeros_more : (lines more : List Line) (z : Line) (old : List (List ℕ)) (n : ℕ) → more ≡ lines ++ z ∷ [] → z.w ≡ zero_line → words_of lines ≡ old ++ zero_lines n
-    → words_of more ≡ old ++ zero_lines (n + 1)
-zeros_more lines more z old n pushed nil is =
-    ap words_of pushed ∙ (map-append (λ (l : Line). l.w) lines (z ∷ [])
-    ∙ (ap (λ ls. ls ++ z.w ∷ []) is
-    ∙ (append_assoc old (zero_lines n) (z.w ∷ [])
-    ∙ (ap (λ w. old ++ (zero_lines n ++ w ∷ [])) nil ∙ ap (λ ls. old ++ ls) (replicate-append-replicate n 1 zero_line)))))
+-- one of the lines of zeros at the end less
+pub one_less : (chunks : List (List ℕ)) (count : ℕ) (line bytes none : List ℕ) → 1 ≤ count → count ≤ length chunks → line ≡ words_of_bytes bytes → bytes ≡ get_or chunks (count - 1) none → line ≡ zero_line
+    → map words_of_bytes chunks ≡ take count (map words_of_bytes chunks) ++ zero_lines (length chunks - count)
+    → map words_of_bytes chunks ≡ take (count - 1) (map words_of_bytes chunks) ++ zero_lines (length chunks - (count - 1))
+one_less chunks count line bytes none some_ within read same nil is =
+    let lines = map words_of_bytes chunks in
+    let k = count - 1 in
+    let up : count ≡ k + 1 = omega (arith, some_) in
+    let left : length chunks - k ≡ suc (length chunks - count) = omega (arith, some_, within) in
+    let less : k < length chunks = omega (arith, some_, within) in
+    let more : take count lines ≡ take k lines ++ zero_line ∷ [] =
+    ap (λ n. take n lines) up ∙ (take-map words_of_bytes (k + 1) chunks ∙ (ap (map words_of_bytes) (take_more chunks k none less ∙ ap (λ b. take k chunks ++ b ∷ []) (sym same))
+    ∙ (map-append words_of_bytes (take k chunks) (bytes ∷ []) ∙ (ap (λ l. map words_of_bytes (take k chunks) ++ l ∷ []) (sym read ∙ nil) ∙ ap (λ ls. ls ++ zero_line ∷ []) (sym (take-map words_of_bytes k chunks)))))) in
+    is ∙ (ap (λ ls. ls ++ zero_lines (length chunks - count)) more ∙ (append_assoc (take k lines) (zero_line ∷ []) (zero_lines (length chunks - count)) ∙ ap (λ n. take k lines ++ zero_lines n) (sym left)))
 
--- a line after those that wait
-pub line_added : (old lines more : List Line) (line : Line) (waiting : ℕ) → words_of lines ≡ words_of old ++ zero_lines waiting → more ≡ lines ++ line ∷ []
-    → words_of more ++ zero_lines 0 ≡ (words_of old ++ zero_lines waiting) ++ line.w ∷ []
-line_added old lines more line waiting is pushed =
-    append-nil (words_of more) ∙ (ap words_of pushed ∙ (map-append (λ (l : Line). l.w) lines (line ∷ []) ∙ ap (λ ls. ls ++ line.w ∷ []) is))
-
--- one line of zeros more waits
-pub line_waits : (old : List (List ℕ)) (line : Line) (waiting : ℕ) → line.w ≡ zero_line → old ++ zero_lines (waiting + 1) ≡ (old ++ zero_lines waiting) ++ line.w ∷ []
-line_waits old line waiting nil =
-    ap (λ ls. old ++ ls) (sym (replicate-append-replicate waiting 1 zero_line)) ∙ (sym (append_assoc old (zero_lines waiting) (zero_line ∷ []))
-    ∙ ap (λ w. (old ++ zero_lines waiting) ++ w ∷ []) (sym nil))
-
--- the line of zeros that stays where there is no other line
-pub front_first : (old new : List Line) (z : Line) (waiting : ℕ) (image : List (List ℕ)) → old ≡ [] → 1 ≤ waiting → new ≡ old ++ z ∷ [] → z.w ≡ zero_line
-    → image ≡ words_of old ++ zero_lines waiting → IsFrontOf (words_of new) image
-front_first old new z waiting image none some_ pushed nil is =
-    let split : waiting ≡ suc (waiting - 1) = omega (arith, some_) in
-    let one : words_of new ≡ zero_line ∷ [] = ap words_of (pushed ∙ ap (λ (ls : List Line). ls ++ z ∷ []) none) ∙ ap (λ w. w ∷ []) nil in
+-- the lines that stay are the front of all
+pub is_front : (lines front : List (List ℕ)) (chunks : List (List ℕ)) (count : ℕ) → front ≡ take count chunks → lines ≡ map words_of_bytes front
+    → map words_of_bytes chunks ≡ take count (map words_of_bytes chunks) ++ zero_lines (length chunks - count) → count ≤ length chunks → (count ≡ 0 → length chunks ≡ 0) → IsFrontOf lines (map words_of_bytes chunks)
+is_front lines front chunks count cut are is within empty =
+    let same : lines ≡ take count (map words_of_bytes chunks) = are ∙ (ap (map words_of_bytes) cut ∙ sym (take-map words_of_bytes count chunks)) in
+    let long : length (take count (map words_of_bytes chunks)) ≡ count = length-take-le count (map words_of_bytes chunks) (omega (arith, within, length-map chunks words_of_bytes)) in
     record {
-      zeros = waiting - 1;
-      whole = is ∙ (ap (λ (ls : List Line). words_of ls ++ zero_lines waiting) none ∙ (ap zero_lines split ∙ ap (λ ls. ls ++ zero_lines (waiting - 1)) (sym one)));
-      empty = λ e. absurd (omega (arith, ap length (sym one ∙ e)));
+      zeros = length chunks - count;
+      whole = is ∙ ap (λ ls. ls ++ zero_lines (length chunks - count)) (sym same);
+      empty = λ e. let none : count ≡ 0 = sym long ∙ ap length (sym same ∙ e) in let nothing = empty none in omega (arith, nothing);
     }
 
-pub front_whole : (lines : List Line) (waiting : ℕ) (image : List (List ℕ)) → (lines ≡ [] → waiting ≡ 0) → image ≡ words_of lines ++ zero_lines waiting → IsFrontOf (words_of lines) image
-front_whole lines waiting image none is = record { zeros = waiting; whole = is; empty = λ e. none (no_lines lines e) }
-  where
-    no_lines : (ls : List Line) → words_of ls ≡ [] → ls ≡ []
-    no_lines [] e = refl
-    no_lines (l ∷ ls) e = absurd (omega (arith, ap length e))
-
--- one chunk more
+-- one line more
 pub chunk_more : (lines new : List (List ℕ)) (chunks : List (List ℕ)) (i : ℕ) (bytes : List ℕ) → i < length chunks → get_or chunks i bytes ≡ bytes
     → lines ≡ map words_of_bytes (take i chunks) → new ≡ lines ++ words_of_bytes bytes ∷ [] → new ≡ map words_of_bytes (take (i + 1) chunks)
 chunk_more lines new chunks i bytes less same is e =

@@ -5,13 +5,14 @@ ghost use Rattle.onll_outside.specs.Views.{SameOthers, BeginsWith};
 ghost use Rattle.onll_pmem.specs.Pmem.{words_of};
 ghost use Rattle.onll_log.specs.ImageFile.{longest_image};
 ghost use Rattle.onll_task.specs.ImageNames.{image_name, image_names};
-ghost use Rattle.onll_task.specs.Images.{KeepsOf, KeepOf, FilesBegin, images_in, image_bytes, images_stage, writing_stage};
+ghost use Rattle.onll_task.specs.Images.{StandsFor, KeepsOf, KeepOf, FilesBegin, images_in, image_bytes, images_stage};
 ghost use Rattle.onll_task.specs.Writing.{HasWritten, CannotWrite, WriteStops};
 ghost use Rattle.onll_task.specs.Stop.{StopSays};
-ghost use Rattle.onll_task.specs.Doing.{Begins, BeginsBy, lines_stage};
+ghost use Rattle.onll_task.specs.Doing.{BeginsBy, lines_stage};
 
 use crate::answer::Stop;
 use crate::texts::{KeptImage, kept_image, write_file};
+use crate::used_lines::cut_to_used;
 use itoa::Buffer;
 use onll_outside::Store;
 use onll_words::{Line, line_bytes};
@@ -94,15 +95,15 @@ pub fn read_images<S: Store>(
 fn image_bytes(alloc: Global, lines: &[Line]) -> Result<Vec<u8>, AllocError>
     ensures { IfOk result (λ bytes. bytes.items ≡ image_bytes (words_of lines.now)) }
 {
-    let mut bytes = Vec::new(alloc);
+    let mut bytes = Vec::with_capacity(alloc, lines.len().saturating_mul(64))?;
     for line in lines {
         bytes.extend_from_slice(&line_bytes(*line))?;
     }
     Ok(bytes)
 }
 
-/// Writes the image of a thread's log, or gives what is said in its place.
-fn write_image<S: Store>(
+/// Writes lines as the image of a thread's log, or gives what is said in its place.
+fn write_lines<S: Store>(
     alloc: Global,
     logs: &str,
     thread: u64,
@@ -121,22 +122,27 @@ fn write_image<S: Store>(
     write_file(alloc, &name, &bytes, store)
 }
 
-/// Writes the images of the threads' logs, in thread order, or gives what is said in their place.
-pub fn write_images<S: Store>(
+/// Writes the image of a thread's log, and gives the lines that decide what it holds; or gives what is said in its place.
+pub fn write_image<S: Store>(
     alloc: Global,
     logs: &str,
-    images: &[Vec<Line>],
+    thread: u64,
+    mut image: Vec<Line>,
     store: &mut S,
-) -> Result<(), Stop>
-    ensures { let names = image_names logs.now 0 (length images.now) in
-        let stage = writing_stage logs.now (images_in images.now) in
-        Begins names (S.seen store.old) (S.seen store.new) stage (λ _. tt) result }
+) -> Result<Vec<Line>, Stop>
+    ensures written { OnOk result (HasWritten (S.seen store.old) (S.seen store.new) (image_name logs.now thread)
+        (image_bytes (words_of image.items))) }
+    ensures stands { IfOk result (λ lines. StandsFor (words_of lines.items) (words_of image.items)) }
+    ensures stop { IfErr result (λ stop. StopSays stop
+        (CannotWrite (S.seen store.old) (S.seen store.new) (image_name logs.now thread))) }
+    ensures cut { IfErr result (λ stop. WriteStops (S.seen store.old) (S.seen store.new) (image_name logs.now thread)) }
+    ensures others { SameOthers (image_name logs.now thread) (S.seen store.old) (S.seen store.new) }
 {
-    for (thread, image) in images.iter().enumerate() {
-        match write_image(alloc, logs, thread as u64, image, store) {
-            Ok(()) => {}
-            Err(stop) => return Err(stop),
+    match write_lines(alloc, logs, thread, &image, store) {
+        Ok(()) => {
+            cut_to_used(&mut image);
+            Ok(image)
         }
+        Err(stop) => Err(stop),
     }
-    Ok(())
 }

@@ -10,5 +10,5 @@ mod used_lines;
 
 pub use answer::Stop;
 pub use ending::{Ending, Exit};
-pub use images::{KeptImages, image_name, read_images, write_images};
+pub use images::{KeptImages, image_name, read_images, write_image};
 pub use texts::{InitText, image_file, init_file, schedule_file, script_file, write_file};

@@ -1,6 +1,7 @@
 //! What stays of an image that was read: the lines that decide what it holds as a log.
 
-ghost use Rattle.std.specs.Prelude.{◌≡◌, ℕ, List, ◌+◌, ◌-◌, ◌<◌, ◌≤◌, ◌^◌, ◌*◌, ◌++◌, ◌∷◌, [], length, take, OnOk, IfOk};
+ghost use Rattle.std.specs.Prelude.{◌≡◌, ◌-◌, ◌≤◌, ◌*◌, ◌++◌, length, map, take, IfOk};
+ghost use Rattle.onll_words.specs.Lines.{words_of_bytes};
 ghost use Rattle.onll_pmem.specs.Device.{zero_lines};
 ghost use Rattle.onll_pmem.specs.Pmem.{words_of};
 ghost use Rattle.onll_log.specs.Grammar.{content_of, used_by};
@@ -14,40 +15,33 @@ use std::alloc::Global;
 /// A line of zeros.
 const ZEROS: Line = Line { w: [0; 8] };
 
-/// Adds so many lines of zeros.
-fn add_zeros(lines: &mut Vec<Line>, count: usize) -> Result<(), NoMemory>
-    ensures { OnOk result (words_of lines.new.items ≡ words_of lines.old.items ++ zero_lines count) }
+/// How many of these lines stay without those of zeros at their end, of which one stays where there is no other line.
+fn front_count(chunks: &[[u8; 64]]) -> usize
+    ensures within { result ≤ length chunks.now }
+    ensures zeros { let lines = map words_of_bytes chunks.now in lines ≡ take result lines ++ zero_lines (length chunks.now - result) }
+    ensures empty { result ≡ 0 → length chunks.now ≡ 0 }
 {
-    for _ in 0..count {
-        lines.push(ZEROS)?;
+    let mut count = chunks.len();
+    while count > 1 {
+        let line = line_of_bytes(chunks[count - 1]);
+        if line == ZEROS {
+            count -= 1;
+        } else {
+            return count;
+        }
     }
-    Ok(())
+    count
 }
 
-/// Adds a line to lines after which this many of zeros wait, and tells how many wait then.
-fn add_line(lines: &mut Vec<Line>, waiting: usize, line: Line) -> Result<usize, NoMemory>
-    requires { waiting < 2 ^ 64 - 1 }
-    ensures lines { IfOk result (λ left. words_of lines.new.items ++ zero_lines left
-        ≡ (words_of lines.old.items ++ zero_lines waiting) ++ line.w ∷ []) }
-    ensures few { IfOk result (λ left. left ≤ waiting + 1) }
+/// The lines of these bytes.
+fn lines_of(alloc: Global, chunks: &[[u8; 64]]) -> Result<Vec<Line>, NoMemory>
+    ensures { IfOk result (λ lines. words_of lines.items ≡ map words_of_bytes chunks.now) }
 {
-    if line == ZEROS {
-        return Ok(waiting + 1);
+    let mut lines = Vec::with_capacity(alloc, chunks.len())?;
+    for chunk in chunks {
+        lines.push(line_of_bytes(*chunk))?;
     }
-    add_zeros(lines, waiting)?;
-    lines.push(line)?;
-    Ok(0)
-}
-
-/// Adds one of the lines of zeros that wait, where they follow no line.
-fn add_first(lines: &mut Vec<Line>, waiting: usize) -> Result<(), NoMemory>
-    ensures { (image : List (List ℕ)) → image ≡ words_of lines.old.items ++ zero_lines waiting
-        → OnOk result (IsFrontOf (words_of lines.new.items) image) }
-{
-    if lines.as_slice().is_empty() && waiting > 0 {
-        lines.push(ZEROS)?;
-    }
-    Ok(())
+    Ok(lines)
 }
 
 /// The lines of bytes without those of zeros at their end, of which one stays where there is no other line.
@@ -55,13 +49,8 @@ fn front_lines(alloc: Global, bytes: &[u8]) -> Result<Vec<Line>, NoMemory>
     ensures { IfOk result (λ lines. IsFrontOf (words_of lines.items) (whole_lines bytes.now)) }
 {
     let (chunks, _) = bytes.as_chunks::<64>();
-    let mut lines = Vec::new(alloc);
-    let mut waiting = 0;
-    for chunk in chunks {
-        waiting = add_line(&mut lines, waiting, line_of_bytes(*chunk))?;
-    }
-    add_first(&mut lines, waiting)?;
-    Ok(lines)
+    let (front, _) = chunks.split_at(front_count(chunks));
+    lines_of(alloc, front)
 }
 
 /// How many lines the head and the entries of an image take.

@@ -246,7 +246,7 @@ known_further head lines passed at next h e s is looked l =
     let es = entries_from h 0 0 (drop 1 lines) in
     let there : passed + 1 < length es = subst (λ (x : Option LogHead). passed + 1 < length (entries_under x lines)) is l in
     let stands : StandsAt (Some h) lines passed at (Some e) =
-        subst (λ (x : Option LogHead). StandsAt x lines passed at (Some e)) is (subst (λ (x : Option EntryView). StandsAt head lines passed at x) looked s) in
+    subst (λ (x : Option LogHead). StandsAt x lines passed at (Some e)) is (subst (λ (x : Option EntryView). StandsAt head lines passed at x) looked s) in
     let on = goes_on h lines passed at e (first_view (at + (1 + e.count)) (entries_from h (passed + 1) 0 (drop (at + (1 + e.count)) lines))) stands refl in
     omega (arith, there, ap length on.left, length-drop (passed + 1) es)
 

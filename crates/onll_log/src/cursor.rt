@@ -51,13 +51,7 @@ impl<'a> Model for LogCursor<'a> {
 
 /// The entry that begins at this line, after this many entries of the log, None where none is accepted there. The first `known`
 /// entries of the log are accepted, and not tested.
-fn entry_at(
-    head: &LogHead,
-    known: u64,
-    before: u64,
-    at: usize,
-    lines: &[Line],
-) -> Option<EntryView>
+fn entry_at(head: &LogHead, known: u64, before: u64, at: usize, lines: &[Line]) -> Option<EntryView>
     requires threads { head.now.threads ≤ most_threads }
     requires before { before < 2 ^ 64 - 1 }
     requires within { at ≤ length lines.now }

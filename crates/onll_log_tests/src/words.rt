@@ -1,6 +1,8 @@
 //! Tests of numbers, lines, words and short texts.
 
-use onll_words::{Line, Lines, Short, line_bytes, line_of_bytes, number_at, split_word, whole_number};
+use onll_words::{
+    Line, Lines, Short, line_bytes, line_of_bytes, number_at, split_word, whole_number,
+};
 use std::test::Fail;
 
 const GREATEST: &[u8] = b"18446744073709551615";

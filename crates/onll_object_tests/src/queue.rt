@@ -1,7 +1,7 @@
 //! Tests of a queue.
 
-use onll_queue::{Queue, QueueOp, QueueQuery, QueueReply};
 use onll_model::{Object, capacity_kept, op_of_its_row, row_of_its_op, undone};
+use onll_queue::{Queue, QueueOp, QueueQuery, QueueReply};
 use onll_words::OpRow;
 use std::test::Fail;
 

@@ -2,7 +2,9 @@
 
 use onll_bank::{Bank, BankOp, BankQuery, BankReply};
 use onll_model::{Call, CallEnd, Node, Object, Turn};
-use onll_text::{AnyObject, Piece, Reason, Report, TextFault, read_init, read_schedule, read_script};
+use onll_text::{
+    AnyObject, Piece, Reason, Report, TextFault, read_init, read_schedule, read_script,
+};
 use onll_words::NoMemory;
 use std::alloc::Global;
 use std::test::Fail;

@@ -24,7 +24,7 @@ pub entry_at-self-inside-requires-clause-known : goal.entry_at-self-inside-requi
 entry_at-self-inside-requires-clause-known c =
     let s = c.self.inside in
     λ below. known_further s.head (words_of s.lines.now) s.passed s.at s.next c.in-Some.head c.in-Some-next.entry c.self.invariant.stands c.in-Some.is c.in-Some-next.is
-        (omega (arith, below, c.max-self-inside.ensures, c.self.invariant.accepted))
+    (omega (arith, below, c.max-self-inside.ensures, c.self.invariant.accepted))
 
 pub invariant_of-self : goal.invariant_of-self
 invariant_of-self c =

@@ -377,7 +377,9 @@ fn calls_that_fail(rt: HostRuntime) -> Result<(), Fail> {
             failing_calls: &[*call],
             failing_puts: &[],
         };
-        program.expect(&rt, alloc, "a call fails", *status, output)?;
+        program
+            .run(&rt, alloc)?
+            .expect("a call fails", *status, output)?;
     }
     Ok(())
 }

@@ -42,14 +42,9 @@ fn from_lines<R: Abort + Threads + Wait + Sync>(
     let mut store = Program::new(&[], FILES).store(alloc)?;
     store.write(alloc, "out.0", &first)?;
     store.write(alloc, "out.1", &second)?;
-    Program::new(&["resume", "b2", "out", "s", "s"], &[]).expect_over(
-        rt,
-        alloc,
-        &mut store,
-        "no logs of this run",
-        4,
-        line,
-    )?;
+    Program::new(&["resume", "b2", "out", "s", "s"], &[])
+        .run_over(rt, alloc, &mut store)?
+        .expect("no logs of this run", 4, line)?;
     assert!(rt; store.file("out.0") == Some(first.as_slice()), "{line}");
     assert!(rt; store.file("out.1") == Some(second.as_slice()), "{line}");
     Ok(())

@@ -1,10 +1,9 @@
 #!/usr/bin/env python3
-"""Counts how often `make T N` asks for memory, as N grows: no update and no read asks, so the count does not grow with them.
+"""Counts how often `make T N` asks for memory, as N grows: no update and no read asks, so the count stays the same.
 Usage: bench/allocations.py [PROGRAM]
 Build the program first, by `rt run` in crates/onll_main; or name another one of the same words. It wants a C compiler (`cc`).
 
-What grows is a thread's device in memory, which doubles, so twice the updates may ask once more a thread. Prints a line for each
-number of threads, and ends with 1 where a count grows by more."""
+Prints a line for each number of threads, and ends with 1 where a count isn't the same for each number of updates."""
 import os
 import subprocess
 import sys
@@ -27,15 +26,15 @@ def count_of(program, library, counted, threads, updates):
 
 def main():
     program = os.path.abspath(sys.argv[1]) if len(sys.argv) > 1 else PROGRAM
-    grows = False
+    differs = False
     with tempfile.TemporaryDirectory() as work:
         library = make_refuser(work)
         for threads in THREADS:
             counts = [count_of(program, library, os.path.join(work, "counted"), threads, n) for n in UPDATES]
-            grows |= any(later - earlier > threads for earlier, later in zip(counts, counts[1:]))
+            differs |= len(set(counts)) > 1
             each = ", ".join(f"{count} for {n}" for n, count in zip(UPDATES, counts))
             print(f"{threads} threads of so many updates: {each}")
-    sys.exit(1 if grows else 0)
+    sys.exit(1 if differs else 0)
 
 
 if __name__ == "__main__":

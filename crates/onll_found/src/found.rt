@@ -21,7 +21,7 @@ impl Found {
 
     /// Notes a text where something is not so, and nothing was wrong before.
     pub fn must(&mut self, is_so: bool, text: &'static str)
-        ensures { self.new.wrong ≡ option_or self.old.wrong (if is_so then None else Some text) }
+        ensures { self.new.wrong ≡ option_or self.old.wrong (if is_so then None else Some text.entry) }
     {
         if !is_so && self.wrong.is_none() {
             self.wrong = Some(text);

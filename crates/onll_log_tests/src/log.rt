@@ -177,6 +177,20 @@ fn holds(
     );
 }
 
+/// What a log of this format says of itself after the append.
+fn tells_of_append(found: &mut Found, log: &ThreadLog<MemPmem>, format: u64) {
+    found.must(counts(log) == (1, 2, 1), "other counts");
+    found.must(log.lines() == 8, "other lines");
+    found.must(log.free_lines() == 4, "other free lines");
+    found.must(!log.broken(), "broken");
+    found.must(log.head().format == format, "another format");
+}
+
+/// How many fences the device of a log took.
+fn all_fences(log: ThreadLog<MemPmem>) -> u64 {
+    log.into_device().fences()
+}
+
 /// An append to a log of this format is read back.
 fn read_back(alloc: Global, found: &mut Found, format: u64)
     requires { (1 ≤ format) × (format ≤ 2) }
@@ -185,13 +199,9 @@ fn read_back(alloc: Global, found: &mut Found, format: u64)
         return found.must(false, "no log");
     };
     found.must(result == Ok(()), "not appended");
-    found.must(counts(&log) == (1, 2, 1), "other counts");
-    found.must(log.lines() == 8, "other lines");
-    found.must(log.free_lines() == 4, "other free lines");
-    found.must(!log.broken(), "broken");
-    found.must(log.head().format == format, "another format");
+    tells_of_append(found, &log, format);
     holds(alloc, found, &log, 0, 1, 4);
-    found.must(log.into_device().fences() == 2, "other fences");
+    found.must(all_fences(log) == 2, "other fences");
 }
 
 #[test]
@@ -290,6 +300,16 @@ fn torn(alloc: Global) -> Option<(LogHead, Vec<Line>)> {
     Some((log.head(), image))
 }
 
+/// A log of this head without an entry takes the append.
+fn go_on(alloc: Global, found: &mut Found, head: LogHead, mut log: ThreadLog<MemPmem>) {
+    found.must(log.head() == head, "another head");
+    found.must(counts(&log) == (0, 0, 0), "other counts before the append");
+    found.must(append_both(&mut log), "not appended");
+    found.must(counts(&log) == (1, 2, 1), "other counts after the append");
+    found.must(log.device().fences() == 1, "other fences");
+    holds(alloc, found, &log, 0, 1, 4);
+}
+
 #[test]
 fn a_log_goes_on_after_a_crash(rt: HostRuntime) -> Result<(), Fail> {
     let alloc = rt.alloc();
@@ -300,15 +320,10 @@ fn a_log_goes_on_after_a_crash(rt: HostRuntime) -> Result<(), Fail> {
         opened_front(alloc, &image, 8).is_none(),
         "a log before what is torn",
     );
-    let Some(mut log) = opened_front(alloc, &image, 1) else {
-        return Err("no log to go on in".into());
-    };
-    found.must(log.head() == head, "another head");
-    found.must(counts(&log) == (0, 0, 0), "other counts before the append");
-    found.must(append_both(&mut log), "not appended");
-    found.must(counts(&log) == (1, 2, 1), "other counts after the append");
-    found.must(log.device().fences() == 1, "other fences");
-    holds(alloc, &mut found, &log, 0, 1, 4);
+    match opened_front(alloc, &image, 1) {
+        Some(log) => go_on(alloc, &mut found, head, log),
+        None => found.must(false, "no log to go on in"),
+    }
     found.ended()
 }
 

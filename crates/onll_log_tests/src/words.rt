@@ -1,5 +1,7 @@
 //! Tests of numbers, lines, words and short texts.
 
+ghost use Rattle.std.specs.Prelude.{◌≤◌};
+
 use onll_found::Found;
 use onll_words::{
     Line, Lines, Short, line_bytes, line_of_bytes, number_at, split_word, whole_number,
@@ -172,20 +174,43 @@ fn words_of_no_text() -> Result<(), Fail> {
     found.ended()
 }
 
+/// Whether each of these texts is before the ones that follow.
+fn rise(first: Short, second: Short, third: Short) -> bool {
+    first < second && second < third && first < third
+}
+
+/// Whether a text is the same as itself, and not as the other.
+fn differ(text: Short, other: Short) -> bool {
+    text == text && text != other
+}
+
+/// Whether the words of a text are those of no other.
+fn is_unpacked(text: Short) -> bool {
+    Short::of_words(text.words()) == Some(text)
+}
+
 #[test]
 fn order_of_texts() -> Result<(), Fail> {
     let a = Short::read(b"a").ok_or("no a")?;
     let ab = Short::read(b"ab").ok_or("no ab")?;
     let b = Short::read(b"b").ok_or("no b")?;
     let mut found = Found::new();
-    found.must(a < ab, "a text and a longer one");
-    found.must(ab < b, "the first bytes before the lengths");
-    found.must(a < b, "the first and the last text");
-    found.must(a == a, "a text and itself");
-    found.must(a != ab, "two texts");
-    found.must(Short::of_words(ab.words()) == Some(ab), "another text");
+    found.must(rise(a, ab, b), "another order");
+    found.must(differ(a, ab), "other texts are equal");
+    found.must(is_unpacked(ab), "another text");
     found.ended()
 }
+
+/// Whether these eight bytes of a line begin at this place.
+fn has_bytes(bytes: &[u8; 64], from: usize, wanted: &[u8]) -> bool
+    requires { from ≤ 56 }
+{
+    &bytes[from..from + 8] == wanted
+}
+
+const FIRST_BYTES: &[u8] = &[1, 0x10, 0, 0, 0, 0, 0, 0];
+
+const LAST_BYTES: &[u8] = &[0xFE, 0xFF, 0xFF, 0xFF, 0xFF, 0xFF, 0xFF, 0xFF];
 
 #[test]
 fn bytes_of_a_line() -> Result<(), Fail> {
@@ -194,14 +219,8 @@ fn bytes_of_a_line() -> Result<(), Fail> {
     };
     let bytes = line_bytes(line);
     let mut found = Found::new();
-    found.must(
-        &bytes[..8] == [1, 0x10, 0, 0, 0, 0, 0, 0].as_slice(),
-        "the bytes of the first word",
-    );
-    found.must(
-        &bytes[56..] == [0xFE, 0xFF, 0xFF, 0xFF, 0xFF, 0xFF, 0xFF, 0xFF].as_slice(),
-        "the bytes of the last word",
-    );
+    found.must(has_bytes(&bytes, 0, FIRST_BYTES), "other first bytes");
+    found.must(has_bytes(&bytes, 56, LAST_BYTES), "other last bytes");
     found.must(line_of_bytes(bytes) == line, "another line");
     found.ended()
 }

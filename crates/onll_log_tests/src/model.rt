@@ -3,6 +3,7 @@
 ghost use Rattle.std.proofs.Common.{rules};
 ghost use Rattle.onll_log_tests.specs.Register.{register};
 
+use onll_found::Found;
 use onll_model::{Node, NotOp, Object, fold_nodes, node_line};
 use onll_words::{NoMemory, OpRow};
 use std::alloc::Global;
@@ -76,16 +77,6 @@ impl Object for Register {
     ghost code_in_range = { Prim.search rules };
 }
 
-/// A thread, a number, and the one name of both.
-const NAMES: &[(u64, u64, u64)] = &[
-    (0, 1, 1),
-    (0, 4096, 4096),
-    (1, 1, 4097),
-    (1, 4096, 8192),
-    (7, 100, 28_772),
-    (15, 4096, 65_536),
-];
-
 const ROW: OpRow = OpRow {
     w: [1, 5, 0, 0, 0, 0, 0],
 };
@@ -95,44 +86,55 @@ const OTHER: OpRow = OpRow {
     w: [2, 5, 0, 0, 0, 0, 0],
 };
 
-#[test]
-fn names_of_nodes(rt: HostRuntime) -> Result<(), Fail> {
-    for (thread, number, name) in NAMES {
-        if 1 <= *name && *name <= 65_536 {
-            let node = Node::of_name(*name, ROW);
-            assert_eq!(rt; (node.thread, node.number), (*thread, *number), "{name}");
-            assert_eq!(rt; node.name(), *name);
-        }
+/// Whether the node of this thread and number, and no other, has this name.
+fn is_named(name: u64, thread: u64, number: u64) -> bool {
+    if name < 1 || name > 65_536 {
+        return false;
     }
-    Ok(())
+    let node = Node::of_name(name, ROW);
+    node.thread == thread && node.number == number && node.name() == name
 }
 
 #[test]
-fn the_line_of_a_node(rt: HostRuntime) -> Result<(), Fail> {
+fn names_of_nodes() -> Result<(), Fail> {
+    let mut found = Found::new();
+    found.must(is_named(1, 0, 1), "the name 1");
+    found.must(is_named(4096, 0, 4096), "the name 4096");
+    found.must(is_named(4097, 1, 1), "the name 4097");
+    found.must(is_named(8192, 1, 4096), "the name 8192");
+    found.must(is_named(28_772, 7, 100), "the name 28772");
+    found.must(is_named(65_536, 15, 4096), "the name 65536");
+    found.ended()
+}
+
+#[test]
+fn the_line_of_a_node() -> Result<(), Fail> {
     let row = OpRow {
         w: [3, 11, 12, 13, 14, 15, 16],
     };
     let line = node_line(Node::of_name(4098, row));
-    assert_eq!(rt; line.w, [4098, 3, 11, 12, 13, 14, 15, 16]);
-    Ok(())
+    let mut found = Found::new();
+    found.must(line.w == [4098, 3, 11, 12, 13, 14, 15, 16], "another line");
+    found.ended()
 }
 
 #[test]
-fn recovered_rows(rt: HostRuntime) -> Result<(), Fail> {
+fn recovered_rows() -> Result<(), Fail> {
     let good = Node::of_name(1, ROW);
     let other = Node::of_name(2, OTHER);
     let mut register = Register { held: 9 };
-    assert_eq!(rt; fold_nodes(&mut register, &[]), Ok(()));
-    assert_eq!(rt; register.held, 9);
-    assert_eq!(rt;
-        fold_nodes(&mut register, &[other, good]),
-        Err(NotOp { place: 1 })
+    let mut found = Found::new();
+    found.must(fold_nodes(&mut register, &[]) == Ok(()), "no row");
+    found.must(register.held == 9, "changed by no row");
+    found.must(
+        fold_nodes(&mut register, &[other, good]) == Err(NotOp { place: 1 }),
+        "the first row is no operation",
     );
-    assert_eq!(rt; register.held, 9);
-    assert_eq!(rt;
-        fold_nodes(&mut register, &[good, other, good]),
-        Err(NotOp { place: 2 })
+    found.must(register.held == 9, "changed by a refused row");
+    found.must(
+        fold_nodes(&mut register, &[good, other, good]) == Err(NotOp { place: 2 }),
+        "the second row is no operation",
     );
-    assert_eq!(rt; register.held, 5);
-    Ok(())
+    found.must(register.held == 5, "not changed by the first row alone");
+    found.ended()
 }

@@ -1,7 +1,7 @@
 //! Tests of names, node lines and recovered rows against values from the rules of a log, over a register.
 
 ghost use Rattle.std.proofs.Common.{rules};
-ghost use Rattle.onll_log_tests.specs.Register.{register};
+ghost use Rattle.onll_words_tests.specs.Register.{register};
 
 use onll_found::Found;
 use onll_model::{Node, NotOp, Object, fold_nodes, node_line};

@@ -4,6 +4,8 @@
 #[cfg(test)]
 mod bank;
 #[cfg(test)]
+mod checks;
+#[cfg(test)]
 mod lease;
 #[cfg(test)]
 mod map;

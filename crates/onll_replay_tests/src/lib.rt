@@ -1,15 +1,11 @@
-//! Tests of schedules that are replayed and of logs that are recovered, through the program's top call, over files and an output in
-//! memory, and of crashes of a core. There is nothing here to be called.
+//! Tests of schedules that are replayed, and of what they leave, through the program's top call, over files and an output in memory,
+//! and of crashes of a core. There is nothing here to be called.
 #![tactic(auto)]
 
 #[cfg(test)]
 mod crashes;
 #[cfg(test)]
-mod hostile_images;
-#[cfg(test)]
 mod left_images;
-#[cfg(test)]
-mod recovers;
 #[cfg(test)]
 mod refused_replays;
 #[cfg(test)]

@@ -9,12 +9,11 @@ use crate::{
     Stock, StockOp, StockQuery, StockReply, keep_logs, new_devices, open_logs, read_images,
     recover_shop, resume_shop, run_short,
 };
-use onll_found::Found;
 use onll_log::ThreadLog;
 use onll_model::{Call, CallEnd, Object};
-use onll_outside::{FileStore, FreeGate, MemStore, Store};
+use onll_outside::{FileStore, FreeGate, MemStore};
 use onll_pmem::{MemPmem, Pmem};
-use onll_run::{DoneScript, Ran};
+use onll_run::Ran;
 use onll_shared::{Onll, Pass};
 use onll_words::{Line, NoMemory, OpRow};
 use std::alloc::Global;
@@ -32,55 +31,35 @@ const FOLDER: &str = "onll_stock_test";
 
 const FILES_IN_FOLDER: &[&str] = &["onll_stock_test/shop.0", "onll_stock_test/shop.1"];
 
-/// What a stock of 5 items replies to one operation after the other.
-const STEPS: &[(&str, StockOp, StockReply)] = &[
-    (
-        "six of five",
-        StockOp::Sell { count: 6 },
-        StockReply::TooFew,
-    ),
-    ("four of five", StockOp::Sell { count: 4 }, StockReply::Sold),
-    ("two of one", StockOp::Sell { count: 2 }, StockReply::TooFew),
-    ("the last one", StockOp::Sell { count: 1 }, StockReply::Sold),
-    ("none of none", StockOp::Sell { count: 0 }, StockReply::Sold),
-    (
-        "seven more",
-        StockOp::Restock { count: 7 },
-        StockReply::Restocked,
-    ),
-    (
-        "more than there can be",
-        StockOp::Restock { count: u64::MAX },
-        StockReply::TooMany,
-    ),
-];
-
 #[test]
-fn replies_in_order() -> Result<(), Fail> {
+fn replies_in_order(rt: HostRuntime) {
     let mut stock = Stock::of(5);
-    let mut found = Found::new();
-    for (case, op, reply) in STEPS {
-        found.must(stock.apply(*op) == *reply, *case);
+    let table = [
+        (StockOp::Sell { count: 6 }, StockReply::TooFew),
+        (StockOp::Sell { count: 4 }, StockReply::Sold),
+        (StockOp::Sell { count: 2 }, StockReply::TooFew),
+        (StockOp::Sell { count: 1 }, StockReply::Sold),
+        (StockOp::Sell { count: 0 }, StockReply::Sold),
+        (StockOp::Restock { count: 7 }, StockReply::Restocked),
+        (StockOp::Restock { count: u64::MAX }, StockReply::TooMany),
+    ];
+    for (op, reply) in table {
+        assert_eq!(rt; stock.apply(op), reply, "{op:?}");
     }
-    let left = stock.ask(StockQuery::Left);
-    found.must(left == StockReply::Items(7), "not seven are left");
-    found.ended()
+    assert_eq!(rt; stock.ask(StockQuery::Left), StockReply::Items(7));
 }
 
-const NO_OPERATIONS: &[(&str, [u64; 7])] = &[
-    ("code 0", [0, 5, 0, 0, 0, 0, 0]),
-    ("code 3", [3, 5, 0, 0, 0, 0, 0]),
-    ("a sale and a word", [1, 5, 1, 0, 0, 0, 0]),
-    ("a restocking and a last word", [2, 5, 0, 0, 0, 0, 1]),
-];
-
 #[test]
-fn rows_of_no_operation() -> Result<(), Fail> {
-    let mut found = Found::new();
-    for (case, w) in NO_OPERATIONS {
-        found.must(Stock::op_of_row(OpRow { w: *w }).is_none(), *case);
+fn rows_of_no_operation(rt: HostRuntime) {
+    let rows = [
+        [0, 5, 0, 0, 0, 0, 0],
+        [3, 5, 0, 0, 0, 0, 0],
+        [1, 5, 1, 0, 0, 0, 0],
+        [2, 5, 0, 0, 0, 0, 1],
+    ];
+    for w in rows {
+        assert_eq!(rt; Stock::op_of_row(OpRow { w }), None, "{w:?}");
     }
-    found.ended()
 }
 
 /// Two customers who each want 60 items.
@@ -96,39 +75,12 @@ fn two_customers(alloc: Global) -> Result<Vec<Vec<Call<Stock>>>, NoMemory>
     Ok(vec![in alloc; first, second]?)
 }
 
-/// Runs the two customers in a shop of 100 items, with logs over new devices in memory.
-fn run_two<R: Threads + Wait + Sync>(
-    rt: &R,
-    alloc: Global,
-    store: &mut MemStore,
-) -> Option<Ran<Stock, MemPmem>> {
-    let devices = new_devices(alloc, store, FILES).ok()?;
-    let scripts = two_customers(alloc).ok()?;
-    run_short(rt, alloc, INIT, 100, scripts, devices, &FreeGate).ok()
-}
-
-/// A store in memory with no files, of which nothing fails.
-fn empty_store(alloc: Global) -> MemStore {
-    MemStore::new(Vec::new(alloc), Vec::new(alloc), Vec::new(alloc))
-}
-
 /// Whether the first call of a thread sold what it wanted.
 fn has_sold(ends: &[CallEnd<Stock>]) -> bool {
     match ends.first() {
         Some(CallEnd::Answered { reply, .. }) => *reply == StockReply::Sold,
         _ => false,
     }
-}
-
-/// One of two threads sold what it wanted, and the other one did not.
-fn one_is_served(found: &mut Found, threads: &[DoneScript<Stock>]) {
-    let [first, second] = threads else {
-        return found.must(false, "not two threads");
-    };
-    found.must(
-        has_sold(&first.ends) != has_sold(&second.ends),
-        "both are served, or none is",
-    );
 }
 
 /// What a crash leaves of the devices of logs.
@@ -141,85 +93,86 @@ fn images_of(alloc: Global, logs: &[ThreadLog<MemPmem>]) -> Result<Vec<Vec<Line>
 }
 
 /// How many items images leave.
-fn left_of(alloc: Global, images: &[Vec<Line>]) -> Option<u64> {
+fn left_of(alloc: Global, images: &[Vec<Line>]) -> Result<u64, Fail> {
     if images.len() > 16 {
-        return None;
+        return Err("too many images".into());
     }
-    recover_shop(alloc, INIT, 100, images).ok()
-}
-
-/// How many items a crash leaves of the devices of logs.
-fn left_of_logs(alloc: Global, logs: &[ThreadLog<MemPmem>]) -> Option<u64> {
-    let images = images_of(alloc, logs).ok()?;
-    left_of(alloc, &images)
+    match recover_shop(alloc, INIT, 100, images) {
+        Ok(left) => Ok(left),
+        Err(_) => Err("not recovered".into()),
+    }
 }
 
 #[test]
 fn one_of_two_customers_is_served(rt: HostRuntime) -> Result<(), Fail> {
-    let mut store = empty_store(rt.alloc());
-    let Some(ran) = run_two(&rt, rt.alloc(), &mut store) else {
-        return Err("not run".into());
+    let alloc = rt.alloc();
+    let mut store = MemStore::new(Vec::new(alloc), Vec::new(alloc), Vec::new(alloc));
+    let Ok(devices) = new_devices(alloc, &mut store, FILES) else {
+        panic!(rt; "no devices")
     };
-    let mut found = Found::new();
-    one_is_served(&mut found, &ran.threads);
-    found.must(ran.logs.len() == 2, "not two logs");
-    let left = left_of_logs(rt.alloc(), &ran.logs);
-    found.must(left == Some(40), "not 40 items are left");
-    found.ended()
-}
-
-/// How many items the files of a store leave.
-fn left_in<S: Store>(alloc: Global, store: &mut S, names: &[&str]) -> Option<u64> {
-    let images = read_images(alloc, store, names).ok()?;
-    left_of(alloc, &images)
-}
-
-/// Keeps logs as files of a store.
-fn are_kept(alloc: Global, store: &mut MemStore, logs: Vec<ThreadLog<MemPmem>>) -> bool {
-    keep_logs(alloc, store, FILES, logs).is_ok()
+    let scripts = two_customers(alloc)?;
+    let Ok(Ran { threads, logs, .. }) = run_short(
+        &rt, alloc, INIT, 100, scripts, devices, &FreeGate,
+    ) else {
+        panic!(rt; "not run")
+    };
+    assert!(rt; threads.len() == 2 && logs.len() == 2);
+    assert!(rt; has_sold(&threads[0].ends) != has_sold(&threads[1].ends));
+    let images = images_of(alloc, &logs)?;
+    assert_eq!(rt; left_of(alloc, &images)?, 40);
+    Ok(())
 }
 
 #[test]
 fn a_shop_is_recovered_from_files(rt: HostRuntime) -> Result<(), Fail> {
-    let mut store = empty_store(rt.alloc());
-    let Some(Ran { logs, .. }) = run_two(&rt, rt.alloc(), &mut store) else {
-        return Err("not run".into());
+    let alloc = rt.alloc();
+    let mut store = MemStore::new(Vec::new(alloc), Vec::new(alloc), Vec::new(alloc));
+    let Ok(devices) = new_devices(alloc, &mut store, FILES) else {
+        panic!(rt; "no devices")
     };
-    let mut found = Found::new();
-    found.must(are_kept(rt.alloc(), &mut store, logs), "not kept");
-    let left = left_in(rt.alloc(), &mut store, FILES);
-    found.must(left == Some(40), "not 40 items are left");
-    found.ended()
-}
-
-/// Whether a shop that began with 99 items refuses these images.
-fn are_refused(alloc: Global, images: &[Vec<Line>]) -> bool {
-    images.len() <= 16 && recover_shop(alloc, b"stock 99\n", 99, images).is_err()
+    let scripts = two_customers(alloc)?;
+    let Ok(Ran { logs, .. }) = run_short(&rt, alloc, INIT, 100, scripts, devices, &FreeGate) else {
+        panic!(rt; "not run")
+    };
+    assert!(rt; keep_logs(alloc, &mut store, FILES, logs).is_ok());
+    let Ok(images) = read_images(alloc, &mut store, FILES) else {
+        panic!(rt; "not read")
+    };
+    assert_eq!(rt; left_of(alloc, &images)?, 40);
+    Ok(())
 }
 
 #[test]
 fn logs_of_another_shop_are_refused(rt: HostRuntime) -> Result<(), Fail> {
-    let mut store = empty_store(rt.alloc());
-    let Some(ran) = run_two(&rt, rt.alloc(), &mut store) else {
-        return Err("not run".into());
+    let alloc = rt.alloc();
+    let mut store = MemStore::new(Vec::new(alloc), Vec::new(alloc), Vec::new(alloc));
+    let Ok(devices) = new_devices(alloc, &mut store, FILES) else {
+        panic!(rt; "no devices")
     };
-    let images = images_of(rt.alloc(), &ran.logs)?;
-    let mut found = Found::new();
-    found.must(are_refused(rt.alloc(), &images), "not refused");
-    found.ended()
+    let scripts = two_customers(alloc)?;
+    let Ok(Ran { logs, .. }) = run_short(&rt, alloc, INIT, 100, scripts, devices, &FreeGate) else {
+        panic!(rt; "not run")
+    };
+    let images = images_of(alloc, &logs)?;
+    if images.len() > 16 {
+        return Err("too many images".into());
+    }
+    assert!(rt; recover_shop(alloc, b"stock 99\n", 99, &images).is_err());
+    Ok(())
 }
 
 /// Sells 60 of 100 items, with logs in files, and is then gone.
-fn sell_and_die<R: Threads + Wait + Sync>(rt: &R, files: &HostRuntime) -> bool {
+fn sell_and_die<R: Threads + Wait + Sync>(rt: &R, files: &HostRuntime) -> Result<(), Fail> {
     let alloc = files.alloc();
     let mut store = FileStore::new(files);
     let Ok(devices) = new_devices(alloc, &mut store, FILES_IN_FOLDER) else {
-        return false;
+        return Err("no devices".into());
     };
-    let Ok(scripts) = two_customers(alloc) else {
-        return false;
-    };
-    run_short(rt, alloc, INIT, 100, scripts, devices, &FreeGate).is_ok()
+    let scripts = two_customers(alloc)?;
+    match run_short(rt, alloc, INIT, 100, scripts, devices, &FreeGate) {
+        Ok(_) => Ok(()),
+        Err(_) => Err("not run".into()),
+    }
 }
 
 /// A stock that goes on from logs, and the pass of its last thread.
@@ -252,37 +205,41 @@ fn sell_rest<R: Wait, P: Pmem + Drop>(
     Ok(onll.read(&mut pass, StockQuery::Left).reply)
 }
 
-/// Goes on in the files, sells the rest, and is then gone again.
-fn go_on_and_die<R: Wait>(rt: &R, files: &HostRuntime) -> Result<StockReply, Fail> {
+/// Goes on in the files, and is then gone again.
+fn go_on_and_die<R: Wait>(rt: &R, files: &HostRuntime) -> Result<(), Fail> {
     let alloc = files.alloc();
     let mut store = FileStore::new(files);
     let Ok(images) = read_images(alloc, &mut store, FILES_IN_FOLDER) else {
         return Err("not read".into());
     };
-    match open_logs(alloc, &mut store, FILES_IN_FOLDER, &images) {
-        Ok(logs) => sell_rest(rt, alloc, logs),
-        Err(_) => Err("not opened".into()),
+    let Ok(logs) = open_logs(alloc, &mut store, FILES_IN_FOLDER, &images) else {
+        return Err("not opened".into());
+    };
+    match sell_rest(rt, alloc, logs)? {
+        StockReply::Items(0) => Ok(()),
+        _ => Err("some are left".into()),
     }
 }
 
 /// How many items the files leave.
-fn left_in_files(rt: &HostRuntime) -> Option<u64> {
+fn left_in_files(rt: &HostRuntime) -> Result<u64, Fail> {
     let mut store = FileStore::new(rt);
-    left_in(rt.alloc(), &mut store, FILES_IN_FOLDER)
+    match read_images(rt.alloc(), &mut store, FILES_IN_FOLDER) {
+        Ok(images) => left_of(rt.alloc(), &images),
+        Err(_) => Err("not read".into()),
+    }
 }
 
 #[test]
 fn a_killed_shop_goes_on(rt: HostRuntime) -> Result<(), Fail> {
-    let mut found = Found::new();
-    found.must(fs::create_dir(&rt, FOLDER).is_ok(), "no folder");
-    found.must(sell_and_die(&rt, &rt), "not run");
-    found.must(left_in_files(&rt) == Some(40), "not 40 items are left");
-    let left = go_on_and_die(&rt, &rt)?;
-    found.must(left == StockReply::Items(0), "not all are sold");
-    found.must(left_in_files(&rt) == Some(0), "some are left");
+    fs::create_dir(&rt, FOLDER)?;
+    sell_and_die(&rt, &rt)?;
+    assert_eq!(rt; left_in_files(&rt)?, 40);
+    go_on_and_die(&rt, &rt)?;
+    assert_eq!(rt; left_in_files(&rt)?, 0);
     for name in FILES_IN_FOLDER {
-        found.must(fs::remove_file(&rt, name).is_ok(), "a file stays");
+        fs::remove_file(&rt, name)?;
     }
-    found.must(fs::remove_dir(&rt, FOLDER).is_ok(), "the folder stays");
-    found.ended()
+    fs::remove_dir(&rt, FOLDER)?;
+    Ok(())
 }

@@ -4,8 +4,6 @@
 #[cfg(test)]
 mod bank;
 #[cfg(test)]
-mod checks;
-#[cfg(test)]
 mod lease;
 #[cfg(test)]
 mod map;

@@ -18,7 +18,7 @@ fn is_log_of<P: Pmem>(log: &ThreadLog<P>, threads: u64, thread: u64) -> bool
     head.thread == thread && head.threads == threads && head.format == 2 && !log.broken()
 }
 
-#[tactic(auto, using(crate::proofs::Made::all_logs))]
+#[tactic(auto, using(onll_shared_calls::proofs::Made::all_logs))]
 /// Whether these are the logs of all threads, in their order, which take more.
 pub fn are_logs<P: Pmem>(logs: &[ThreadLog<P>]) -> bool
     ensures { result ≡ true → AreLogs logs.now }
@@ -32,7 +32,7 @@ pub fn are_logs<P: Pmem>(logs: &[ThreadLog<P>]) -> bool
     true
 }
 
-#[tactic(auto, using(crate::proofs::Made::tied_last))]
+#[tactic(auto, using(onll_shared_calls::proofs::Made::tied_last))]
 /// An object that goes on from logs, with the pass of its last thread. None where these are no logs of all threads.
 pub fn last_goes_on<O: Object + Drop>(
     alloc: Global,

@@ -1,9 +1,7 @@
 //! Objects that go on from logs, and logs from which none goes on.
-use crate::check::must;
 use crate::go_on::{are_logs, last_goes_on};
 use crate::resumed::log_with;
 use crate::steps::{ALL, Call, NO_NODE, NONE, Said, Step, take_steps};
-use crate::threads::{Left, Work, four_threads};
 use onll_bank::{Bank, BankOp, BankQuery};
 use onll_log::ThreadLog;
 use onll_merge::RecoverFault;
@@ -11,6 +9,7 @@ use onll_model::{Node, Object};
 use onll_outside::FreeGate;
 use onll_pmem::MemPmem;
 use onll_shared::{GoOnFault, find_base};
+use onll_shared_calls::{Left, Work, four_threads, must};
 use onll_trace::Ended;
 use std::alloc::Global;
 use std::sync::Wait;

@@ -4,14 +4,13 @@ ghost use Rattle.onll_bank.specs.Object.{bank};
 ghost use Rattle.onll_pmem.specs.Memory.{memory_view};
 ghost use Rattle.onll_shared.specs.Passes.{IsTied};
 
-use crate::check::must;
-use crate::fixture::{open_one, open_two};
 use crate::resumed::resume_one;
 use crate::steps::{Call, NO_NODE, NONE, SECOND, Said, Step, say, take_steps};
 use onll_bank::{Bank, BankOp};
 use onll_outside::{FreeGate, Gate, Hold, HoldGate, Point};
 use onll_pmem::MemPmem;
 use onll_shared::{Onll, Pass, UpdateFault};
+use onll_shared_calls::{must, open_one, open_two};
 use std::alloc::Global;
 use std::sync::Wait;
 use std::test::Fail;

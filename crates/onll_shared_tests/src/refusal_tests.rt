@@ -1,9 +1,8 @@
 //! Updates that are refused, and a fence that fails: what each call answers, and which points of a gate it reaches.
-use crate::check::must;
-use crate::fixture::open_one;
 use crate::steps::{Call, FIRST, NO_NODE, NONE, Said, Step, take_steps};
 use onll_bank::Bank;
 use onll_shared::TryFault;
+use onll_shared_calls::{must, open_one};
 use std::alloc::Global;
 use std::test::Fail;
 

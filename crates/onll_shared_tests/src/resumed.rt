@@ -4,11 +4,11 @@ ghost use Rattle.onll_pmem.specs.Memory.{memory_view};
 ghost use Rattle.onll_shared.specs.Passes.{IsTied};
 ghost use Rattle.onll_shared.specs.Starts.{IsLogOf};
 
-use crate::fixture::INIT;
 use onll_log::{LogHead, ThreadLog};
 use onll_model::{Mark, Node, Object};
 use onll_pmem::MemPmem;
 use onll_shared::{Onll, Pass};
+use onll_shared_calls::INIT;
 use std::alloc::Global;
 
 /// A log of one thread that holds its first node alone, in one entry at this place.

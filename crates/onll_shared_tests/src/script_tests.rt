@@ -7,7 +7,6 @@ ghost use Rattle.onll_pmem.specs.Memory.{memory_view};
 ghost use Rattle.onll_shared.specs.Passes.{IsTied};
 ghost use Rattle.std.proofs.Props.{props};
 
-use crate::fixture::{INIT, open_two};
 use onll_bank::{Bank, BankOp, BankQuery, BankReply};
 use onll_locked::{Locked, LockedEnd};
 use onll_log::{LogHead, ThreadLog};
@@ -15,6 +14,7 @@ use onll_model::{Call, Object};
 use onll_outside::FreeGate;
 use onll_pmem::MemPmem;
 use onll_shared::{Onll, Pass, TryFault};
+use onll_shared_calls::{INIT, open_two};
 use std::alloc::{AllocError, Global};
 use std::test::Fail;
 

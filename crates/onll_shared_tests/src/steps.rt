@@ -4,11 +4,10 @@ ghost use Rattle.onll_bank.specs.Object.{bank};
 ghost use Rattle.onll_pmem.specs.Memory.{memory_view};
 ghost use Rattle.onll_shared.specs.Passes.{IsTied};
 
-use crate::check::must;
-use crate::count_gate::CountGate;
 use onll_bank::{Bank, BankOp, BankQuery, BankReply};
 use onll_pmem::MemPmem;
 use onll_shared::{Onll, Pass, TryFault};
+use onll_shared_calls::{CountGate, must};
 use std::test::Fail;
 
 /// A call of a bank.

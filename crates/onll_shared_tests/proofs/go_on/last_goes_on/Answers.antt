@@ -1,5 +1,5 @@
 use Rattle.onll_pmem.specs.Memory.{memory_view}
-use Rattle.onll_shared_tests.proofs.Made.{tied_last}
+use Rattle.onll_shared_calls.proofs.Made.{tied_last}
 use Rattle.onll_shared_tests.proofs.go_on.last_goes_on.Goals as goal
 
 pub returns-in-Some : goal.returns-in-Some

@@ -7,6 +7,7 @@ ghost use Rattle.onll_pmem.specs.Memory.{MemoryState, fails, faults_in_le, stepp
 
 use crate::front::Front;
 use crate::image::kept_lines;
+use crate::marks::Marks;
 use crate::pmem::{FenceFailed, Pmem};
 use crate::waiting::Waiting;
 use onll_words::{Line, NoMemory};
@@ -21,7 +22,7 @@ fn is_failing(failing: &[u64], number: u64) -> bool
 }
 
 /// Makes the lines durable that are written back and wait.
-fn settle(fenced: &mut Front, read: &Front, backed: &[bool], waiting: &mut Waiting)
+fn settle(fenced: &mut Front, read: &Front, backed: &Marks, waiting: &mut Waiting)
     requires as_fenced { length fenced.old ≡ length read.now }
     requires as_backed { length backed.now ≡ length read.now }
     requires as_marked { length waiting.old.marks ≡ length read.now }
@@ -32,7 +33,7 @@ fn settle(fenced: &mut Front, read: &Front, backed: &[bool], waiting: &mut Waiti
     ensures marks { length waiting.new.marks ≡ length read.now }
 {
     while let Some(line) = waiting.take() {
-        if backed[line as usize] {
+        if backed.get(line as usize) {
             fenced.set(line as usize, read.line(line as usize));
         }
     }
@@ -43,7 +44,7 @@ fn settle(fenced: &mut Front, read: &Front, backed: &[bool], waiting: &mut Waiti
 pub struct MemPmem {
     fenced: Front,
     read: Front,
-    backed: Vec<bool>,
+    backed: Marks,
     waiting: Waiting,
     failing: Vec<u64>,
     fences: u64,
@@ -55,9 +56,9 @@ impl Model for MemPmem {
 
     ghost Value = { MemoryState };
 
-    ghost view = { λ m. memory_of m.fenced m.read m.backed.items m.fences m.failing.items };
+    ghost view = { λ m. memory_of m.fenced m.read m.backed m.fences m.failing.items };
 
-    ghost invariant = { λ m. Keeps (memory_of m.fenced m.read m.backed.items m.fences m.failing.items) m.waiting.marks m.faults };
+    ghost invariant = { λ m. Keeps (memory_of m.fenced m.read m.backed m.fences m.failing.items) m.waiting.marks m.faults };
 }
 
 impl MemPmem {
@@ -68,7 +69,7 @@ impl MemPmem {
         Ok(MemPmem {
             fenced: Front::zeros(alloc, lines)?,
             read: Front::zeros(alloc, lines)?,
-            backed: vec![in alloc; false; lines]?,
+            backed: Marks::none(alloc, lines)?,
             waiting: Waiting::new(alloc, lines)?,
             failing,
             fences: 0,
@@ -97,7 +98,7 @@ impl MemPmem {
         Ok(MemPmem {
             fenced: read.copy(alloc)?,
             read,
-            backed: vec![in alloc; false; count]?,
+            backed: Marks::none(alloc, count)?,
             waiting: Waiting::new(alloc, count)?,
             failing,
             fences: 0,
@@ -142,15 +143,15 @@ impl Pmem for MemPmem {
         ensures { self.new ≡ stepped self.old (Write line value.w) }
     {
         self.read.set(line as usize, value);
-        self.backed[line as usize] = false;
+        self.backed.set(line as usize, false);
     }
 
     fn write_back(&mut self, line: u64)
         requires { line < length self.old.device.read }
         ensures { self.new ≡ stepped self.old (WriteBack line) }
     {
-        if !self.backed[line as usize] {
-            self.backed[line as usize] = true;
+        if !self.backed.get(line as usize) {
+            self.backed.set(line as usize, true);
             self.waiting.add(line);
         }
     }

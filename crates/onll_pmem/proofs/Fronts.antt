@@ -1,11 +1,22 @@
 -- A list that goes on with the same, of which a front is held.
-use Rattle.std.proofs.Common.{◌≡◌, ℕ, ◌+◌, ◌-◌, ◌<◌, ◌≤◌, ◌++◌, List, length, set, replicate, sym, ap, ◌∙◌, append_assoc, arith}
+use Rattle.std.proofs.Common.{◌≡◌, ℕ, ◌+◌, ◌-◌, ◌<◌, ◌≤◌, ◌++◌, List, length, set, drop, replicate, sym, ap, ◌∙◌, append_assoc, arith}
 use Rattle.std.proofs.lemmas.List.{length-append, length-replicate, length-set, replicate-append-replicate, set-append_left}
+use Rattle.std.proofs.lemmas.List.{drop-replicate}
+use Rattle.std.proofs.Math.Seq.{drop-append-add}
 use Rattle.onll_pmem.specs.Front.{followed}
 
 pub length-followed : {A : Type 0} (rest : A) (front : List A) (count : ℕ) → length front ≤ count → length (followed rest front count) ≡ count
 length-followed rest front count within =
     length-append front (replicate (count - length front) rest) ∙ omega (arith, length-replicate (count - length front) rest)
+
+-- behind the front there is only what follows
+pub drop-followed : {A : Type 0} (rest : A) (front : List A) (count i : ℕ) → length front ≤ i → drop i (followed rest front count) ≡ replicate (count - i) rest
+drop-followed {A} rest front count i behind =
+    let e : i ≡ length front + (i - length front) = omega arith in
+    let left : count - length front - (i - length front) ≡ count - i = omega arith in
+    ap (λ (n : ℕ). drop n (followed rest front count)) e
+    ∙ (drop-append-add front (replicate (count - length front) rest) (i - length front)
+    ∙ (drop-replicate (i - length front) (count - length front) rest ∙ ap (λ (n : ℕ). replicate n rest) left))
 
 -- where some of what follows is held, it follows all the same
 pub followed-more : {A : Type 0} (rest : A) (front : List A) (more count : ℕ) → length front + more ≤ count

@@ -9,7 +9,8 @@ use onll_words::Line;
 use std::alloc::{AllocError, Global};
 use std::marker::Model;
 
-const ZERO: Line = Line { w: [0; 8] };
+/// A line of zeros.
+pub const ZERO: Line = Line { w: [0; 8] };
 
 /// Appends lines of zeros up to the line of this number.
 fn fill(front: &mut Vec<Line>, line: usize)
@@ -101,6 +102,14 @@ impl Front {
         ensures { result ≡ length self.now }
     {
         self.count
+    }
+
+    /// The lines of the front, after which all are zero.
+    pub fn held(&self) -> &[Line]
+        ensures within { length result.now ≤ length self.now }
+        ensures zeros { self.now ≡ words_of result.now ++ zero_lines (length self.now - length result.now) }
+    {
+        &self.front
     }
 
     /// The line of this number.

@@ -1,12 +1,12 @@
 //! A device in memory, with fences that fail as told.
 
-ghost use Rattle.std.specs.Prelude.{◌≡◌, ℕ, ◌+◌, ◌-◌, ◌^◌, ◌<◌, ◌≤◌, not, is_ok, true, refl, length, IfOk, OnOk, OnErr};
+ghost use Rattle.std.specs.Prelude.{◌≡◌, ℕ, ◌+◌, ◌-◌, ◌^◌, ◌<◌, ◌≤◌, ◌++◌, not, is_ok, true, refl, length, IfOk, OnOk, OnErr};
 ghost use Rattle.onll_pmem.specs.Device.{new_device, fenced_device, image_of, IsImage, zero_lines, line_at, FillsWords, settled, Write, WriteBack, Fence, FailedFence};
 ghost use Rattle.onll_pmem.specs.Pmem.{words_of, EightWords};
 ghost use Rattle.onll_pmem.specs.Memory.{MemoryState, fails, faults_in_le, stepped, memory_view, EvenBut};
 
-use crate::front::Front;
-use crate::image::kept_lines;
+use crate::front::{Front, ZERO};
+use crate::image::kept_front;
 use crate::marks::Marks;
 use crate::pmem::{FenceFailed, Pmem};
 use crate::waiting::Waiting;
@@ -114,13 +114,27 @@ impl MemPmem {
         MemPmem::try_of_image(alloc, lines, failing).map_err(|_| NoMemory)
     }
 
+    /// The image that `image` makes of `keep`, but for those of its lines at the end that are zero since neither what is fenced
+    /// nor what was written reaches so far.
+    pub fn image_front(&self, alloc: Global, keep: u64) -> Result<Vec<Line>, NoMemory>
+        ensures within { IfOk result (λ front. length front.items ≤ length self.now.device.read) }
+        ensures exact { IfOk result (λ front. image_of self.now.device keep
+            ≡ words_of front.items ++ zero_lines (length self.now.device.read - length front.items)) }
+        ensures member { IfOk result (λ front. IsImage self.now.device
+            (words_of front.items ++ zero_lines (length self.now.device.read - length front.items))) }
+    {
+        kept_front(alloc, keep, &self.fenced, &self.read).map_err(|_| NoMemory)
+    }
+
     /// What a crash leaves: a pending word, one that reads otherwise than it is fenced, is as it reads where `keep` has
     /// the bit of its number modulo 64, and else as fenced. Pending words are numbered from 0 by line and then by word.
     pub fn image(&self, alloc: Global, keep: u64) -> Result<Vec<Line>, NoMemory>
         ensures exact { IfOk result (λ image. words_of image.items ≡ image_of self.now.device keep) }
         ensures member { IfOk result (λ image. IsImage self.now.device (words_of image.items)) }
     {
-        kept_lines(alloc, keep, &self.fenced, &self.read).map_err(|_| NoMemory)
+        let mut image = self.image_front(alloc, keep)?;
+        image.resize(self.read.len(), ZERO)?;
+        Ok(image)
     }
 }
 

@@ -151,6 +151,10 @@ impl Pmem for MemPmem {
         self.read.line(line as usize)
     }
 
+    fn held(&self) -> Option<&[Line]> {
+        Some(self.read.held())
+    }
+
     fn write(&mut self, line: u64, value: Line)
         requires within { line < length self.old.device.read }
         requires fills { FillsWords (line_at self.old.device.read line) value.w }

@@ -24,12 +24,24 @@ use onll_words::{Line, NoMemory};
 use std::alloc::Global;
 use std::marker::Model;
 
+/// How many lines of a device, from the first on, may be other than zero.
+fn lines_to_test<P: Pmem>(device: &P) -> u64
+    ensures within { result ≤ length (P.means device.now).read }
+    ensures zeros { (line : ℕ) → result ≤ line → line < length (P.means device.now).read
+        → line_at (P.means device.now).read line ≡ zero_line }
+{
+    match device.held() {
+        Some(front) => front.len() as u64,
+        None => device.lines(),
+    }
+}
+
 /// The first line of a device that isn't zero.
 fn first_dirty<P: Pmem>(device: &P) -> Option<u64>
     ensures clean { IfNone result ((P.means device.now).read ≡ zero_lines (length (P.means device.now).read)) }
     ensures dirty { IfSome result (λ line. IsDirty (P.means device.now).read line) }
 {
-    for line in 0..device.lines() {
+    for line in 0..lines_to_test(device) {
         if !is_zero(&device.read(line)) {
             return Some(line);
         }

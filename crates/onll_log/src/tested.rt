@@ -3,7 +3,8 @@
 ghost use Rattle.std.specs.Prelude.{◌≡◌, ℕ, List, None, Some, length, max, take, MatchOption};
 ghost use Rattle.onll_pmem.specs.Pmem.{words_of};
 ghost use Rattle.onll_log.specs.Grammar.{content_of, format_in, used_by};
-ghost use Rattle.onll_log.specs.Tested.{used_in, entries_in};
+ghost use Rattle.std.specs.Cow.{cow_slice_items};
+ghost use Rattle.onll_log.specs.Tested.{used_in, entries_in, Knows};
 
 use crate::cursor::LogCursor;
 use crate::head::format_of;
@@ -112,6 +113,14 @@ impl<'a> TestedImage<'a> {
             lines: CowSlice::Owned(lines),
             known: used.entries,
         }
+    }
+
+    /// These lines, of whose entries this many are known to be accepted.
+    pub(crate) fn known(lines: CowSlice<'a, Line, Global>, known: u64) -> TestedImage<'a>
+        requires { Knows (words_of (cow_slice_items lines)) known }
+        ensures { result ≡ words_of (cow_slice_items lines) }
+    {
+        TestedImage { lines, known }
     }
 
     /// The lines.

@@ -13,3 +13,4 @@ pub mod Append
 pub mod Placed
 pub mod Writing
 pub mod Kept
+pub mod Deciding

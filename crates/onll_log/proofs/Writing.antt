@@ -1,12 +1,15 @@
 -- Lines that are written and handed over to the next fence.
-use Rattle.std.proofs.Common.{ℕ, zero, suc, ◌≡◌, ◌+◌, ◌<◌, ◌≤◌, ◌==◌, true, false, true≢false, List, [], ◌∷◌, ◌++◌, length, get_or, set, replicate, take, sym, refl, ap, ◌∙◌, subst, arith, ◌≢◌, eqb-true}
+use Rattle.std.proofs.Common.{ℕ, zero, suc, ◌≡◌, ◌+◌, ◌-◌, ◌<◌, ◌≤◌, ◌==◌, true, false, true≢false, List, [], ◌∷◌, ◌++◌, length, get_or, set, replicate, take, sym, refl, ap, ◌∙◌, subst, arith, ◌≢◌, eqb-true}
 use Rattle.std.specs.Prelude.{Option, Some, None}
 use Rattle.std.proofs.lemmas.List.{ext_get_or, get_or-replicate, length-replicate, length-map, length-take-le, map_more}
+use Rattle.std.proofs.Math.Seq.{get_or-append_right}
+use Rattle.onll_words.specs.declared.line.Line.{Line}
 use Rattle.onll_model.specs.declared.node.Node.{Node}
 use Rattle.onll_model.specs.Names.{words_of_node}
 use Rattle.onll_pmem.specs.Device.{line_at, zero_line, zero_lines}
-use Rattle.onll_pmem.specs.Pmem.{Told, DeviceView, told_written, told_backed, ToldBacked, ToldSettled}
+use Rattle.onll_pmem.specs.Pmem.{Told, DeviceView, words_of, told_written, told_backed, ToldBacked, ToldSettled}
 use Rattle.onll_pmem.proofs.Devices.{KeepsTold-backed}
+use Rattle.onll_pmem.proofs.Lines.{length-words_of}
 use Rattle.onll_log.specs.Encoding.{node_lines}
 use Rattle.onll_log.specs.Grammar.{is_zero_line}
 use Rattle.onll_log.specs.Log.{placed_lines, Puts}
@@ -28,6 +31,15 @@ dirty-test ws line e f z = true≢false (sym (ap is_zero_line (e ∙ z)) ∙ f)
 
 pub zero_lines-each : (lines : List (List ℕ)) → ((line : ℕ) → line < length lines → line_at lines line ≡ zero_line) → lines ≡ zero_lines (length lines)
 zero_lines-each lines h = ext_get_or [] lines (zero_lines (length lines)) (sym (length-replicate (length lines) zero_line)) (λ line l. h line l ∙ sym (get_or-replicate (length lines) line zero_line [] l))
+
+-- behind the lines that are held there are zeros
+pub line_at-behind : (read : List (List ℕ)) (front : List Line) (line : ℕ) → read ≡ words_of front ++ zero_lines (length read - length front)
+    → length front ≤ line → line < length read → line_at read line ≡ zero_line
+line_at-behind read front line same behind within =
+    let n : length (words_of front) ≡ length front = length-words_of front in
+    ap (λ (ls : List (List ℕ)). line_at ls line) same
+    ∙ (get_or-append_right (words_of front) (zero_lines (length read - length front)) line [] (omega arith)
+    ∙ get_or-replicate (length read - length front) (line - length (words_of front)) zero_line [] (omega arith))
 
 -- ---- one line
 ToldSettled-put : (told : Option Told) (line : ℕ) (durable : List (List ℕ)) → ToldSettled told durable → ToldSettled (told_backed (told_written told line) line) durable

@@ -6,6 +6,7 @@ pub mod Decoded
 pub mod Cursor
 pub mod ImageFile
 pub mod Digest
+pub mod Tested
 pub mod Torn
 pub mod Written
 pub mod MaskBits

@@ -4,6 +4,8 @@ ghost use Rattle.std.specs.Prelude.{◌≡◌, ℕ, ◌+◌, ◌-◌, ◌<◌, �
 ghost use Rattle.onll_model.specs.Limits.{most_threads};
 ghost use Rattle.onll_pmem.specs.Pmem.{words_of};
 ghost use Rattle.onll_log.specs.Grammar.{content_of, entries_from};
+ghost use Rattle.onll_log.specs.Head.{FitsHead};
+ghost use Rattle.onll_log.specs.Tested.{Knows};
 ghost use Rattle.onll_log.specs.Cursor.{entries_left, lines_passed, first_view, first_nodes, one_further, before_all};
 
 use crate::entry::is_entry;
@@ -77,17 +79,39 @@ impl<'a> LogCursor<'a> {
         ensures { let content = content_of (words_of lines.now) in
             MatchOption result (content ≡ None) (λ c. (content ≡ Some c.content) × (c.passed ≡ 0)) }
     {
+        LogCursor::over(lines, 0)
+    }
+
+    /// A cursor before the first entry of an image with this head, where this many entries are known to be accepted.
+    fn under(head: LogHead, lines: &'a [Line], known: u64) -> LogCursor<'a>
+        requires head { FitsHead head }
+        requires some { 1 ≤ length lines.now }
+        requires content { content_of (words_of lines.now)
+            ≡ Some (record { head = Some head; entries = entries_from head 0 0 (drop 1 (words_of lines.now)) }) }
+        requires known { Knows (words_of lines.now) known }
+        ensures content { content_of (words_of lines.now) ≡ Some result.content }
+        ensures first { result.passed ≡ 0 }
+    {
+        let next = entry_at(&head, known, 0, 1, lines);
+        LogCursor {
+            lines,
+            head: Some(head),
+            known,
+            passed: 0,
+            at: 1,
+            next,
+        }
+    }
+
+    /// A cursor before the first entry of an image, where this many entries are known to be accepted, None where the image is no log.
+    pub(crate) fn over(lines: &'a [Line], known: u64) -> Option<LogCursor<'a>>
+        requires { Knows (words_of lines.now) known }
+        ensures { let content = content_of (words_of lines.now) in
+            MatchOption result (content ≡ None) (λ c. (content ≡ Some c.content) × (c.passed ≡ 0)) }
+    {
         let first = lines.first()?;
         if let Some(head) = LogHead::of_line(first) {
-            let next = entry_at(&head, 0, 0, 1, lines);
-            return Some(LogCursor {
-                lines,
-                head: Some(head),
-                known: 0,
-                passed: 0,
-                at: 1,
-                next,
-            });
+            return Some(LogCursor::under(head, lines, known));
         }
         if !are_zero(lines) {
             return None;

@@ -1,6 +1,7 @@
 //! The log of a thread over its device.
 
 ghost use Rattle.std.specs.Prelude.{◌≡◌, ℕ, ◌+◌, ◌-◌, ◌*◌, ◌^◌, ◌<◌, ◌≤◌, ◌⊎◌, List, [], ◌∷◌, ◌++◌, length, take, drop, true, false, is_err, IfNone, IfSome, IfOk, IfErr, OnOk, OnErr, Some};
+ghost use Rattle.std.specs.Cow.{cow_slice_items};
 ghost use Rattle.onll_model.specs.Limits.{most_threads, most_updates};
 ghost use Rattle.std.specs.List.{All};
 ghost use Rattle.onll_model.specs.Segment.{Segment, last_place};
@@ -18,18 +19,32 @@ use crate::decoded::{Decoded, Entry};
 use crate::entry::entry_head;
 use crate::head::LogHead;
 use crate::image::is_zero;
+use crate::tested::TestedImage;
 use onll_model::{Node, node_line};
 use onll_pmem::{FenceFailed, Pmem};
 use onll_words::{Line, NoMemory};
 use std::alloc::Global;
+use std::borrow::CowSlice;
 use std::marker::Model;
+
+/// How many lines of a device, from the first on, may be other than zero.
+fn lines_to_test<P: Pmem>(device: &P) -> u64
+    ensures within { result ≤ length (P.means device.now).read }
+    ensures zeros { (line : ℕ) → result ≤ line → line < length (P.means device.now).read
+        → line_at (P.means device.now).read line ≡ zero_line }
+{
+    match device.held() {
+        Some(front) => front.len() as u64,
+        None => device.lines(),
+    }
+}
 
 /// The first line of a device that isn't zero.
 fn first_dirty<P: Pmem>(device: &P) -> Option<u64>
     ensures clean { IfNone result ((P.means device.now).read ≡ zero_lines (length (P.means device.now).read)) }
     ensures dirty { IfSome result (λ line. IsDirty (P.means device.now).read line) }
 {
-    for line in 0..device.lines() {
+    for line in 0..lines_to_test(device) {
         if !is_zero(&device.read(line)) {
             return Some(line);
         }
@@ -47,6 +62,23 @@ fn first_lines<P: Pmem>(alloc: Global, device: &P, count: u64) -> Result<Vec<Lin
         lines.push_reserved(device.read(line));
     }
     Ok(lines)
+}
+
+/// The first lines of a device, as read: those that it holds, where it does, and else a copy of them.
+fn front_of<P: Pmem>(
+    alloc: Global,
+    device: &P,
+    count: u64,
+) -> Result<CowSlice<'_, Line, Global>, NoMemory>
+    requires { count ≤ length (P.means device.now).read }
+    ensures { IfOk result (λ lines. words_of (cow_slice_items lines) ≡ take count (P.means device.now).read) }
+{
+    if let Some(front) = device.held() {
+        if count <= front.len() as u64 {
+            return Ok(CowSlice::Borrowed(&front[..count as usize]));
+        }
+    }
+    Ok(CowSlice::Owned(first_lines(alloc, device, count)?))
 }
 
 /// Writes a line that reads as zero, and hands it over to the next fence.
@@ -248,14 +280,15 @@ impl<P: Pmem> ThreadLog<P> {
         self.device.lines() - self.used
     }
 
-    /// The lines of the log as read: its header's and those of its entries. Zeros stand behind them on the device.
-    pub fn used_lines(&self, alloc: Global) -> Result<Vec<Line>, NoMemory>
-        ensures lines { IfOk result (λ lines. words_of lines.items ≡ log_lines self.now.head self.now.entries) }
-        ensures content { IfOk result (λ lines. content_of (words_of lines.items)
+    /// The lines of the log as read: its header's and those of its entries, all of them known to be accepted. Zeros stand behind them
+    /// on the device. Where the device holds its lines, none is copied.
+    pub fn image(&self, alloc: Global) -> Result<TestedImage<'_>, NoMemory>
+        ensures lines { IfOk result (λ image. image ≡ log_lines self.now.head self.now.entries) }
+        ensures content { IfOk result (λ image. content_of image
             ≡ Some (record { head = Some self.now.head; entries = self.now.entries })) }
     {
-        let lines = first_lines(alloc, &self.device, self.used)?;
-        Ok(lines)
+        let lines = front_of(alloc, &self.device, self.used)?;
+        Ok(TestedImage::known(lines, self.entries))
     }
 
     /// How many entries there are as read, a pending one among them.

@@ -21,13 +21,12 @@ abbrev pub FewUsed : Decoded → Type 0
 FewUsed d = used_by (content_in d) < 2 ^ 64
 
 -- one head more
-pub head_more : {V : Type 0} (items : V → List Line) (code threads i : ℕ) (init : List ℕ) (heads : List LogHead) (images : List V) (image : V) (head : LogHead) → i < length images → image ≡ get_or images i image
-    → head ≡ head_for (format_in (words_of (items image))) i threads code init
-    → (heads ++ head ∷ []) ++ heads_for code init threads (i + 1) (map (λ image. words_of (items image)) (drop (i + 1) images)) ≡ heads ++ heads_for code init threads i (map (λ image. words_of (items image)) (drop i images))
-head_more {V} items code threads i init heads images image head h same e =
-    let lines : List V → List (List (List ℕ)) = map (λ image. words_of (items image)) in
-    let rest = heads_for code init threads (i + 1) (lines (drop (i + 1) images)) in
+pub head_more : {V : Type 0} (lines : V → List (List ℕ)) (code threads i : ℕ) (init : List ℕ) (heads : List LogHead) (images : List V) (image : V) (head : LogHead) → i < length images → image ≡ get_or images i image
+    → head ≡ head_for (format_in (lines image)) i threads code init
+    → (heads ++ head ∷ []) ++ heads_for code init threads (i + 1) (map lines (drop (i + 1) images)) ≡ heads ++ heads_for code init threads i (map lines (drop i images))
+head_more {V} lines code threads i init heads images image head h same e =
+    let rest = heads_for code init threads (i + 1) (map lines (drop (i + 1) images)) in
     append_assoc heads (head ∷ []) rest
     ∙ ap (λ (x : LogHead). heads ++ x ∷ rest) e
-    ∙ ap (λ (x : V). heads ++ head_for (format_in (words_of (items x))) i threads code init ∷ rest) same
-    ∙ ap (λ (l : List V). heads ++ heads_for code init threads i (lines l)) (sym (drop_more images i image h))
+    ∙ ap (λ (x : V). heads ++ head_for (format_in (lines x)) i threads code init ∷ rest) same
+    ∙ ap (λ (l : List V). heads ++ heads_for code init threads i (map lines l)) (sym (drop_more images i image h))

@@ -4,7 +4,6 @@ ghost use Rattle.std.specs.Prelude.{◌≡◌, ◌⊎◌, ◌≤◌, length, map
 ghost use Rattle.std.specs.Option.{option_or};
 ghost use Rattle.std.specs.List.{AllByRecursion};
 ghost use Rattle.onll_model.specs.Segment.{Rises};
-ghost use Rattle.onll_pmem.specs.Pmem.{words_of};
 ghost use Rattle.onll_log.specs.Cursor.{before_all};
 ghost use Rattle.onll_merge.specs.Merge.{AllRise, foreign, disorder_in, disorder, top_in_log, top_of};
 ghost use Rattle.onll_merge.specs.Recovered.{contents_from, log_counts};
@@ -15,8 +14,7 @@ ghost use Rattle.onll_merge.specs.declared.fault.ImagesFault.TheVariants.{Recove
 use crate::counts::LogCounts;
 use crate::fault::{ImagesFault, RecoverFault};
 use crate::logs::fits;
-use onll_log::{LogCursor, LogHead};
-use onll_words::Line;
+use onll_log::{LogCursor, LogHead, LogImage};
 use std::alloc::Global;
 
 /// What one log holds, and its greatest last place, 0 where there is no entry.
@@ -34,15 +32,18 @@ pub struct Survey {
 }
 
 /// A cursor over each image, in order. It refuses the first that is no log.
-pub fn open_all(alloc: Global, images: &[Vec<Line>]) -> Result<Vec<LogCursor<'_>>, ImagesFault>
-    ensures logs { let held = contents_from 0 (map (λ image. words_of image.items) images.now) in
+pub fn open_all<I: LogImage>(
+    alloc: Global,
+    images: &[I],
+) -> Result<Vec<LogCursor<'_>>, ImagesFault>
+    ensures logs { let held = contents_from 0 (map I.lines_of images.now) in
         MatchResult result (λ cursors. held ≡ Ok (contents_under cursors.items)) (λ e. (e ≡ Recover OutOfMemory) ⊎ (held ≡ Err e)) }
     ensures first { IfOk result (λ cursors. AllByRecursion (λ c. c.passed ≡ 0) cursors.items) }
     ensures count { IfOk result (λ cursors. length cursors.items ≡ length images.now) }
 {
     let mut cursors = Vec::new(alloc);
     for (log, image) in images.iter().enumerate() {
-        match LogCursor::open(image) {
+        match image.open() {
             Some(cursor) => cursors.push(cursor)?,
             None => return Err(ImagesFault::NotLog { log: log as u64 }),
         }

@@ -4,7 +4,6 @@ ghost use Rattle.std.specs.Prelude.{◌≡◌, ◌≤◌, ◌⊎◌, [], length,
 ghost use Rattle.std.specs.Option.{option_or};
 ghost use Rattle.std.specs.List.{AllByRecursion};
 ghost use Rattle.onll_model.specs.Limits.{most_threads, greatest_code};
-ghost use Rattle.onll_pmem.specs.Pmem.{words_of};
 ghost use Rattle.onll_merge.specs.Merge.{AllRise, unlike, nodes_to, stray_above};
 ghost use Rattle.onll_merge.specs.Recovered.{recovered_from, recovered_in, merge_images, expected_heads, state_recovered};
 ghost use Rattle.onll_merge.specs.Standing.{contents_under};
@@ -19,9 +18,9 @@ use crate::fault::{ImagesFault, RecoverFault, StateFault};
 use crate::first_pass::{open_all, survey_logs};
 use crate::numbers::check_numbers;
 use crate::second_pass::gather;
-use onll_log::{LogCursor, LogHead, format_of};
+use onll_log::{LogCursor, LogHead, LogImage};
 use onll_model::{Node, Object, fold_nodes};
-use onll_words::{Line, NoMemory};
+use onll_words::NoMemory;
 use std::alloc::Global;
 
 /// What the images of one run give: how much each holds as a log, and the nodes of their trace.
@@ -51,13 +50,13 @@ fn merge_places(
 
 /// What images give as the logs of one run with these heads, or the first reason why they give nothing: an image that is no log
 /// before all others.
-pub fn recover_images(
+pub fn recover_images<I: LogImage>(
     alloc: Global,
-    images: &[Vec<Line>],
+    images: &[I],
     heads: &[LogHead],
 ) -> Result<Recovery, ImagesFault>
     requires { length heads.now ≡ length images.now }
-    ensures recovered { let recovered = recovered_from heads.now (map (λ image. words_of image.items) images.now) in
+    ensures recovered { let recovered = recovered_from heads.now (map I.lines_of images.now) in
         MatchResult result (λ r. recovered ≡ Ok (recovered_in r)) (λ e. (e ≡ Recover OutOfMemory) ⊎ (recovered ≡ Err e)) }
     ensures count { IfOk result (λ r. length r.logs.items ≡ length images.now) }
 {
@@ -71,13 +70,13 @@ pub fn recover_images(
 }
 
 /// The nodes that images give as the logs of one run with these heads.
-pub fn merge_images(
+pub fn merge_images<I: LogImage>(
     alloc: Global,
-    images: &[Vec<Line>],
+    images: &[I],
     heads: &[LogHead],
 ) -> Result<Vec<Node>, ImagesFault>
     requires { length heads.now ≡ length images.now }
-    ensures { let merged = merge_images heads.now (map (λ image. words_of image.items) images.now) in
+    ensures { let merged = merge_images heads.now (map I.lines_of images.now) in
         MatchResult result (λ nodes. merged ≡ Ok nodes.items) (λ e. (e ≡ Recover OutOfMemory) ⊎ (merged ≡ Err e)) }
 {
     match recover_images(alloc, images, heads) {
@@ -88,22 +87,22 @@ pub fn merge_images(
 
 /// The heads that the logs of these images have where they are of a run of the object of this code from these bytes of an
 /// initial state: each in the format of its image.
-pub fn expected_heads(
+pub fn expected_heads<I: LogImage>(
     alloc: Global,
     object: u64,
     init: &[u8],
-    images: &[Vec<Line>],
+    images: &[I],
 ) -> Result<Vec<LogHead>, NoMemory>
     requires object { (1 ≤ object) × (object ≤ greatest_code) }
     requires images { length images.now ≤ most_threads }
     ensures heads { IfOk result (λ heads. heads.items
-        ≡ expected_heads object init.now (map (λ image. words_of image.items) images.now)) }
+        ≡ expected_heads object init.now (map I.lines_of images.now)) }
     ensures count { IfOk result (λ heads. length heads.items ≡ length images.now) }
 {
     let mut heads = Vec::new(alloc);
     for (thread, image) in images.iter().enumerate() {
         heads.push(LogHead::of_format(
-            format_of(image),
+            image.format(),
             thread as u64,
             images.len() as u64,
             object,
@@ -115,14 +114,14 @@ pub fn expected_heads(
 
 /// What images give over an object as the logs of one run with these heads: each row is applied to the object. It refuses the
 /// first row that is no operation, after all else.
-pub fn recover_state<O: Object>(
+pub fn recover_state<O: Object, I: LogImage>(
     alloc: Global,
     object: &mut O,
     heads: &[LogHead],
-    images: &[Vec<Line>],
+    images: &[I],
 ) -> Result<Recovery, StateFault>
     requires { length heads.now ≡ length images.now }
-    ensures recovered { let recovered = state_recovered O.means heads.now (map (λ image. words_of image.items) images.now) in
+    ensures recovered { let recovered = state_recovered O.means heads.now (map I.lines_of images.now) in
         MatchResult result (λ r. recovered ≡ Ok (recovered_in r)) (λ e. (e ≡ StateOutOfMemory) ⊎ (recovered ≡ Err e)) }
     ensures count { IfOk result (λ r. length r.logs.items ≡ length images.now) }
     ensures rows { IfOk result (λ r. operations_front O.means r.nodes.items ≡ r.nodes.items) }

@@ -192,6 +192,10 @@ impl<F: FileExt + OpenFile + Drop> Pmem for FilePmem<F> {
         line_of_bytes(self.bytes[line as usize])
     }
 
+    fn held(&self) -> Option<&[Line]> {
+        None
+    }
+
     fn write(&mut self, line: u64, value: Line)
         requires within { line < length self.old.read }
         requires fills { FillsWords (line_at self.old.read line) value.w }

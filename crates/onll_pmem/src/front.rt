@@ -9,7 +9,8 @@ use onll_words::Line;
 use std::alloc::{AllocError, Global};
 use std::marker::Model;
 
-const ZERO: Line = Line { w: [0; 8] };
+/// A line of zeros.
+pub const ZERO: Line = Line { w: [0; 8] };
 
 /// Appends lines of zeros up to the line of this number.
 fn fill(front: &mut Vec<Line>, line: usize)
@@ -53,7 +54,7 @@ pub struct Front {
 }
 
 impl Model for Front {
-    ghost use Rattle.std.specs.Prelude.{List, ℕ};
+    ghost use Rattle.std.specs.Prelude.{List, ℕ, length};
     ghost use Rattle.std.specs.Vec.{vec_capacity};
     ghost use Rattle.onll_pmem.specs.Pmem.{words_of};
     ghost use Rattle.onll_pmem.specs.Front.{front_view, HasRoom};
@@ -62,7 +63,7 @@ impl Model for Front {
 
     ghost view = { λ f. front_view (words_of f.front.items) f.count };
 
-    ghost invariant = { λ f. HasRoom (words_of f.front.items) f.count (vec_capacity f.front) };
+    ghost invariant = { λ f. HasRoom (length (words_of f.front.items)) f.count (vec_capacity f.front) };
 }
 
 impl Front {
@@ -101,6 +102,14 @@ impl Front {
         ensures { result ≡ length self.now }
     {
         self.count
+    }
+
+    /// The lines of the front, after which all are zero.
+    pub fn held(&self) -> &[Line]
+        ensures within { length result.now ≤ length self.now }
+        ensures zeros { self.now ≡ words_of result.now ++ zero_lines (length self.now - length result.now) }
+    {
+        &self.front
     }
 
     /// The line of this number.

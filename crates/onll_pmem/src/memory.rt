@@ -1,12 +1,13 @@
 //! A device in memory, with fences that fail as told.
 
-ghost use Rattle.std.specs.Prelude.{◌≡◌, ℕ, ◌+◌, ◌-◌, ◌^◌, ◌<◌, ◌≤◌, not, is_ok, true, refl, length, IfOk, OnOk, OnErr};
+ghost use Rattle.std.specs.Prelude.{◌≡◌, ℕ, ◌+◌, ◌-◌, ◌^◌, ◌<◌, ◌≤◌, ◌++◌, not, is_ok, true, refl, length, IfOk, OnOk, OnErr};
 ghost use Rattle.onll_pmem.specs.Device.{new_device, fenced_device, image_of, IsImage, zero_lines, line_at, FillsWords, settled, Write, WriteBack, Fence, FailedFence};
 ghost use Rattle.onll_pmem.specs.Pmem.{words_of, EightWords};
 ghost use Rattle.onll_pmem.specs.Memory.{MemoryState, fails, faults_in_le, stepped, memory_view, EvenBut};
 
-use crate::front::Front;
-use crate::image::kept_lines;
+use crate::front::{Front, ZERO};
+use crate::image::kept_front;
+use crate::marks::Marks;
 use crate::pmem::{FenceFailed, Pmem};
 use crate::waiting::Waiting;
 use onll_words::{Line, NoMemory};
@@ -21,7 +22,7 @@ fn is_failing(failing: &[u64], number: u64) -> bool
 }
 
 /// Makes the lines durable that are written back and wait.
-fn settle(fenced: &mut Front, read: &Front, backed: &[bool], waiting: &mut Waiting)
+fn settle(fenced: &mut Front, read: &Front, backed: &Marks, waiting: &mut Waiting)
     requires as_fenced { length fenced.old ≡ length read.now }
     requires as_backed { length backed.now ≡ length read.now }
     requires as_marked { length waiting.old.marks ≡ length read.now }
@@ -32,7 +33,7 @@ fn settle(fenced: &mut Front, read: &Front, backed: &[bool], waiting: &mut Waiti
     ensures marks { length waiting.new.marks ≡ length read.now }
 {
     while let Some(line) = waiting.take() {
-        if backed[line as usize] {
+        if backed.get(line as usize) {
             fenced.set(line as usize, read.line(line as usize));
         }
     }
@@ -43,7 +44,7 @@ fn settle(fenced: &mut Front, read: &Front, backed: &[bool], waiting: &mut Waiti
 pub struct MemPmem {
     fenced: Front,
     read: Front,
-    backed: Vec<bool>,
+    backed: Marks,
     waiting: Waiting,
     failing: Vec<u64>,
     fences: u64,
@@ -55,9 +56,9 @@ impl Model for MemPmem {
 
     ghost Value = { MemoryState };
 
-    ghost view = { λ m. memory_of m.fenced m.read m.backed.items m.fences m.failing.items };
+    ghost view = { λ m. memory_of m.fenced m.read m.backed m.fences m.failing.items };
 
-    ghost invariant = { λ m. Keeps (memory_of m.fenced m.read m.backed.items m.fences m.failing.items) m.waiting.marks m.faults };
+    ghost invariant = { λ m. Keeps (memory_of m.fenced m.read m.backed m.fences m.failing.items) m.waiting.marks m.faults };
 }
 
 impl MemPmem {
@@ -68,7 +69,7 @@ impl MemPmem {
         Ok(MemPmem {
             fenced: Front::zeros(alloc, lines)?,
             read: Front::zeros(alloc, lines)?,
-            backed: vec![in alloc; false; lines]?,
+            backed: Marks::none(alloc, lines)?,
             waiting: Waiting::new(alloc, lines)?,
             failing,
             fences: 0,
@@ -97,7 +98,7 @@ impl MemPmem {
         Ok(MemPmem {
             fenced: read.copy(alloc)?,
             read,
-            backed: vec![in alloc; false; count]?,
+            backed: Marks::none(alloc, count)?,
             waiting: Waiting::new(alloc, count)?,
             failing,
             fences: 0,
@@ -113,13 +114,27 @@ impl MemPmem {
         MemPmem::try_of_image(alloc, lines, failing).map_err(|_| NoMemory)
     }
 
+    /// The image that `image` makes of `keep`, but for those of its lines at the end that are zero since neither what is fenced
+    /// nor what was written reaches so far.
+    pub fn image_front(&self, alloc: Global, keep: u64) -> Result<Vec<Line>, NoMemory>
+        ensures within { IfOk result (λ front. length front.items ≤ length self.now.device.read) }
+        ensures exact { IfOk result (λ front. image_of self.now.device keep
+            ≡ words_of front.items ++ zero_lines (length self.now.device.read - length front.items)) }
+        ensures member { IfOk result (λ front. IsImage self.now.device
+            (words_of front.items ++ zero_lines (length self.now.device.read - length front.items))) }
+    {
+        kept_front(alloc, keep, &self.fenced, &self.read).map_err(|_| NoMemory)
+    }
+
     /// What a crash leaves: a pending word, one that reads otherwise than it is fenced, is as it reads where `keep` has
     /// the bit of its number modulo 64, and else as fenced. Pending words are numbered from 0 by line and then by word.
     pub fn image(&self, alloc: Global, keep: u64) -> Result<Vec<Line>, NoMemory>
         ensures exact { IfOk result (λ image. words_of image.items ≡ image_of self.now.device keep) }
         ensures member { IfOk result (λ image. IsImage self.now.device (words_of image.items)) }
     {
-        kept_lines(alloc, keep, &self.fenced, &self.read).map_err(|_| NoMemory)
+        let mut image = self.image_front(alloc, keep)?;
+        image.resize(self.read.len(), ZERO)?;
+        Ok(image)
     }
 }
 
@@ -136,21 +151,25 @@ impl Pmem for MemPmem {
         self.read.line(line as usize)
     }
 
+    fn held(&self) -> Option<&[Line]> {
+        Some(self.read.held())
+    }
+
     fn write(&mut self, line: u64, value: Line)
         requires within { line < length self.old.device.read }
         requires fills { FillsWords (line_at self.old.device.read line) value.w }
         ensures { self.new ≡ stepped self.old (Write line value.w) }
     {
         self.read.set(line as usize, value);
-        self.backed[line as usize] = false;
+        self.backed.set(line as usize, false);
     }
 
     fn write_back(&mut self, line: u64)
         requires { line < length self.old.device.read }
         ensures { self.new ≡ stepped self.old (WriteBack line) }
     {
-        if !self.backed[line as usize] {
-            self.backed[line as usize] = true;
+        if !self.backed.get(line as usize) {
+            self.backed.set(line as usize, true);
             self.waiting.add(line);
         }
     }

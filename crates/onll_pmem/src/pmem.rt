@@ -1,8 +1,8 @@
 //! The trait of a persistent device: lines that are written, written back and fenced.
 
-ghost use Rattle.std.specs.Prelude.{◌≡◌, ℕ, ◌+◌, ◌-◌, ◌^◌, ◌<◌, ◌≤◌, Bool, is_some, length, slice_set, OnOk, OnErr};
-ghost use Rattle.onll_pmem.specs.Device.{line_at, FillsWords};
-ghost use Rattle.onll_pmem.specs.Pmem.{DeviceView, told_written, told_backed, told_fenced, ToldLines, EightWords};
+ghost use Rattle.std.specs.Prelude.{◌≡◌, ℕ, ◌+◌, ◌-◌, ◌^◌, ◌<◌, ◌≤◌, ◌++◌, Bool, is_some, length, slice_set, IfSome, OnOk, OnErr};
+ghost use Rattle.onll_pmem.specs.Device.{line_at, zero_lines, FillsWords};
+ghost use Rattle.onll_pmem.specs.Pmem.{DeviceView, words_of, told_written, told_backed, told_fenced, ToldLines, EightWords};
 
 use onll_words::Line;
 use thiserror::Error;
@@ -30,6 +30,12 @@ pub trait Pmem {
     fn read(&self, line: u64) -> Line
         requires { line < length (means self.now).read }
         ensures { result.w ≡ line_at (means self.now).read line };
+
+    /// The first lines as they were last written, after which all are zero; None where a device doesn't hold its lines as such.
+    fn held(&self) -> Option<&[Line]>
+        ensures within { IfSome result (λ front. length front.now ≤ length (means self.now).read) }
+        ensures zeros { IfSome result (λ front. (means self.now).read
+            ≡ words_of front.now ++ zero_lines (length (means self.now).read - length front.now)) };
 
     /// Writes a line. No word that isn't zero may change.
     fn write(&mut self, line: u64, value: Line)

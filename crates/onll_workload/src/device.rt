@@ -51,6 +51,10 @@ impl Pmem for FaultlessMem {
         self.device.read(line)
     }
 
+    fn held(&self) -> Option<&[Line]> {
+        self.device.held()
+    }
+
     fn write(&mut self, line: u64, value: Line)
         requires within { line < length self.old.read }
         requires fills { FillsWords (line_at self.old.read line) value.w }

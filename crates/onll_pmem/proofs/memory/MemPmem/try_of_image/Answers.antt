@@ -7,5 +7,5 @@ pub invariant_of-result-2 : goal.invariant_of-result-2
 invariant_of-result-2 c = let count = c.len-count.ensures ∙ sym (ap length c.read.view_is) in
     Keeps-fenced _ _ _ _ _ (search rules) (search rules)
     (omega (arith, ap length c.of_lines-read.ensures, ap length c.read.view_is, length-words_of c.args.lines.items, c.requires))
-    (c.in_ok-vec.ensures.items_if_clones_equal (search rules) ∙ ap (λ (n : ℕ). replicate n false) count)
+    (c.in_ok-none.ensures ∙ ap (λ (n : ℕ). replicate n false) count)
     (c.in_ok-new.ensures ∙ ap (λ (n : ℕ). replicate n false) count)

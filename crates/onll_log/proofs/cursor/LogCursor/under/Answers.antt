@@ -1,0 +1,27 @@
+use Rattle.std.proofs.Common.{ℕ, ◌+◌, ◌≤◌, List, length, drop, Some, refl, arith}
+use Rattle.std.proofs.lemmas.List.{length-map}
+use Rattle.onll_words.specs.declared.line.Line.{Line}
+use Rattle.onll_pmem.specs.Pmem.{words_of}
+use Rattle.onll_log.specs.Grammar.{entries_from}
+use Rattle.onll_log.proofs.cursor.LogCursor.under.Goals as goal
+
+pub entry_at-next-requires-clause-known : goal.entry_at-next-requires-clause-known
+entry_at-next-requires-clause-known c =
+    let entries = entries_from c.args.head 0 0 (drop 1 (words_of c.args.lines.now)) in
+    let known = c.requires.known (record { head = Some c.args.head; entries = entries }) c.requires.content in
+    λ low. omega (arith, low, known)
+
+pub invariant_of-result : goal.invariant_of-result
+invariant_of-result c =
+    let entries = entries_from c.args.head 0 0 (drop 1 (words_of c.args.lines.now)) in
+    record {
+      stands = record {
+        threads = omega (arith, c.requires.head.threads);
+        few = omega arith;
+        within = omega (arith, c.requires.some, length-map c.args.lines.now (λ (l : Line). l.w));
+        gone = refl;
+        left = refl;
+        looked = c.entry_at-next.ensures;
+      };
+      accepted = c.requires.known (record { head = Some c.args.head; entries = entries }) c.requires.content;
+    }

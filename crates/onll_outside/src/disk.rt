@@ -5,7 +5,7 @@ ghost use Rattle.onll_pmem.specs.Pmem.{words_of};
 ghost use Rattle.onll_outside.specs.LineFiles.{IsFileFront, IsGathered};
 
 use crate::FileLines;
-use crate::gather::{ended, gather};
+use crate::gather::{ZEROS, ended, gather};
 use onll_pmem::{FilePmem, Pmem};
 use onll_words::{Line, line_bytes};
 use std::alloc::{AllocError, Global};
@@ -114,6 +114,18 @@ pub fn read_lines<R: Files>(
     Ok(ended(lines)?)
 }
 
+/// These lines without those of zeros at their end.
+fn without_zeros(lines: &[Line]) -> &[Line] {
+    let mut count = lines.len();
+    while count > 0 {
+        if lines[count - 1] != ZEROS {
+            break;
+        }
+        count -= 1;
+    }
+    &lines[..count]
+}
+
 /// Appends the bytes of these lines.
 fn put_bytes(buffer: &mut Vec<u8>, lines: &[Line]) -> Result<(), AllocError> {
     for line in lines {
@@ -137,8 +149,8 @@ pub fn part_buffer(alloc: Global) -> Result<Vec<u8>, AllocError> {
     Vec::with_capacity(alloc, PART * LINE as usize)
 }
 
-/// Makes these lines, and then lines of zeros, `count` in all, the whole of an empty file, durably. The zeros are not written: the
-/// file is only made longer.
+/// Makes these lines, and then lines of zeros, `count` in all, the whole of an empty file, durably. Zeros at the end are not written:
+/// the file is only made longer.
 pub fn fill_with_lines<R: Files>(
     files: &R,
     name: &str,
@@ -147,8 +159,9 @@ pub fn fill_with_lines<R: Files>(
     front: &[Line],
     count: u64,
 ) -> io::Result<()> {
-    write_parts(file, buffer, front)?;
-    if count > front.len() as u64 {
+    let written = without_zeros(front);
+    write_parts(file, buffer, written)?;
+    if count > written.len() as u64 {
         file.set_len(count.saturating_mul(LINE))?;
     }
     file.sync_all()?;

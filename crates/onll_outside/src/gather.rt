@@ -14,7 +14,7 @@ use onll_words::{Line, line_of_bytes};
 use std::alloc::{AllocError, Global};
 
 /// A line of zeros.
-const ZEROS: Line = Line { w: [0; 8] };
+pub(crate) const ZEROS: Line = Line { w: [0; 8] };
 
 /// How many of these lines there are without those of zeros at their end.
 fn front_count(chunks: &[[u8; 64]]) -> usize
@@ -93,7 +93,8 @@ pub(crate) fn gather(lines: &mut FileLines, chunks: &[[u8; 64]]) -> Result<(), A
     if count == 0 {
         return Ok(());
     }
-    put_front(&mut lines.front, before as usize, &chunks[..count])
+    put_front(&mut lines.front, before as usize, &chunks[..count])?;
+    Ok(())
 }
 
 /// The lines of a file that ends here: one of zeros stays where there is no other line.
@@ -103,9 +104,10 @@ pub(crate) fn ended(mut lines: FileLines) -> Result<FileLines, AllocError>
     ensures count { IfOk result (λ l. l.count ≡ lines.count) }
     ensures lines { IfOk result (λ l. with_zeros (words_of l.front.items) l.count ≡ with_zeros (words_of lines.front.items) lines.count) }
 {
-    if lines.front.is_empty() && lines.count > 0 {
-        lines.front.push(ZEROS)?;
+    if lines.count == 0 || !lines.front.is_empty() {
+        return Ok(lines);
     }
+    lines.front.push(ZEROS)?;
     Ok(lines)
 }
 

@@ -1,6 +1,6 @@
 //! The store in memory.
 
-ghost use Rattle.std.specs.Prelude.{◌≡◌, ◌≤◌, ◌*◌, refl, length, MatchOption, None, IfOk, IfErr, OnOk, map};
+ghost use Rattle.std.specs.Prelude.{◌≡◌, ◌≤◌, ◌*◌, refl, length, MatchOption, None, IfOk, IfErr, OnOk, map, take};
 ghost use Rattle.std.specs.Option.{option_copied};
 ghost use Rattle.onll_pmem.specs.Device.{zero_lines, fenced_device, image_of, IsImage};
 ghost use Rattle.onll_pmem.specs.Pmem.{words_of};
@@ -72,6 +72,14 @@ fn find<'a>(files: &'a [Named], name: &str) -> Option<&'a Named>
         }
     }
     None
+}
+
+/// The first bytes of a file, this many at most.
+fn front_of(bytes: &[u8], limit: u64) -> &[u8]
+    ensures { result.now ≡ take limit bytes.now }
+{
+    let count = bytes.len().min(limit as usize);
+    &bytes[..count]
 }
 
 /// The place of the first file of that name, or the count of files where there is none.
@@ -310,8 +318,7 @@ impl Store for MemStore {
     {
         let fails = self.begin_call();
         if !fails && let Some(file) = find(&self.files, name) {
-            let count = file.bytes.len().min(limit as usize);
-            return match Vec::from_slice(alloc, &file.bytes[..count]) {
+            return match Vec::from_slice(alloc, front_of(&file.bytes, limit)) {
                 Ok(bytes) => Ok(bytes),
                 Err(_) => Err(OutsideFault::NoMemory),
             };
@@ -335,8 +342,7 @@ impl Store for MemStore {
     {
         let fails = self.begin_call();
         if !fails && let Some(file) = find(&self.files, name) {
-            let count = file.bytes.len().min(limit as usize);
-            return match lines_of(alloc, &file.bytes[..count]) {
+            return match lines_of(alloc, front_of(&file.bytes, limit)) {
                 Ok(lines) => Ok(lines),
                 Err(_) => Err(OutsideFault::NoMemory),
             };
@@ -380,7 +386,8 @@ impl Store for MemStore {
         ensures exact { MemWrites self.old self.new name.now (image_bytes (with_zeros (words_of front.now) count)) result }
     {
         if self.begin_call() {
-            return Err(self.faults.raise(alloc, FaultKind::Write, name));
+            let fault = self.faults.raise(alloc, FaultKind::Write, name);
+            return Err(fault);
         }
         let Ok(bytes) = file_bytes(alloc, front, count) else {
             return Err(OutsideFault::NoMemory);

@@ -7,7 +7,7 @@ use Rattle.std.proofs.lemmas.List.Elements.{All-head, All-tail}
 use Rattle.onll_words.specs.declared.line.Line.{Line}
 use Rattle.onll_pmem.specs.Device.{zero_lines}
 use Rattle.onll_pmem.specs.Pmem.{words_of}
-use Rattle.onll_task.specs.FileLines.{IsWholeLine}
+use Rattle.onll_outside.specs.LineFiles.{IsWholeLine}
 
 pub words_all : (words : List ℕ) → ((i : ℕ) → slice_index words i < 2 ^ 64) → AllByRecursion (λ w. w < 2 ^ 64) words
 words_all [] h = tt

@@ -1,6 +1,6 @@
 -- Lines of eight words of 64 bits.
 
-use Rattle.std.proofs.Common.{rules, ℕ, zero, suc, ◌-◌, ◌^◌, ◌<◌, List, [], ◌∷◌, ◌++◌, slice_index}
+use Rattle.std.proofs.Common.{rules, ℕ, zero, suc, ◌^◌, ◌<◌, List, [], ◌∷◌, ◌++◌, slice_index}
 use Rattle.std.specs.List.{AllByRecursion}
 use Rattle.onll_pmem.specs.Device.{zero_lines}
 use Rattle.onll_outside.specs.LineFiles.{IsWholeLine}

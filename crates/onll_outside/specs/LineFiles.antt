@@ -1,6 +1,6 @@
 -- Files whose bytes are lines.
 
-use Rattle.std.specs.Prelude.{ℕ, List, [], ◌≡◌, ◌++◌, ◌-◌, ◌*◌, ◌^◌, ◌<◌, ◌≤◌, true, Option, Some, None, length, take}
+use Rattle.std.specs.Prelude.{ℕ, List, [], ◌≡◌, ◌++◌, ◌-◌, ◌^◌, ◌<◌, ◌≤◌, true, Option, Some, None, length, take}
 use Rattle.std.specs.List.{AllByRecursion}
 use Rattle.onll_pmem.specs.Device.{zero_line, line_at}
 use Rattle.onll_outside.specs.Views.{StoreView, with_zeros, image_bytes}

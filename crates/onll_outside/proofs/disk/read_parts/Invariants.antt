@@ -1,4 +1,4 @@
-use Rattle.std.proofs.Common.{◌≡◌, ◌+◌, ◌*◌, ◌≤◌, ◌<◌, length}
+use Rattle.std.proofs.Common.{◌+◌, ◌*◌, ◌≤◌, ◌<◌, length}
 use Rattle.onll_pmem.specs.Pmem.{words_of}
 use Rattle.onll_outside.specs.LineFiles.{IsGathered}
 use Rattle.onll_outside.proofs.disk.read_parts.Given as goal

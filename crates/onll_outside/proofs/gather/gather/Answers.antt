@@ -1,4 +1,4 @@
-use Rattle.std.proofs.Common.{map, ◌<◌, arith}
+use Rattle.std.proofs.Common.{map, arith}
 use Rattle.onll_words.specs.Lines.{words_of_bytes}
 use Rattle.onll_pmem.specs.Pmem.{words_of}
 use Rattle.onll_outside.proofs.Gathering.{only_zeros, gathered_lines, gathered_so}

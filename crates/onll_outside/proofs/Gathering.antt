@@ -3,11 +3,12 @@
 use Rattle.std.proofs.Common.{ℕ, zero, suc, ◌≡◌, ◌+◌, ◌-◌, ◌*◌, ◌/◌, ◌<◌, ◌≤◌, List, [], ◌∷◌, ◌++◌, length, length-append, map, take, drop, get_or, refl, sym, ap, ◌∙◌, subst, append_assoc, arith}
 use Rattle.std.specs.List.{AllByRecursion}
 use Rattle.std.specs.Simd.{first_chunks}
-use Rattle.std.proofs.lemmas.List.{take-append-drop, length-take-le, length-drop, length-map, map-append, take-map, take_more, drop-drop, get_or-append-add, length-replicate, replicate-append-replicate}
+use Rattle.std.proofs.lemmas.List.{take-append-drop, length-take-le, length-drop, length-map, map-append, take-map, take_more, drop-drop, get_or-append-add, replicate-append-replicate}
 use Rattle.onll_words.specs.Lines.{bytes_of_words, words_of_bytes}
 use Rattle.onll_words.proofs.LineBytes.{bytes_of_words-words_of_bytes}
 use Rattle.onll_words.proofs.WordBytes.{Bytes, dropped}
 use Rattle.onll_pmem.specs.Device.{zero_line, zero_lines, line_at}
+use Rattle.onll_pmem.proofs.Fronts.{length-front_view}
 use Rattle.onll_outside.specs.Views.{with_zeros, image_bytes}
 use Rattle.onll_outside.specs.LineFiles.{IsWholeLine, EndsInWords, IsGathered, HasLines}
 
@@ -45,10 +46,6 @@ only_zeros front lines count k n within none is =
     let all : n - k ≡ n = omega (arith, none) in
     zeros_after front count n within ∙ ap (λ (ls : List (List ℕ)). with_zeros front count ++ ls) (sym (is ∙ (ap (λ i. take i lines ++ zero_lines (n - k)) none ∙ ap zero_lines all)))
 
-length-with_zeros : (front : List (List ℕ)) (count : ℕ) → length front ≤ count → length (with_zeros front count) ≡ count
-length-with_zeros front count within =
-    length-append front (zero_lines (count - length front)) ∙ omega (arith, within, length-replicate (count - length front) zero_line)
-
 -- the last line of two lists is that of the second
 ends_after : (before lines : List (List ℕ)) → 0 < length lines → EndsInWords lines → EndsInWords (before ++ lines)
 ends_after before lines long ends all last =
@@ -69,7 +66,7 @@ module _ (front new : List (List ℕ)) (count k : ℕ) (chunks : List (List ℕ)
   taken_long = length-take-le k lines (omega (arith, fits, length-map chunks words_of_bytes))
 
   long : length new ≡ count + k
-  long = ap length same ∙ (length-append (with_zeros front count) (take k lines) ∙ omega (arith, length-with_zeros front count within, taken_long))
+  long = ap length same ∙ (length-append (with_zeros front count) (take k lines) ∙ omega (arith, length-front_view front count within, taken_long))
 
   pub gathered_lines : with_zeros new (count + length chunks) ≡ with_zeros front count ++ map words_of_bytes chunks
   gathered_lines =

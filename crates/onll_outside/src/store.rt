@@ -49,7 +49,7 @@ pub trait Store {
         ensures faults { FaultsOf (record { kind = FaultKind.Read; name = name.now }) (seen self.old) (seen self.new) result }
         ensures devices { SameDevices (seen self.old) (seen self.new) };
 
-    /// Gives the whole lines of the bytes that `read` gives. No more bytes are held at once than a part of the file.
+    /// Gives the whole lines of the bytes that `read` gives.
     fn read_lines(
         &mut self,
         alloc: Global,

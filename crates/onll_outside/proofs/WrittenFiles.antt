@@ -1,4 +1,4 @@
-use Rattle.std.proofs.Common.{ℕ, zero, suc, Bool, true, false, List, [], ◌∷◌, ◌++◌, ◌≡◌, ◌≢◌, ◌<◌, ◌⊎◌, ⊎_elim, Option, Some, None, cond, length, set, get_or, refl, sym, ap, ◌∙◌, subst, arith, true≢false}
+use Rattle.std.proofs.Common.{ℕ, zero, suc, true, false, List, [], ◌∷◌, ◌++◌, ◌≡◌, ◌<◌, ⊎_elim, Option, Some, None, cond, length, set, get_or, refl, sym, ap, ◌∙◌, subst, arith}
 use Rattle.std.specs.Str.{bytes_eq}
 use Rattle.std.specs.String.{string_bytes}
 use Rattle.std.proofs.lemmas.Bool.{cases_Bool}
@@ -7,7 +7,7 @@ use Rattle.onll_outside.specs.declared.mem_store.Named.{Named}
 use Rattle.onll_pmem.specs.Device.{IsImage, Mixed}
 use Rattle.onll_pmem.specs.Pmem.{Told}
 use Rattle.onll_pmem.specs.Memory.{MemoryState, memory_view}
-use Rattle.onll_outside.specs.Views.{StoreView, SameOthers, IsImageOf}
+use Rattle.onll_outside.specs.Views.{SameOthers, IsImageOf}
 use Rattle.onll_outside.specs.MemStore.{FilesHeld, texts_of, file_in, place_in, with_file, store_of, called}
 
 -- What a file written in memory is, and what the others are.

@@ -8,13 +8,15 @@ use Rattle.std.specs.declared.vec.Vec.{Vec}
 use Rattle.onll_outside.specs.declared.OutsideFault.{OutsideFault}
 use Rattle.onll_outside.specs.declared.OutsideFault.TheVariants.{Failed, NoMemory}
 use Rattle.onll_outside.specs.declared.store.FaultKind.TheVariants.{Read, Write, Device, Reopen, Keep}
+use Rattle.onll_outside.specs.declared.store.FileLines.{FileLines}
 use Rattle.onll_outside.specs.declared.mem_store.Named.{Named}
 use Rattle.onll_outside.specs.declared.mem_store.FenceAt.{FenceAt}
 use Rattle.onll_pmem.specs.Device.{new_device, fenced_device, image_of}
-use Rattle.onll_pmem.specs.Pmem.{DeviceView}
+use Rattle.onll_pmem.specs.Pmem.{DeviceView, words_of}
 use Rattle.onll_pmem.specs.Memory.{MemoryState}
 use Rattle.onll_outside.specs.Views.{Last, StoreView, IsFront, counted, one_fault, with_zeros, image_bytes}
 use Rattle.onll_outside.specs.Faults.{one_more}
+use Rattle.onll_outside.specs.LineFiles.{FrontHasLines}
 
 -- a store in memory: names with their bytes, the numbers of the calls that fail, the fences that fail,
 -- how many calls there were, how many of them failed, and the last of those; how many devices it made, and what
@@ -71,6 +73,14 @@ MemReads old new name limit (Ok v) = IsFront limit (found old name) v.items × (
 MemReads old new name limit (Err Failed) =
     (found old name ≡ None) × (new ≡ failed old (record { kind = Read; name = name }))
 MemReads old new name limit (Err NoMemory) = new ≡ called old
+
+-- the same of a read of lines, which gives those of the first bytes
+abbrev pub MemReadsLines : FilesHeld → FilesHeld → List ℕ → ℕ → Result FileLines OutsideFault → Type 0
+MemReadsLines old new name limit (Ok l) =
+    FrontHasLines limit (found old name) (words_of l.front.items) l.count × (new ≡ called old)
+MemReadsLines old new name limit (Err Failed) =
+    (found old name ≡ None) × (new ≡ failed old (record { kind = Read; name = name }))
+MemReadsLines old new name limit (Err NoMemory) = new ≡ called old
 
 -- the place of the first file of that name, from 0, or the count of files where there is none
 abbrev pub place_in : List (List ℕ × List ℕ) → List ℕ → ℕ

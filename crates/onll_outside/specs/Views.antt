@@ -1,7 +1,7 @@
 -- What a store and a sink tell, and what a call leaves as it was.
 
 use Rattle.std.specs.Prelude.{ℕ, Bool, true, List, ◌++◌, ◌≡◌, ◌+◌, ◌-◌, ◌^◌, ◌≤◌, min, Result, Ok, Err, Option, Some, None, take}
-use Rattle.std.specs.Prelude.{[], ◌*◌, ◌⊎◌, ◌==◌, if◌then◌else◌, length, drop}
+use Rattle.std.specs.Prelude.{◌*◌, ◌⊎◌, ◌==◌, if◌then◌else◌, length, drop}
 use Rattle.std.specs.List.{All, flat_map}
 use Rattle.onll_words.specs.Lines.{bytes_of_words}
 use Rattle.onll_pmem.specs.Device.{zero_lines, Mixed}

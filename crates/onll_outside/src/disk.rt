@@ -1,11 +1,16 @@
 //! Files of the system that are filled, cut and made durable.
 
-ghost use Rattle.std.specs.Prelude.{◌*◌, ◌^◌, ◌<◌, ◌≤◌};
+ghost use Rattle.std.specs.Prelude.{◌≡◌, ◌+◌, ◌*◌, ◌^◌, ◌<◌, ◌≤◌, length, IfOk, OnOk};
+ghost use Rattle.onll_pmem.specs.Pmem.{words_of};
+ghost use Rattle.onll_outside.specs.LineFiles.{IsFileFront, IsGathered};
 
+use crate::FileLines;
+use crate::gather::{ZEROS, ended, gather};
 use onll_pmem::{FilePmem, Pmem};
-use onll_words::line_bytes;
+use onll_words::{Line, line_bytes};
+use std::alloc::{AllocError, Global};
 use std::fs::{OpenFile, OpenOptions};
-use std::io::Write;
+use std::io::{ErrorKind, Read, Write};
 use std::os::unix::fs::{FileExt, MetadataExt};
 use std::path::Path;
 use std::rt::Files;
@@ -13,6 +18,9 @@ use std::{fs, io};
 
 /// The bytes of a line.
 const LINE: u64 = 64;
+
+/// The lines of the parts in which a file is read and written.
+const PART: usize = 1024;
 
 /// Makes durable that a file of this name is in its folder.
 fn sync_folder<R: Files>(files: &R, name: &str) -> io::Result<()> {
@@ -32,6 +40,132 @@ fn fill<F: FileExt>(file: &F, from: u64, to: u64) -> io::Result<()> {
         at += count;
     }
     Ok(())
+}
+
+/// How many of the first `limit` bytes a file has; none where it does not tell.
+pub fn length_of<R: Files>(files: &R, name: &str, limit: u64) -> u64 {
+    match fs::metadata(files, name) {
+        Ok(data) => data.len().min(limit),
+        Err(_) => 0,
+    }
+}
+
+/// Reads until a buffer is full or the file ends, and gives how many bytes were read.
+fn fill_buffer<F: Read>(file: &mut F, buffer: &mut [u8]) -> io::Result<usize>
+    ensures { IfOk result (λ n. n ≤ length buffer.new) }
+{
+    let mut filled = 0;
+    for _ in 0..u64::MAX {
+        match file.read(&mut buffer[filled..]) {
+            Ok(0) => break,
+            Ok(count) => filled += count,
+            Err(e) if e.kind() == ErrorKind::Interrupted => {}
+            Err(e) => return Err(e),
+        }
+    }
+    Ok(filled)
+}
+
+/// Adds the lines of the next `limit` bytes of a file to those that were read before.
+fn read_parts<F: Read>(
+    file: &mut F,
+    buffer: &mut [u8],
+    lines: &mut FileLines,
+    limit: u64,
+) -> io::Result<()>
+    requires some { 0 < length buffer.old }
+    requires gathered { IsGathered (words_of lines.old.front.items) lines.old.count }
+    requires few { 64 * lines.old.count + limit < 2 ^ 64 }
+    ensures gathered { OnOk result (IsGathered (words_of lines.new.front.items) lines.new.count) }
+    ensures few { OnOk result (64 * lines.new.count ≤ 64 * lines.old.count + limit) }
+{
+    let mut left = limit;
+    while left > 0 {
+        let room = left.min(buffer.len() as u64);
+        let filled = fill_buffer(file, &mut buffer[..room as usize])?;
+        let (chunks, _) = buffer[..filled].as_chunks::<64>();
+        gather(lines, chunks)?;
+        if (filled as u64) < room {
+            return Ok(());
+        }
+        left -= room;
+    }
+    Ok(())
+}
+
+/// The whole lines of the first `limit` bytes of a file. Room for them is taken before they are read, so that none is copied.
+pub fn read_lines<R: Files>(
+    files: &R,
+    alloc: Global,
+    name: &str,
+    limit: u64,
+) -> io::Result<FileLines>
+    ensures front { IfOk result (λ l. IsFileFront (words_of l.front.items) l.count) }
+    ensures few { IfOk result (λ l. 64 * l.count ≤ limit) }
+{
+    let mut buffer = vec![in alloc; 0; PART * LINE as usize]?;
+    let room = length_of(files, name, limit) / LINE;
+    let mut lines = FileLines {
+        front: Vec::with_capacity(alloc, room as usize)?,
+        count: 0,
+    };
+    let mut file = fs::open(files, name)?;
+    read_parts(&mut file, &mut buffer, &mut lines, limit)?;
+    Ok(ended(lines)?)
+}
+
+/// These lines without those of zeros at their end.
+fn without_zeros(lines: &[Line]) -> &[Line] {
+    let mut count = lines.len();
+    while count > 0 {
+        if lines[count - 1] != ZEROS {
+            break;
+        }
+        count -= 1;
+    }
+    &lines[..count]
+}
+
+/// Appends the bytes of these lines.
+fn put_bytes(buffer: &mut Vec<u8>, lines: &[Line]) -> Result<(), AllocError> {
+    for line in lines {
+        buffer.extend_from_slice(&line_bytes(*line))?;
+    }
+    Ok(())
+}
+
+/// Writes these lines through an empty buffer.
+fn write_parts<F: Write>(file: &mut F, buffer: &mut Vec<u8>, lines: &[Line]) -> io::Result<()> {
+    for part in lines.chunks(PART) {
+        buffer.clear();
+        put_bytes(buffer, part)?;
+        file.write_all(buffer)?;
+    }
+    Ok(())
+}
+
+/// Room for the bytes of a part.
+pub fn part_buffer(alloc: Global) -> Result<Vec<u8>, AllocError> {
+    Vec::with_capacity(alloc, PART * LINE as usize)
+}
+
+/// Makes these lines, and then lines of zeros, `count` in all, the whole of an empty file, durably. Zeros at the end are not written:
+/// the file is only made longer.
+pub fn fill_with_lines<R: Files>(
+    files: &R,
+    name: &str,
+    file: &mut R::File,
+    buffer: &mut Vec<u8>,
+    front: &[Line],
+    count: u64,
+) -> io::Result<()> {
+    let written = without_zeros(front);
+    write_parts(file, buffer, written)?;
+    if count > written.len() as u64 {
+        file.set_len(count.saturating_mul(LINE))?;
+    }
+    file.sync_all()?;
+    sync_folder(files, name)
 }
 
 /// Makes these bytes the whole of an empty file, durably.

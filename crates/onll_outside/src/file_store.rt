@@ -4,10 +4,13 @@ ghost use Rattle.std.specs.Prelude.{◌≡◌, None};
 ghost use Rattle.std.proofs.Common.{true≢false, sym};
 ghost use Rattle.onll_outside.specs.Faults.{CountsSeen, untold};
 
-use crate::disk::{cut_file, fill_with, keep_device, make_file};
+use crate::disk::{
+    cut_file, fill_with, fill_with_lines, keep_device, length_of, make_file, part_buffer,
+    read_lines,
+};
 use crate::faults::Faults;
 use crate::mem_store::one_fault;
-use crate::{FaultKind, OutsideFault, Store};
+use crate::{FaultKind, FileLines, OutsideFault, Store};
 use onll_pmem::{FilePmem, Pmem};
 use onll_words::Line;
 use std::alloc::Global;
@@ -38,14 +41,6 @@ impl<R: Files + Drop> Model for FileStore<R> {
       device_faults = s.device_faults;
       device_fences = s.device_fences;
     } };
-}
-
-/// How many of the first `limit` bytes a file has; none where it does not tell.
-fn length_of<R: Files>(files: &R, name: &str, limit: u64) -> u64 {
-    match fs::metadata(files, name) {
-        Ok(data) => data.len().min(limit),
-        Err(_) => 0,
-    }
 }
 
 /// The first `limit` bytes of a file. Room for them is taken before they are read, and for one more, so that nothing is copied
@@ -87,6 +82,19 @@ where
         }
     }
 
+    fn read_lines(
+        &mut self,
+        alloc: Global,
+        name: &str,
+        limit: u64,
+    ) -> Result<FileLines, OutsideFault> {
+        match read_lines(&self.files, alloc, name, limit) {
+            Ok(lines) => Ok(lines),
+            Err(e) if e.kind() == ErrorKind::OutOfMemory => Err(OutsideFault::NoMemory),
+            Err(_) => Err(self.faults.raise(alloc, FaultKind::Read, name)),
+        }
+    }
+
     // Memory for the fault's name is taken before the file is opened. A system that has no memory once the
     // file is open has emptied it, which is a fault.
     fn write(&mut self, alloc: Global, name: &str, bytes: &[u8]) -> Result<(), OutsideFault> {
@@ -99,6 +107,31 @@ where
             Err(_) => return Err(self.faults.raise_named(FaultKind::Write, kept)),
         };
         match fill_with(&self.files, name, &mut file, bytes) {
+            Ok(()) => Ok(()),
+            Err(_) => Err(self.faults.raise_named(FaultKind::Write, kept)),
+        }
+    }
+
+    // Memory is taken before the file is opened, as in `write`.
+    fn write_lines(
+        &mut self,
+        alloc: Global,
+        name: &str,
+        front: &[Line],
+        count: u64,
+    ) -> Result<(), OutsideFault> {
+        let Ok(kept) = String::from_str(alloc, name) else {
+            return Err(OutsideFault::NoMemory);
+        };
+        let Ok(mut buffer) = part_buffer(alloc) else {
+            return Err(OutsideFault::NoMemory);
+        };
+        let mut file = match fs::create(&self.files, name) {
+            Ok(file) => file,
+            Err(e) if e.kind() == ErrorKind::OutOfMemory => return Err(OutsideFault::NoMemory),
+            Err(_) => return Err(self.faults.raise_named(FaultKind::Write, kept)),
+        };
+        match fill_with_lines(&self.files, name, &mut file, &mut buffer, front, count) {
             Ok(()) => Ok(()),
             Err(_) => Err(self.faults.raise_named(FaultKind::Write, kept)),
         }

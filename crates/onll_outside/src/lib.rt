@@ -18,6 +18,7 @@ mod disk;
 mod faults;
 mod file_store;
 mod gate;
+mod gather;
 mod hold_gate;
 mod mem_sink;
 mod mem_store;
@@ -32,7 +33,7 @@ pub use mem_sink::MemSink;
 pub use mem_store::{FenceAt, MemStore, Named};
 pub use out_sink::OutSink;
 pub use sink::Sink;
-pub use store::{FaultKind, Store};
+pub use store::{FaultKind, FileLines, Store};
 use thiserror::Error;
 
 /// Why a call to the outside was refused.

@@ -1,15 +1,17 @@
 //! The store in memory.
 
-ghost use Rattle.std.specs.Prelude.{◌≡◌, ◌≤◌, refl, length, MatchOption, None, IfOk, IfErr, OnOk, map};
+ghost use Rattle.std.specs.Prelude.{◌≡◌, ◌≤◌, ◌*◌, refl, length, MatchOption, None, IfOk, IfErr, OnOk, map, take};
 ghost use Rattle.std.specs.Option.{option_copied};
 ghost use Rattle.onll_pmem.specs.Device.{zero_lines, fenced_device, image_of, IsImage};
 ghost use Rattle.onll_pmem.specs.Pmem.{words_of};
 ghost use Rattle.onll_pmem.specs.Memory.{memory_view};
 ghost use Rattle.onll_outside.specs.Views.{SameFiles, SameOthers, Holds, Gives, FaultsOf, SameDevices, HandsBack, IsFresh, KeptOrZeros, BeginsWith, MayWipe, KeepsDevice, MayKeep, with_zeros, image_bytes, one_fault};
-ghost use Rattle.onll_outside.specs.MemStore.{FilesHeld, texts_of, file_in, place_in, with_file, store_of, call_fails, called, MemReads, MemWrites, MemMakes, MemReopens, MemStores, back, failing_of, reopened};
+ghost use Rattle.onll_outside.specs.LineFiles.{IsFileFront, GivesLines};
+ghost use Rattle.onll_outside.specs.MemStore.{FilesHeld, texts_of, file_in, place_in, with_file, store_of, call_fails, called, MemReads, MemReadsLines, MemWrites, MemMakes, MemReopens, MemStores, back, failing_of, reopened};
 
 use crate::faults::Faults;
-use crate::{FaultKind, OutsideFault, Store};
+use crate::gather::lines_of;
+use crate::{FaultKind, FileLines, OutsideFault, Store};
 use onll_pmem::{MemPmem, Pmem};
 use onll_words::{Line, line_bytes};
 use std::alloc::{AllocError, Global};
@@ -70,6 +72,14 @@ fn find<'a>(files: &'a [Named], name: &str) -> Option<&'a Named>
         }
     }
     None
+}
+
+/// The first bytes of a file, this many at most.
+fn front_of(bytes: &[u8], limit: u64) -> &[u8]
+    ensures { result.now ≡ take limit bytes.now }
+{
+    let count = bytes.len().min(limit as usize);
+    &bytes[..count]
 }
 
 /// The place of the first file of that name, or the count of files where there is none.
@@ -151,6 +161,15 @@ fn with_zeros(alloc: Global, front: &[Line], lines: u64) -> Result<Vec<Line>, Al
     let mut image = Vec::from_slice(alloc, front)?;
     image.resize(lines as usize, Line { w: [0; 8] })?;
     Ok(image)
+}
+
+/// The bytes of the file of these lines, and then lines of zeros, this many in all.
+fn file_bytes(alloc: Global, front: &[Line], lines: u64) -> Result<Vec<u8>, AllocError>
+    requires { length front.now ≤ lines }
+    ensures { IfOk result (λ bytes. bytes.items ≡ image_bytes (with_zeros (words_of front.now) lines)) }
+{
+    let image = with_zeros(alloc, front, lines)?;
+    image_bytes(alloc, &image)
 }
 
 /// The file of what a crash leaves of a device that loses all that is pending.
@@ -299,9 +318,32 @@ impl Store for MemStore {
     {
         let fails = self.begin_call();
         if !fails && let Some(file) = find(&self.files, name) {
-            let count = file.bytes.len().min(limit as usize);
-            return match Vec::from_slice(alloc, &file.bytes[..count]) {
+            return match Vec::from_slice(alloc, front_of(&file.bytes, limit)) {
                 Ok(bytes) => Ok(bytes),
+                Err(_) => Err(OutsideFault::NoMemory),
+            };
+        }
+        Err(self.faults.raise(alloc, FaultKind::Read, name))
+    }
+
+    fn read_lines(
+        &mut self,
+        alloc: Global,
+        name: &str,
+        limit: u64,
+    ) -> Result<FileLines, OutsideFault>
+        ensures lines { IfOk result (λ l. GivesLines (store_of self.old) name.now limit (words_of l.front.items) l.count) }
+        ensures front { IfOk result (λ l. IsFileFront (words_of l.front.items) l.count) }
+        ensures few { IfOk result (λ l. 64 * l.count ≤ limit) }
+        ensures same { SameFiles (store_of self.old) (store_of self.new) }
+        ensures faults { FaultsOf (record { kind = FaultKind.Read; name = name.now }) (store_of self.old) (store_of self.new) result }
+        ensures devices { SameDevices (store_of self.old) (store_of self.new) }
+        ensures exact { MemReadsLines self.old self.new name.now limit result }
+    {
+        let fails = self.begin_call();
+        if !fails && let Some(file) = find(&self.files, name) {
+            return match lines_of(alloc, front_of(&file.bytes, limit)) {
+                Ok(lines) => Ok(lines),
                 Err(_) => Err(OutsideFault::NoMemory),
             };
         }
@@ -320,6 +362,34 @@ impl Store for MemStore {
             return Err(self.faults.raise(alloc, FaultKind::Write, name));
         }
         let Ok(bytes) = Vec::from_slice(alloc, bytes) else {
+            return Err(OutsideFault::NoMemory);
+        };
+        let Ok(()) = put_file(alloc, &mut self.files, name, bytes) else {
+            return Err(OutsideFault::NoMemory);
+        };
+        Ok(())
+    }
+
+    fn write_lines(
+        &mut self,
+        alloc: Global,
+        name: &str,
+        front: &[Line],
+        count: u64,
+    ) -> Result<(), OutsideFault>
+        requires { length front.now ≤ count }
+        ensures written { OnOk result (Holds (store_of self.new) name.now (image_bytes (with_zeros (words_of front.now) count))) }
+        ensures others { SameOthers name.now (store_of self.old) (store_of self.new) }
+        ensures kept { IfErr result (λ e. e ≡ OutsideFault.NoMemory → SameFiles (store_of self.old) (store_of self.new)) }
+        ensures faults { FaultsOf (record { kind = FaultKind.Write; name = name.now }) (store_of self.old) (store_of self.new) result }
+        ensures devices { SameDevices (store_of self.old) (store_of self.new) }
+        ensures exact { MemWrites self.old self.new name.now (image_bytes (with_zeros (words_of front.now) count)) result }
+    {
+        if self.begin_call() {
+            let fault = self.faults.raise(alloc, FaultKind::Write, name);
+            return Err(fault);
+        }
+        let Ok(bytes) = file_bytes(alloc, front, count) else {
             return Err(OutsideFault::NoMemory);
         };
         let Ok(()) = put_file(alloc, &mut self.files, name, bytes) else {

@@ -1,9 +1,10 @@
 //! The trait of a store of files and of devices that are kept in them.
 
-ghost use Rattle.std.specs.Prelude.{◌≡◌, ◌≤◌, ℕ, true, length, IfOk, IfErr, OnOk};
+ghost use Rattle.std.specs.Prelude.{◌≡◌, ◌≤◌, ◌*◌, ℕ, true, length, IfOk, IfErr, OnOk};
 ghost use Rattle.onll_pmem.specs.Device.{zero_lines};
 ghost use Rattle.onll_pmem.specs.Pmem.{words_of};
 ghost use Rattle.onll_outside.specs.Views.{StoreView, SameFiles, SameFaults, SameOthers, SameDevices, Holds, Gives, FaultsOf, HandsBack, IsFresh, KeptOrZeros, BeginsWith, MayWipe, KeepsDevice, MayKeep, with_zeros, image_bytes};
+ghost use Rattle.onll_outside.specs.LineFiles.{IsFileFront, GivesLines};
 
 use crate::OutsideFault;
 use onll_pmem::Pmem;
@@ -25,6 +26,14 @@ pub enum FaultKind {
     Keep,
 }
 
+/// The lines of a file: those of a front, and then lines of zeros, `count` in all.
+#[derive(Drop)]
+pub struct FileLines {
+    /// The lines without those of zeros at their end; but one line stays where there is no other.
+    pub front: Vec<Line>,
+    pub count: u64,
+}
+
 /// Files by name, and devices that are kept in them, with a count of the calls that failed.
 pub trait Store {
     /// What `device` and `reopen` make.
@@ -40,10 +49,39 @@ pub trait Store {
         ensures faults { FaultsOf (record { kind = FaultKind.Read; name = name.now }) (seen self.old) (seen self.new) result }
         ensures devices { SameDevices (seen self.old) (seen self.new) };
 
+    /// Gives the whole lines of the bytes that `read` gives.
+    fn read_lines(
+        &mut self,
+        alloc: Global,
+        name: &str,
+        limit: u64,
+    ) -> Result<FileLines, OutsideFault>
+        ensures lines { IfOk result (λ l. GivesLines (seen self.old) name.now limit (words_of l.front.items) l.count) }
+        ensures front { IfOk result (λ l. IsFileFront (words_of l.front.items) l.count) }
+        ensures few { IfOk result (λ l. 64 * l.count ≤ limit) }
+        ensures same { SameFiles (seen self.old) (seen self.new) }
+        ensures faults { FaultsOf (record { kind = FaultKind.Read; name = name.now }) (seen self.old) (seen self.new) result }
+        ensures devices { SameDevices (seen self.old) (seen self.new) };
+
     /// Makes these bytes the file `name`. A write that fails may leave anything in that file; where memory
     /// can't be had, the file is as it was.
     fn write(&mut self, alloc: Global, name: &str, bytes: &[u8]) -> Result<(), OutsideFault>
         ensures written { OnOk result (Holds (seen self.new) name.now bytes.now) }
+        ensures others { SameOthers name.now (seen self.old) (seen self.new) }
+        ensures kept { IfErr result (λ e. e ≡ OutsideFault.NoMemory → SameFiles (seen self.old) (seen self.new)) }
+        ensures faults { FaultsOf (record { kind = FaultKind.Write; name = name.now }) (seen self.old) (seen self.new) result }
+        ensures devices { SameDevices (seen self.old) (seen self.new) };
+
+    /// Makes these lines, and then lines of zeros, `count` in all, the file `name`, as `write` makes their bytes one.
+    fn write_lines(
+        &mut self,
+        alloc: Global,
+        name: &str,
+        front: &[Line],
+        count: u64,
+    ) -> Result<(), OutsideFault>
+        requires { length front.now ≤ count }
+        ensures written { OnOk result (Holds (seen self.new) name.now (image_bytes (with_zeros (words_of front.now) count))) }
         ensures others { SameOthers name.now (seen self.old) (seen self.new) }
         ensures kept { IfErr result (λ e. e ≡ OutsideFault.NoMemory → SameFiles (seen self.old) (seen self.new)) }
         ensures faults { FaultsOf (record { kind = FaultKind.Write; name = name.now }) (seen self.old) (seen self.new) result }

@@ -12,6 +12,7 @@ enum Call {
     Device,
     Reopen,
     Keep,
+    WriteLines,
 }
 
 /// Makes a device, and keeps it.
@@ -33,6 +34,7 @@ fn fails<S: Store>(alloc: Global, store: &mut S, name: &str, call: Call) -> bool
         Call::Device => store.device(alloc, name, 3).err(),
         Call::Reopen => reopen_text(alloc, store, name).err(),
         Call::Keep => keep_new(alloc, store, name).err(),
+        Call::WriteLines => store.write_lines(alloc, name, &[], 3).err(),
     };
     fault == Some(OutsideFault::Failed)
 }
@@ -51,6 +53,7 @@ fn is_no_file(rt: &HostRuntime, name: &str) -> bool {
     fails(rt.alloc(), &mut store, name, Call::Device)
         && reopen_fails(rt, name)
         && fails(rt.alloc(), &mut store, name, Call::Write)
+        && fails(rt.alloc(), &mut store, name, Call::WriteLines)
 }
 
 #[test]
@@ -84,7 +87,13 @@ fn a_device_is_not_kept(rt: HostRuntime) -> Result<(), Fail> {
     found.ended()
 }
 
-const CALLS: &[Call] = &[Call::Write, Call::Device, Call::Reopen, Call::Keep];
+const CALLS: &[Call] = &[
+    Call::Write,
+    Call::Device,
+    Call::Reopen,
+    Call::Keep,
+    Call::WriteLines,
+];
 
 /// Whether the file is the text.
 fn is_text(store: &MemStore) -> bool {
@@ -107,11 +116,11 @@ fn fail_each(alloc: Global, found: &mut Found, store: &mut MemStore) {
 #[test]
 fn a_call_that_fails_changes_no_file(rt: HostRuntime) -> Result<(), Fail> {
     let alloc = rt.alloc();
-    let failing = Vec::from_slice(alloc, &[2, 3, 5, 7])?;
+    let failing = Vec::from_slice(alloc, &[2, 3, 5, 7, 8])?;
     let mut store = MemStore::new(Vec::new(alloc), failing, Vec::new(alloc));
     let mut found = Found::new();
     found.must(store.write(alloc, "log.0", b"text").is_ok(), "not written");
     fail_each(alloc, &mut found, &mut store);
-    found.must(store.faults() == 4, "not four faults");
+    found.must(store.faults() == 5, "not five faults");
     found.ended()
 }

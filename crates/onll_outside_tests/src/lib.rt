@@ -9,6 +9,8 @@ mod devices;
 #[cfg(test)]
 mod failing;
 #[cfg(test)]
+mod line_files;
+#[cfg(test)]
 mod logs;
 #[cfg(test)]
 mod reopened;

@@ -23,7 +23,8 @@ use Rattle.onll_task.specs.declared.ending.Ending.{Ending}
 use Rattle.onll_task.specs.declared.ending.Ending.TheVariants.{Faulty}
 use Rattle.onll_task.specs.declared.answer.Stop.{Stop}
 use Rattle.onll_task.specs.declared.answer.Stop.TheVariants.{Says, NoMemory}
-use Rattle.onll_task.specs.FileLines.{IsWholeLine, FitFile}
+use Rattle.onll_outside.specs.LineFiles.{IsWholeLine}
+use Rattle.onll_task.specs.FileLines.{FitFile}
 use Rattle.onll_task.specs.ImageNames.{image_names}
 use Rattle.onll_task.specs.Running.{RunPlan, RunLeft, HasKept, HoldsLogs, broken_threads, fences_of, log_files}
 use Rattle.onll_task.specs.Stop.{StopSays}

@@ -1,32 +1,18 @@
 -- Lines in memory have eight words of 64 bits.
 
-use Rattle.std.proofs.Common.{rules, ℕ, zero, suc, ◌≡◌, ◌+◌, ◌^◌, ◌<◌, List, [], ◌∷◌, ◌++◌, length, map, take, get_or, slice_index, sym, ap, ◌∙◌}
+use Rattle.std.proofs.Common.{ℕ, ◌≡◌, ◌+◌, ◌<◌, List, [], ◌∷◌, ◌++◌, length, map, take, get_or, sym, ap, ◌∙◌}
 use Rattle.std.proofs.lemmas.List.{take_more, map-append}
 use Rattle.std.specs.List.{All, AllByRecursion}
 use Rattle.std.proofs.lemmas.List.Elements.{All-head, All-tail}
 use Rattle.onll_words.specs.declared.line.Line.{Line}
-use Rattle.onll_pmem.specs.Device.{zero_lines}
 use Rattle.onll_pmem.specs.Pmem.{words_of}
-use Rattle.onll_task.specs.FileLines.{IsWholeLine}
-
-pub words_all : (words : List ℕ) → ((i : ℕ) → slice_index words i < 2 ^ 64) → AllByRecursion (λ w. w < 2 ^ 64) words
-words_all [] h = tt
-words_all (w ∷ words) h = (h 0, words_all words (λ i. h (suc i)))
+use Rattle.onll_outside.specs.LineFiles.{IsWholeLine}
 
 pub words_whole : (lines : List Line) → All (λ (line : Line). IsWholeLine line.w) lines → AllByRecursion IsWholeLine (words_of lines)
 words_whole [] h = tt
 words_whole (line ∷ lines) h =
     let Whole : Line → Type 0 = λ (line : Line). IsWholeLine line.w in
     (All-head Whole line lines h, words_whole lines (All-tail Whole line lines h))
-
-zeros_whole : (n : ℕ) → AllByRecursion IsWholeLine (zero_lines n)
-zeros_whole zero = tt
-zeros_whole (suc n) = (search rules, zeros_whole n)
-
--- lines of zeros after whole lines
-pub whole_to_end : (lines : List (List ℕ)) (n : ℕ) → AllByRecursion IsWholeLine lines → AllByRecursion IsWholeLine (lines ++ zero_lines n)
-whole_to_end [] n h = zeros_whole n
-whole_to_end (line ∷ lines) n h = (h.0, whole_to_end lines n h.1)
 
 -- one more of two lists that are mapped alike
 pub map_more : {A B C : Type 0} (f : A → C) (g : B → C) (xs more : List A) (x : A) (ys : List B) (i : ℕ) (y : B) → i < length ys → get_or ys i y ≡ y → more ≡ xs ++ x ∷ [] → f x ≡ g y

@@ -18,7 +18,7 @@ ghost use Rattle.onll_text.specs.Lines.{call_lines, trace_line, state_lines};
 ghost use Rattle.onll_text.specs.Reports.{EndsRead, NodeReads, StateReads};
 ghost use Rattle.onll_recovery.specs.RecoverJob.{recovered_line};
 ghost use Rattle.onll_recovery.specs.ReplayJob.{LogReads, EachReads, resumed_lines, thread_lines, flagged_lines, counted_lines};
-ghost use Rattle.onll_task.specs.FileLines.{IsWholeLine};
+ghost use Rattle.onll_outside.specs.LineFiles.{IsWholeLine};
 ghost use Rattle.onll_runner.specs.RunReport.{faults_at, fault_lines, log_data, run_data, run_report, RunReads, RanOver};
 
 use onll_log::{LogHead, ThreadLog};

@@ -1,9 +1,13 @@
 use Rattle.std.proofs.lemmas.List.{take_all, length-take-le}
 use Rattle.std.proofs.lemmas.Bool.{cases_lt}
 use Rattle.std.proofs.lemmas.Bool.Decides.{nat_tests}
-use Rattle.std.proofs.Common.{ℕ, zero, suc, Bool, true, false, List, [], ◌∷◌, ◌≡◌, ◌+◌, ◌≤◌, length, take, arith, inl, inr, Option, Some, None, Result, Ok, Err, nat_lt, cond, refl, sym, ap, ◌∙◌, subst}
-use Rattle.onll_outside.specs.Views.{StoreView, IsFront, Gives, Holds}
-use Rattle.onll_log.specs.ImageFile.{longest_image, whole_lines, image_lines}
+use Rattle.std.proofs.Common.{ℕ, zero, suc, Bool, true, false, List, [], ◌∷◌, ◌≡◌, ◌+◌, ◌-◌, ◌*◌, ◌≤◌, length, take, arith, inl, inr, Option, Some, None, Result, Ok, Err, nat_lt, cond, refl, sym, ap, ◌∙◌, subst}
+use Rattle.std.specs.List.{AllByRecursion}
+use Rattle.onll_pmem.proofs.Fronts.{length-front_view}
+use Rattle.onll_outside.specs.Views.{StoreView, IsFront, Gives, Holds, with_zeros, image_bytes}
+use Rattle.onll_outside.specs.LineFiles.{IsWholeLine, IsFileFront, FrontHasLines, GivesLines}
+use Rattle.onll_outside.proofs.WholeLines.{whole_to_end}
+use Rattle.onll_log.specs.ImageFile.{longest_image, whole_lines}
 use Rattle.onll_text.specs.Wording.{Wording}
 use Rattle.onll_text.specs.Script.{longest_text, script_of}
 use Rattle.onll_text.specs.Init.{init_of, init_of_lines}
@@ -13,7 +17,9 @@ use Rattle.onll_words.specs.Texts.{meaningful_lines}
 use Rattle.onll_text.specs.declared.any_object.AnyObject.{AnyObject}
 use Rattle.onll_text.specs.declared.reason.Reason.TheVariants.{TooLong}
 use Rattle.onll_text.specs.Refusal.{Refusal, refused}
+use Rattle.onll_task.specs.FileLines.{FitFile}
 use Rattle.onll_task.specs.Reading.{IsCut, ReadsWhole, HoldsImage}
+use Rattle.onll_task.proofs.FileLines.{whole_back, image_lines-image_bytes}
 
 -- what a store that tells its files gives
 told : (s : StoreView) (name text : List ℕ) (found : Option (List ℕ)) → s.file name ≡ found → IsFront (longest_text + 1) found text → IsCut s name text
@@ -66,26 +72,24 @@ init_whole s name text object c h = record { held = subst (Holds s name) same c.
       | inr front ↦ front_whole longest_text text c.bytes (within longest_text (length text) (refused 0 TooLong) (init_of_lines (meaningful_lines text)) object h) front
     ]
 
--- an image read up to its limit has the lines of the whole file
-image_lines-take : (bytes : List ℕ) → image_lines (take longest_image bytes) ≡ image_lines bytes
-image_lines-take bytes = ap whole_lines (take_all longest_image (take longest_image bytes) (length-take_at_most longest_image bytes))
+-- lines that a store gives of a file are those of the image that it holds
+pub lines_held : (s : StoreView) (name : List ℕ) (front : List (List ℕ)) (count : ℕ) → IsFileFront front count → 64 * count ≤ longest_image → GivesLines s name longest_image front count
+    → HoldsImage s name (with_zeros front count)
+lines_held s name front count f few h = at s.tells refl
   where
-    length-take_at_most : (n : ℕ) (xs : List ℕ) → length (take n xs) ≤ n
-    length-take_at_most zero xs = omega arith
-    length-take_at_most (suc n) [] = omega arith
-    length-take_at_most (suc n) (x ∷ xs) = let h = length-take_at_most n xs in omega arith
+    each : AllByRecursion IsWholeLine (with_zeros front count)
+    each = whole_to_end front (count - length front) f.each
 
-told_image : (s : StoreView) (name text : List ℕ) (found : Option (List ℕ)) → s.file name ≡ found → IsFront longest_image found text → HoldsImage s name (image_lines text)
-told_image s name text None e h = absurd h
-told_image s name text (Some all) e h = record { bytes = all; held = λ _. e; image = ap image_lines h ∙ image_lines-take all }
+    told : (found : Option (List ℕ)) → s.file name ≡ found → FrontHasLines longest_image found front count → HoldsImage s name (with_zeros front count)
+    told None e k = absurd k
+    told (Some all) e k = record { bytes = all; held = λ _. e; image = sym (ap whole_lines k.whole ∙ whole_back (with_zeros front count) k.rest each k.short) }
 
-image_by_telling : (t : Bool) (s : StoreView) (name text : List ℕ) → s.tells ≡ t → Gives s name longest_image text → HoldsImage s name (image_lines text)
-image_by_telling true s name text e h = told_image s name text (s.file name) refl (h e)
-image_by_telling false s name text e h = record { bytes = text; held = λ tells. (cc (e, tells)); image = refl }
+    fit : FitFile (with_zeros front count)
+    fit = record { each = each; few = subst (λ n. 64 * n ≤ longest_image) (sym (length-front_view front count f.within)) few }
 
--- what a store gives of an image's file has the lines of that file
-pub image_of : (s : StoreView) (name text : List ℕ) → Gives s name longest_image text → HoldsImage s name (image_lines text)
-image_of s name text h = image_by_telling s.tells s name text refl h
+    at : (t : Bool) → s.tells ≡ t → HoldsImage s name (with_zeros front count)
+    at true e = told (s.file name) refl (h e)
+    at false e = record { bytes = image_bytes (with_zeros front count); held = λ tells. (cc (e, tells)); image = sym (image_lines-image_bytes (with_zeros front count) fit) }
 
 pub schedule_of-cut : (threads : ℕ) (s : StoreView) (name text : List ℕ) (c : IsCut s name text) → schedule_of threads c.bytes ≡ schedule_of threads text
 schedule_of-cut threads s name text c = elim c.cut [

@@ -1,16 +1,21 @@
 -- Lines are read back from the bytes of their file, as are those that a crash may leave of a log's device.
 
-use Rattle.std.proofs.Common.{ℕ, zero, suc, ◌≡◌, ◌+◌, ◌-◌, ◌*◌, ◌/◌, ◌^◌, ◌<◌, ◌≤◌, ◌⊎◌, inl, inr, List, [], ◌∷◌, ◌++◌, length, length-append, map, take, drop, slice_index, Option, Some, None, refl, sym, ap, ◌∙◌, subst, append_assoc, arith}
+use Rattle.std.proofs.Common.{ℕ, zero, suc, ◌≡◌, ◌+◌, ◌-◌, ◌*◌, ◌/◌, ◌^◌, ◌<◌, ◌≤◌, ◌⊎◌, inl, inr, List, [], ◌∷◌, ◌++◌, length, length-append, map, take, drop, slice_index, Option, Some, None, refl, sym, ap, ◌∙◌, subst, append_assoc, append-nil, arith}
 use Rattle.std.specs.List.{AllByRecursion}
 use Rattle.std.specs.Int.{w64, to_le_bytes}
 use Rattle.std.specs.Simd.{first_chunks}
 use Rattle.std.proofs.lemmas.List.{take_all, take_at, drop_at, length-replicate}
+use Rattle.onll_words.specs.declared.line.Line.{Line}
 use Rattle.onll_words.specs.Lines.{bytes_of_words, words_of_bytes}
 use Rattle.onll_words.proofs.LineBytes.{words_of_bytes-bytes_of_words}
 use Rattle.onll_model.specs.Segment.{Segment}
 use Rattle.onll_model.proofs.Lists.{all_left, all_append}
 use Rattle.onll_pmem.specs.Device.{zero_lines, MixedWords, Mixed}
-use Rattle.onll_outside.specs.Views.{image_bytes}
+use Rattle.onll_pmem.specs.Pmem.{words_of}
+use Rattle.onll_pmem.proofs.Lines.{length-words_of}
+use Rattle.onll_outside.specs.Views.{image_bytes, with_zeros}
+use Rattle.onll_outside.specs.LineFiles.{IsWholeLine}
+use Rattle.onll_outside.proofs.WholeLines.{zeros_whole}
 use Rattle.onll_log.specs.declared.head.LogHead.{LogHead}
 use Rattle.onll_log.specs.Encoding.{entry_lines, entries_lines, log_lines}
 use Rattle.onll_log.specs.Head.{head_line}
@@ -21,7 +26,7 @@ use Rattle.onll_log.specs.Torn.{AreLines}
 use Rattle.onll_log.proofs.Encoded.{length-log_lines}
 use Rattle.onll_log.proofs.Written.{IsWritten-Holds}
 use Rattle.onll_run.specs.Left.{LogLeft, content_in, fenced_in}
-use Rattle.onll_task.specs.FileLines.{IsWholeLine, FitFile}
+use Rattle.onll_task.specs.FileLines.{FitFile}
 
 -- ---- one line
 abbrev Words : List ℕ → Type 0
@@ -47,14 +52,16 @@ line_bytes_many : (line : List ℕ) → IsWholeLine line → length (bytes_of_wo
 line_bytes_many line h = let many = length-bytes_of_words line in let eight = h.eight in omega (arith, many, eight)
 
 -- ---- the lines of a file
-chunks_back : (lines : List (List ℕ)) → AllByRecursion IsWholeLine lines → map words_of_bytes (first_chunks 64 (length lines) (image_bytes lines)) ≡ lines
-chunks_back [] h = refl
-chunks_back (line ∷ lines) h =
+chunks_back : (lines : List (List ℕ)) (rest : List ℕ) → AllByRecursion IsWholeLine lines → map words_of_bytes (first_chunks 64 (length lines) (image_bytes lines ++ rest)) ≡ lines
+chunks_back [] rest h = refl
+chunks_back (line ∷ lines) rest h =
     let long = line_bytes_many line h.0 in
-    ap (λ bs. words_of_bytes bs ∷ map words_of_bytes (first_chunks 64 (length lines) (drop 64 (bytes_of_words line ++ image_bytes lines)))) (take_at (bytes_of_words line) (image_bytes lines) 64 long)
-    ∙ ap (λ bs. words_of_bytes (bytes_of_words line) ∷ map words_of_bytes (first_chunks 64 (length lines) bs)) (drop_at (bytes_of_words line) (image_bytes lines) 64 long)
-    ∙ ap (λ (l : List ℕ). l ∷ map words_of_bytes (first_chunks 64 (length lines) (image_bytes lines))) (line_back line h.0)
-    ∙ ap (λ (ls : List (List ℕ)). line ∷ ls) (chunks_back lines h.1)
+    let after = image_bytes lines ++ rest in
+    ap (λ bs. map words_of_bytes (first_chunks 64 (suc (length lines)) bs)) (append_assoc (bytes_of_words line) (image_bytes lines) rest)
+    ∙ ap (λ bs. words_of_bytes bs ∷ map words_of_bytes (first_chunks 64 (length lines) (drop 64 (bytes_of_words line ++ after)))) (take_at (bytes_of_words line) after 64 long)
+    ∙ ap (λ bs. words_of_bytes (bytes_of_words line) ∷ map words_of_bytes (first_chunks 64 (length lines) bs)) (drop_at (bytes_of_words line) after 64 long)
+    ∙ ap (λ (l : List ℕ). l ∷ map words_of_bytes (first_chunks 64 (length lines) after)) (line_back line h.0)
+    ∙ ap (λ (ls : List (List ℕ)). line ∷ ls) (chunks_back lines rest h.1)
 
 length-image_bytes : (lines : List (List ℕ)) → AllByRecursion IsWholeLine lines → length (image_bytes lines) ≡ 64 * length lines
 length-image_bytes [] h = refl
@@ -64,14 +71,26 @@ length-image_bytes (line ∷ lines) h =
     let all = length-append (bytes_of_words line) (image_bytes lines) in
     omega (arith, here, rest, all)
 
+-- the whole lines of bytes that begin with those of lines are those lines, where less than a line follows
+pub whole_back : (lines : List (List ℕ)) (rest : List ℕ) → AllByRecursion IsWholeLine lines → length rest < 64 → whole_lines (image_bytes lines ++ rest) ≡ lines
+whole_back lines rest each short =
+    let long = length-image_bytes lines each in
+    let all = length-append (image_bytes lines) rest in
+    let count : length (image_bytes lines ++ rest) / 64 ≡ length lines = omega (arith, long, all, short) in
+    ap (λ n. map words_of_bytes (first_chunks 64 n (image_bytes lines ++ rest))) count ∙ chunks_back lines rest each
+
 -- the lines of the bytes of lines are those lines
 pub image_lines-image_bytes : (lines : List (List ℕ)) → FitFile lines → image_lines (image_bytes lines) ≡ lines
 image_lines-image_bytes lines h =
     let long = length-image_bytes lines h.each in
     let few = h.few in
-    let count : length (image_bytes lines) / 64 ≡ length lines = omega (arith, long) in
-    ap whole_lines (take_all longest_image (image_bytes lines) (omega (arith, long, few)))
-    ∙ ap (λ n. map words_of_bytes (first_chunks 64 n (image_bytes lines))) count ∙ chunks_back lines h.each
+    ap whole_lines (take_all longest_image (image_bytes lines) (omega (arith, long, few)) ∙ sym (append-nil (image_bytes lines))) ∙ whole_back lines [] h.each (omega arith)
+
+-- no zeros follow where all lines are given
+pub no_zeros : (lines : List Line) → with_zeros (words_of lines) (length lines) ≡ words_of lines
+no_zeros lines =
+    let none : length lines - length (words_of lines) ≡ 0 = omega (arith, length-words_of lines) in
+    ap (λ n. words_of lines ++ zero_lines n) none ∙ append-nil (words_of lines)
 
 -- ---- mixes
 mixed_word : (x y z : ℕ) → (z ≡ x) ⊎ (z ≡ y) → x < 2 ^ 64 → y < 2 ^ 64 → z < 2 ^ 64
@@ -112,16 +131,6 @@ mixed_fit xs ys zs m h g =
 eight_each : (lines : List (List ℕ)) → AllByRecursion IsWholeLine lines → AreLines lines
 eight_each [] h = tt
 eight_each (line ∷ lines) h = (h.0.eight, eight_each lines h.1)
-
-zeros_whole : (n : ℕ) → AllByRecursion IsWholeLine (zero_lines n)
-zeros_whole zero = tt
-zeros_whole (suc n) = (
-  record {
-    eight = refl;
-    words = (omega arith, (omega arith, (omega arith, (omega arith, (omega arith, (omega arith, (omega arith, (omega arith, tt))))))));
-  },
-  zeros_whole n,
-)
 
 -- the lines of the first entries stand before those of the rest
 record FrontEntries (head : LogHead) (before n : ℕ) (ss : List Segment) : Type 0 where

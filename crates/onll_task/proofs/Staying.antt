@@ -1,11 +1,10 @@
 -- Which lines of an image decide what it holds.
 
-use Rattle.std.proofs.Common.{ℕ, zero, suc, ◌≡◌, ◌+◌, ◌-◌, ◌*◌, ◌≤◌, ◌<◌, ◌&&◌, Bool, true, false, true≢false, List, [], ◌∷◌, ◌++◌, length, map, max, take, cond, Option, Some, None, refl, sym, ap, ◌∙◌, subst, arith, ⊎_elim, append_assoc, nat_le, get_or}
+use Rattle.std.proofs.Common.{ℕ, zero, suc, ◌≡◌, ◌+◌, ◌-◌, ◌*◌, ◌≤◌, ◌<◌, ◌&&◌, Bool, true, false, true≢false, List, [], ◌∷◌, ◌++◌, length, map, max, take, cond, Option, Some, None, refl, sym, ap, ◌∙◌, subst, arith, ⊎_elim, nat_le}
 use Rattle.std.specs.Prelude.{IsSome}
 use Rattle.std.proofs.lemmas.Bool.{cases_Bool}
-use Rattle.std.proofs.lemmas.List.{take-append-le, length-take, length-take-le, length-map, length-append, map-append, take_more, take-map}
+use Rattle.std.proofs.lemmas.List.{take-append-le, length-take, length-take-le, length-map, length-append, take-map}
 use Rattle.onll_words.specs.declared.line.Line.{Line}
-use Rattle.onll_words.specs.Lines.{words_of_bytes}
 use Rattle.onll_pmem.specs.Device.{zero_line, zero_lines}
 use Rattle.onll_pmem.specs.Pmem.{words_of}
 use Rattle.onll_model.specs.Segment.{Segment}
@@ -13,9 +12,10 @@ use Rattle.onll_log.specs.declared.head.LogHead.{LogHead}
 use Rattle.onll_log.specs.Head.{word, is_head, head_of}
 use Rattle.onll_log.specs.Encoding.{guard}
 use Rattle.onll_log.specs.Grammar.{Content, all_named, is_entry, segment_of, node_of_line, entries_from, lines_in, is_zero_line, are_zero_lines, content_of, format_in}
-use Rattle.onll_log.specs.ImageFile.{longest_image, whole_lines, image_lines}
+use Rattle.onll_outside.specs.LineFiles.{IsFileFront}
+use Rattle.onll_outside.specs.Views.{with_zeros}
 use Rattle.onll_log.proofs.Accepted.{Accepted-if, is_entry-Accepted, is_entry-no_magic, entries_from-entry, entries_from-none, both_true}
-use Rattle.onll_task.specs.Images.{used_in, StandsFor, IsFrontOf}
+use Rattle.onll_task.specs.Images.{used_in, StandsFor}
 
 -- ---- an entry before other lines
 -- what accepts an entry looks at the lines of its nodes alone
@@ -173,8 +173,8 @@ with_head l ls t =
       format = λ known. refl;
     })
 
-with_zeros : (l : List ℕ) (ls : List (List ℕ)) → is_head l ≡ false → are_zero_lines (l ∷ ls) ≡ true → IsCut (l ∷ ls) (take (used_in (content_of (l ∷ ls))) (l ∷ ls))
-with_zeros l ls f z =
+all_zeros : (l : List ℕ) (ls : List (List ℕ)) → is_head l ≡ false → are_zero_lines (l ∷ ls) ≡ true → IsCut (l ∷ ls) (take (used_in (content_of (l ∷ ls))) (l ∷ ls))
+all_zeros l ls f z =
     let es = entries_from (head_of l) 0 0 ls in
     let is : content_of (l ∷ ls) ≡ Some (record { head = None; entries = [] }) = ap (λ b. held l b es (are_zero_lines (l ∷ ls))) f ∙ ap (held l false es) z in
     let taken : take (used_in (content_of (l ∷ ls))) (l ∷ ls) ≡ l ∷ [] = ap (λ o. take (used_in o) (l ∷ ls)) is in
@@ -195,7 +195,7 @@ is_cut : (image : List (List ℕ)) → IsCut image (take (used_in (content_of im
 is_cut [] = record { content = refl; format = λ known. absurd (true≢false (sym known)) }
 is_cut (l ∷ ls) = ⊎_elim
     (with_head l ls)
-    (λ (f : is_head l ≡ false). ⊎_elim (with_zeros l ls f) (with_neither l ls f) (cases_Bool (are_zero_lines (l ∷ ls))))
+    (λ (f : is_head l ≡ false). ⊎_elim (all_zeros l ls f) (with_neither l ls f) (cases_Bool (are_zero_lines (l ∷ ls))))
     (cases_Bool (is_head l))
 
 length_cut : (n : ℕ) (image : List (List ℕ)) → length (take n image) ≤ n
@@ -207,51 +207,17 @@ stands_cut image = let c = is_cut image in
     record { content = c.content; format = c.format; few = length_cut (used_in (content_of image)) image }
 
 -- also where only the zeros at its end were left out before
-pub stands_front : (lines front image : List (List ℕ)) → IsFrontOf front image → StandsFor lines front → StandsFor lines image
-stands_front lines front image f s =
-    let content : content_of front ≡ content_of image = sym (ap content_of f.whole ∙ content_zeros f.zeros front f.empty) in
-    let format : format_in front ≡ format_in image = sym (ap format_in f.whole ∙ front_format f.zeros front f.empty) in
+pub stands_front : (lines front : List (List ℕ)) (count : ℕ) → IsFileFront front count → StandsFor lines front → StandsFor lines (with_zeros front count)
+stands_front lines front count f s =
+    let zeros = count - length front in
+    let empty : front ≡ [] → zeros ≡ 0 = λ e. let none = f.empty e in omega (arith, none) in
+    let content : content_of front ≡ content_of (with_zeros front count) = sym (content_zeros zeros front empty) in
+    let format : format_in front ≡ format_in (with_zeros front count) = sym (front_format zeros front empty) in
     record {
       content = s.content ∙ content;
       format = λ known. s.format (subst IsSome (sym content) known) ∙ format;
       few = subst (λ o. length lines ≤ used_in o) content s.few;
     }
-
--- ---- lines as they are read
--- one of the lines of zeros at the end less
-pub one_less : (chunks : List (List ℕ)) (count : ℕ) (line bytes none : List ℕ) → 1 ≤ count → count ≤ length chunks → line ≡ words_of_bytes bytes → bytes ≡ get_or chunks (count - 1) none → line ≡ zero_line
-    → map words_of_bytes chunks ≡ take count (map words_of_bytes chunks) ++ zero_lines (length chunks - count)
-    → map words_of_bytes chunks ≡ take (count - 1) (map words_of_bytes chunks) ++ zero_lines (length chunks - (count - 1))
-one_less chunks count line bytes none some_ within read same nil is =
-    let lines = map words_of_bytes chunks in
-    let k = count - 1 in
-    let up : count ≡ k + 1 = omega (arith, some_) in
-    let left : length chunks - k ≡ suc (length chunks - count) = omega (arith, some_, within) in
-    let less : k < length chunks = omega (arith, some_, within) in
-    let more : take count lines ≡ take k lines ++ zero_line ∷ [] =
-    ap (λ n. take n lines) up ∙ (take-map words_of_bytes (k + 1) chunks ∙ (ap (map words_of_bytes) (take_more chunks k none less ∙ ap (λ b. take k chunks ++ b ∷ []) (sym same))
-    ∙ (map-append words_of_bytes (take k chunks) (bytes ∷ []) ∙ (ap (λ l. map words_of_bytes (take k chunks) ++ l ∷ []) (sym read ∙ nil) ∙ ap (λ ls. ls ++ zero_line ∷ []) (sym (take-map words_of_bytes k chunks)))))) in
-    is ∙ (ap (λ ls. ls ++ zero_lines (length chunks - count)) more ∙ (append_assoc (take k lines) (zero_line ∷ []) (zero_lines (length chunks - count)) ∙ ap (λ n. take k lines ++ zero_lines n) (sym left)))
-
--- the lines that stay are the front of all
-pub is_front : (lines front : List (List ℕ)) (chunks : List (List ℕ)) (count : ℕ) → front ≡ take count chunks → lines ≡ map words_of_bytes front
-    → map words_of_bytes chunks ≡ take count (map words_of_bytes chunks) ++ zero_lines (length chunks - count) → count ≤ length chunks → (count ≡ 0 → length chunks ≡ 0) → IsFrontOf lines (map words_of_bytes chunks)
-is_front lines front chunks count cut are is within empty =
-    let same : lines ≡ take count (map words_of_bytes chunks) = are ∙ (ap (map words_of_bytes) cut ∙ sym (take-map words_of_bytes count chunks)) in
-    let long : length (take count (map words_of_bytes chunks)) ≡ count = length-take-le count (map words_of_bytes chunks) (omega (arith, within, length-map chunks words_of_bytes)) in
-    record {
-      zeros = length chunks - count;
-      whole = is ∙ ap (λ ls. ls ++ zero_lines (length chunks - count)) (sym same);
-      empty = λ e. let none : count ≡ 0 = sym long ∙ ap length (sym same ∙ e) in let nothing = empty none in omega (arith, nothing);
-    }
-
--- one line more
-pub chunk_more : (lines new : List (List ℕ)) (chunks : List (List ℕ)) (i : ℕ) (bytes : List ℕ) → i < length chunks → get_or chunks i bytes ≡ bytes
-    → lines ≡ map words_of_bytes (take i chunks) → new ≡ lines ++ words_of_bytes bytes ∷ [] → new ≡ map words_of_bytes (take (i + 1) chunks)
-chunk_more lines new chunks i bytes less same is e =
-    e ∙ (ap (λ ls. ls ++ words_of_bytes bytes ∷ []) is
-    ∙ (sym (map-append words_of_bytes (take i chunks) (bytes ∷ []))
-    ∙ ap (map words_of_bytes) (sym (take_more chunks i bytes less ∙ ap (λ b. take i chunks ++ b ∷ []) same))))
 
 -- the first lines of an image
 pub words_taken : (old new : List Line) (n : ℕ) → new ≡ take n old → n ≡ used_in (content_of (words_of old)) → words_of new ≡ take (used_in (content_of (words_of old))) (words_of old)
@@ -259,7 +225,3 @@ words_taken old new n cut used = ap words_of cut ∙ (sym (take-map (λ (l : Lin
 
 pub stands_taken : (old new : List Line) (n : ℕ) → new ≡ take n old → n ≡ used_in (content_of (words_of old)) → StandsFor (words_of new) (words_of old)
 stands_taken old new n cut used = subst (λ ls. StandsFor ls (words_of old)) (sym (words_taken old new n cut used)) (stands_cut (words_of old))
-
--- those of a file
-pub used_stand : (lines front : List (List ℕ)) (bytes part : List ℕ) → part ≡ take longest_image bytes → IsFrontOf front (whole_lines part) → StandsFor lines front → StandsFor lines (image_lines bytes)
-used_stand lines front bytes part is f s = stands_front lines front (image_lines bytes) (subst (λ bs. IsFrontOf front (whole_lines bs)) is f) s

@@ -1,13 +1,9 @@
 -- Lines that are read back from the bytes of their file.
 
-use Rattle.std.specs.Prelude.{ℕ, List, ◌≡◌, ◌<◌, ◌≤◌, ◌*◌, ◌^◌, length}
+use Rattle.std.specs.Prelude.{ℕ, List, ◌≤◌, ◌*◌, length}
 use Rattle.std.specs.List.{AllByRecursion}
 use Rattle.onll_log.specs.ImageFile.{longest_image}
-
--- a line of eight words of 64 bits
-pub record IsWholeLine (line : List ℕ) : Type 0 where
-  pub eight : length line ≡ 8
-  pub words : AllByRecursion (λ w. w < 2 ^ 64) line
+use Rattle.onll_outside.specs.LineFiles.{IsWholeLine}
 
 -- lines of a log's file: all whole, and no more than are read
 pub record FitFile (lines : List (List ℕ)) : Type 0 where

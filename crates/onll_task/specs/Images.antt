@@ -1,12 +1,11 @@
 -- The images of the logs of one run: one file for each thread.
 
 use Rattle.std.specs.List.{flat_map}
-use Rattle.std.specs.Prelude.{ℕ, suc, ◌≡◌, ◌≤◌, List, [], ◌∷◌, ◌++◌, length, map, max, Option, Some, None, IsSome}
+use Rattle.std.specs.Prelude.{ℕ, suc, ◌≡◌, ◌≤◌, List, [], ◌∷◌, length, map, max, Option, Some, None, IsSome}
 use Rattle.std.specs.declared.vec.Vec.{Vec}
 use Rattle.std.specs.declared.alloc.Global.{Global}
 use Rattle.onll_words.specs.declared.line.Line.{Line}
 use Rattle.onll_words.specs.Lines.{bytes_of_words}
-use Rattle.onll_pmem.specs.Device.{zero_lines}
 use Rattle.onll_pmem.specs.Pmem.{words_of}
 use Rattle.onll_log.specs.Grammar.{Content, content_of, used_by, format_in}
 use Rattle.onll_outside.specs.Views.{StoreView, BeginsWith}
@@ -50,22 +49,11 @@ pub record KeepOf (lines : List (List (List ℕ))) (counts : List ℕ) (images :
   pub stand : StandFor lines images
   pub many : counts ≡ map length images
 
--- bytes begin with those of these lines
-pub record BytesBegin (lines : List (List ℕ)) (bytes : List ℕ) : Type 0 where
-  pub rest : List ℕ
-  pub whole : bytes ≡ image_bytes lines ++ rest
-
 -- where the store tells its files, each thread's, from thread t on, begins with the lines at its place
 abbrev pub FilesBegin : List ℕ → ℕ → List (List (List ℕ)) → StoreView → Type 0
 FilesBegin logs t [] store = Unit {0}
 FilesBegin logs t (lines ∷ more) store =
     BeginsWith store (image_name logs t) (image_bytes lines) × FilesBegin logs (suc t) more store
-
--- lines of zeros follow these lines to the image's end, none where there is no line
-pub record IsFrontOf (lines image : List (List ℕ)) : Type 0 where
-  pub zeros : ℕ
-  pub whole : image ≡ lines ++ zero_lines zeros
-  pub empty : lines ≡ [] → zeros ≡ 0
 
 -- ---- reading
 -- the images of the logs of this many threads are read

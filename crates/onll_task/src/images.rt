@@ -11,11 +11,11 @@ ghost use Rattle.onll_task.specs.Stop.{StopSays};
 ghost use Rattle.onll_task.specs.Doing.{BeginsBy, lines_stage};
 
 use crate::answer::Stop;
-use crate::texts::{KeptImage, kept_image, write_file};
+use crate::texts::{KeptImage, kept_image, write_lines};
 use crate::used_lines::cut_to_used;
 use itoa::Buffer;
 use onll_outside::Store;
-use onll_words::{Line, line_bytes};
+use onll_words::Line;
 use std::alloc::{AllocError, Global};
 
 /// The name of a thread's image.
@@ -91,19 +91,8 @@ pub fn read_images<S: Store>(
     Ok(KeptImages { lines, counts })
 }
 
-/// The bytes of an image's file.
-fn image_bytes(alloc: Global, lines: &[Line]) -> Result<Vec<u8>, AllocError>
-    ensures { IfOk result (λ bytes. bytes.items ≡ image_bytes (words_of lines.now)) }
-{
-    let mut bytes = Vec::with_capacity(alloc, lines.len().saturating_mul(64))?;
-    for line in lines {
-        bytes.extend_from_slice(&line_bytes(*line))?;
-    }
-    Ok(bytes)
-}
-
 /// Writes lines as the image of a thread's log, or gives what is said in its place.
-fn write_lines<S: Store>(
+fn write_thread<S: Store>(
     alloc: Global,
     logs: &str,
     thread: u64,
@@ -118,8 +107,7 @@ fn write_lines<S: Store>(
     ensures others { SameOthers (image_name logs.now thread) (S.seen store.old) (S.seen store.new) }
 {
     let name = image_name(alloc, logs, thread)?;
-    let bytes = image_bytes(alloc, image)?;
-    write_file(alloc, &name, &bytes, store)
+    write_lines(alloc, &name, image, store)
 }
 
 /// Writes the image of a thread's log, and gives the lines that decide what it holds; or gives what is said in its place.
@@ -138,7 +126,7 @@ pub fn write_image<S: Store>(
     ensures cut { IfErr result (λ stop. WriteStops (S.seen store.old) (S.seen store.new) (image_name logs.now thread)) }
     ensures others { SameOthers (image_name logs.now thread) (S.seen store.old) (S.seen store.new) }
 {
-    match write_lines(alloc, logs, thread, &image, store) {
+    match write_thread(alloc, logs, thread, &image, store) {
         Ok(()) => {
             cut_to_used(&mut image);
             Ok(image)

@@ -11,4 +11,4 @@ mod used_lines;
 pub use answer::Stop;
 pub use ending::{Ending, Exit};
 pub use images::{KeptImages, image_name, read_images, write_image};
-pub use texts::{InitText, image_file, init_file, schedule_file, script_file, write_file};
+pub use texts::{InitText, image_file, init_file, schedule_file, script_file};

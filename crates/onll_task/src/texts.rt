@@ -1,8 +1,9 @@
-//! Files read as texts, each by its grammar, and images as lines; and bytes written as files.
+//! Files read as texts, each by its grammar, and images as lines; and lines written as files.
 
-ghost use Rattle.std.specs.Prelude.{[], ◌≤◌, ◌*◌, IfOk, IfErr, OnOk};
+ghost use Rattle.std.specs.Prelude.{◌≡◌, [], ◌≤◌, ◌*◌, IfOk, IfErr, OnOk};
 ghost use Rattle.onll_model.specs.Limits.{most_updates};
 ghost use Rattle.onll_outside.specs.Views.{Gives, SameFiles, SameOthers, BeginsWith};
+ghost use Rattle.onll_outside.specs.LineFiles.{IsFileFront, GivesLines};
 ghost use Rattle.onll_model.specs.Calls.{updates_in};
 ghost use Rattle.onll_pmem.specs.Pmem.{words_of};
 ghost use Rattle.onll_text.specs.Init.{init_of};
@@ -16,10 +17,10 @@ ghost use Rattle.onll_task.specs.Images.{StandsFor, KeepsOf, image_bytes};
 ghost use Rattle.onll_log.specs.ImageFile.{longest_image};
 
 use crate::answer::Stop;
-use crate::used_lines::{count_lines, used_lines};
+use crate::used_lines::cut_to_used;
 use onll_log::LONGEST_IMAGE;
 use onll_model::Call;
-use onll_outside::{OutsideFault, Store};
+use onll_outside::{FileLines, OutsideFault, Store};
 use onll_text::{
     AnyObject, LONGEST_TEXT, Schedule, TextFault, Texted, read_init, read_schedule, read_script,
 };
@@ -40,6 +41,27 @@ fn read_bytes<S: Store>(
 {
     match store.read(alloc, name, limit) {
         Ok(bytes) => Ok(bytes),
+        Err(OutsideFault::Failed) => Err(Stop::unread(alloc, name)),
+        Err(OutsideFault::NoMemory) => Err(Stop::NoMemory),
+    }
+}
+
+/// The whole lines of the first bytes of a file, or what is said in their place.
+fn read_lines<S: Store>(
+    alloc: Global,
+    name: &str,
+    limit: u64,
+    store: &mut S,
+) -> Result<FileLines, Stop>
+    ensures lines { IfOk result (λ l. GivesLines (S.seen store.old) name.now limit (words_of l.front.items) l.count) }
+    ensures front { IfOk result (λ l. IsFileFront (words_of l.front.items) l.count) }
+    ensures few { IfOk result (λ l. 64 * l.count ≤ limit) }
+    ensures stop { IfErr result (λ stop. StopSays stop (CannotRead (S.seen store.old) (S.seen store.new) name.now)) }
+    ensures same { SameFiles (S.seen store.old) (S.seen store.new) }
+    ensures counts { OnOk result (SameCounts (S.seen store.old) (S.seen store.new)) }
+{
+    match store.read_lines(alloc, name, limit) {
+        Ok(lines) => Ok(lines),
         Err(OutsideFault::Failed) => Err(Stop::unread(alloc, name)),
         Err(OutsideFault::NoMemory) => Err(Stop::NoMemory),
     }
@@ -115,12 +137,15 @@ pub fn kept_image<S: Store>(alloc: Global, name: &str, store: &mut S) -> Result<
     ensures front { IfOk result (λ kept. BeginsWith (S.seen store.new) name.now (image_bytes (words_of kept.lines.items))) }
     ensures few { IfOk result (λ kept. 64 * kept.count ≤ longest_image) }
 {
-    let bytes = match read_bytes(alloc, name, LONGEST_IMAGE as u64, store) {
-        Ok(bytes) => bytes,
+    let read = match read_lines(alloc, name, LONGEST_IMAGE as u64, store) {
+        Ok(read) => read,
         Err(stop) => return Err(stop),
     };
-    let lines = used_lines(alloc, &bytes)?;
-    let count = count_lines(&bytes);
+    let FileLines {
+        front: mut lines,
+        count,
+    } = read;
+    cut_to_used(&mut lines);
     Ok(KeptImage { lines, count })
 }
 
@@ -157,19 +182,19 @@ pub fn schedule_file<S: Store>(
     }
 }
 
-/// Makes these bytes the file of a name, or gives what is said in its place.
-pub fn write_file<S: Store>(
+/// Makes these lines the file of a name, or gives what is said in its place.
+pub fn write_lines<S: Store>(
     alloc: Global,
     name: &str,
-    bytes: &[u8],
+    lines: &[Line],
     store: &mut S,
 ) -> Result<(), Stop>
-    ensures written { OnOk result (HasWritten (S.seen store.old) (S.seen store.new) name.now bytes.now) }
+    ensures written { OnOk result (HasWritten (S.seen store.old) (S.seen store.new) name.now (image_bytes (words_of lines.now))) }
     ensures stop { IfErr result (λ stop. StopSays stop (CannotWrite (S.seen store.old) (S.seen store.new) name.now)) }
     ensures cut { IfErr result (λ stop. WriteStops (S.seen store.old) (S.seen store.new) name.now) }
     ensures others { SameOthers name.now (S.seen store.old) (S.seen store.new) }
 {
-    match store.write(alloc, name, bytes) {
+    match store.write_lines(alloc, name, lines, lines.len() as u64) {
         Ok(()) => Ok(()),
         Err(OutsideFault::Failed) => Err(Stop::unwritten(alloc, name)),
         Err(OutsideFault::NoMemory) => Err(Stop::NoMemory),

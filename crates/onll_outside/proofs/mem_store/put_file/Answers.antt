@@ -1,4 +1,4 @@
-use Rattle.std.proofs.Common.{◌≡◌, length, refl, sym, ap, ◌∙◌, arith}
+use Rattle.std.proofs.Common.{◌≡◌, length, refl, ap, ◌∙◌, arith}
 use Rattle.onll_outside.specs.MemStore.{texts_of, place_in}
 use Rattle.onll_outside.proofs.WrittenFiles.{set_texts, push_texts}
 use Rattle.onll_outside.proofs.mem_store.put_file.Goals as goal

@@ -1,5 +1,4 @@
-use Rattle.std.proofs.Common.{rules, ◌∙◌, ap, subst, sym, length, arith, ◌≤◌}
-use Rattle.onll_words.specs.declared.line.Line.{Line}
+use Rattle.std.proofs.Common.{rules, ◌∙◌, ap, length, arith, ◌≤◌}
 use Rattle.onll_pmem.specs.Pmem.{words_of}
 use Rattle.onll_outside.specs.Views.{with_zeros}
 use Rattle.onll_outside.proofs.Devices.{words_of-resized}

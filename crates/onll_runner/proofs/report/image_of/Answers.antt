@@ -3,8 +3,9 @@ use Rattle.std.specs.List.{All, AllByRecursion}
 use Rattle.onll_words.specs.declared.line.Line.{Line}
 use Rattle.onll_log.specs.Encoding.{log_lines}
 use Rattle.onll_log.specs.Log.{free_of}
-use Rattle.onll_task.specs.FileLines.{IsWholeLine}
-use Rattle.onll_runner.proofs.WholeLines.{words_whole, whole_to_end}
+use Rattle.onll_outside.specs.LineFiles.{IsWholeLine}
+use Rattle.onll_outside.proofs.WholeLines.{whole_to_end}
+use Rattle.onll_runner.proofs.WholeLines.{words_whole}
 use Rattle.onll_runner.proofs.report.image_of.Goals as goal
 
 pub returns-clause-whole : goal.returns-clause-whole

@@ -5,7 +5,7 @@ use Rattle.onll_log.specs.Grammar.{content_of}
 use Rattle.onll_log.specs.Log.{LogState}
 use Rattle.onll_run.specs.Left.{content_in}
 use Rattle.onll_run.specs.Ended.{log_left}
-use Rattle.onll_task.specs.FileLines.{IsWholeLine}
+use Rattle.onll_outside.specs.LineFiles.{IsWholeLine}
 use Rattle.onll_runner.proofs.report.images_of.Given as goal
 
 abbrev pub invariant-loop-log : goal.invariant-loop-log

@@ -1,5 +1,5 @@
 use Rattle.std.proofs.Common.{rules}
-use Rattle.onll_runner.proofs.WholeLines.{words_all}
+use Rattle.onll_outside.proofs.WholeLines.{words_all}
 use Rattle.onll_runner.proofs.report.whole_line.Goals as goal
 
 pub returns : goal.returns

@@ -3,7 +3,7 @@ use Rattle.std.specs.List.{All}
 use Rattle.std.proofs.lemmas.List.{take_more, take_all}
 use Rattle.std.proofs.lemmas.List.Elements.{All-push}
 use Rattle.onll_words.specs.declared.line.Line.{Line}
-use Rattle.onll_task.specs.FileLines.{IsWholeLine}
+use Rattle.onll_outside.specs.LineFiles.{IsWholeLine}
 use Rattle.onll_runner.proofs.report.whole_lines.Goals as goal
 
 pub loop-line-preserved : goal.loop-line-preserved

@@ -1,7 +1,7 @@
 use Rattle.std.proofs.Common.{take}
 use Rattle.std.specs.List.{All}
 use Rattle.onll_words.specs.declared.line.Line.{Line}
-use Rattle.onll_task.specs.FileLines.{IsWholeLine}
+use Rattle.onll_outside.specs.LineFiles.{IsWholeLine}
 use Rattle.onll_runner.proofs.report.whole_lines.Given as goal
 
 -- the lines so far are whole

@@ -1,6 +1,5 @@
-use Rattle.std.proofs.Common.{Some, refl, sym, ap, ◌∙◌, inr}
+use Rattle.std.proofs.Common.{Some, refl, ap, ◌∙◌, inr}
 use Rattle.onll_pmem.specs.Device.{image_of}
-use Rattle.onll_outside.specs.Views.{image_bytes}
 use Rattle.onll_outside.specs.MemStore.{FilesHeld, texts_of, file_in}
 use Rattle.onll_outside.proofs.WrittenFiles.{file_in-written, file_in-other, told_image}
 use Rattle.onll_outside.proofs.mem_store.MemStore.store_image.Goals as goal

@@ -1,5 +1,5 @@
-use Rattle.std.proofs.Common.{Some, refl, sym, ap, ◌∙◌}
-use Rattle.onll_outside.specs.MemStore.{FilesHeld, texts_of, file_in, with_file}
+use Rattle.std.proofs.Common.{Some, refl, ap, ◌∙◌}
+use Rattle.onll_outside.specs.MemStore.{FilesHeld, texts_of, file_in}
 use Rattle.onll_outside.proofs.WrittenFiles.{file_in-written, file_in-other}
 use Rattle.onll_outside.proofs.mem_store.MemStoreStore.write.Goals as goal
 

@@ -1,7 +1,7 @@
 use Rattle.std.proofs.Common.{◌≡◌, ◌≤◌, ◌-◌, ◌++◌, length, map, take}
 use Rattle.onll_words.specs.Lines.{words_of_bytes}
 use Rattle.onll_pmem.specs.Device.{zero_lines}
-use Rattle.onll_task.proofs.used_lines.front_count.Given as goal
+use Rattle.onll_outside.proofs.gather.front_count.Given as goal
 
 -- behind these lines are zeros alone
 abbrev pub invariant-loop-count : goal.invariant-loop-count
@@ -10,7 +10,6 @@ invariant-loop-count l =
     record {
       within : l.count ≤ length l.chunks;
       zeros : lines ≡ take l.count lines ++ zero_lines (length l.chunks - l.count);
-      empty : l.count ≡ 0 → length l.chunks ≡ 0;
     }
 
 abbrev pub decreases-loop-count : goal.decreases-loop-count

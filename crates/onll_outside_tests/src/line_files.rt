@@ -1,0 +1,231 @@
+//! Files of lines: what is read of them, and what writing them makes.
+
+use crate::checks::{EMPTY, Found, bytes_of, is_file, remove};
+use onll_outside::{FileStore, MemStore, Named, OutsideFault, Store};
+use onll_words::Line;
+use std::alloc::{AllocError, Global};
+use std::fs;
+use std::test::Fail;
+
+const NAME: &str = "onll_outside_test_lines";
+
+/// A file of lines, then lines of zeros, then bytes that are less than a line; how many bytes of it are read, and how many
+/// lines these have, without those of zeros at their end and with them.
+struct Case {
+    lines: u64,
+    zeros: u64,
+    rest: usize,
+    limit: u64,
+    front: u64,
+    count: u64,
+}
+
+/// More than the bytes of any of these files.
+const ALL: u64 = 1_000_000;
+
+/// A part of a file that is read or written at once has 1,024 lines. Lines 1,000 to 2,199 are always of zeros.
+const CASES: &[Case] = &[
+    Case {
+        lines: 3000,
+        zeros: 0,
+        rest: 0,
+        limit: ALL,
+        front: 3000,
+        count: 3000,
+    },
+    Case {
+        lines: 2300,
+        zeros: 2000,
+        rest: 63,
+        limit: ALL,
+        front: 2300,
+        count: 4300,
+    },
+    Case {
+        lines: 2300,
+        zeros: 1,
+        rest: 5,
+        limit: 64 * 2100 + 7,
+        front: 1000,
+        count: 2100,
+    },
+    Case {
+        lines: 1000,
+        zeros: 24,
+        rest: 1,
+        limit: 64 * 1024,
+        front: 1000,
+        count: 1024,
+    },
+    Case {
+        lines: 0,
+        zeros: 1025,
+        rest: 0,
+        limit: ALL,
+        front: 1,
+        count: 1025,
+    },
+    Case {
+        lines: 0,
+        zeros: 0,
+        rest: 63,
+        limit: ALL,
+        front: 0,
+        count: 0,
+    },
+    Case {
+        lines: 2,
+        zeros: 1,
+        rest: 0,
+        limit: 63,
+        front: 0,
+        count: 0,
+    },
+];
+
+/// A line of the file, from 0.
+fn line(case: &Case, number: u64) -> Line {
+    if number < case.lines && (number < 1000 || number >= 2200) {
+        Line { w: [number | 1; 8] }
+    } else {
+        EMPTY
+    }
+}
+
+/// The first lines of the file.
+fn lines_of(alloc: Global, case: &Case, count: u64) -> Result<Vec<Line>, AllocError> {
+    let mut lines = Vec::new(alloc);
+    for number in 0..count {
+        lines.push(line(case, number))?;
+    }
+    Ok(lines)
+}
+
+/// The bytes of the file.
+fn file_of(alloc: Global, case: &Case) -> Result<Vec<u8>, AllocError> {
+    let lines = lines_of(alloc, case, case.lines.saturating_add(case.zeros))?;
+    let mut bytes = bytes_of(alloc, &lines)?;
+    let all = bytes.len().saturating_add(case.rest);
+    bytes.resize(all, 7)?;
+    Ok(bytes)
+}
+
+/// Whether these are the first lines of the file, so many.
+fn is_front(alloc: Global, case: &Case, lines: &[Line]) -> bool {
+    match lines_of(alloc, case, case.front) {
+        Ok(wanted) => wanted.as_slice() == lines,
+        Err(_) => false,
+    }
+}
+
+/// Whether the file is read so.
+fn is_read<S: Store>(alloc: Global, store: &mut S, case: &Case) -> bool {
+    match store.read_lines(alloc, NAME, case.limit) {
+        Ok(read) => read.count == case.count && is_front(alloc, case, &read.front),
+        Err(_) => false,
+    }
+}
+
+/// Whether the lines and the zeros after them are taken.
+fn is_taken<S: Store>(alloc: Global, store: &mut S, case: &Case) -> bool {
+    let Ok(front) = lines_of(alloc, case, case.lines) else {
+        return false;
+    };
+    let count = case.lines.saturating_add(case.zeros);
+    front.len() as u64 <= count && store.write_lines(alloc, NAME, &front, count).is_ok()
+}
+
+/// A store in memory of the file.
+fn store_of(alloc: Global, case: &Case) -> Result<MemStore, AllocError> {
+    let mut files = Vec::new(alloc);
+    files.push(Named {
+        name: String::from_str(alloc, NAME)?,
+        bytes: file_of(alloc, case)?,
+    })?;
+    Ok(MemStore::new(files, Vec::new(alloc), Vec::new(alloc)))
+}
+
+/// Whether the file in memory is read so.
+fn is_read_in_memory(alloc: Global, case: &Case) -> bool {
+    match store_of(alloc, case) {
+        Ok(mut store) => is_read(alloc, &mut store, case),
+        Err(_) => false,
+    }
+}
+
+/// Whether a file in memory is then the one of these lines, with nothing after them.
+fn is_written_in_memory(alloc: Global, case: &Case) -> bool {
+    let all = case.lines.saturating_add(case.zeros);
+    let (Ok(mut store), Ok(lines)) = (store_of(alloc, case), lines_of(alloc, case, all)) else {
+        return false;
+    };
+    let Ok(wanted) = bytes_of(alloc, &lines) else {
+        return false;
+    };
+    is_taken(alloc, &mut store, case) && store.file(NAME) == Some(wanted.as_slice())
+}
+
+#[test]
+fn lines_in_memory(rt: HostRuntime) -> Result<(), Fail> {
+    let mut found = Found::new();
+    for case in CASES {
+        found.must(is_read_in_memory(rt.alloc(), case), "read otherwise");
+        found.must(is_written_in_memory(rt.alloc(), case), "written otherwise");
+    }
+    found.ended()
+}
+
+/// Makes the file of the system.
+fn make_file(rt: &HostRuntime, case: &Case) -> bool {
+    match file_of(rt.alloc(), case) {
+        Ok(bytes) => fs::write(rt, NAME, bytes.as_slice()).is_ok(),
+        Err(_) => false,
+    }
+}
+
+/// Whether the file of the system is then the one of these lines, with nothing after them.
+fn holds_lines(rt: &HostRuntime, case: &Case) -> bool {
+    let all = case.lines.saturating_add(case.zeros);
+    let Ok(lines) = lines_of(rt.alloc(), case, all) else {
+        return false;
+    };
+    match bytes_of(rt.alloc(), &lines) {
+        Ok(bytes) => is_file(rt, NAME, &bytes),
+        Err(_) => false,
+    }
+}
+
+/// Reads the file of the system, and writes it anew.
+fn read_and_write(rt: &HostRuntime, found: &mut Found, case: &Case) {
+    let mut store = FileStore::new(rt);
+    found.must(make_file(rt, case), "no file");
+    found.must(is_read(rt.alloc(), &mut store, case), "read otherwise");
+    found.must(is_taken(rt.alloc(), &mut store, case), "not written");
+    found.must(holds_lines(rt, case), "written otherwise");
+}
+
+#[test]
+fn lines_in_files(rt: HostRuntime) -> Result<(), Fail> {
+    let mut found = Found::new();
+    for case in CASES {
+        read_and_write(&rt, &mut found, case);
+    }
+    remove(&rt, &mut found, NAME);
+    found.ended()
+}
+
+/// Whether the outside fails where lines of that file are read.
+fn read_fails(rt: &HostRuntime, name: &str) -> bool {
+    let mut store = FileStore::new(rt);
+    let failed = store.read_lines(rt.alloc(), name, ALL).err();
+    failed == Some(OutsideFault::Failed)
+}
+
+/// A folder opens, and then can't be read.
+#[test]
+fn lines_of_no_file(rt: HostRuntime) -> Result<(), Fail> {
+    let mut found = Found::new();
+    found.must(read_fails(&rt, "onll_outside_no_file"), "read");
+    found.must(read_fails(&rt, "."), "a folder was read");
+    found.ended()
+}

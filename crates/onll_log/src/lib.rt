@@ -13,8 +13,8 @@
 //!     return Err("no log".into());
 //! };
 //! assert!(rt; log.append(1, &[node]).is_ok());
-//! let lines = log.used_lines(alloc)?;
-//! let Ok(decoded) = decode(alloc, &lines) else {
+//! let image = log.image(alloc)?;
+//! let Ok(decoded) = decode(alloc, image.as_slice()) else {
 //!     return Err("no log".into());
 //! };
 //! assert!(rt; decoded.head == Some(head));

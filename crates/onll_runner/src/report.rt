@@ -21,7 +21,7 @@ ghost use Rattle.onll_recovery.specs.ReplayJob.{LogReads, EachReads, resumed_lin
 ghost use Rattle.onll_outside.specs.LineFiles.{IsWholeLine};
 ghost use Rattle.onll_runner.specs.RunReport.{faults_at, fault_lines, log_data, run_data, run_report, RunReads, RanOver};
 
-use onll_log::{LogHead, ThreadLog};
+use onll_log::{LogHead, TestedImage, ThreadLog};
 use onll_merge::{LogCounts, Recovery, StateFault, recover_state};
 use onll_model::{Call, CallEnd, Object};
 use onll_pmem::Pmem;
@@ -158,19 +158,22 @@ fn whole_lines(lines: &[Line])
 }
 
 /// The lines that a log uses. They hold it as its device does, which has only zeros after them.
-fn image_of<P: Pmem>(alloc: Global, log: &ThreadLog<P>) -> Result<Vec<Line>, NoMemory>
-    ensures content { IfOk result (λ image. content_of (words_of image.items) ≡ Some (content_in (log_left P.means log.now))) }
+fn image_of<P: Pmem>(alloc: Global, log: &ThreadLog<P>) -> Result<TestedImage<'_>, NoMemory>
+    ensures content { IfOk result (λ image. content_of image ≡ Some (content_in (log_left P.means log.now))) }
     ensures whole { OnOk result (AllByRecursion IsWholeLine (P.means log.now.device).read) }
 {
     let _ = log.device();
-    let image = log.used_lines(alloc)?;
-    whole_lines(&image);
+    let image = log.image(alloc)?;
+    whole_lines(image.as_slice());
     Ok(image)
 }
 
 /// The lines that each log uses.
-fn images_of<P: Pmem>(alloc: Global, logs: &[ThreadLog<P>]) -> Result<Vec<Vec<Line>>, NoMemory>
-    ensures contents { IfOk result (λ images. map (λ image. content_of (words_of image.items)) images.items
+fn images_of<P: Pmem>(
+    alloc: Global,
+    logs: &[ThreadLog<P>],
+) -> Result<Vec<TestedImage<'_>>, NoMemory>
+    ensures contents { IfOk result (λ images. map content_of images.items
         ≡ map (λ log. Some (content_in (log_left P.means log))) logs.now) }
     ensures count { IfOk result (λ images. length images.items ≡ length logs.now) }
     ensures whole { OnOk result (All (λ log. AllByRecursion IsWholeLine (P.means log.device).read) logs.now) }

@@ -30,8 +30,8 @@ fn decode_log<P: Pmem>(alloc: Global, log: &ThreadLog<P>) -> Result<Decoded, NoM
     ensures fit { FitEntries log.now.head.threads log.now.entries }
 {
     let _ = log.device();
-    let lines = log.used_lines(alloc)?;
-    match decode(alloc, &lines) {
+    let image = log.image(alloc)?;
+    match decode(alloc, image.as_slice()) {
         Ok(decoded) => Ok(decoded),
         Err(DecodeFault::NoMemory) => Err(NoMemory),
         Err(DecodeFault::NotLog) => unreachable!(),

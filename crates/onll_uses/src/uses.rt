@@ -72,8 +72,8 @@ fn log(rt: HostRuntime) -> Result<(), Fail> {
         return Err("no log".into());
     };
     assert!(rt; log.append(1, &[node]).is_ok());
-    let lines = log.used_lines(alloc)?;
-    let Ok(decoded) = decode(alloc, &lines) else {
+    let image = log.image(alloc)?;
+    let Ok(decoded) = decode(alloc, image.as_slice()) else {
         return Err("no log".into());
     };
     assert!(rt; decoded.head == Some(head));
@@ -97,7 +97,8 @@ fn lines_of_log(alloc: Global) -> Result<Vec<Line>, Fail> {
             row,
         }],
     );
-    Ok(log.used_lines(alloc)?)
+    let image = log.image(alloc)?;
+    Ok(Vec::from_slice(alloc, image.as_slice())?)
 }
 
 #[test]

@@ -22,7 +22,7 @@ loop-log-preserved g c =
     let image = c.in_ok-image_of.field-0 in
     let pushed : c.push.new.self.items ≡ c.loop-log.images.items ++ image ∷ [] = c.in_ok-push.ensures.items in
     record {
-      contents = map_more (λ (image : Vec Line Global). content_of (words_of image.items)) (λ (log : LogState _). Some (content_in (log_left means log))) c.loop-log.images.items c.push.new.self.items image logs i log (omega arith)
+      contents = map_more content_of (λ (log : LogState _). Some (content_in (log_left means log))) c.loop-log.images.items c.push.new.self.items image logs i log (omega arith)
           (sym c.log-item.is) pushed c.in_ok-image_of.ensures.content c.loop-log.invariant.contents;
       count = ap length pushed ∙ length-append c.loop-log.images.items (image ∷ []) ∙ ap (λ n. n + 1) c.loop-log.invariant.count;
       whole = subst (All Whole) (sym (take_more logs i log (omega arith)))

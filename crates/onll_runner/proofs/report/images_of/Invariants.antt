@@ -10,7 +10,7 @@ use Rattle.onll_runner.proofs.report.images_of.Given as goal
 
 abbrev pub invariant-loop-log : goal.invariant-loop-log
 invariant-loop-log g l = record {
-  contents : map (λ image. content_of (words_of image.items)) l.images.items ≡ map (λ (log : LogState _). Some (content_in (log_left g.P.Pmem.means log))) (take l.log-index l.logs);
+  contents : map content_of l.images.items ≡ map (λ (log : LogState _). Some (content_in (log_left g.P.Pmem.means log))) (take l.log-index l.logs);
   count : length l.images.items ≡ l.log-index;
   whole : All (λ (log : LogState _). AllByRecursion IsWholeLine (g.P.Pmem.means log.device).read) (take l.log-index l.logs);
 }

@@ -1,6 +1,6 @@
 -- Which lines of an image decide what it holds.
 
-use Rattle.std.proofs.Common.{ℕ, zero, suc, ◌≡◌, ◌+◌, ◌-◌, ◌*◌, ◌≤◌, ◌<◌, ◌&&◌, Bool, true, false, true≢false, List, [], ◌∷◌, ◌++◌, length, map, max, take, cond, Option, Some, None, refl, sym, ap, ◌∙◌, subst, arith, ⊎_elim, nat_le}
+use Rattle.std.proofs.Common.{ℕ, zero, suc, ◌≡◌, ◌+◌, ◌-◌, ◌*◌, ◌≤◌, ◌&&◌, Bool, true, false, true≢false, List, [], ◌∷◌, ◌++◌, length, map, max, take, cond, Option, Some, None, refl, sym, ap, ◌∙◌, subst, arith, ⊎_elim, nat_le}
 use Rattle.std.specs.Prelude.{IsSome}
 use Rattle.std.proofs.lemmas.Bool.{cases_Bool}
 use Rattle.std.proofs.lemmas.List.{take-append-le, length-take, length-take-le, length-map, length-append, take-map}

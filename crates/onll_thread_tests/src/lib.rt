@@ -1,9 +1,7 @@
-//! Tests of scripts and workloads that the program runs on threads, through its top call, over files and an output in memory. There is
-//! nothing here to be called.
+//! Tests of scripts that the program runs on threads, through its top call, over files and an output in memory. There is nothing here
+//! to be called.
 #![tactic(auto)]
 
-#[cfg(test)]
-mod makes;
 #[cfg(test)]
 mod runs;
 #[cfg(test)]

@@ -1,9 +1,7 @@
-//! Tests of scripts that the program runs on threads, through its top call, over files and an output in memory. There is nothing here
-//! to be called.
+//! Tests of runs whose threads are held, come in any order or fail, through the program's top call, over files and an output in memory.
+//! There is nothing here to be called.
 #![tactic(auto)]
 
-#[cfg(test)]
-mod runs;
 #[cfg(test)]
 mod runs_faults;
 #[cfg(test)]

@@ -13,7 +13,7 @@ const FILES: &[(&str, &[u8])] = &[
 ];
 
 /// What a run of one thread prints.
-pub(crate) const REPORT: &str = "call 0 1 transfer 0 1 30 -> ok at 1\n\
+const REPORT: &str = "call 0 1 transfer 0 1 30 -> ok at 1\n\
      call 0 2 balance 1 -> 30 at 1\n\
      trace 1\n\
      node 1 0 1 set transfer 0 1 30\n\

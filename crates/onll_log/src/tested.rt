@@ -118,7 +118,7 @@ impl<'a> TestedImage<'a> {
     /// These lines, of whose entries this many are known to be accepted.
     pub(crate) fn known(lines: CowSlice<'a, Line, Global>, known: u64) -> TestedImage<'a>
         requires { Knows (words_of (cow_slice_items lines)) known }
-        ensures { result ≡ words_of (cow_slice_items lines) }
+        ensures { result ≡ words_of (cow_slice_items lines.entry) }
     {
         TestedImage { lines, known }
     }

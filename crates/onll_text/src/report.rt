@@ -93,6 +93,18 @@ impl Report {
         Ok(())
     }
 
+    /// One byte more.
+    #[tactic(auto, using(crate::proofs::Keeping::keeping))]
+    fn put_byte(&mut self, byte: u8) -> Result<(), NoMemory>
+        ensures ok { OnOk result (self.new ≡ self.old ++ byte ∷ []) }
+        ensures keeps { IsFront self.old self.new }
+        ensures within { IsFront self.new (self.old ++ byte ∷ []) }
+        ensures err { OnErr result (self.new ≡ self.old) }
+    {
+        self.bytes.push(byte)?;
+        Ok(())
+    }
+
     /// A word, after one space unless it begins a line.
     pub fn word(&mut self, text: &[u8]) -> Result<(), NoMemory>
         ensures ok { OnOk result (self.new ≡ with_word self.old text.now) }
@@ -102,7 +114,7 @@ impl Report {
         if self.begins_line() {
             return self.put(text);
         }
-        self.put(b" ")?;
+        self.put_byte(b' ')?;
         self.put(text)
     }
 
@@ -133,7 +145,7 @@ impl Report {
         ensures within { IsFront self.new (self.old ++ 10 ∷ []) }
         ensures err { OnErr result (self.new ≡ self.old) }
     {
-        self.put(b"\n")
+        self.put_byte(b'\n')
     }
 
     fn piece(&mut self, piece: &Piece<'_>) -> Result<(), NoMemory>

@@ -1,6 +1,5 @@
-use Rattle.std.proofs.Common.{length, sym, subst}
-use Rattle.std.specs.List.{All, AllByRecursion}
-use Rattle.onll_words.specs.declared.line.Line.{Line}
+use Rattle.std.proofs.Common.{length, sym, subst, ◌∙◌}
+use Rattle.std.specs.List.{AllByRecursion}
 use Rattle.onll_log.specs.Encoding.{log_lines}
 use Rattle.onll_log.specs.Log.{free_of}
 use Rattle.onll_outside.specs.LineFiles.{IsWholeLine}
@@ -11,7 +10,7 @@ use Rattle.onll_runner.proofs.report.image_of.Goals as goal
 pub returns-clause-whole : goal.returns-clause-whole
 returns-clause-whole g c =
     let log = c.args.log.now in
-    let whole = words_whole c.in_ok-image.image.items (subst (All (λ (line : Line). IsWholeLine line.w)) c.deref.ensures.value c.whole_lines.ensures) in
+    let whole = words_whole c.as_slice.result.now c.whole_lines.ensures in
     subst (AllByRecursion IsWholeLine) (sym c.device.ensures.holds.read)
     (whole_to_end (log_lines log.head log.entries) (free_of (length (g.P.Pmem.means log.device).read) log.entries)
-    (subst (AllByRecursion IsWholeLine) c.in_ok-image.ensures.lines whole))
+    (subst (AllByRecursion IsWholeLine) (c.as_slice.ensures ∙ c.in_ok-image.ensures.lines) whole))

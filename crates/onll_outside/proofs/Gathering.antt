@@ -8,7 +8,7 @@ use Rattle.onll_words.specs.Lines.{bytes_of_words, words_of_bytes}
 use Rattle.onll_words.proofs.LineBytes.{bytes_of_words-words_of_bytes}
 use Rattle.onll_words.proofs.WordBytes.{Bytes, dropped}
 use Rattle.onll_pmem.specs.Device.{zero_line, zero_lines, line_at}
-use Rattle.onll_pmem.proofs.Fronts.{length-front_view}
+use Rattle.onll_pmem.proofs.Fronts.{length-followed}
 use Rattle.onll_outside.specs.Views.{with_zeros, image_bytes}
 use Rattle.onll_outside.specs.LineFiles.{IsWholeLine, EndsInWords, IsGathered, HasLines}
 
@@ -66,7 +66,7 @@ module _ (front new : List (List ℕ)) (count k : ℕ) (chunks : List (List ℕ)
   taken_long = length-take-le k lines (omega (arith, fits, length-map chunks words_of_bytes))
 
   long : length new ≡ count + k
-  long = ap length same ∙ (length-append (with_zeros front count) (take k lines) ∙ omega (arith, length-front_view front count within, taken_long))
+  long = ap length same ∙ (length-append (with_zeros front count) (take k lines) ∙ omega (arith, length-followed zero_line front count within, taken_long))
 
   pub gathered_lines : with_zeros new (count + length chunks) ≡ with_zeros front count ++ map words_of_bytes chunks
   gathered_lines =

@@ -4,7 +4,7 @@ use Rattle.onll_words.specs.declared.line.Line.{Line}
 use Rattle.onll_pmem.specs.Device.{zero_line}
 use Rattle.onll_pmem.specs.Pmem.{words_of}
 use Rattle.onll_pmem.proofs.Lines.{length-words_of}
-use Rattle.onll_pmem.proofs.Fronts.{filled_view}
+use Rattle.onll_pmem.proofs.Fronts.{followed-more}
 use Rattle.onll_outside.specs.Views.{with_zeros}
 use Rattle.onll_outside.proofs.gather.ended.Goals as goal
 
@@ -16,4 +16,4 @@ returns-clause-lines c =
     let none : length old ≡ 0 = search rules in
     let pushed : c.push.new.self.items ≡ old ++ one ∷ [] = search rules in
     ap (λ ls. with_zeros (words_of ls) count) pushed
-    ∙ (ap (λ ls. with_zeros ls count) (map-append (λ (line : Line). line.w) old (one ∷ [])) ∙ filled_view (words_of old) 1 count (omega (arith, none, length-words_of old)))
+    ∙ (ap (λ ls. with_zeros ls count) (map-append (λ (line : Line). line.w) old (one ∷ [])) ∙ followed-more zero_line (words_of old) 1 count (omega (arith, none, length-words_of old)))

@@ -1,6 +1,6 @@
 -- The lines that decide what an image holds stand for it.
 
-use Rattle.std.proofs.Common.{ℕ, ◌≡◌, ◌-◌, ◌≤◌, List, [], ◌++◌, length, take, sym, ◌∙◌, subst, arith}
+use Rattle.std.proofs.Common.{ℕ, ◌≡◌, ◌-◌, ◌≤◌, List, [], length, take, sym, ◌∙◌, subst, arith}
 use Rattle.std.specs.Prelude.{IsSome}
 use Rattle.std.proofs.lemmas.List.{length-take}
 use Rattle.onll_log.specs.Grammar.{content_of, format_in}

@@ -1,6 +1,5 @@
-use Rattle.std.proofs.Common.{◌≡◌, ◌++◌, ◌∷◌, [], ap, sym, ◌∙◌, append-nil, rules}
+use Rattle.std.proofs.Common.{◌∙◌, rules}
 use Rattle.std.specs.Vec.Iter.{into_iter_items}
-use Rattle.onll_task.specs.Images.{images_in}
 use Rattle.onll_task.proofs.ImageFiles.{lines_more}
 use Rattle.onll_task.proofs.images.into_lines.Goals as goal
 

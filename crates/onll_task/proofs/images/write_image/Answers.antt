@@ -1,11 +1,6 @@
-use Rattle.std.proofs.Common.{◌≡◌, ap, sym, ◌∙◌, subst}
+use Rattle.std.proofs.Common.{subst}
 use Rattle.onll_pmem.specs.Pmem.{words_of}
-use Rattle.onll_log.specs.Grammar.{content_of}
-use Rattle.onll_log.specs.Tested.{used_in}
-use Rattle.onll_outside.specs.Views.{with_zeros}
-use Rattle.onll_task.specs.Images.{StandsFor, image_bytes}
-use Rattle.onll_task.specs.ImageNames.{image_name}
-use Rattle.onll_task.specs.Writing.{HasWritten}
+use Rattle.onll_task.specs.Images.{StandsFor}
 use Rattle.onll_task.proofs.Staying.{stands_front}
 use Rattle.onll_task.proofs.images.write_image.Goals as goal
 

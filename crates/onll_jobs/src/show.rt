@@ -4,7 +4,6 @@ ghost use Rattle.std.specs.Prelude.{◌≡◌, ◌∷◌, ◌++◌, ◌+◌, ◌
 ghost use Rattle.onll_model.specs.Limits.{greatest_code};
 ghost use Rattle.std.specs.List.{AllByRecursion};
 ghost use Rattle.onll_words.specs.Texts.{line_text};
-ghost use Rattle.onll_pmem.specs.Pmem.{words_of};
 ghost use Rattle.onll_log.specs.Grammar.{content_of, used_by};
 ghost use Rattle.onll_log.specs.Cursor.{entries_left, lines_passed, first_nodes};
 ghost use Rattle.onll_text.specs.Bytes.{begins_line, with_words, with_lines};
@@ -12,12 +11,12 @@ ghost use Rattle.onll_outside.specs.Views.{StoreView};
 ghost use Rattle.onll_jobs.specs.ShowJob.{head_line, row_line, row_lines, entry_words, entry_lines, entries_lines, count_words, content_lines, show_report, RowReads, EntryReads, ShowReads, show_data, shown_task, show_work, IsPlaced};
 ghost use Rattle.onll_task.specs.Doing.{Does};
 
-use onll_log::{EntryView, LogCursor, LogHead};
+use onll_log::{EntryView, LogCursor, LogHead, LogImage, TestedImage};
 use onll_model::Node;
 use onll_outside::Store;
 use onll_task::{Ending, Stop, image_file};
 use onll_text::{Piece, Report, object_name};
-use onll_words::{Line, NoMemory};
+use onll_words::NoMemory;
 use std::alloc::Global;
 
 /// What is said of an image that is no log.
@@ -191,11 +190,11 @@ fn report(alloc: Global, cursor: LogCursor<'_>) -> Result<Vec<u8>, NoMemory>
     Ok(out.into_bytes())
 }
 
-/// What is said of an image's lines.
-fn shown(alloc: Global, lines: &[Line]) -> Result<Vec<u8>, Stop>
-    ensures { (store : StoreView) → Does [] store store (shown_task (content_of (words_of lines.now))) result }
+/// What is said of an image.
+fn shown(alloc: Global, image: &TestedImage<'_>) -> Result<Vec<u8>, Stop>
+    ensures { (store : StoreView) → Does [] store store (shown_task (content_of image.now)) result }
 {
-    match LogCursor::open(lines) {
+    match image.open() {
         Some(cursor) => Ok(report(alloc, cursor)?),
         None => Err(Stop::says(alloc, Ending::BadLog, NOT_A_LOG)),
     }
@@ -206,7 +205,7 @@ pub(crate) fn answer<S: Store>(alloc: Global, image: &str, store: &mut S) -> Res
     ensures { Does [] (S.seen store.old) (S.seen store.new) (show_work image.now).task result }
 {
     match image_file(alloc, image, store) {
-        Ok(lines) => shown(alloc, &lines),
+        Ok(image) => shown(alloc, &image),
         Err(stop) => Err(stop),
     }
 }

@@ -1,6 +1,6 @@
 //! Images as recovery takes them: lines, and what is known of them beforehand.
 
-ghost use Rattle.std.specs.Prelude.{◌≡◌, ℕ, List, None, Some, length, max, take, MatchOption};
+ghost use Rattle.std.specs.Prelude.{◌≡◌, ℕ, List, None, Some, length, max, take, IfOk, MatchOption};
 ghost use Rattle.onll_pmem.specs.Pmem.{words_of};
 ghost use Rattle.onll_log.specs.Grammar.{content_of, format_in, used_by};
 ghost use Rattle.std.specs.Cow.{cow_slice_items};
@@ -9,7 +9,7 @@ ghost use Rattle.onll_log.specs.Tested.{used_in, entries_in, Knows};
 use crate::cursor::LogCursor;
 use crate::head::format_of;
 use onll_words::Line;
-use std::alloc::Global;
+use std::alloc::{AllocError, Global};
 use std::borrow::CowSlice;
 use std::marker::Model;
 
@@ -128,6 +128,13 @@ impl<'a> TestedImage<'a> {
         ensures { words_of result.now ≡ self.now }
     {
         self.lines.as_slice()
+    }
+
+    /// The lines, of which no more is known then.
+    pub fn into_lines(self, alloc: Global) -> Result<Vec<Line>, AllocError>
+        ensures { IfOk result (λ lines. words_of lines.items ≡ self.entry) }
+    {
+        self.lines.into_owned(alloc)
     }
 }
 

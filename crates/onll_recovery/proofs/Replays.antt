@@ -1,14 +1,14 @@
 -- The parts of a replay, one after the other.
 
-use Rattle.std.proofs.Common.{Vec, Global, ℕ, zero, suc, ◌≡◌, ◌+◌, ◌<◌, List, [], ◌∷◌, Option, None, IsSome, length, drop, get_or, map, Result, Ok, Err, refl, sym, ap, ◌∙◌, subst, arith}
+use Rattle.std.proofs.Common.{Vec, ℕ, zero, suc, ◌≡◌, ◌+◌, ◌-◌, ◌<◌, List, [], ◌∷◌, ◌++◌, Option, None, IsSome, length, drop, get_or, map, Result, Ok, Err, refl, sym, ap, ◌∙◌, subst, arith}
 use Rattle.std.proofs.lemmas.List.{drop_more, length-map}
 use Rattle.std.specs.List.{AllByRecursion, slice_get}
 use Rattle.std.specs.Option.{IfSome}
-use Rattle.std.specs.Result.{IfOk}
 use Rattle.onll_words.specs.declared.line.Line.{Line}
-use Rattle.onll_pmem.specs.Device.{image_of}
+use Rattle.onll_pmem.specs.Device.{image_of, zero_lines}
 use Rattle.onll_pmem.specs.Memory.{MemoryState}
 use Rattle.onll_pmem.specs.Pmem.{words_of}
+use Rattle.onll_pmem.proofs.Lines.{length-words_of}
 use Rattle.onll_model.specs.declared.node.Node.{Node}
 use Rattle.onll_model.specs.declared.call.Call.{Call}
 use Rattle.onll_model.specs.declared.turn.Turn.{Turn}
@@ -27,7 +27,7 @@ use Rattle.onll_text.specs.Kinds.{kind_by}
 use Rattle.onll_text.specs.Wording.{Wording}
 use Rattle.onll_text.specs.declared.schedule.Schedule.{Schedule}
 use Rattle.onll_text.specs.Schedule.{schedule_of}
-use Rattle.onll_outside.specs.Views.{StoreView}
+use Rattle.onll_outside.specs.Views.{StoreView, with_zeros}
 use Rattle.onll_task.specs.declared.answer.Stop.{Stop}
 use Rattle.onll_task.specs.ImageNames.{image_names}
 use Rattle.onll_task.specs.Images.{StandFor, writing_stage}
@@ -63,11 +63,12 @@ image_found keep [] t m lines less same is = absurd (omega (arith, less))
 image_found keep (th ∷ ths) zero m lines less same is = is ∙ ap (λ (x : MemoryState). image_of x.device keep) same
 image_found keep (th ∷ ths) (suc t) m lines less same is = image_found keep ths t m lines (omega (arith, less)) same is
 
-pub image_is : {State Op Query Reply E : Type 0} (keep : ℕ) (ths : List (CoreThread State Op Query Reply)) (t : ℕ) (m : MemoryState) (r : Result (Vec Line Global) E) → t < length ths
-    → IfSome (slice_get ths t) (λ th. m ≡ record { device = th.device; failing = [] }) → IfOk r (λ image. words_of image.items ≡ image_of m.device keep)
-    → IfOk r (λ image. words_of image.items ≡ get_or (images_of keep ths) t [])
-image_is keep ths t m (Ok image) less same is = image_found keep ths t m (words_of image.items) less same is
-image_is keep ths t m (Err e) less same is = tt
+pub image_is : {State Op Query Reply : Type 0} (keep : ℕ) (ths : List (CoreThread State Op Query Reply)) (t : ℕ) (m : MemoryState) (front : List Line) (count : ℕ) → t < length ths
+    → IfSome (slice_get ths t) (λ th. m ≡ record { device = th.device; failing = [] }) → image_of m.device keep ≡ words_of front ++ zero_lines (length m.device.read - length front)
+    → count ≡ length m.device.read → with_zeros (words_of front) count ≡ get_or (images_of keep ths) t []
+image_is keep ths t m front count less same is many =
+    let zeros : count - length (words_of front) ≡ length m.device.read - length front = omega (arith, many, length-words_of front) in
+    image_found keep ths t m (with_zeros (words_of front) count) less same (ap (λ n. words_of front ++ zero_lines n) zeros ∙ sym is)
 
 module _ {State Op Query Reply : Type 0} (b : Behaviour State Op Query Reply) (w : Wording State Op Query Reply) (logs : List ℕ) (resumed : Option ℕ) where
   -- the images were written, and the rest is said by lines that stand for them

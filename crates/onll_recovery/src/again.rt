@@ -28,7 +28,7 @@ use onll_core::{Core, ResumeFault};
 use onll_merge::StateFault;
 use onll_model::Call;
 use onll_outside::Store;
-use onll_task::{Ending, Stop, read_images, schedule_file};
+use onll_task::{Ending, Stop, into_lines, read_images, schedule_file};
 use onll_text::{Piece, Reason, Report, Schedule, Texted};
 use onll_words::Line;
 use std::alloc::Global;
@@ -132,17 +132,12 @@ fn read_on<O: Texted + Drop, S: Store>(
         Does (image_names logs.now 0 (length scripts.items)) (S.seen store.old) (S.seen store.new) task result }
 {
     match read_images(alloc, logs, scripts.len() as u64, store) {
-        Ok(images) => go_on(
-            alloc,
-            object,
-            init,
-            logs,
-            names,
-            scripts,
-            plan,
-            &images.lines,
-            store,
-        ),
+        Ok(kept) => {
+            let images = into_lines(alloc, kept.images)?;
+            go_on(
+                alloc, object, init, logs, names, scripts, plan, &images, store,
+            )
+        }
         Err(stop) => Err(stop),
     }
 }

@@ -13,20 +13,21 @@ ghost use Rattle.onll_core.specs.Outcomes.{returned_end, current_ends, ends_of, 
 ghost use Rattle.onll_merge.specs.Recovered.{recovered_in, state_recovered};
 ghost use Rattle.onll_pmem.specs.Pmem.{words_of};
 ghost use Rattle.onll_task.specs.ImageNames.{image_name, image_names};
-ghost use Rattle.onll_task.specs.Images.{StandsFor, StandFor, images_in, image_bytes, writing_stage};
+ghost use Rattle.onll_task.specs.Images.{StandsFor, StandFor, image_bytes, writing_stage};
 ghost use Rattle.onll_task.specs.Stop.{StopSays};
 ghost use Rattle.onll_task.specs.Writing.{HasWritten, CannotWrite, WriteStops};
 ghost use Rattle.onll_recovery.specs.ReplayJob.{begun_lines, flagged_lines, resumed_lines, crash_line, fenced_lines, run_lines, crash_lines, replay_report, EachReads, LogReads, RunReads, counts_of, replay_data, run_task, crash_task};
 ghost use Rattle.onll_task.specs.Doing.{Does, Begins};
-ghost use Rattle.onll_outside.specs.Views.{StoreView, SameOthers};
+ghost use Rattle.onll_outside.specs.Views.{StoreView, SameOthers, with_zeros};
 
 use crate::bad_logs::bad_logs;
-use crate::recover::put_count;
+use crate::recover::{put_count, recover_tested};
 use onll_core::{Core, Current, Returned, report_law};
-use onll_log::LogHead;
-use onll_merge::{LogCounts, Recovery, StateFault, recover_state};
+use onll_log::{LogHead, TestedImage};
+use onll_merge::{LogCounts, Recovery, StateFault};
 use onll_model::{Call, CallEnd, Node};
 use onll_outside::Store;
+use onll_pmem::Pmem;
 use onll_task::{Stop, write_image};
 use onll_text::{Piece, Report, Texted};
 use onll_words::{Line, NoMemory};
@@ -224,17 +225,17 @@ fn answer_from<O: Texted + Drop>(
     resumed: Option<u64>,
     keep: u64,
     heads: &[LogHead],
-    images: &[Vec<Line>],
+    images: &[TestedImage<'_>],
 ) -> Result<Vec<u8>, Stop>
     requires operations { AllByRecursion (λ n. IsSome (O.means.op_at n.row)) core.now.trace }
     requires heads { length heads.now ≡ length images.now }
     requires images { length images.now ≡ length core.now.threads }
-    ensures { let recovered = state_recovered O.means heads.now (images_in images.now) in
+    ensures { let recovered = state_recovered O.means heads.now images.now in
         let task = run_task O.means O.wording resumed (map script_of core.now.threads) core.now keep recovered in
         (store : StoreView) → Does [] store store task result }
 {
     let mut object = core.initial().copy(alloc)?;
-    match recover_state(alloc, &mut object, heads, images) {
+    match recover_tested(alloc, &mut object, heads, images) {
         Ok(recovery) => Ok(report(alloc, core, resumed, keep, &recovery, &object)?),
         Err(StateFault::NoMemory) => Err(Stop::NoMemory),
         Err(fault) => Err(bad_logs(alloc, fault)),
@@ -247,16 +248,23 @@ fn crash_answer<O: Texted + Drop>(
     core: &Core<O>,
     resumed: Option<u64>,
     keep: u64,
-    images: &[Vec<Line>],
+    images: &[TestedImage<'_>],
 ) -> Result<Vec<u8>, Stop>
     requires operations { AllByRecursion (λ n. IsSome (O.means.op_at n.row)) core.now.trace }
     requires images { length images.now ≡ length core.now.threads }
-    ensures { let recovered = state_recovered O.means (heads_of core.now.threads) (images_in images.now) in
+    ensures { let recovered = state_recovered O.means (heads_of core.now.threads) images.now in
         let task = run_task O.means O.wording resumed (map script_of core.now.threads) core.now keep recovered in
         (store : StoreView) → Does [] store store task result }
 {
     let heads = core.heads(alloc)?;
     answer_from(alloc, core, resumed, keep, &heads, images)
+}
+
+/// An image: these lines, and then lines of zeros, `count` in all.
+#[derive(Drop)]
+struct ImageFront {
+    lines: Vec<Line>,
+    count: u64,
 }
 
 /// The image of a thread's device that this number picks.
@@ -265,11 +273,16 @@ fn image_at<O: Texted + Drop>(
     core: &Core<O>,
     keep: u64,
     thread: u64,
-) -> Result<Vec<Line>, NoMemory>
+) -> Result<ImageFront, NoMemory>
     requires { thread < length core.now.threads }
-    ensures { IfOk result (λ image. words_of image.items ≡ get_or (images_of keep core.now.threads) thread []) }
+    ensures within { IfOk result (λ front. length front.lines.items ≤ front.count) }
+    ensures image { IfOk result (λ front. with_zeros (words_of front.lines.items) front.count
+        ≡ get_or (images_of keep core.now.threads) thread []) }
 {
-    core.device(thread).image(alloc, keep)
+    let device = core.device(thread);
+    let lines = device.image_front(alloc, keep)?;
+    let count = device.lines();
+    Ok(ImageFront { lines, count })
 }
 
 /// Writes the image of a thread's device that this number picks, and gives the lines that decide what it holds.
@@ -280,19 +293,19 @@ fn write_at<O: Texted + Drop, S: Store>(
     thread: u64,
     logs: &str,
     store: &mut S,
-) -> Result<Vec<Line>, Stop>
+) -> Result<TestedImage<'static>, Stop>
     requires { thread < length core.now.threads }
     ensures written { let image = get_or (images_of keep core.now.threads) thread [] in
         OnOk result (HasWritten (S.seen store.old) (S.seen store.new) (image_name logs.now thread) (image_bytes image)) }
     ensures stands { let image = get_or (images_of keep core.now.threads) thread [] in
-        IfOk result (λ lines. StandsFor (words_of lines.items) image) }
+        IfOk result (λ lines. StandsFor lines image) }
     ensures stop { IfErr result (λ stop. StopSays stop
         (CannotWrite (S.seen store.old) (S.seen store.new) (image_name logs.now thread))) }
     ensures cut { IfErr result (λ stop. WriteStops (S.seen store.old) (S.seen store.new) (image_name logs.now thread)) }
     ensures others { SameOthers (image_name logs.now thread) (S.seen store.old) (S.seen store.new) }
 {
     let image = image_at(alloc, core, keep, thread)?;
-    write_image(alloc, logs, thread, image, store)
+    write_image(alloc, logs, thread, image.lines, image.count, store)
 }
 
 /// Writes the images that this number picks, one after the other, and gives of each the lines that decide what it holds.
@@ -302,11 +315,11 @@ fn write_all<O: Texted + Drop, S: Store>(
     keep: u64,
     logs: &str,
     store: &mut S,
-) -> Result<Vec<Vec<Line>>, Stop>
+) -> Result<Vec<TestedImage<'static>>, Stop>
     ensures begins { let images = images_of keep core.now.threads in
         let names = image_names logs.now 0 (length images) in
         Begins names (S.seen store.old) (S.seen store.new) (writing_stage logs.now images) (λ _. tt) result }
-    ensures stand { IfOk result (λ kept. StandFor (images_in kept.items) (images_of keep core.now.threads)) }
+    ensures stand { IfOk result (λ kept. StandFor kept.items (images_of keep core.now.threads)) }
 {
     let mut kept = Vec::new(alloc);
     for thread in 0..core.threads() {

@@ -1,15 +1,16 @@
 //! The command `recover`: the trace and the state that the logs of one run give.
 
-ghost use Rattle.std.specs.Prelude.{[], ◌≡◌, ◌≤◌, ◌++◌, length, true, IfOk, OnOk, ◌<◌, ◌^◌, All, map};
+ghost use Rattle.std.specs.Prelude.{[], ◌≡◌, ◌≤◌, ◌++◌, ◌⊎◌, length, true, IfOk, OnOk, MatchResult, Ok, Err, ◌<◌, ◌^◌, All, map};
 ghost use Rattle.onll_model.specs.Limits.{most_threads};
 ghost use Rattle.std.specs.List.{flat_map};
 ghost use Rattle.onll_words.specs.Texts.{line_text};
 ghost use Rattle.onll_model.specs.Recovered.{operations_front};
+ghost use Rattle.onll_model.specs.Trace.{state_after};
+ghost use Rattle.onll_merge.specs.declared.fault.StateFault.TheVariants.{NoMemory as StateOutOfMemory};
 ghost use Rattle.onll_merge.specs.Recovered.{recovered_in, state_recovered};
 ghost use Rattle.onll_text.specs.Bytes.{begins_line, with_lines};
 ghost use Rattle.onll_text.specs.Lines.{node_lines, state_lines};
 ghost use Rattle.onll_text.specs.Reports.{NodeReads, StateReads};
-ghost use Rattle.onll_task.specs.Images.{images_in};
 ghost use Rattle.onll_task.specs.Doing.{Does};
 ghost use Rattle.onll_outside.specs.Views.{StoreView};
 ghost use Rattle.onll_text.specs.Kinds.{kind_by};
@@ -17,13 +18,13 @@ ghost use Rattle.onll_recovery.specs.RecoverJob.{HeldReads, RecoverReads, held_o
 
 use crate::bad_logs::bad_logs;
 use crate::nodes::put_nodes;
-use onll_log::LogHead;
+use onll_log::{LogHead, TestedImage};
 use onll_merge::{LogCounts, Recovery, StateFault, expected_heads, recover_state};
-use onll_model::Node;
+use onll_model::{Node, Object};
 use onll_outside::Store;
 use onll_task::{Stop, read_images};
 use onll_text::{Piece, Report, Texted};
-use onll_words::{Line, NoMemory};
+use onll_words::NoMemory;
 use std::alloc::Global;
 
 /// The line of what a thread's log holds.
@@ -94,18 +95,35 @@ fn report<O: Texted>(alloc: Global, object: &O, recovery: &Recovery) -> Result<V
     Ok(out.into_bytes())
 }
 
+/// What images give over an object as the logs of one run with these heads: each row is applied to the object.
+pub(crate) fn recover_tested<O: Object>(
+    alloc: Global,
+    object: &mut O,
+    heads: &[LogHead],
+    images: &[TestedImage<'_>],
+) -> Result<Recovery, StateFault>
+    requires { length heads.now ≡ length images.now }
+    ensures recovered { let recovered = state_recovered O.means heads.now images.now in
+        MatchResult result (λ r. recovered ≡ Ok (recovered_in r)) (λ e. (e ≡ StateOutOfMemory) ⊎ (recovered ≡ Err e)) }
+    ensures count { IfOk result (λ r. length r.logs.items ≡ length images.now) }
+    ensures rows { IfOk result (λ r. operations_front O.means r.nodes.items ≡ r.nodes.items) }
+    ensures state { IfOk result (λ r. object.new ≡ state_after O.means object.old r.nodes.items) }
+{
+    recover_state(alloc, object, heads, images)
+}
+
 /// What is said of images over the object, as logs with these heads.
 fn recover_with<O: Texted>(
     alloc: Global,
     object: &mut O,
     heads: &[LogHead],
-    images: &[Vec<Line>],
+    images: &[TestedImage<'_>],
 ) -> Result<Vec<u8>, Stop>
     requires { length heads.now ≡ length images.now }
-    ensures { let task = recovered_task O.means O.wording object.old (state_recovered O.means heads.now (images_in images.now)) in
+    ensures { let task = recovered_task O.means O.wording object.old (state_recovered O.means heads.now images.now) in
         (store : StoreView) → Does [] store store task result }
 {
-    match recover_state(alloc, object, heads, images) {
+    match recover_tested(alloc, object, heads, images) {
         Ok(recovery) => Ok(report(alloc, object, &recovery)?),
         Err(StateFault::NoMemory) => Err(Stop::NoMemory),
         Err(fault) => Err(bad_logs(alloc, fault)),
@@ -117,10 +135,10 @@ fn recover_on<O: Texted>(
     alloc: Global,
     object: &mut O,
     init: &[u8],
-    images: &[Vec<Line>],
+    images: &[TestedImage<'_>],
 ) -> Result<Vec<u8>, Stop>
     requires { (1 ≤ length images.now) × (length images.now ≤ most_threads) }
-    ensures { let task = images_task (kind_by O.means O.wording O.CODE) init.now object.old (images_in images.now) in
+    ensures { let task = images_task (kind_by O.means O.wording O.CODE) init.now object.old images.now in
         (store : StoreView) → Does [] store store task result }
 {
     let heads = expected_heads(alloc, O::CODE, init, images)?;
@@ -141,7 +159,7 @@ pub fn recover_logs<O: Texted, S: Store>(
         Does [] (S.seen store.old) (S.seen store.new) task result }
 {
     match read_images(alloc, logs, threads, store) {
-        Ok(images) => recover_on(alloc, object, init, &images.lines),
+        Ok(images) => recover_on(alloc, object, init, &images.images),
         Err(stop) => Err(stop),
     }
 }

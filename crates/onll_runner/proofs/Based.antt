@@ -6,6 +6,7 @@ use Rattle.onll_model.specs.declared.call.Call.{Call}
 use Rattle.onll_model.specs.Object.{Behaviour}
 use Rattle.onll_log.specs.declared.head.LogHead.{LogHead}
 use Rattle.onll_log.specs.Grammar.{content_of}
+use Rattle.onll_log.specs.Tested.{used_in}
 use Rattle.onll_core.specs.declared.fault.ResumeFault.{ResumeFault}
 use Rattle.onll_core.specs.declared.fault.ResumeFault.TheVariants.{Images, OldFormat, NotOp, TooMany, NoMemory}
 use Rattle.onll_core.specs.Created.{created_heads}
@@ -16,7 +17,7 @@ use Rattle.onll_task.specs.declared.ending.Ending.TheVariants.{Done}
 use Rattle.onll_task.specs.declared.answer.Stop.{Stop}
 use Rattle.onll_task.specs.Job.{Job}
 use Rattle.onll_task.specs.Doing.{Does}
-use Rattle.onll_task.specs.Images.{StandFor, used_in}
+use Rattle.onll_task.specs.Images.{StandFor}
 use Rattle.onll_task.specs.Running.{RunPlan, RunLeft}
 use Rattle.onll_task.specs.Stop.{StopSays}
 use Rattle.onll_task.proofs.Stages.{wider, says_does}

@@ -15,6 +15,8 @@ use Rattle.onll_log.specs.Head.{head_of, is_head}
 use Rattle.onll_log.specs.Grammar.{Content, content_of, entries_from, are_zero_lines, lines_in, used_with, used_by}
 use Rattle.onll_log.specs.ImageFile.{longest_image}
 use Rattle.onll_log.specs.Log.{IsNewest}
+use Rattle.onll_log.specs.Tested.{used_in}
+use Rattle.onll_log.proofs.Deciding.{content_zeros}
 use Rattle.onll_merge.specs.declared.counts.LogCounts.{LogCounts}
 use Rattle.onll_merge.specs.Laws.{HeadsFit}
 use Rattle.onll_merge.specs.Recovered.{log_counts}
@@ -23,9 +25,8 @@ use Rattle.onll_outside.specs.Views as views
 use Rattle.onll_run.specs.Making.{AreHeads, StandsBy, StandsAt}
 use Rattle.onll_run.specs.Ran.{IsRoomyFor, AreRoomy}
 use Rattle.onll_task.specs.ImageNames.{image_name, image_names}
-use Rattle.onll_task.specs.Images.{used_in, FilesBegin}
+use Rattle.onll_task.specs.Images.{FilesBegin}
 use Rattle.onll_task.specs.Running.{IsFrontFor, LogsStayOrWipe}
-use Rattle.onll_task.proofs.Staying.{content_zeros}
 use Rattle.onll_runner.specs.Devices.{AreReopened, AreWiped, AreHeld, AreWithin, front_by, fronts_by}
 use Rattle.onll_runner.specs.ResumeJob.{AreFitting, lines_over}
 use Rattle.onll_runner.proofs.Handing.{name_differs}

@@ -7,6 +7,7 @@ use Rattle.onll_model.specs.Calls.{updates_in}
 use Rattle.onll_log.specs.declared.head.LogHead.{LogHead}
 use Rattle.onll_log.specs.Grammar.{content_of}
 use Rattle.onll_log.specs.ImageFile.{longest_image}
+use Rattle.onll_log.specs.Tested.{used_in}
 use Rattle.onll_merge.specs.declared.counts.LogCounts.{LogCounts}
 use Rattle.onll_core.specs.declared.fault.ResumeFault.{ResumeFault}
 use Rattle.onll_core.specs.Created.{created_heads}
@@ -17,7 +18,7 @@ use Rattle.onll_text.specs.Kinds.{ObjectKind}
 use Rattle.onll_task.specs.Running.{RunPlan, RunLeft}
 use Rattle.onll_task.specs.Job.{Job}
 use Rattle.onll_task.specs.Doing.{Task, after_stage, say_task}
-use Rattle.onll_task.specs.Images.{images_stage, used_in, FilesBegin}
+use Rattle.onll_task.specs.Images.{images_stage, FilesBegin}
 use Rattle.onll_recovery.specs.AgainJob.{resume_ending, resume_text}
 use Rattle.onll_recovery.specs.ReplayJob.{scripts_stage}
 use Rattle.onll_runner.specs.RunJob.{calls_task}

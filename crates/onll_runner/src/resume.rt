@@ -24,11 +24,19 @@ use onll_merge::Recovery;
 use onll_model::Call;
 use onll_outside::{Gate, Store};
 use onll_recovery::{not_resumed, script_files};
-use onll_task::{KeptImages, Stop, read_images};
+use onll_task::{KeptImages, Stop, into_lines, read_images};
 use onll_text::Texted;
+use onll_words::Line;
 use std::alloc::Global;
 use std::sync::Wait;
 use std::thread::Threads;
+
+/// What is kept of the images of a run's logs, in their order: of each the lines that decide what it holds, and how many lines it has.
+#[derive(Drop)]
+struct KeptLines {
+    lines: Vec<Vec<Line>>,
+    counts: Vec<u64>,
+}
 
 /// Reopens the devices of logs, from which this was found, and runs scripts over them.
 fn go_on<R: Threads + Wait + Sync, O: Texted + Drop + Send + Sync, S: Store, G: Gate + Sync>(
@@ -38,7 +46,7 @@ fn go_on<R: Threads + Wait + Sync, O: Texted + Drop + Send + Sync, S: Store, G: 
     heads: &[LogHead],
     logs: &str,
     scripts: Vec<Vec<Call<O>>>,
-    images: &KeptImages,
+    images: &KeptLines,
     found: &Recovery,
     gate: &G,
     store: &mut S,
@@ -87,7 +95,7 @@ fn based_on<R: Threads + Wait + Sync, O: Texted + Drop + Send + Sync, S: Store, 
     logs: &str,
     names: &[String],
     scripts: Vec<Vec<Call<O>>>,
-    images: &KeptImages,
+    images: &KeptLines,
     gate: &G,
     store: &mut S,
 ) -> Result<Vec<u8>, Stop>
@@ -134,9 +142,13 @@ fn read_on<R: Threads + Wait + Sync, O: Texted + Drop + Send + Sync, S: Store, G
         (reopened_task k threads init.now logs.now (map string_bytes names.now) object calls) result }
 {
     match read_images(alloc, logs, scripts.len() as u64, store) {
-        Ok(images) => based_on(
-            rt, alloc, object, init, logs, names, scripts, &images, gate, store,
-        ),
+        Ok(KeptImages { images, counts }) => {
+            let lines = into_lines(alloc, images)?;
+            let kept = KeptLines { lines, counts };
+            based_on(
+                rt, alloc, object, init, logs, names, scripts, &kept, gate, store,
+            )
+        }
         Err(stop) => Err(stop),
     }
 }

@@ -3,7 +3,8 @@ use Rattle.std.proofs.lemmas.Bool.{cases_lt}
 use Rattle.std.proofs.lemmas.Bool.Decides.{nat_tests}
 use Rattle.std.proofs.Common.{ℕ, Bool, true, false, List, ◌≡◌, ◌+◌, ◌-◌, ◌*◌, ◌≤◌, length, take, arith, inl, inr, Option, Some, None, Result, Ok, Err, nat_lt, cond, refl, sym, ap, ◌∙◌, subst}
 use Rattle.std.specs.List.{AllByRecursion}
-use Rattle.onll_pmem.proofs.Fronts.{length-front_view}
+use Rattle.onll_pmem.specs.Device.{zero_line}
+use Rattle.onll_pmem.proofs.Fronts.{length-followed}
 use Rattle.onll_outside.specs.Views.{StoreView, IsFront, Gives, Holds, with_zeros, image_bytes}
 use Rattle.onll_outside.specs.LineFiles.{IsWholeLine, IsFileFront, FrontHasLines, GivesLines}
 use Rattle.onll_outside.proofs.WholeLines.{whole_to_end}
@@ -85,7 +86,7 @@ lines_held s name front count f few h = at s.tells refl
     told (Some all) e k = record { bytes = all; held = λ _. e; image = sym (ap whole_lines k.whole ∙ whole_back (with_zeros front count) k.rest each k.short) }
 
     fit : FitFile (with_zeros front count)
-    fit = record { each = each; few = subst (λ n. 64 * n ≤ longest_image) (sym (length-front_view front count f.within)) few }
+    fit = record { each = each; few = subst (λ n. 64 * n ≤ longest_image) (sym (length-followed zero_line front count f.within)) few }
 
     at : (t : Bool) → s.tells ≡ t → HoldsImage s name (with_zeros front count)
     at true e = told (s.file name) refl (h e)

@@ -5,15 +5,12 @@ use Rattle.std.specs.List.{AllByRecursion}
 use Rattle.std.specs.Int.{w64, to_le_bytes}
 use Rattle.std.specs.Simd.{first_chunks}
 use Rattle.std.proofs.lemmas.List.{take_all, take_at, drop_at, length-replicate}
-use Rattle.onll_words.specs.declared.line.Line.{Line}
 use Rattle.onll_words.specs.Lines.{bytes_of_words, words_of_bytes}
 use Rattle.onll_words.proofs.LineBytes.{words_of_bytes-bytes_of_words}
 use Rattle.onll_model.specs.Segment.{Segment}
 use Rattle.onll_model.proofs.Lists.{all_left, all_append}
 use Rattle.onll_pmem.specs.Device.{zero_lines, MixedWords, Mixed}
-use Rattle.onll_pmem.specs.Pmem.{words_of}
-use Rattle.onll_pmem.proofs.Lines.{length-words_of}
-use Rattle.onll_outside.specs.Views.{image_bytes, with_zeros}
+use Rattle.onll_outside.specs.Views.{image_bytes}
 use Rattle.onll_outside.specs.LineFiles.{IsWholeLine}
 use Rattle.onll_outside.proofs.WholeLines.{zeros_whole}
 use Rattle.onll_log.specs.declared.head.LogHead.{LogHead}
@@ -85,12 +82,6 @@ image_lines-image_bytes lines h =
     let long = length-image_bytes lines h.each in
     let few = h.few in
     ap whole_lines (take_all longest_image (image_bytes lines) (omega (arith, long, few)) ∙ sym (append-nil (image_bytes lines))) ∙ whole_back lines [] h.each (omega arith)
-
--- no zeros follow where all lines are given
-pub no_zeros : (lines : List Line) → with_zeros (words_of lines) (length lines) ≡ words_of lines
-no_zeros lines =
-    let none : length lines - length (words_of lines) ≡ 0 = omega (arith, length-words_of lines) in
-    ap (λ n. words_of lines ++ zero_lines n) none ∙ append-nil (words_of lines)
 
 -- ---- mixes
 mixed_word : (x y z : ℕ) → (z ≡ x) ⊎ (z ≡ y) → x < 2 ^ 64 → y < 2 ^ 64 → z < 2 ^ 64

@@ -1,6 +1,6 @@
 -- Reading the images of threads, one after the other.
 
-use Rattle.std.proofs.Common.{Vec, Global, ℕ, zero, suc, List, [], ◌∷◌, ◌++◌, ◌≡◌, ◌+◌, ◌-◌, ◌*◌, ◌<◌, ◌≤◌, length, map, ap, sym, refl, subst, ◌∙◌, arith, Ok, Err}
+use Rattle.std.proofs.Common.{Vec, Global, ℕ, zero, suc, List, [], ◌∷◌, ◌++◌, ◌≡◌, ◌+◌, ◌-◌, ◌*◌, ◌<◌, ◌≤◌, length, map, ap, sym, refl, subst, ◌∙◌, append_assoc, arith, Ok, Err}
 use Rattle.std.specs.List.{All}
 use Rattle.std.proofs.lemmas.List.{map-append}
 use Rattle.std.proofs.lemmas.List.Elements.{All-from_recursion, recursion_from_All}
@@ -29,6 +29,14 @@ names_more logs i threads less =
 -- one image more
 pub images_more : (images more : List (Vec Line Global)) (image : Vec Line Global) → more ≡ images ++ image ∷ [] → images_in more ≡ images_in images ++ words_of image.items ∷ []
 images_more images more image e = ap images_in e ∙ map-append (λ (image : Vec Line Global). words_of image.items) images (image ∷ [])
+
+-- the lines of one image more, before the images that are left
+pub lines_more : (lines more : List (Vec Line Global)) (line : Vec Line Global) (image : List (List ℕ)) (left before : List (List (List ℕ))) → more ≡ lines ++ line ∷ [] → words_of line.items ≡ image → before ≡ image ∷ left
+    → images_in more ++ left ≡ images_in lines ++ before
+lines_more lines more line image left before e same split =
+    ap (λ ls. ls ++ left) (images_more lines more line e)
+    ∙ (append_assoc (images_in lines) (words_of line.items ∷ []) left
+    ∙ (ap (λ i. images_in lines ++ i ∷ left) same ∙ ap (λ ls. images_in lines ++ ls) (sym split)))
 
 -- a job that reads images and goes on so never says the usage
 pub reading_images_never : (logs : List ℕ) (threads i : ℕ) (next : List (List (List ℕ)) → Job) → ((images : List (List (List ℕ))) → Never Usage (next images))
@@ -64,17 +72,17 @@ keep_more lines images counts l image n h k = record {
 }
 
 abbrev pub KeepsImage : KeptImage → List (List ℕ) → Type 0
-KeepsImage kept image = KeepsOf (words_of kept.lines.items) kept.count image
+KeepsImage kept image = KeepsOf kept.image kept.count image
 
 pub standing_next : {all before left : List (List ℕ)} {name : List ℕ} {store mid new : StoreView} {lines more : List (List (List ℕ))} {counts longer : List ℕ} {kept : KeptImage}
     → ReadStanding all before store mid lines counts → before ≡ name ∷ left → BeginsBy [] mid new (lines_stage name) KeepsImage (Ok kept)
-    → more ≡ lines ++ words_of kept.lines.items ∷ [] → longer ≡ counts ++ kept.count ∷ [] → ReadStanding all left store new more longer
+    → more ≡ lines ++ kept.image ∷ [] → longer ≡ counts ++ kept.count ∷ [] → ReadStanding all left store new more longer
 standing_next {all} {left = left} {store = store} {new = new} {lines} {more} {counts} {longer} {kept} r split b e f =
     let image = (by_given b).value in
     record {
       images = r.images ++ image ∷ [];
-      keep = subst (λ ls. KeepOf ls longer (r.images ++ image ∷ [])) (sym e) (subst (λ ns. KeepOf (lines ++ words_of kept.lines.items ∷ []) ns (r.images ++ image ∷ [])) (sym f)
-          (keep_more lines r.images counts (words_of kept.lines.items) image kept.count r.keep (by_given b).fits));
+      keep = subst (λ ls. KeepOf ls longer (r.images ++ image ∷ [])) (sym e) (subst (λ ns. KeepOf (lines ++ kept.image ∷ []) ns (r.images ++ image ∷ [])) (sym f)
+          (keep_more lines r.images counts kept.image image kept.count r.keep (by_given b).fits));
       so = value_next r.so split (by_begins b) refl;
     }
 
@@ -84,8 +92,8 @@ pub standing_stops : {all before left : List (List ℕ)} {name : List ℕ} {stor
 standing_stops {W = W} r split b =
     stops_by (value_stops {V = List (List ℕ)} {value = λ x. x} {W = W} {made = λ w. r.images} r.so split (by_stops b))
 
-pub standing_read : {all left : List (List ℕ)} {store new : StoreView} (kept : KeptImages) → ReadStanding all left store new (images_in kept.lines.items) kept.counts.items → left ≡ []
-    → BeginsBy [] store new (each_stage lines_stage all) (λ (k : KeptImages) images. KeepOf (images_in k.lines.items) k.counts.items images) (Ok kept)
+pub standing_read : {all left : List (List ℕ)} {store new : StoreView} (kept : KeptImages) → ReadStanding all left store new kept.images.items kept.counts.items → left ≡ []
+    → BeginsBy [] store new (each_stage lines_stage all) (λ (k : KeptImages) images. KeepOf k.images.items k.counts.items images) (Ok kept)
 standing_read kept r none = begins_by kept r.images r.keep (values_read {value = λ (u : Unit {0}). r.images} tt r.so none)
 
 -- one number of lines more

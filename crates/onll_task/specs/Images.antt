@@ -1,13 +1,14 @@
 -- The images of the logs of one run: one file for each thread.
 
 use Rattle.std.specs.List.{flat_map}
-use Rattle.std.specs.Prelude.{ℕ, suc, ◌≡◌, ◌≤◌, List, [], ◌∷◌, length, map, max, Option, Some, None, IsSome}
+use Rattle.std.specs.Prelude.{ℕ, suc, ◌≡◌, ◌≤◌, List, [], ◌∷◌, length, map, IsSome}
 use Rattle.std.specs.declared.vec.Vec.{Vec}
 use Rattle.std.specs.declared.alloc.Global.{Global}
 use Rattle.onll_words.specs.declared.line.Line.{Line}
 use Rattle.onll_words.specs.Lines.{bytes_of_words}
 use Rattle.onll_pmem.specs.Pmem.{words_of}
-use Rattle.onll_log.specs.Grammar.{Content, content_of, used_by, format_in}
+use Rattle.onll_log.specs.Grammar.{content_of, format_in}
+use Rattle.onll_log.specs.Tested.{used_in}
 use Rattle.onll_outside.specs.Views.{StoreView, BeginsWith}
 use Rattle.onll_task.specs.ImageNames.{image_name, image_names}
 use Rattle.onll_task.specs.Job.{Job, Write}
@@ -22,11 +23,6 @@ abbrev pub image_bytes : List (List ℕ) → List ℕ
 image_bytes lines = flat_map bytes_of_words lines
 
 -- ---- what stays of an image
--- how many lines decide what an image holds: those of its head and its entries, one where it is all zero, none where it is no log
-abbrev pub used_in : Option Content → ℕ
-used_in None = 0
-used_in (Some content) = max 1 (used_by content)
-
 -- these lines hold as a log what the image holds, are read by its format, and are no more than decide it
 pub record StandsFor (lines image : List (List ℕ)) : Type 0 where
   pub content : content_of lines ≡ content_of image

@@ -1,7 +1,7 @@
 //! The images of the logs of one run: a file for each thread.
 
 ghost use Rattle.std.specs.Prelude.{◌≡◌, ◌≤◌, ◌*◌, [], length, All, string_bytes, IfOk, IfErr, OnOk};
-ghost use Rattle.onll_outside.specs.Views.{SameOthers, BeginsWith};
+ghost use Rattle.onll_outside.specs.Views.{SameOthers, BeginsWith, with_zeros};
 ghost use Rattle.onll_pmem.specs.Pmem.{words_of};
 ghost use Rattle.onll_log.specs.ImageFile.{longest_image};
 ghost use Rattle.onll_task.specs.ImageNames.{image_name, image_names};
@@ -12,8 +12,8 @@ ghost use Rattle.onll_task.specs.Doing.{BeginsBy, lines_stage};
 
 use crate::answer::Stop;
 use crate::texts::{KeptImage, kept_image, write_lines};
-use crate::used_lines::cut_to_used;
 use itoa::Buffer;
+use onll_log::TestedImage;
 use onll_outside::Store;
 use onll_words::Line;
 use std::alloc::{AllocError, Global};
@@ -38,9 +38,9 @@ fn read_image<S: Store>(
     store: &mut S,
 ) -> Result<KeptImage, Stop>
     ensures begins { let stage = lines_stage (image_name logs.now thread) in
-        BeginsBy [] (S.seen store.old) (S.seen store.new) stage (λ kept image. KeepsOf (words_of kept.lines.items) kept.count image) result }
+        BeginsBy [] (S.seen store.old) (S.seen store.new) stage (λ kept image. KeepsOf kept.image kept.count image) result }
     ensures front { IfOk result (λ kept. BeginsWith (S.seen store.new) (image_name logs.now thread)
-        (image_bytes (words_of kept.lines.items))) }
+        (image_bytes kept.image)) }
     ensures few { IfOk result (λ kept. 64 * kept.count ≤ longest_image) }
 {
     let name = image_name(alloc, logs, thread)?;
@@ -51,7 +51,7 @@ fn read_image<S: Store>(
 #[derive(Drop)]
 pub struct KeptImages {
     /// Of each the lines that decide what it holds as a log.
-    pub lines: Vec<Vec<Line>>,
+    pub images: Vec<TestedImage<'static>>,
     /// How many lines each has.
     pub counts: Vec<u64>,
 }
@@ -65,72 +65,97 @@ pub fn read_images<S: Store>(
     store: &mut S,
 ) -> Result<KeptImages, Stop>
     ensures begins { let stage = images_stage logs.now threads in
-        BeginsBy [] (S.seen store.old) (S.seen store.new) stage (λ kept images. KeepOf (images_in kept.lines.items) kept.counts.items images)
-        result }
-    ensures fronts { IfOk result (λ kept. FilesBegin logs.now 0 (images_in kept.lines.items) (S.seen store.new)) }
+        BeginsBy [] (S.seen store.old) (S.seen store.new) stage (λ kept images. KeepOf kept.images.items kept.counts.items images) result }
+    ensures fronts { IfOk result (λ kept. FilesBegin logs.now 0 kept.images.items (S.seen store.new)) }
     ensures few { IfOk result (λ kept. All (λ count. 64 * count ≤ longest_image) kept.counts.items) }
-    ensures count { IfOk result (λ kept. length kept.lines.items ≡ threads) }
+    ensures count { IfOk result (λ kept. length kept.images.items ≡ threads) }
     ensures many { IfOk result (λ kept. length kept.counts.items ≡ threads) }
 {
-    let mut lines = Vec::new(alloc);
+    let mut images = Vec::new(alloc);
     let mut counts = Vec::new(alloc);
     for thread in 0..threads {
         match read_image(alloc, logs, thread, store) {
-            Ok(
-                KeptImage {
-                    lines: image,
-                    count,
-                },
-            ) => {
-                lines.push(image)?;
+            Ok(KeptImage { image, count }) => {
+                images.push(image)?;
                 counts.push(count)?;
             }
             Err(stop) => return Err(stop),
         }
     }
-    Ok(KeptImages { lines, counts })
+    Ok(KeptImages { images, counts })
 }
 
-/// Writes lines as the image of a thread's log, or gives what is said in its place.
+/// The lines of images.
+pub fn into_lines(
+    alloc: Global,
+    images: Vec<TestedImage<'_>>,
+) -> Result<Vec<Vec<Line>>, AllocError>
+    ensures { IfOk result (λ lines. images_in lines.items ≡ images.entry.items) }
+{
+    let mut lines = Vec::new(alloc);
+    for image in images {
+        lines.push(image.into_lines(alloc)?)?;
+    }
+    Ok(lines)
+}
+
+/// Lines that have, before as many zeros as make up an image of so many lines, one at least where the image has one.
+fn with_one(mut front: Vec<Line>, count: u64) -> Result<Vec<Line>, AllocError>
+    requires { length front.items ≤ count }
+    ensures within { IfOk result (λ lines. length lines.items ≤ count) }
+    ensures some { IfOk result (λ lines. words_of lines.items ≡ [] → count ≡ 0) }
+    ensures same { IfOk result (λ lines. with_zeros (words_of lines.items) count ≡ with_zeros (words_of front.items) count) }
+{
+    if count == 0 || !front.is_empty() {
+        return Ok(front);
+    }
+    front.push(Line { w: [0; 8] })?;
+    Ok(front)
+}
+
+/// Writes these lines, and then lines of zeros, `count` in all, as the image of a thread's log, or gives what is said in its place.
 fn write_thread<S: Store>(
     alloc: Global,
     logs: &str,
     thread: u64,
-    image: &[Line],
+    front: &[Line],
+    count: u64,
     store: &mut S,
 ) -> Result<(), Stop>
+    requires { length front.now ≤ count }
     ensures written { OnOk result (HasWritten (S.seen store.old) (S.seen store.new) (image_name logs.now thread)
-        (image_bytes (words_of image.now))) }
+        (image_bytes (with_zeros (words_of front.now) count))) }
     ensures stop { IfErr result (λ stop. StopSays stop
         (CannotWrite (S.seen store.old) (S.seen store.new) (image_name logs.now thread))) }
     ensures cut { IfErr result (λ stop. WriteStops (S.seen store.old) (S.seen store.new) (image_name logs.now thread)) }
     ensures others { SameOthers (image_name logs.now thread) (S.seen store.old) (S.seen store.new) }
 {
     let name = image_name(alloc, logs, thread)?;
-    write_lines(alloc, &name, image, store)
+    write_lines(alloc, &name, front, count, store)
 }
 
-/// Writes the image of a thread's log, and gives the lines that decide what it holds; or gives what is said in its place.
+/// Writes these lines, and then lines of zeros, `count` in all, as the image of a thread's log, and gives the lines that decide what the
+/// image holds; or gives what is said in its place.
 pub fn write_image<S: Store>(
     alloc: Global,
     logs: &str,
     thread: u64,
-    mut image: Vec<Line>,
+    front: Vec<Line>,
+    count: u64,
     store: &mut S,
-) -> Result<Vec<Line>, Stop>
+) -> Result<TestedImage<'static>, Stop>
+    requires { length front.items ≤ count }
     ensures written { OnOk result (HasWritten (S.seen store.old) (S.seen store.new) (image_name logs.now thread)
-        (image_bytes (words_of image.items))) }
-    ensures stands { IfOk result (λ lines. StandsFor (words_of lines.items) (words_of image.items)) }
+        (image_bytes (with_zeros (words_of front.items) count))) }
+    ensures stands { IfOk result (λ lines. StandsFor lines (with_zeros (words_of front.items) count)) }
     ensures stop { IfErr result (λ stop. StopSays stop
         (CannotWrite (S.seen store.old) (S.seen store.new) (image_name logs.now thread))) }
     ensures cut { IfErr result (λ stop. WriteStops (S.seen store.old) (S.seen store.new) (image_name logs.now thread)) }
     ensures others { SameOthers (image_name logs.now thread) (S.seen store.old) (S.seen store.new) }
 {
-    match write_thread(alloc, logs, thread, &image, store) {
-        Ok(()) => {
-            cut_to_used(&mut image);
-            Ok(image)
-        }
+    let lines = with_one(front, count)?;
+    match write_thread(alloc, logs, thread, &lines, count, store) {
+        Ok(()) => Ok(TestedImage::of_lines(lines)),
         Err(stop) => Err(stop),
     }
 }

@@ -6,9 +6,8 @@ mod answer;
 mod ending;
 mod images;
 mod texts;
-mod used_lines;
 
 pub use answer::Stop;
 pub use ending::{Ending, Exit};
-pub use images::{KeptImages, image_name, read_images, write_image};
+pub use images::{KeptImages, image_name, into_lines, read_images, write_image};
 pub use texts::{InitText, image_file, init_file, schedule_file, script_file};

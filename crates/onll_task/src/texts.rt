@@ -1,8 +1,8 @@
 //! Files read as texts, each by its grammar, and images as lines; and lines written as files.
 
-ghost use Rattle.std.specs.Prelude.{◌≡◌, [], ◌≤◌, ◌*◌, IfOk, IfErr, OnOk};
+ghost use Rattle.std.specs.Prelude.{◌≡◌, [], ◌≤◌, ◌*◌, length, IfOk, IfErr, OnOk};
 ghost use Rattle.onll_model.specs.Limits.{most_updates};
-ghost use Rattle.onll_outside.specs.Views.{Gives, SameFiles, SameOthers, BeginsWith};
+ghost use Rattle.onll_outside.specs.Views.{Gives, SameFiles, SameOthers, BeginsWith, with_zeros};
 ghost use Rattle.onll_outside.specs.LineFiles.{IsFileFront, GivesLines};
 ghost use Rattle.onll_model.specs.Calls.{updates_in};
 ghost use Rattle.onll_pmem.specs.Pmem.{words_of};
@@ -17,8 +17,7 @@ ghost use Rattle.onll_task.specs.Images.{StandsFor, KeepsOf, image_bytes};
 ghost use Rattle.onll_log.specs.ImageFile.{longest_image};
 
 use crate::answer::Stop;
-use crate::used_lines::cut_to_used;
-use onll_log::LONGEST_IMAGE;
+use onll_log::{LONGEST_IMAGE, TestedImage};
 use onll_model::Call;
 use onll_outside::{FileLines, OutsideFault, Store};
 use onll_text::{
@@ -125,7 +124,7 @@ pub fn script_file<O: Texted, S: Store>(
 #[derive(Drop)]
 pub struct KeptImage {
     /// The lines that decide what it holds as a log.
-    pub lines: Vec<Line>,
+    pub image: TestedImage<'static>,
     /// How many lines it has.
     pub count: u64,
 }
@@ -133,29 +132,30 @@ pub struct KeptImage {
 /// What is kept of what a file holds as the image of a log, or what is said in its place. The file begins with the lines that are kept.
 pub fn kept_image<S: Store>(alloc: Global, name: &str, store: &mut S) -> Result<KeptImage, Stop>
     ensures begins { let stage = lines_stage name.now in
-        BeginsBy [] (S.seen store.old) (S.seen store.new) stage (λ kept image. KeepsOf (words_of kept.lines.items) kept.count image) result }
-    ensures front { IfOk result (λ kept. BeginsWith (S.seen store.new) name.now (image_bytes (words_of kept.lines.items))) }
+        BeginsBy [] (S.seen store.old) (S.seen store.new) stage (λ kept image. KeepsOf kept.image kept.count image) result }
+    ensures front { IfOk result (λ kept. BeginsWith (S.seen store.new) name.now (image_bytes kept.image)) }
     ensures few { IfOk result (λ kept. 64 * kept.count ≤ longest_image) }
 {
     let read = match read_lines(alloc, name, LONGEST_IMAGE as u64, store) {
         Ok(read) => read,
         Err(stop) => return Err(stop),
     };
-    let FileLines {
-        front: mut lines,
-        count,
-    } = read;
-    cut_to_used(&mut lines);
-    Ok(KeptImage { lines, count })
+    let FileLines { front, count } = read;
+    let image = TestedImage::of_lines(front);
+    Ok(KeptImage { image, count })
 }
 
 /// The lines that decide what a file holds as the image of a log, or what is said in their place.
-pub fn image_file<S: Store>(alloc: Global, name: &str, store: &mut S) -> Result<Vec<Line>, Stop>
+pub fn image_file<S: Store>(
+    alloc: Global,
+    name: &str,
+    store: &mut S,
+) -> Result<TestedImage<'static>, Stop>
     ensures { let stage = lines_stage name.now in
-        BeginsBy [] (S.seen store.old) (S.seen store.new) stage (λ lines image. StandsFor (words_of lines.items) image) result }
+        BeginsBy [] (S.seen store.old) (S.seen store.new) stage (λ lines image. StandsFor lines image) result }
 {
     match kept_image(alloc, name, store) {
-        Ok(KeptImage { lines, .. }) => Ok(lines),
+        Ok(KeptImage { image, .. }) => Ok(image),
         Err(stop) => Err(stop),
     }
 }
@@ -182,19 +182,22 @@ pub fn schedule_file<S: Store>(
     }
 }
 
-/// Makes these lines the file of a name, or gives what is said in its place.
+/// Makes these lines, and then lines of zeros, `count` in all, the file of a name, or gives what is said in its place.
 pub fn write_lines<S: Store>(
     alloc: Global,
     name: &str,
-    lines: &[Line],
+    front: &[Line],
+    count: u64,
     store: &mut S,
 ) -> Result<(), Stop>
-    ensures written { OnOk result (HasWritten (S.seen store.old) (S.seen store.new) name.now (image_bytes (words_of lines.now))) }
+    requires { length front.now ≤ count }
+    ensures written { OnOk result (HasWritten (S.seen store.old) (S.seen store.new) name.now
+        (image_bytes (with_zeros (words_of front.now) count))) }
     ensures stop { IfErr result (λ stop. StopSays stop (CannotWrite (S.seen store.old) (S.seen store.new) name.now)) }
     ensures cut { IfErr result (λ stop. WriteStops (S.seen store.old) (S.seen store.new) name.now) }
     ensures others { SameOthers name.now (S.seen store.old) (S.seen store.new) }
 {
-    match store.write_lines(alloc, name, lines, lines.len() as u64) {
+    match store.write_lines(alloc, name, front, count) {
         Ok(()) => Ok(()),
         Err(OutsideFault::Failed) => Err(Stop::unwritten(alloc, name)),
         Err(OutsideFault::NoMemory) => Err(Stop::NoMemory),

@@ -1,14 +1,13 @@
-use Rattle.onll_pmem.specs.Pmem.{words_of}
 use Rattle.onll_jobs.proofs.Shown.{content_placed, content_object}
 use Rattle.onll_jobs.proofs.ShowDetermined.{show_says}
 use Rattle.onll_task.proofs.Stages.{report_does}
 use Rattle.onll_jobs.proofs.show.shown.Goals as goal
 
 pub report-requires-clause-placed : goal.report-requires-clause-placed
-report-requires-clause-placed c = content_placed (words_of c.args.lines.now) c.in-Some.cursor.content c.in-Some.ensures.0
+report-requires-clause-placed c = content_placed c.args.image.now c.in-Some.cursor.content c.in-Some.ensures.0
 
 pub report-requires-clause-object : goal.report-requires-clause-object
-report-requires-clause-object c = content_object (words_of c.args.lines.now) c.in-Some.cursor.content c.in-Some.ensures.0
+report-requires-clause-object c = content_object c.args.image.now c.in-Some.cursor.content c.in-Some.ensures.0
 
 pub returns-in_ok-report-in-Some : goal.returns-in_ok-report-in-Some
 returns-in_ok-report-in-Some c store =

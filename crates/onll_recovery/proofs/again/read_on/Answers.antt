@@ -4,15 +4,14 @@ use Rattle.onll_core.specs.declared.fault.ResumeFault.{ResumeFault}
 use Rattle.onll_core.specs.Core.{CoreState}
 use Rattle.onll_core.specs.Resume.{resumed}
 use Rattle.onll_task.specs.ImageNames.{image_names}
-use Rattle.onll_task.specs.Images.{images_in}
 use Rattle.onll_task.specs.Doing.{Does}
 use Rattle.onll_recovery.specs.AgainJob.{resumed_task}
 use Rattle.onll_recovery.proofs.Resumes.{resumed_stands}
-use Rattle.onll_task.proofs.Stages.{read_does, unread_does, by_given, by_begins, by_stops}
+use Rattle.onll_task.proofs.Stages.{read_does, unread_does, none_does, by_given, by_begins, by_stops}
 use Rattle.onll_recovery.proofs.again.read_on.Goals as goal
 
-pub returns-in-Ok : goal.returns-in-Ok
-returns-in-Ok g c =
+pub returns-in_ok-images-in-Ok : goal.returns-in_ok-images-in-Ok
+returns-in_ok-images-in-Ok g c =
     let b = g.O.Object.means in
     let w = g.O.Texted.wording in
     let code = g.O.Object.CODE in
@@ -23,11 +22,25 @@ returns-in-Ok g c =
     let count : c.len.result ≡ length c.args.scripts.items = search rules in
     let begins = rw (count ∙ sym (length-map c.args.scripts.items (λ script. script.items))) at c.in-Ok.ensures.begins in
     let given = by_given begins in
-    let same = resumed_stands b code init c.args.object scripts (images_in c.in-Ok.images.lines.items) given.value given.fits.stand in
+    let same = resumed_stands b code init c.args.object scripts c.in-Ok.kept.images.items given.value given.fits.stand in
     let does : Result (CoreState _ _ _ _) ResumeFault → Type 0 = λ found. Does (image_names c.args.logs.now 0 (length c.args.scripts.items)) (g.S.Store.seen c.read_images.new.store) (g.S.Store.seen c.go_on.new.store)
     (resumed_task b w c.args.logs.now names scripts plan found) c.go_on.result in
     read_does (λ (images : List (List (List ℕ))). resumed_task b w c.args.logs.now names scripts plan (resumed b code init c.args.object images scripts)) (by_begins begins)
-    (subst does same (rw (sym c.deref.ensures.value) c.go_on.ensures))
+    (subst does same (rw c.in_ok-images-in-Ok.ensures at (rw c.deref.ensures.value at c.go_on.ensures)))
+
+pub returns-in_err-images-in-Ok : goal.returns-in_err-images-in-Ok
+returns-in_err-images-in-Ok g c =
+    let b = g.O.Object.means in
+    let w = g.O.Texted.wording in
+    let code = g.O.Object.CODE in
+    let init = c.args.init.now in
+    let names = map string_bytes c.args.names.now in
+    let scripts = map (λ script. script.items) c.args.scripts.items in
+    let plan = c.args.plan.now in
+    let count : c.len.result ≡ length c.args.scripts.items = search rules in
+    read_does (λ (images : List (List (List ℕ))). resumed_task b w c.args.logs.now names scripts plan (resumed b code init c.args.object images scripts))
+    (by_begins (rw (count ∙ sym (length-map c.args.scripts.items (λ script. script.items))) at c.in-Ok.ensures.begins))
+    (none_does (image_names c.args.logs.now 0 (length c.args.scripts.items)) (g.S.Store.seen c.read_images.new.store) _ c.from_residual.ensures.1)
 
 pub returns-in-Err : goal.returns-in-Err
 returns-in-Err g c =

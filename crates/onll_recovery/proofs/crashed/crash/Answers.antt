@@ -1,10 +1,6 @@
-use Rattle.std.proofs.Common.{Vec, Global, map, length, ap, sym, ◌∙◌}
-use Rattle.std.proofs.lemmas.List.{length-map}
-use Rattle.onll_words.specs.declared.line.Line.{Line}
-use Rattle.onll_pmem.specs.Pmem.{words_of}
+use Rattle.std.proofs.Common.{map, length, ap, ◌∙◌}
 use Rattle.onll_core.specs.Outcomes.{script_of}
 use Rattle.onll_core.specs.Crash.{images_of}
-use Rattle.onll_task.specs.Images.{images_in}
 use Rattle.onll_recovery.proofs.Replays.{images_count, crash_does, crash_stops}
 use Rattle.onll_recovery.proofs.Standing.{stand_many}
 use Rattle.onll_recovery.proofs.crashed.crash.Goals as goal
@@ -12,14 +8,12 @@ use Rattle.onll_recovery.proofs.crashed.crash.Goals as goal
 pub crash_answer-requires-clause-images : goal.crash_answer-requires-clause-images
 crash_answer-requires-clause-images g c κs within =
     let core = c.args.core.now in
-    let images = c.in-Ok.images.items in
-    ap length c.deref.ensures.value
-    ∙ (sym (length-map images (λ (image : Vec Line Global). words_of image.items)) ∙ (stand_many (images_in images) (images_of c.args.keep core.threads) c.in-Ok.ensures.stand ∙ images_count core c.args.keep))
+    ap length c.deref.ensures.value ∙ (stand_many c.in-Ok.images.items (images_of c.args.keep core.threads) c.in-Ok.ensures.stand ∙ images_count core c.args.keep)
 
 pub returns-in-Ok : goal.returns-in-Ok
 returns-in-Ok g c =
     let core = c.args.core.now in
-    crash_does g.O.Object.means g.O.Texted.wording c.args.logs.now c.args.resumed (map script_of core.threads) core c.args.keep (images_in c.in-Ok.images.items) c.crash_answer.result
+    crash_does g.O.Object.means g.O.Texted.wording c.args.logs.now c.args.resumed (map script_of core.threads) core c.args.keep c.in-Ok.images.items c.crash_answer.result
     c.in-Ok.ensures.stand c.in-Ok.ensures.begins (rw c.deref.ensures.value at c.crash_answer.ensures)
 
 pub returns-in-Err : goal.returns-in-Err

@@ -1,8 +1,6 @@
 use Rattle.std.proofs.Common.{[], ◌∷◌, ◌++◌, ◌≡◌, ◌≤◌, ◌<◌, ◌+◌, get_or, length, refl, sym, subst, arith, rules}
-use Rattle.onll_pmem.specs.Pmem.{words_of}
 use Rattle.onll_core.specs.Crash.{images_of}
-use Rattle.onll_task.specs.Images.{StandFor, images_in}
-use Rattle.onll_task.proofs.ImageFiles.{images_more}
+use Rattle.onll_task.specs.Images.{StandFor}
 use Rattle.onll_task.proofs.Onwards.{none_wrote, wrote_next}
 use Rattle.onll_task.proofs.Stages.{cut_begins, unwritten_begins, wrote_begins}
 use Rattle.onll_recovery.proofs.Replays.{images_count}
@@ -12,7 +10,7 @@ use Rattle.onll_recovery.proofs.crashed.write_all.Goals as goal
 pub loop-thread-init : goal.loop-thread-init
 loop-thread-init g c = record {
   so = none_wrote (g.S.Store.seen c.args.store.now) c.args.logs.now (images_of c.args.keep c.args.core.now.threads);
-  stand = subst (λ kept. StandFor (images_in kept) []) (sym c.new-kept.ensures.items) tt;
+  stand = subst (λ kept. StandFor kept []) (sym c.new-kept.ensures.items) tt;
 }
 
 pub loop-thread-preserved : goal.loop-thread-preserved
@@ -26,8 +24,7 @@ loop-thread-preserved g c =
     record {
       so = wrote_next (g.S.Store.seen c.args.store.now) (g.S.Store.seen c.loop-thread.store) (g.S.Store.seen c.write_at.new.store) c.args.logs.now images (get_or images i []) i less
           refl c.loop-thread.invariant.so c.in-Ok.ensures.written c.in-Ok.ensures.others;
-      stand = stand_next (images_in kept) (images_in c.push.new.self.items) images (words_of c.in-Ok.lines.items) i less c.loop-thread.invariant.stand c.in-Ok.ensures.stands
-          (images_more kept c.push.new.self.items c.in-Ok.lines pushed);
+      stand = stand_next kept c.push.new.self.items images c.in-Ok.lines i less c.loop-thread.invariant.stand c.in-Ok.ensures.stands pushed;
     }
 
 pub returns-in_err-push-in-Ok-clause-begins : goal.returns-in_err-push-in-Ok-clause-begins
@@ -61,4 +58,4 @@ returns-clause-stand g c =
     let images = images_of c.args.keep c.args.core.now.threads in
     let count = images_count c.args.core.now c.args.keep in
     let most : length images ≤ c.loop-thread.thread = omega (arith, count) in
-    all_stand (images_in c.loop-thread.kept.items) images c.loop-thread.thread most c.loop-thread.invariant.stand
+    all_stand c.loop-thread.kept.items images c.loop-thread.thread most c.loop-thread.invariant.stand

@@ -1,7 +1,6 @@
 use Rattle.std.proofs.Common.{ℕ, List, [], sym, subst}
 use Rattle.onll_text.specs.Kinds.{kind_by}
 use Rattle.onll_task.specs.Doing.{Does}
-use Rattle.onll_task.specs.Images.{images_in}
 use Rattle.onll_recovery.specs.RecoverJob.{images_task, recovered_task}
 use Rattle.onll_task.proofs.Stages.{read_does, stop_does, by_given, by_begins, by_stops}
 use Rattle.onll_recovery.proofs.Standing.{state_stands}
@@ -14,7 +13,7 @@ returns-in-Ok g c =
     let s = c.args.object.now in
     let mid = g.S.Store.seen c.read_images.new.store in
     let given = by_given c.in-Ok.ensures.begins in
-    let same = state_stands k.means k.code init (images_in c.in-Ok.images.lines.items) given.value given.fits.stand in
+    let same = state_stands k.means k.code init c.in-Ok.images.images.items given.value given.fits.stand in
     read_does (images_task k init s) (by_begins c.in-Ok.ensures.begins)
     (subst (λ recovered. Does [] mid mid (recovered_task k.means k.wording s recovered) c.recover_on.result) same (rw (sym c.deref.ensures.value) (c.recover_on.ensures mid)))
 

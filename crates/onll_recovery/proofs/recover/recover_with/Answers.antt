@@ -14,7 +14,7 @@ returns-in_ok-report-in-Ok g c store =
     let recovered = recovered_in c.in-Ok.recovery in
     let text = c.in_ok-report-in-Ok.field-0 in
     rw c.in-Ok.ensures.recovered (report_does store text (c.in_ok-report-in-Ok.ensures.report ∙ ap (λ s. flat_map line_text (lines_with b w recovered s)) c.in-Ok.ensures.state)
-    (recover_says b w c.args.object.now c.recover_state.new.object recovered text.items c.in-Ok.ensures.state c.in_ok-report-in-Ok.ensures.report c.in_ok-report-in-Ok.ensures.reads))
+    (recover_says b w c.args.object.now c.recover_tested.new.object recovered text.items c.in-Ok.ensures.state c.in_ok-report-in-Ok.ensures.report c.in_ok-report-in-Ok.ensures.reads))
 
 pub returns-in_err-report-in-Ok : goal.returns-in_err-report-in-Ok
 returns-in_err-report-in-Ok g c store = none_does [] store _ c.from_residual.ensures.1

@@ -1,34 +1,31 @@
-use Rattle.std.proofs.Common.{Vec, Global, ◌≡◌, ℕ, List, Result, length, map, string_bytes, sym, ◌∙◌, subst, rules}
+use Rattle.std.proofs.Common.{◌≡◌, ℕ, List, Result, length, map, string_bytes, sym, ◌∙◌, subst, rules}
 use Rattle.std.proofs.lemmas.List.{length-map}
-use Rattle.onll_words.specs.declared.line.Line.{Line}
-use Rattle.onll_pmem.specs.Pmem.{words_of}
 use Rattle.onll_core.specs.declared.fault.ResumeFault.{ResumeFault}
 use Rattle.onll_core.specs.Created.{created_heads}
 use Rattle.onll_core.specs.Resume.{Found, base_in}
 use Rattle.onll_text.specs.Kinds.{kind_by}
 use Rattle.onll_task.specs.ImageNames.{image_names}
-use Rattle.onll_task.specs.Images.{images_in}
 use Rattle.onll_task.specs.Doing.{Does}
-use Rattle.onll_task.proofs.Stages.{read_does, unread_does, by_given, by_begins, by_stops}
-use Rattle.onll_runner.specs.ResumeJob.{based_task}
+use Rattle.onll_task.proofs.Stages.{read_does, unread_does, none_does, by_given, by_begins, by_stops}
+use Rattle.onll_runner.specs.ResumeJob.{AreRead, based_task}
 use Rattle.onll_runner.proofs.Based.{used_all, base_stands}
 use Rattle.onll_runner.proofs.resume.read_on.Goals as goal
 
 pub based_on-requires-clause-images : goal.based_on-requires-clause-images
 based_on-requires-clause-images g c κs within =
     let count : c.len.result ≡ length c.args.scripts.items = search rules in
-    let lines = c.in-Ok.images.lines.items in
     let given = by_given c.in-Ok.ensures.begins in
-    record {
-      many = length-map lines (λ (image : Vec Line Global). words_of image.items) ∙ c.in-Ok.ensures.count ∙ count;
+    let read : AreRead c.args.logs.now (length c.args.scripts.items) c.in-Ok.images.items c.in-Ok.counts.items (g.S.Store.seen c.read_images.new.store) = record {
+      many = c.in-Ok.ensures.count ∙ count;
       counted = c.in-Ok.ensures.many ∙ count;
-      used = used_all (images_in lines) given.value given.fits.stand;
+      used = used_all c.in-Ok.images.items given.value given.fits.stand;
       few = c.in-Ok.ensures.few;
       begins = c.in-Ok.ensures.fronts;
-    }
+    } in
+    subst (λ ls. AreRead c.args.logs.now (length c.args.scripts.items) ls c.in-Ok.counts.items (g.S.Store.seen c.read_images.new.store)) (sym c.in_ok-lines-in-Ok.ensures) read
 
-pub returns-in-Ok : goal.returns-in-Ok
-returns-in-Ok g c = λ threads stands.
+pub returns-in_ok-lines-in-Ok : goal.returns-in_ok-lines-in-Ok
+returns-in_ok-lines-in-Ok g c = λ threads stands.
     let k = kind_by g.O.Object.means g.O.Texted.wording g.O.Object.CODE in
     let b = g.O.Object.means in
     let init = c.args.init.now in
@@ -38,11 +35,24 @@ returns-in-Ok g c = λ threads stands.
     let count : c.len.result ≡ length c.args.scripts.items = search rules in
     let begins = rw (count ∙ sym (length-map c.args.scripts.items (λ script. script.items))) at c.in-Ok.ensures.begins in
     let given = by_given begins in
-    let same = base_stands b heads scripts (images_in c.in-Ok.images.lines.items) given.value given.fits.stand in
+    let same = base_stands b heads scripts c.in-Ok.images.items given.value given.fits.stand in
     let does : Result Found ResumeFault → Type 0 = λ found. Does (image_names c.args.logs.now 0 (length c.args.scripts.items)) (g.S.Store.seen c.read_images.new.store) (g.S.Store.seen c.based_on.new.store)
     (based_task k threads init c.args.logs.now names c.args.object scripts found) c.based_on.result in
     read_does (λ (images : List (List (List ℕ))). based_task k threads init c.args.logs.now names c.args.object scripts (base_in b heads scripts images)) (by_begins begins)
-    (subst does same (c.based_on.ensures threads stands))
+    (subst does same (rw c.in_ok-lines-in-Ok.ensures at (c.based_on.ensures threads stands)))
+
+pub returns-in_err-lines-in-Ok : goal.returns-in_err-lines-in-Ok
+returns-in_err-lines-in-Ok g c = λ threads stands.
+    let k = kind_by g.O.Object.means g.O.Texted.wording g.O.Object.CODE in
+    let b = g.O.Object.means in
+    let init = c.args.init.now in
+    let names = map string_bytes c.args.names.now in
+    let scripts = map (λ script. script.items) c.args.scripts.items in
+    let heads = created_heads g.O.Object.CODE init scripts in
+    let count : c.len.result ≡ length c.args.scripts.items = search rules in
+    read_does (λ (images : List (List (List ℕ))). based_task k threads init c.args.logs.now names c.args.object scripts (base_in b heads scripts images))
+    (by_begins (rw (count ∙ sym (length-map c.args.scripts.items (λ script. script.items))) at c.in-Ok.ensures.begins))
+    (none_does (image_names c.args.logs.now 0 (length c.args.scripts.items)) (g.S.Store.seen c.read_images.new.store) _ c.from_residual.ensures.1)
 
 pub returns-in-Err : goal.returns-in-Err
 returns-in-Err g c = λ threads stands.

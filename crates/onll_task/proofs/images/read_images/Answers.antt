@@ -1,28 +1,26 @@
 use Rattle.std.proofs.Common.{◌≡◌, ◌+◌, ◌-◌, ◌++◌, ◌∷◌, ◌*◌, ◌≤◌, [], length, ap, ◌∙◌, sym, subst, arith, rules, length-append}
 use Rattle.std.specs.List.{All}
 use Rattle.std.proofs.lemmas.List.Elements.{All-nil}
-use Rattle.std.proofs.lemmas.List.{length-map}
-use Rattle.onll_pmem.specs.Pmem.{words_of}
 use Rattle.onll_log.specs.ImageFile.{longest_image}
 use Rattle.onll_task.specs.ImageNames.{image_names}
-use Rattle.onll_task.specs.Images.{images_in, FilesBegin}
+use Rattle.onll_task.specs.Images.{FilesBegin}
 use Rattle.onll_task.proofs.FileFronts.{fronts_more}
 use Rattle.onll_task.proofs.Stages.{none_by, none_then}
-use Rattle.onll_task.proofs.ImageFiles.{ReadStanding, none_standing, standing_next, standing_stops, standing_read, images_more, names_more, few_more}
+use Rattle.onll_task.proofs.ImageFiles.{ReadStanding, none_standing, standing_next, standing_stops, standing_read, names_more, few_more}
 use Rattle.onll_task.proofs.images.read_images.Goals as goal
 
 pub loop-thread-init : goal.loop-thread-init
 loop-thread-init g c =
     let store = g.S.Store.seen c.args.store.now in
     let names = image_names c.args.logs.now 0 c.args.threads in
-    let lines = c.new-lines.result.items in
+    let images = c.new-images.result.items in
     let counts = c.new-counts.result.items in
-    let none : lines ≡ [] = c.new-lines.ensures.items in
+    let none : images ≡ [] = c.new-images.ensures.items in
     let nothing : counts ≡ [] = c.new-counts.ensures.items in
     let all : c.args.threads ≡ c.args.threads - 0 = omega arith in
     record {
-      so = subst (λ n. ReadStanding names (image_names c.args.logs.now 0 n) store store (images_in lines) counts) all (none_standing names store (images_in lines) counts (ap images_in none) nothing);
-      fronts = subst (λ ls. FilesBegin c.args.logs.now 0 (images_in ls) store) (sym none) tt;
+      so = subst (λ n. ReadStanding names (image_names c.args.logs.now 0 n) store store images counts) all (none_standing names store images counts none nothing);
+      fronts = subst (λ ls. FilesBegin c.args.logs.now 0 ls store) (sym none) tt;
       few = subst (All (λ count. 64 * count ≤ longest_image)) (sym nothing) (All-nil (λ count. 64 * count ≤ longest_image));
       count = ap length none;
       many = ap length nothing;
@@ -39,23 +37,22 @@ returns-in-Err-clause-begins g c = standing_stops c.loop-thread.invariant.so (na
 
 pub loop-thread-preserved : goal.loop-thread-preserved
 loop-thread-preserved g c =
-    let lines = c.loop-thread.lines.items in
+    let images = c.loop-thread.images.items in
     let counts = c.loop-thread.counts.items in
     let mid = g.S.Store.seen c.loop-thread.store in
     let new = g.S.Store.seen c.read_image.new.store in
-    let pushed : c.push.new.self.items ≡ lines ++ c.in-Ok.field-0.lines ∷ [] = (search rules) ∙ ap (λ i. lines ++ i ∷ []) (sym c.in-Ok.image-is) in
+    let pushed : c.push.new.self.items ≡ images ++ c.in-Ok.field-0.image ∷ [] = (search rules) ∙ ap (λ i. images ++ i ∷ []) (sym c.in-Ok.image-is) in
     let counted : c.push-in-Ok.new.self.items ≡ counts ++ c.in-Ok.field-0.count ∷ [] = (search rules) ∙ ap (λ n. counts ++ n ∷ []) (sym c.in-Ok.count-is) in
-    let more = images_more lines c.push.new.self.items c.in-Ok.field-0.lines pushed in
     record {
-      so = standing_next c.loop-thread.invariant.so (names_more c.args.logs.now c.loop-thread.thread c.args.threads (omega arith)) c.in-Ok.ensures.begins more counted;
-      fronts = fronts_more c.args.logs.now c.loop-thread.thread (images_in lines) (images_in c.push.new.self.items) (words_of c.in-Ok.field-0.lines.items) mid new
-          (length-map lines _ ∙ c.loop-thread.invariant.count) c.in-Ok.ensures.begins.files c.loop-thread.invariant.fronts c.in-Ok.ensures.front more;
+      so = standing_next c.loop-thread.invariant.so (names_more c.args.logs.now c.loop-thread.thread c.args.threads (omega arith)) c.in-Ok.ensures.begins pushed counted;
+      fronts = fronts_more c.args.logs.now c.loop-thread.thread images c.push.new.self.items c.in-Ok.field-0.image mid new
+          c.loop-thread.invariant.count c.in-Ok.ensures.begins.files c.loop-thread.invariant.fronts c.in-Ok.ensures.front pushed;
       few = few_more counts c.push-in-Ok.new.self.items c.in-Ok.field-0.count c.loop-thread.invariant.few c.in-Ok.ensures.few counted;
-      count = ap length pushed ∙ length-append lines (c.in-Ok.field-0.lines ∷ []) ∙ ap (λ n. n + 1) c.loop-thread.invariant.count;
+      count = ap length pushed ∙ length-append images (c.in-Ok.field-0.image ∷ []) ∙ ap (λ n. n + 1) c.loop-thread.invariant.count;
       many = ap length counted ∙ length-append counts (c.in-Ok.field-0.count ∷ []) ∙ ap (λ n. n + 1) c.loop-thread.invariant.many;
     }
 
 pub returns-clause-begins : goal.returns-clause-begins
 returns-clause-begins g c =
     let none : c.args.threads - c.loop-thread.thread ≡ 0 = omega arith in
-    standing_read (record { lines = c.loop-thread.lines; counts = c.loop-thread.counts }) c.loop-thread.invariant.so (ap (image_names c.args.logs.now c.loop-thread.thread) none)
+    standing_read (record { images = c.loop-thread.images; counts = c.loop-thread.counts }) c.loop-thread.invariant.so (ap (image_names c.args.logs.now c.loop-thread.thread) none)

@@ -1,8 +1,8 @@
 //! A run over the files of the system: it says and keeps what the same run over files in memory does, and what it kept is recovered.
 
-use crate::watch_gate::WatchGate;
 use onll_calls::Program;
 use onll_outside::{FileStore, FreeGate, Hold, Point, Store};
+use onll_watch::WatchGate;
 use std::alloc::Global;
 use std::fs;
 use std::process::Abort;

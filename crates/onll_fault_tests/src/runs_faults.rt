@@ -1,8 +1,8 @@
 //! Runs of scripts on threads in which a fence or a call of the store fails.
 
-use crate::watch_gate::WatchGate;
 use onll_calls::Program;
 use onll_outside::{FenceAt, Hold, MemStore, Point};
+use onll_watch::WatchGate;
 use std::alloc::Global;
 use std::process::Abort;
 use std::sync::Wait;

@@ -1,8 +1,8 @@
 //! Runs of two threads that no gate puts into an order: each order in which their updates may come is legal, and is told.
 
-use crate::watch_gate::WatchGate;
 use onll_calls::{Program, fold};
 use onll_outside::{Hold, Point};
+use onll_watch::WatchGate;
 use std::alloc::{AllocError, Global};
 use std::process::Abort;
 use std::test::Fail;

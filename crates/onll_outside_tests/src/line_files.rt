@@ -101,16 +101,26 @@ fn lines_of(alloc: Global, case: &Case, count: u64) -> Result<Vec<Line>, AllocEr
     Ok(lines)
 }
 
+/// How many lines the file has.
+fn all_lines(case: &Case) -> u64 {
+    case.lines.saturating_add(case.zeros)
+}
+
+/// The bytes of all lines of the file.
+fn bytes_of_lines(alloc: Global, case: &Case) -> Result<Vec<u8>, AllocError> {
+    let lines = lines_of(alloc, case, all_lines(case))?;
+    bytes_of(alloc, &lines)
+}
+
 /// The bytes of the file.
 fn file_of(alloc: Global, case: &Case) -> Result<Vec<u8>, AllocError> {
-    let lines = lines_of(alloc, case, case.lines.saturating_add(case.zeros))?;
-    let mut bytes = bytes_of(alloc, &lines)?;
+    let mut bytes = bytes_of_lines(alloc, case)?;
     let all = bytes.len().saturating_add(case.rest);
     bytes.resize(all, 7)?;
     Ok(bytes)
 }
 
-/// Whether these are the first lines of the file, so many.
+/// Whether these are the first lines of the file that are read, without those of zeros at their end.
 fn is_front(alloc: Global, case: &Case, lines: &[Line]) -> bool {
     match lines_of(alloc, case, case.front) {
         Ok(wanted) => wanted.as_slice() == lines,
@@ -126,13 +136,17 @@ fn is_read<S: Store>(alloc: Global, store: &mut S, case: &Case) -> bool {
     }
 }
 
+/// Whether these lines, and then lines of zeros, are taken as the file.
+fn takes<S: Store>(alloc: Global, store: &mut S, front: &[Line], count: u64) -> bool {
+    front.len() as u64 <= count && store.write_lines(alloc, NAME, front, count).is_ok()
+}
+
 /// Whether the lines and the zeros after them are taken.
 fn is_taken<S: Store>(alloc: Global, store: &mut S, case: &Case) -> bool {
-    let Ok(front) = lines_of(alloc, case, case.lines) else {
-        return false;
-    };
-    let count = case.lines.saturating_add(case.zeros);
-    front.len() as u64 <= count && store.write_lines(alloc, NAME, &front, count).is_ok()
+    match lines_of(alloc, case, case.lines) {
+        Ok(front) => takes(alloc, store, &front, all_lines(case)),
+        Err(_) => false,
+    }
 }
 
 /// A store in memory of the file.
@@ -145,32 +159,34 @@ fn store_of(alloc: Global, case: &Case) -> Result<MemStore, AllocError> {
     Ok(MemStore::new(files, Vec::new(alloc), Vec::new(alloc)))
 }
 
-/// Whether the file in memory is read so.
-fn is_read_in_memory(alloc: Global, case: &Case) -> bool {
-    match store_of(alloc, case) {
-        Ok(mut store) => is_read(alloc, &mut store, case),
+/// Whether the file in memory is the one of all lines, with nothing after them.
+fn is_kept(alloc: Global, store: &MemStore, case: &Case) -> bool {
+    match bytes_of_lines(alloc, case) {
+        Ok(wanted) => store.file(NAME) == Some(wanted.as_slice()),
         Err(_) => false,
     }
 }
 
-/// Whether a file in memory is then the one of these lines, with nothing after them.
-fn is_written_in_memory(alloc: Global, case: &Case) -> bool {
-    let all = case.lines.saturating_add(case.zeros);
-    let (Ok(mut store), Ok(lines)) = (store_of(alloc, case), lines_of(alloc, case, all)) else {
-        return false;
-    };
-    let Ok(wanted) = bytes_of(alloc, &lines) else {
-        return false;
-    };
-    is_taken(alloc, &mut store, case) && store.file(NAME) == Some(wanted.as_slice())
+/// Reads the file in memory, and writes it anew.
+fn read_and_write(alloc: Global, found: &mut Found, store: &mut MemStore, case: &Case) {
+    found.must(is_read(alloc, store, case), "read otherwise");
+    found.must(is_taken(alloc, store, case), "not written");
+    found.must(is_kept(alloc, store, case), "written otherwise");
+}
+
+/// The same of a store of its own.
+fn in_memory(alloc: Global, found: &mut Found, case: &Case) {
+    match store_of(alloc, case) {
+        Ok(mut store) => read_and_write(alloc, found, &mut store, case),
+        Err(_) => found.must(false, "no memory"),
+    }
 }
 
 #[test]
 fn lines_in_memory(rt: HostRuntime) -> Result<(), Fail> {
     let mut found = Found::new();
     for case in CASES {
-        found.must(is_read_in_memory(rt.alloc(), case), "read otherwise");
-        found.must(is_written_in_memory(rt.alloc(), case), "written otherwise");
+        in_memory(rt.alloc(), &mut found, case);
     }
     found.ended()
 }
@@ -183,20 +199,16 @@ fn make_file(rt: &HostRuntime, case: &Case) -> bool {
     }
 }
 
-/// Whether the file of the system is then the one of these lines, with nothing after them.
+/// Whether the file of the system is the one of all lines, with nothing after them.
 fn holds_lines(rt: &HostRuntime, case: &Case) -> bool {
-    let all = case.lines.saturating_add(case.zeros);
-    let Ok(lines) = lines_of(rt.alloc(), case, all) else {
-        return false;
-    };
-    match bytes_of(rt.alloc(), &lines) {
-        Ok(bytes) => is_file(rt, NAME, &bytes),
+    match bytes_of_lines(rt.alloc(), case) {
+        Ok(wanted) => is_file(rt, NAME, &wanted),
         Err(_) => false,
     }
 }
 
 /// Reads the file of the system, and writes it anew.
-fn read_and_write(rt: &HostRuntime, found: &mut Found, case: &Case) {
+fn in_a_file(rt: &HostRuntime, found: &mut Found, case: &Case) {
     let mut store = FileStore::new(rt);
     found.must(make_file(rt, case), "no file");
     found.must(is_read(rt.alloc(), &mut store, case), "read otherwise");
@@ -208,7 +220,7 @@ fn read_and_write(rt: &HostRuntime, found: &mut Found, case: &Case) {
 fn lines_in_files(rt: HostRuntime) -> Result<(), Fail> {
     let mut found = Found::new();
     for case in CASES {
-        read_and_write(&rt, &mut found, case);
+        in_a_file(&rt, &mut found, case);
     }
     remove(&rt, &mut found, NAME);
     found.ended()

@@ -1,8 +1,8 @@
 //! A run over the files of the system: it says and keeps what the same run over files in memory does, and what it kept is recovered.
 
-use crate::watch_gate::WatchGate;
 use onll_calls::Program;
 use onll_outside::{FileStore, FreeGate, Hold, Point, Store};
+use onll_watch::WatchGate;
 use std::alloc::Global;
 use std::fs;
 use std::process::Abort;
@@ -86,25 +86,45 @@ fn expect_run<R: Abort + Threads + Wait + Sync, S: Store>(
         .expect("its logs", 0, RECOVERED)
 }
 
+/// Makes the folder and the files of the run.
+fn make_files(rt: &HostRuntime) -> Result<(), Fail> {
+    fs::create_dir(rt, FOLDER)?;
+    for (name, bytes) in FILES {
+        fs::write(rt, name, *bytes)?;
+    }
+    Ok(())
+}
+
+/// Whether a file of the system holds these bytes and no more.
+fn is_file(rt: &HostRuntime, name: &str, held: &[u8]) -> bool {
+    match fs::read(rt, name) {
+        Ok(bytes) => bytes.as_slice() == held,
+        Err(_) => false,
+    }
+}
+
+/// Removes the logs, and what `make_files` made.
+fn remove_files(rt: &HostRuntime) -> Result<(), Fail> {
+    for name in LOGS {
+        fs::remove_file(rt, name)?;
+    }
+    for (name, _) in FILES {
+        fs::remove_file(rt, name)?;
+    }
+    fs::remove_dir(rt, FOLDER)?;
+    Ok(())
+}
+
 #[test]
 fn files_hold_what_memory_holds(rt: HostRuntime) -> Result<(), Fail> {
     let alloc = rt.alloc();
-    fs::create_dir(&rt, FOLDER)?;
-    for (name, bytes) in FILES {
-        fs::write(&rt, name, *bytes)?;
-    }
+    make_files(&rt)?;
     expect_run(&rt, alloc, &mut FileStore::new(&rt))?;
-
     let mut memory = Program::new(RUN, FILES).store(alloc)?;
     expect_run(&rt, alloc, &mut memory)?;
     for name in LOGS {
-        let same = fs::read(&rt, name)?.as_slice() == memory.file(name).unwrap_or(b"");
-        assert!(rt; same, "{name} holds other bytes");
-        fs::remove_file(&rt, name)?;
+        let held = memory.file(name).unwrap_or(b"");
+        assert!(rt; is_file(&rt, name, held), "{name} holds other bytes");
     }
-    for (name, _) in FILES {
-        fs::remove_file(&rt, name)?;
-    }
-    fs::remove_dir(&rt, FOLDER)?;
-    Ok(())
+    remove_files(&rt)
 }

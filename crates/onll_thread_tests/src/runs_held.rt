@@ -1,8 +1,8 @@
 //! Runs of two threads that a gate holds so that they overlap: were one thread run after the other, a hold would run out of turns.
 
-use crate::watch_gate::WatchGate;
 use onll_calls::Program;
 use onll_outside::{FenceAt, Hold, MemStore, Point};
+use onll_watch::WatchGate;
 use std::alloc::Global;
 use std::process::Abort;
 use std::sync::Wait;

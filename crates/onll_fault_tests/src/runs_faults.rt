@@ -1,8 +1,8 @@
 //! Runs of scripts on threads in which a fence or a call of the store fails.
 
-use crate::watch_gate::WatchGate;
 use onll_calls::Program;
 use onll_outside::{FenceAt, Hold, MemStore, Point};
+use onll_watch::WatchGate;
 use std::alloc::Global;
 use std::process::Abort;
 use std::sync::Wait;
@@ -108,25 +108,33 @@ const CASES: &[FenceCase<'static>] = &[
     },
 ];
 
+/// The first log is kept over what was there.
+fn has_kept(store: &MemStore) -> bool {
+    store.file("out.0") != Some(b"first")
+}
+
+/// Makes a run, whose first log is kept unless a header's fence fails.
+fn expect_fence<R: Abort + Threads + Wait + Sync>(
+    rt: &R,
+    alloc: Global,
+    case: &FenceCase<'_>,
+) -> Result<(), Fail> {
+    let fence = FenceAt {
+        device: case.device,
+        fence: case.fence,
+    };
+    let program = Program::new(case.words, FILES);
+    let mut store = program.store_with(alloc, &[fence])?;
+    let run = program.run_over(rt, alloc, &mut store)?;
+    run.expect(case.name, case.status, case.output)?;
+    assert_eq!(rt; has_kept(&store), case.fence != 1, "{}: kept", case.name);
+    Ok(())
+}
+
 #[test]
 fn fences_that_fail(rt: HostRuntime) -> Result<(), Fail> {
     for case in CASES {
-        let fence = FenceAt {
-            device: case.device,
-            fence: case.fence,
-        };
-        let program = Program::new(case.words, FILES);
-        let mut store = program.store_with(rt.alloc(), &[fence])?;
-        program.expect_over(
-            &rt,
-            rt.alloc(),
-            &mut store,
-            case.name,
-            case.status,
-            case.output,
-        )?;
-        let kept = store.file("out.0") != Some(b"first");
-        assert_eq!(rt; kept, case.fence != 1, "{}: kept", case.name);
+        expect_fence(&rt, rt.alloc(), case)?;
     }
     Ok(())
 }
@@ -143,6 +151,18 @@ const LEFT: &[(&[&str], &str)] = &[
     ),
 ];
 
+/// So many bytes are zeros behind these first ones.
+fn are_zeros_after(bytes: &[u8], first: usize) -> bool {
+    bytes.iter().skip(first).all(|byte| *byte == 0)
+}
+
+/// A log of so many bytes is kept, with zeros behind its head.
+fn expect_head<R: Abort>(rt: &R, store: &MemStore, bytes: usize) {
+    let log = store.file("out.0").unwrap_or(b"");
+    assert_eq!(rt; log.len(), bytes);
+    assert!(rt; are_zeros_after(log, 64), "not zeros behind the head");
+}
+
 #[test]
 fn what_a_failed_fence_leaves(rt: HostRuntime) -> Result<(), Fail> {
     let alloc = rt.alloc();
@@ -153,12 +173,7 @@ fn what_a_failed_fence_leaves(rt: HostRuntime) -> Result<(), Fail> {
     let program = Program::new(ONE, FILES);
     let mut store = program.store_with(alloc, &[fence])?;
     let _run = program.run_over(&rt, alloc, &mut store)?;
-    let log = store.file("out.0").unwrap_or(b"");
-    assert_eq!(rt; log.len(), 320);
-    assert!(rt;
-        log.iter().skip(64).all(|byte| *byte == 0),
-        "not zeros behind the head"
-    );
+    expect_head(&rt, &store, 320);
     for (words, output) in LEFT {
         Program::new(words, &[]).expect_over(&rt, alloc, &mut store, "what was kept", 0, output)?;
     }
@@ -269,6 +284,25 @@ const SHOWN: &[&str] = &[
      entries 1 lines 3\n",
 ];
 
+/// The file of a log that is not kept is as it was.
+fn expect_before<R: Abort>(rt: &R, store: &MemStore, name: &str, before: &[u8]) {
+    let held = store.file(name).unwrap_or(b"");
+    assert!(rt; held == before, "{name} is not as it was");
+}
+
+/// What `show` prints of the file of a log that is kept.
+fn expect_shown<R: Threads + Wait + Sync>(
+    rt: &R,
+    alloc: Global,
+    store: &MemStore,
+    name: &str,
+    shown: &str,
+) -> Result<(), Fail> {
+    let held = store.file(name).unwrap_or(b"");
+    let outcome = Program::new(&["show", name], &[(name, held)]).run(rt, alloc)?;
+    outcome.expect(name, 0, shown)
+}
+
 /// So many of the logs are kept, and the files of the others are as they were.
 fn expect_logs<R: Abort + Threads + Wait + Sync>(
     rt: &R,
@@ -277,35 +311,52 @@ fn expect_logs<R: Abort + Threads + Wait + Sync>(
     kept: usize,
 ) -> Result<(), Fail> {
     for (index, (name, before)) in BEFORE.iter().enumerate() {
-        let held = store.file(name).unwrap_or(b"");
         if index < kept {
             let shown = SHOWN.get(index).unwrap_or(&"");
-            Program::new(&["show", *name], &[(*name, held)]).expect(rt, alloc, name, 0, shown)?;
+            expect_shown(rt, alloc, store, name, shown)?;
         } else {
-            assert!(rt; held == *before, "{name} is not as it was");
+            expect_before(rt, store, name, before);
         }
     }
     Ok(())
 }
 
+/// Makes a run over this store, whose threads come to the gate so often.
+fn expect_call<R: Abort + Threads + Wait + Sync>(
+    rt: &R,
+    alloc: Global,
+    store: &mut MemStore,
+    case: &CallCase<'_>,
+) -> Result<(), Fail> {
+    let gate = WatchGate::new(alloc, IN_TURN)?;
+    let run = Program::new(TWO, &[]).run_at(rt, alloc, store, &gate)?;
+    run.expect(case.output, case.status, case.output)?;
+    assert_eq!(rt; gate.arrivals(), case.arrivals, "call {}", case.call);
+    assert!(rt; !gate.expired());
+    Ok(())
+}
+
+/// Makes a run of which this call of the store fails, and looks at the logs.
+fn fail_call<R: Abort + Threads + Wait + Sync>(
+    rt: &R,
+    alloc: Global,
+    case: &CallCase<'_>,
+) -> Result<(), Fail> {
+    let program = Program {
+        words: TWO,
+        files: FILES,
+        failing_calls: &[case.call],
+        failing_puts: &[],
+    };
+    let mut store = program.store(alloc)?;
+    expect_call(rt, alloc, &mut store, case)?;
+    expect_logs(rt, alloc, &store, case.kept)
+}
+
 #[test]
 fn calls_that_fail_in_turn(rt: HostRuntime) -> Result<(), Fail> {
-    let alloc = rt.alloc();
     for case in CALLS {
-        let program = Program {
-            words: TWO,
-            files: FILES,
-            failing_calls: &[case.call],
-            failing_puts: &[],
-        };
-        let mut store = program.store(alloc)?;
-        let gate = WatchGate::new(alloc, IN_TURN)?;
-        program
-            .run_at(&rt, alloc, &mut store, &gate)?
-            .expect(case.output, case.status, case.output)?;
-        assert_eq!(rt; gate.arrivals(), case.arrivals, "call {}", case.call);
-        assert!(rt; !gate.expired());
-        expect_logs(&rt, alloc, &store, case.kept)?;
+        fail_call(&rt, rt.alloc(), case)?;
     }
     Ok(())
 }

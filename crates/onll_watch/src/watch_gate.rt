@@ -1,13 +1,15 @@
 //! A gate of the tests, which holds threads and counts what comes to it.
+ghost use Rattle.std.specs.Prelude.{◌≡◌, IfOk};
 
 use onll_outside::{Gate, Hold, HoldGate, Point};
 use onll_trace::Spot;
 use onll_words::NoMemory;
 use std::alloc::Global;
+use std::marker::Model;
 use std::sync::atomic::{AtomicU64, Ordering};
 
 /// How often a held thread loads the mark that it awaits.
-pub(crate) const TURNS: u64 = 1_000_000_000;
+const TURNS: u64 = 1_000_000_000;
 
 /// How many threads it tells apart, and how many updates of each.
 const THREADS: u64 = 2;
@@ -16,7 +18,7 @@ const UPDATES: u64 = 3;
 
 /// A gate that holds threads, counts all arrivals, and counts which updates of two threads were answered.
 #[derive(Drop)]
-pub(crate) struct WatchGate {
+pub struct WatchGate {
     holds: HoldGate,
     arrivals: AtomicU64,
     /// One for each thread and update.
@@ -25,11 +27,24 @@ pub(crate) struct WatchGate {
     others: AtomicU64,
 }
 
+impl Model for WatchGate {
+    ghost use Rattle.std.specs.Prelude.{◌≡◌, length};
+    ghost use Rattle.onll_outside.specs.HoldGate.{HoldPlan};
+
+    ghost Value = { HoldPlan };
+
+    ghost view = { λ g. g.holds };
+
+    ghost invariant = { λ g. length g.answered.items ≡ 6 };
+}
+
 impl WatchGate {
-    /// A gate with these holds, to which nothing has come.
-    pub(crate) fn new(alloc: Global, holds: &[Hold]) -> Result<WatchGate, NoMemory> {
-        let mut answered = Vec::new(alloc);
-        for _ in 0..THREADS * UPDATES {
+    /// A gate with these holds, to which nothing has come. No clause says what it counts, since threads share it.
+    pub fn new(alloc: Global, holds: &[Hold]) -> Result<WatchGate, NoMemory>
+        ensures { IfOk result (λ gate. gate ≡ record { holds = holds.now; turns = 1000000000 }) }
+    {
+        let mut answered = Vec::with_capacity(alloc, 6)?;
+        while answered.len() < 6 {
             answered.push(AtomicU64::new(0))?;
         }
         Ok(WatchGate {
@@ -41,17 +56,17 @@ impl WatchGate {
     }
 
     /// How often threads came to some point.
-    pub(crate) fn arrivals(&self) -> u64 {
+    pub fn arrivals(&self) -> u64 {
         self.arrivals.load(Ordering::SeqCst)
     }
 
     /// Whether a hold ran out of turns.
-    pub(crate) fn expired(&self) -> bool {
+    pub fn expired(&self) -> bool {
         self.holds.expired()
     }
 
     /// Whether each of these updates was answered once, and no other.
-    pub(crate) fn each_once(&self) -> bool {
+    pub fn each_once(&self) -> bool {
         self.others.load(Ordering::SeqCst) == 0
             && self
                 .answered
@@ -62,8 +77,7 @@ impl WatchGate {
     /// What counts this update of a thread, from 1.
     fn counter(&self, thread: u64, number: u64) -> &AtomicU64 {
         if thread < THREADS && 1 <= number && number <= UPDATES {
-            let index = thread * UPDATES + number - 1;
-            self.answered.get(index as usize).unwrap_or(&self.others)
+            &self.answered[(thread * UPDATES + number - 1) as usize]
         } else {
             &self.others
         }

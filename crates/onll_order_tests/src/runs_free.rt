@@ -1,11 +1,13 @@
 //! Runs of two threads that no gate puts into an order: each order in which their updates may come is legal, and is told.
 
-use crate::watch_gate::WatchGate;
-use onll_calls::{Program, fold};
-use onll_outside::{Hold, Point};
+use onll_calls::{Outcome, Program, fold};
+use onll_outside::{Hold, MemStore, Point};
+use onll_watch::WatchGate;
 use std::alloc::{AllocError, Global};
 use std::process::Abort;
+use std::sync::Wait;
 use std::test::Fail;
+use std::thread::Threads;
 
 const INIT: &[u8] = b"bank 2\naccount 0 100\n";
 
@@ -14,6 +16,8 @@ const FILES: &[(&str, &[u8])] = &[
     ("s0", b"transfer 0 1 60\ntransfer 0 1 60\ntransfer 1 0 20\n"),
     ("s1", b"transfer 1 0 30\ntransfer 0 1 10\ntransfer 1 0 70\n"),
 ];
+
+const RUN: &[&str] = &["run", "i", "out", "s0", "s1"];
 
 /// The calls of both scripts in the order of the report: the thread and the number, and the call.
 const CALLS: &[(&str, &str)] = &[
@@ -78,16 +82,22 @@ fn order_of(alloc: Global, report: &str) -> Result<Vec<u8>, AllocError> {
 
 /// Whether a report has this call's set node at this place.
 fn has_node(report: &str, place: &str, name: &str, call: &str) -> bool {
-    report
-        .lines()
-        .any(|line| node_at(line, place, name) == Some(call))
+    for line in report.lines() {
+        if node_at(line, place, name) == Some(call) {
+            return true;
+        }
+    }
+    false
 }
 
 /// Whether the call at this place of a fold ended so.
 fn has_end(folded: &str, place: &str, call: &str, end: &str) -> bool {
-    folded
-        .lines()
-        .any(|line| end_of(line, "call 0 ", place, call) == Some(end))
+    for line in folded.lines() {
+        if end_of(line, "call 0 ", place, call) == Some(end) {
+            return true;
+        }
+    }
+    false
 }
 
 /// Each call was answered as the fold of the trace answers it, at the place where its set node stands.
@@ -105,9 +115,12 @@ fn expect_answers<R: Abort>(rt: &R, report: &str, folded: &str) {
 
 /// Whether a recovery has the node that these words name, with this call.
 fn has_recovered(recovered: &str, name: &str, call: &str) -> bool {
-    recovered
-        .lines()
-        .any(|line| after(line, name, " ") == Some(call))
+    for line in recovered.lines() {
+        if after(line, name, " ") == Some(call) {
+            return true;
+        }
+    }
+    false
 }
 
 /// A recovery found the nodes of a run.
@@ -130,39 +143,69 @@ const LINES: &[(&str, &str)] = &[
     ("recovered 6", ""),
 ];
 
+/// Whether a report has a line that begins and ends so.
+fn has_line(report: &str, start: &str, end: &str) -> bool {
+    for line in report.lines() {
+        if line.starts_with(start) && line.ends_with(end) {
+            return true;
+        }
+    }
+    false
+}
+
 /// A report has these lines.
 fn expect_lines<R: Abort>(rt: &R, report: &str) {
     for (start, end) in LINES {
-        assert!(rt;
-            report
-                .lines()
-                .any(|line| line.starts_with(*start) && line.ends_with(*end)),
-            "not said: {start}{end}"
-        );
+        assert!(rt; has_line(report, start, end), "not said: {start}{end}");
     }
+}
+
+/// Runs both scripts over this store. No hold runs out of turns, and each update is answered once.
+fn run_together<R: Abort + Threads + Wait + Sync>(
+    rt: &R,
+    alloc: Global,
+    store: &mut MemStore,
+) -> Result<Outcome, Fail> {
+    let gate = WatchGate::new(alloc, TOGETHER)?;
+    let run = Program::new(RUN, FILES).run_at(rt, alloc, store, &gate)?;
+    assert!(rt; !gate.expired() && gate.each_once());
+    Ok(run)
+}
+
+/// Folds the updates of a run in their order.
+fn folded_of<R: Threads + Wait + Sync>(
+    rt: &R,
+    alloc: Global,
+    report: &str,
+) -> Result<Outcome, Fail> {
+    let order = order_of(alloc, report)?;
+    let folded = fold(rt, alloc, INIT, &order)?;
+    folded.expect_line("the fold", 0, "call 0 7 total -> 100 at 6")?;
+    Ok(folded)
+}
+
+/// Recovers what a run left in this store.
+fn recovered_of<R: Threads + Wait + Sync>(
+    rt: &R,
+    alloc: Global,
+    store: &mut MemStore,
+) -> Result<Outcome, Fail> {
+    let recovered = Program::new(&["recover", "i", "out", "2"], &[]).run_over(rt, alloc, store)?;
+    recovered.expect_line("the logs", 0, "recovered 6")?;
+    Ok(recovered)
 }
 
 #[test]
 fn any_legal_order(rt: HostRuntime) -> Result<(), Fail> {
     let alloc = rt.alloc();
-    let program = Program::new(&["run", "i", "out", "s0", "s1"], FILES);
-    let mut store = program.store(alloc)?;
-    let gate = WatchGate::new(alloc, TOGETHER)?;
-    let run = program.run_at(&rt, alloc, &mut store, &gate)?;
-    assert!(rt; !gate.expired() && gate.each_once());
+    let mut store = Program::new(RUN, FILES).store(alloc)?;
+    let run = run_together(&rt, alloc, &mut store)?;
+    let folded = folded_of(&rt, alloc, run.text())?;
+    let recovered = recovered_of(&rt, alloc, &mut store)?;
     expect_lines(&rt, run.text());
-
-    let order = order_of(alloc, run.text())?;
-    let folded = fold(&rt, alloc, INIT, &order)?;
-    folded.expect_line("the fold", 0, "call 0 7 total -> 100 at 6")?;
     expect_answers(&rt, run.text(), folded.text());
-    assert_eq!(rt; state_of(run.text()), state_of(folded.text()));
-
-    let recovered = Program::new(&["recover", "i", "out", "2"], &[]).run_over(
-        &rt, alloc, &mut store,
-    )?;
-    recovered.expect_line("the logs", 0, "recovered 6")?;
     expect_nodes(&rt, run.text(), recovered.text());
+    assert_eq!(rt; state_of(run.text()), state_of(folded.text()));
     assert_eq!(rt; state_of(run.text()), state_of(recovered.text()));
     Ok(())
 }

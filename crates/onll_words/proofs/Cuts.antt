@@ -1,12 +1,12 @@
-use Rattle.std.proofs.Common.{ℕ, zero, suc, Bool, true, false, List, [], ◌∷◌, ◌≡◌, ◌+◌, ◌<◌, ◌≤◌, length, take, drop, cond, not, filter, position, Some, None, nat_lt, slice_index, get_or, refl, ap, sym, ◌∙◌, subst, arith}
+use Rattle.std.proofs.Common.{ℕ, zero, suc, Bool, true, false, List, [], ◌∷◌, ◌≡◌, ◌+◌, ◌<◌, ◌≤◌, length, take, drop, cond, not, filter, position, Option, Some, None, ◌==◌, nat_lt, slice_index, get_or, refl, ap, sym, ◌∙◌, subst, arith}
 use Rattle.std.specs.List.{slice_split, position_or_len}
 use Rattle.std.proofs.lemmas.List.Splits.{slice_split_first, slice_split_none, slice_split-cons_yes, length-slice_split}
 use Rattle.std.proofs.lemmas.List.Sums.{fails_before_first}
-use Rattle.std.proofs.lemmas.List.{drop_all, length-take-le, get_or-drop}
+use Rattle.std.proofs.lemmas.List.{drop_all, length-take-le, length-drop, get_or-drop, get_or-take}
 use borrow.Author.Tests.{ltb-false}
 use Rattle.std.proofs.lemmas.List.Quantifiers.{position-Some}
 use Rattle.std.proofs.lemmas.Grind.{common_steps}
-use Rattle.onll_words.specs.Texts.{is_blank, is_line_end, is_empty, words_of, lines_of, without_empty_rest}
+use Rattle.onll_words.specs.Texts.{is_blank, is_line_end, is_empty, words_of, lines_of, without_empty_rest, says_something}
 
 some_is : (b : Bool) (k n : ℕ) → cond b (Some k) None ≡ Some n → (b ≡ true) × (k ≡ n)
 some_is true k n e = (refl, cc)
@@ -110,3 +110,26 @@ lines_of-no_end text h e = ap without_empty_rest (slice_split-no_position is_lin
 
 -- where words and lines end
 pub ruleset cutting = (words_of-from_mark, words_of-no_mark, no_blank_at_mark, words_of-to_blank, words_of-no_blank, lines_of-to_end, lines_of-no_end)
+
+-- ---- whether a line says something
+says_by_end : (text : List ℕ) (end : Option ℕ) → position is_blank text ≡ end → 0 < length text → is_blank (slice_index text 0) ≡ false
+    → says_something (words_of text) ≡ not (slice_index text 0 == 35)
+says_by_end text None e some first = ap says_something (words_of-no_blank text some e)
+says_by_end text (Some k) e some first =
+    let more : 0 < k = not_first text k first (position-Some is_blank text k 0 e).1 in
+    ap says_something (words_of-to_blank text k first e) ∙ ap (λ (b : ℕ). not (b == 35)) (get_or-take k text 0 0 more)
+
+-- by the first byte that isn't blank
+pub says_from_mark : (line : List ℕ) (n : ℕ) → position (λ b. not (is_blank b)) line ≡ Some n → says_something (words_of line) ≡ not (slice_index line n == 35)
+says_from_mark line n e =
+    let text = drop n line in
+    let place : n + 0 ≡ n = omega arith in
+    let within = (position-Some (λ b. not (is_blank b)) line n 0 e).0 in
+    ap says_something (words_of-from_mark line n e)
+    ∙ (says_by_end text (position is_blank text) refl (omega (arith, length-drop n line, within)) (no_blank_at_mark line n e)
+    ∙ ap (λ (b : ℕ). not (b == 35)) (get_or-drop n line 0 0 ∙ ap (λ k. get_or line k 0) place))
+
+pub says_no_mark : (line : List ℕ) → position (λ b. not (is_blank b)) line ≡ None → says_something (words_of line) ≡ false
+says_no_mark line e = ap says_something (words_of-no_mark line e)
+
+pub ruleset marking = (says_from_mark, says_no_mark)

@@ -78,11 +78,12 @@ pub fn split_word(line: &[u8]) -> Option<Cut<'_>>
 }
 
 /// Whether the line has a word, and the first doesn't begin with `#`.
+#[tactic(auto, using(crate::proofs::Cuts::marking))]
 fn is_meaningful(line: &[u8]) -> bool
     ensures { result ≡ says_something (words_of line.now) }
 {
-    match split_word(line) {
-        Some(cut) => cut.word.first() != Some(&b'#'),
+    match first_mark(line) {
+        Some(start) => line[start] != b'#',
         None => false,
     }
 }

@@ -86,10 +86,7 @@ pub fn read_images<S: Store>(
 }
 
 /// The lines of images.
-pub fn into_lines(
-    alloc: Global,
-    images: Vec<TestedImage<'_>>,
-) -> Result<Vec<Vec<Line>>, AllocError>
+pub fn into_lines(alloc: Global, images: Vec<TestedImage<'_>>) -> Result<Vec<Vec<Line>>, AllocError>
     ensures { IfOk result (λ lines. images_in lines.items ≡ images.entry.items) }
 {
     let mut lines = Vec::new(alloc);

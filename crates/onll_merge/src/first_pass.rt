@@ -32,10 +32,7 @@ pub struct Survey {
 }
 
 /// A cursor over each image, in order. It refuses the first that is no log.
-pub fn open_all<I: LogImage>(
-    alloc: Global,
-    images: &[I],
-) -> Result<Vec<LogCursor<'_>>, ImagesFault>
+pub fn open_all<I: LogImage>(alloc: Global, images: &[I]) -> Result<Vec<LogCursor<'_>>, ImagesFault>
     ensures logs { let held = contents_from 0 (map I.lines_of images.now) in
         MatchResult result (λ cursors. held ≡ Ok (contents_under cursors.items)) (λ e. (e ≡ Recover OutOfMemory) ⊎ (held ≡ Err e)) }
     ensures first { IfOk result (λ cursors. AllByRecursion (λ c. c.passed ≡ 0) cursors.items) }

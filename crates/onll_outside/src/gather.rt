@@ -70,7 +70,8 @@ fn put_front(lines: &mut Vec<Line>, count: usize, chunks: &[[u8; 64]]) -> Result
     requires behind { length lines.old.items ≤ count }
     requires few { count + length chunks.now < 2 ^ 64 }
     ensures words { OnOk result (words_of lines.new.items ≡ with_zeros (words_of lines.old.items) count ++ map words_of_bytes chunks.now) }
-    ensures whole { OnOk result (AllByRecursion IsWholeLine (words_of lines.old.items) → AllByRecursion IsWholeLine (words_of lines.new.items)) }
+    ensures whole { OnOk result (AllByRecursion IsWholeLine (words_of lines.old.items)
+        → AllByRecursion IsWholeLine (words_of lines.new.items)) }
 {
     lines.reserve(count - lines.len() + chunks.len())?;
     put_zeros(lines, count);

@@ -1,4 +1,4 @@
--- What `resume INIT LOGS SCRIPT..` does: scripts go on, on threads, from the logs of an earlier generation, and it is said as `run` says it.
+-- What `resume INIT LOGS SCRIPT..` does: scripts go on, on threads, from the logs of an earlier generation, told as `run` tells it.
 
 use Rattle.std.specs.Prelude.{ℕ, ◌≡◌, ◌≤◌, ◌+◌, ◌*◌, max, true, List, [], ◌∷◌, length, Result, Ok, Err}
 use Rattle.std.specs.List.{All, AllByRecursion}

@@ -27,7 +27,8 @@ lines_for {State} {Op} {Query} {Reply} scripts =
 -- what a run left is reported; where fences failed the report says so, and so does the ending
 abbrev pub said_task : (k : ObjectKind) → RunPlan k → RunLeft k → (broken : ℕ) → Task
 said_task k plan left zero = report_task (plan_report plan left)
-    (λ text. SaysOnly (run_lines k.means k.wording plan.run.scripts) (RunReads k.means k.wording plan.run.scripts) text (plan_data plan left))
+    (λ text. SaysOnly (run_lines k.means k.wording plan.run.scripts) (RunReads k.means k.wording plan.run.scripts) text
+    (plan_data plan left))
 said_task k plan left (suc more) = say_task Faulty (plan_report plan left)
 
 -- scripts are run, and what they left is said

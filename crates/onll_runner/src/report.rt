@@ -1,4 +1,4 @@
-//! The report of a run: how many nodes it went on from, what became of each call, the trace, the logs, the fences that failed, and the state after the trace.
+//! The report of a run: how many nodes it went on from, what became of each call, the trace, the logs, failed fences, and the last state.
 
 ghost use Rattle.std.specs.Prelude.{◌≡◌, ◌≤◌, ◌<◌, ◌^◌, ◌++◌, ◌∷◌, true, length, map, IfOk, IfSome, OnOk, All, IsSome, Some};
 ghost use Rattle.std.specs.List.{AllByRecursion};

@@ -61,7 +61,8 @@ fn go_on<R: Threads + Wait + Sync, O: Texted + Drop + Send + Sync, S: Store, G: 
         (recovered_in found.now) }
     ensures { let k = kind_by O.means O.wording O.CODE in
         let calls = map (λ script. script.items) scripts.items in
-        (threads : _) → StandsForRuns k threads → (all : Found) → base_in O.means heads.now calls (images_in images.now.lines.items) ≡ Ok all
+        (threads : _) → StandsForRuns k threads
+        → (all : Found) → base_in O.means heads.now calls (images_in images.now.lines.items) ≡ Ok all
         → Does (image_names logs.now 0 (length scripts.items)) (S.seen store.old) (S.seen store.new)
         (calls_task k threads (plan_over k logs.now object heads.now calls all)) result }
 {

@@ -1,13 +1,12 @@
 -- The lines of a run's devices as read recover to its trace.
 
-use Rattle.std.proofs.Common.{Vec, Global, ℕ, suc, ◌≡◌, List, [], ◌∷◌, length, map, Some, IsSome, Result, Ok, Err, refl, ap, ◌∙◌, ◌⊎◌, ⊎_elim}
+use Rattle.std.proofs.Common.{ℕ, suc, ◌≡◌, List, [], ◌∷◌, length, map, Some, IsSome, Result, Ok, Err, refl, ap, ◌∙◌, ◌⊎◌, ⊎_elim}
 use Rattle.std.specs.List.{AllByRecursion}
-use Rattle.onll_words.specs.declared.line.Line.{Line}
 use Rattle.onll_model.specs.declared.node.Node.{Node}
 use Rattle.onll_model.specs.declared.call.Call.{Call}
 use Rattle.onll_model.specs.declared.call.CallEnd.{CallEnd}
 use Rattle.onll_model.specs.Object.{Behaviour}
-use Rattle.onll_pmem.specs.Pmem.{DeviceView, words_of}
+use Rattle.onll_pmem.specs.Pmem.{DeviceView}
 use Rattle.onll_log.specs.declared.head.LogHead.{LogHead}
 use Rattle.onll_log.specs.Grammar.{Content, content_of}
 use Rattle.onll_log.specs.Log.{LogState}
@@ -25,16 +24,11 @@ abbrev read_in : LogLeft → List (List ℕ)
 read_in log = log.read
 
 -- images that hold what the logs hold, one for each
-pub held_in : {Device : Type 0} (means : Device → DeviceView) (images : List (Vec Line Global)) (logs : List (LogState Device))
-    → map (λ (image : Vec Line Global). content_of (words_of image.items)) images ≡ map (λ (log : LogState Device). Some (content_in (log_left means log))) logs
-    → map content_of (map (λ (image : Vec Line Global). words_of image.items) images) ≡ map Some (map content_in (map (log_left means) logs))
-held_in means images logs e = contents_map images ∙ (e ∙ logs_map logs)
+pub held_in : {Device : Type 0} (means : Device → DeviceView) (images : List (List (List ℕ))) (logs : List (LogState Device))
+    → map content_of images ≡ map (λ (log : LogState Device). Some (content_in (log_left means log))) logs
+    → map content_of images ≡ map Some (map content_in (map (log_left means) logs))
+held_in means images logs e = e ∙ logs_map logs
   where
-    contents_map : (images : List (Vec Line Global)) → map content_of (map (λ (image : Vec Line Global). words_of image.items) images)
-        ≡ map (λ (image : Vec Line Global). content_of (words_of image.items)) images
-    contents_map [] = refl
-    contents_map (image ∷ images) = ap (λ cs. content_of (words_of image.items) ∷ cs) (contents_map images)
-
     logs_map : (logs : List (LogState _)) → map (λ (log : LogState _). Some (content_in (log_left means log))) logs
         ≡ map Some (map content_in (map (log_left means) logs))
     logs_map [] = refl

@@ -143,7 +143,8 @@ fn read_on<R: Threads + Wait + Sync, O: Texted + Drop + Send + Sync, S: Store, G
         (reopened_task k threads init.now logs.now (map string_bytes names.now) object calls) result }
 {
     match read_images(alloc, logs, scripts.len() as u64, store) {
-        Ok(KeptImages { images, counts }) => {
+        Ok(read) => {
+            let KeptImages { images, counts } = read;
             let lines = into_lines(alloc, images)?;
             let kept = KeptLines { lines, counts };
             based_on(

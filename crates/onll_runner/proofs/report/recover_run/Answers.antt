@@ -1,8 +1,6 @@
-use Rattle.std.proofs.Common.{Vec, Global, Some, length, map, sym, ap, ◌∙◌}
-use Rattle.std.proofs.lemmas.List.{length-map}
-use Rattle.onll_words.specs.declared.line.Line.{Line}
+use Rattle.std.proofs.Common.{Some, length, map, sym, ap, ◌∙◌}
+use Rattle.std.proofs.lemmas.List.{length-map, map-id}
 use Rattle.onll_model.specs.Trace.{state_after}
-use Rattle.onll_pmem.specs.Pmem.{words_of}
 use Rattle.onll_log.specs.Grammar.{content_of}
 use Rattle.onll_log.specs.Log.{LogState}
 use Rattle.onll_merge.specs.Recovered.{Recovered, recovered_in}
@@ -23,38 +21,38 @@ pub wants_memory-requires : goal.wants_memory-requires
 wants_memory-requires g c =
     let m = g.P.Pmem.means in
     let ran = c.args.ran.now in
-    let images = map (λ (image : Vec Line Global). words_of image.items) c.deref-2.result.now in
-    let same = held_in m c.deref-2.result.now ran.logs.items (ap (map (λ (image : Vec Line Global). content_of (words_of image.items))) c.deref-2.ensures.value
+    let images = c.deref-2.result.now in
+    let same = held_in m images ran.logs.items (ap (map content_of) c.deref-2.ensures.value
     ∙ c.in_ok-images.ensures.contents ∙ ap (map (λ (log : LogState _). Some (content_in (log_left m log)))) c.deref.ensures.value) in
-    refused_so g.O.Object.means c.args.object.now c.args.heads.now (map script_in ran.threads.items) (left_in m ran) c.requires images c.in-Err.fault same c.in-Err.ensures.recovered
+    refused_so g.O.Object.means c.args.object.now c.args.heads.now (map script_in ran.threads.items) (left_in m ran) c.requires images c.in-Err.fault same (rw (map-id images) at c.in-Err.ensures.recovered)
 
 pub returns-in-Ok-clause-logs : goal.returns-in-Ok-clause-logs
 returns-in-Ok-clause-logs g c =
     let m = g.P.Pmem.means in
     let ran = c.args.ran.now in
-    let images = map (λ (image : Vec Line Global). words_of image.items) c.deref-2.result.now in
-    let same = held_in m c.deref-2.result.now ran.logs.items (ap (map (λ (image : Vec Line Global). content_of (words_of image.items))) c.deref-2.ensures.value
+    let images = c.deref-2.result.now in
+    let same = held_in m images ran.logs.items (ap (map content_of) c.deref-2.ensures.value
     ∙ c.in_ok-images.ensures.contents ∙ ap (map (λ (log : LogState _). Some (content_in (log_left m log)))) c.deref.ensures.value) in
     ap (λ (r : Recovered). r.logs)
-    (recovers_same g.O.Object.means c.args.object.now c.args.heads.now (map script_in ran.threads.items) (left_in m ran) c.requires images (recovered_in c.in-Ok.recovery) same c.in-Ok.ensures.recovered)
+    (recovers_same g.O.Object.means c.args.object.now c.args.heads.now (map script_in ran.threads.items) (left_in m ran) c.requires images (recovered_in c.in-Ok.recovery) same (rw (map-id images) at c.in-Ok.ensures.recovered))
 
 pub returns-in-Ok-clause-nodes : goal.returns-in-Ok-clause-nodes
 returns-in-Ok-clause-nodes g c =
     let m = g.P.Pmem.means in
     let ran = c.args.ran.now in
-    let images = map (λ (image : Vec Line Global). words_of image.items) c.deref-2.result.now in
-    let same = held_in m c.deref-2.result.now ran.logs.items (ap (map (λ (image : Vec Line Global). content_of (words_of image.items))) c.deref-2.ensures.value
+    let images = c.deref-2.result.now in
+    let same = held_in m images ran.logs.items (ap (map content_of) c.deref-2.ensures.value
     ∙ c.in_ok-images.ensures.contents ∙ ap (map (λ (log : LogState _). Some (content_in (log_left m log)))) c.deref.ensures.value) in
     ap (λ (r : Recovered). r.nodes)
-    (recovers_same g.O.Object.means c.args.object.now c.args.heads.now (map script_in ran.threads.items) (left_in m ran) c.requires images (recovered_in c.in-Ok.recovery) same c.in-Ok.ensures.recovered)
+    (recovers_same g.O.Object.means c.args.object.now c.args.heads.now (map script_in ran.threads.items) (left_in m ran) c.requires images (recovered_in c.in-Ok.recovery) same (rw (map-id images) at c.in-Ok.ensures.recovered))
 
 pub returns-in-Ok-clause-state : goal.returns-in-Ok-clause-state
 returns-in-Ok-clause-state g c =
     let b = g.O.Object.means in
     let m = g.P.Pmem.means in
     let ran = c.args.ran.now in
-    let images = map (λ (image : Vec Line Global). words_of image.items) c.deref-2.result.now in
-    let same = held_in m c.deref-2.result.now ran.logs.items (ap (map (λ (image : Vec Line Global). content_of (words_of image.items))) c.deref-2.ensures.value
+    let images = c.deref-2.result.now in
+    let same = held_in m images ran.logs.items (ap (map content_of) c.deref-2.ensures.value
     ∙ c.in_ok-images.ensures.contents ∙ ap (map (λ (log : LogState _). Some (content_in (log_left m log)))) c.deref.ensures.value) in
     c.in-Ok.ensures.state ∙ ap (λ (r : Recovered). state_after b c.args.object.now r.nodes)
-    (recovers_same b c.args.object.now c.args.heads.now (map script_in ran.threads.items) (left_in m ran) c.requires images (recovered_in c.in-Ok.recovery) same c.in-Ok.ensures.recovered)
+    (recovers_same b c.args.object.now c.args.heads.now (map script_in ran.threads.items) (left_in m ran) c.requires images (recovered_in c.in-Ok.recovery) same (rw (map-id images) at c.in-Ok.ensures.recovered))

@@ -15,14 +15,14 @@ pub based_on-requires-clause-images : goal.based_on-requires-clause-images
 based_on-requires-clause-images g c κs within =
     let count : c.len.result ≡ length c.args.scripts.items = search rules in
     let given = by_given c.in-Ok.ensures.begins in
-    let read : AreRead c.args.logs.now (length c.args.scripts.items) c.in-Ok.images.items c.in-Ok.counts.items (g.S.Store.seen c.read_images.new.store) = record {
+    let read : AreRead c.args.logs.now (length c.args.scripts.items) c.in-Ok.read.images.items c.in-Ok.read.counts.items (g.S.Store.seen c.read_images.new.store) = record {
       many = c.in-Ok.ensures.count ∙ count;
       counted = c.in-Ok.ensures.many ∙ count;
-      used = used_all c.in-Ok.images.items given.value given.fits.stand;
+      used = used_all c.in-Ok.read.images.items given.value given.fits.stand;
       few = c.in-Ok.ensures.few;
       begins = c.in-Ok.ensures.fronts;
     } in
-    subst (λ ls. AreRead c.args.logs.now (length c.args.scripts.items) ls c.in-Ok.counts.items (g.S.Store.seen c.read_images.new.store)) (sym c.in_ok-lines-in-Ok.ensures) read
+    subst (λ ls. AreRead c.args.logs.now (length c.args.scripts.items) ls c.in-Ok.read.counts.items (g.S.Store.seen c.read_images.new.store)) (sym c.in_ok-lines-in-Ok.ensures) read
 
 pub returns-in_ok-lines-in-Ok : goal.returns-in_ok-lines-in-Ok
 returns-in_ok-lines-in-Ok g c = λ threads stands.
@@ -35,7 +35,7 @@ returns-in_ok-lines-in-Ok g c = λ threads stands.
     let count : c.len.result ≡ length c.args.scripts.items = search rules in
     let begins = rw (count ∙ sym (length-map c.args.scripts.items (λ script. script.items))) at c.in-Ok.ensures.begins in
     let given = by_given begins in
-    let same = base_stands b heads scripts c.in-Ok.images.items given.value given.fits.stand in
+    let same = base_stands b heads scripts c.in-Ok.read.images.items given.value given.fits.stand in
     let does : Result Found ResumeFault → Type 0 = λ found. Does (image_names c.args.logs.now 0 (length c.args.scripts.items)) (g.S.Store.seen c.read_images.new.store) (g.S.Store.seen c.based_on.new.store)
     (based_task k threads init c.args.logs.now names c.args.object scripts found) c.based_on.result in
     read_does (λ (images : List (List (List ℕ))). based_task k threads init c.args.logs.now names c.args.object scripts (base_in b heads scripts images)) (by_begins begins)

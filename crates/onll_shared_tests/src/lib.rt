@@ -1,5 +1,4 @@
-//! Tests of the shared object over devices in memory, call by call, and of one script on it and under one lock. There is nothing
-//! here to be called.
+//! Tests of the shared object over devices in memory, call by call. There is nothing here to be called.
 #![tactic(auto)]
 
 #[cfg(test)]
@@ -12,7 +11,5 @@ mod pass_tests;
 mod refusal_tests;
 #[cfg(test)]
 mod resumed;
-#[cfg(test)]
-mod script_tests;
 #[cfg(test)]
 mod steps;

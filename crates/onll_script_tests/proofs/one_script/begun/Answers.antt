@@ -3,7 +3,7 @@ use Rattle.onll_model.specs.Calls.{updates_in}
 use Rattle.onll_locked.specs.Locked.{first_state}
 use Rattle.onll_locked.specs.DoNext.{IsLogOf}
 use Rattle.onll_locked.proofs.Firsts.{first_log}
-use Rattle.onll_shared_tests.proofs.script_tests.begun.Goals as goal
+use Rattle.onll_script_tests.proofs.one_script.begun.Goals as goal
 
 pub invariant_of-result : goal.invariant_of-result
 invariant_of-result c =

@@ -1,7 +1,7 @@
 use Rattle.onll_bank.specs.Object.{bank}
 use Rattle.onll_pmem.specs.Memory.{memory_view}
 use Rattle.onll_shared.specs.Passes.{IsTied}
-use Rattle.onll_shared_tests.proofs.script_tests.said_in_turn.Given as goal
+use Rattle.onll_script_tests.proofs.one_script.said_in_turn.Given as goal
 
 abbrev pub invariant-loop-turn : goal.invariant-loop-turn
 invariant-loop-turn l = record {

@@ -14,3 +14,4 @@ pub mod Placed
 pub mod Writing
 pub mod Kept
 pub mod Deciding
+pub mod Surveys

@@ -5,7 +5,9 @@ use Rattle.onll_model.specs.declared.node.Node.{Node}
 use Rattle.onll_model.specs.Segment.{Segment}
 use Rattle.onll_log.specs.declared.head.LogHead.{LogHead}
 use Rattle.onll_log.specs.declared.cursor.EntryView.{EntryView}
+use Rattle.onll_log.specs.declared.survey.LogSurvey.{LogSurvey}
 use Rattle.onll_log.specs.Grammar.{Content, entries_from, used_with}
+use Rattle.onll_log.specs.Survey.{survey_of}
 
 -- what the whole image holds, and how many of its entries the cursor went past
 pub record CursorState : Type 0 where
@@ -61,7 +63,8 @@ pub record StandsAt (head : Option LogHead) (lines : List (List ℕ)) (passed at
   pub left : drop passed (entries_under head lines) ≡ entries_after head passed (drop at lines)
   pub looked : next ≡ first_view at (entries_after head passed (drop at lines))
 
--- so it stands, and this many entries are known to be accepted
-pub record StandsOver (head : Option LogHead) (lines : List (List ℕ)) (known passed at : ℕ) (next : Option EntryView) : Type 0 where
+-- so it stands, and this many entries are known to be accepted, and this of all of them
+pub record StandsOver (head : Option LogHead) (lines : List (List ℕ)) (known : ℕ) (survey : Option LogSurvey) (passed at : ℕ) (next : Option EntryView) : Type 0 where
   pub stands : StandsAt head lines passed at next
   pub accepted : known ≤ length (entries_under head lines)
+  pub surveyed : IfSome survey (λ s. s ≡ survey_of (record { head = head; entries = entries_under head lines }))

@@ -3,6 +3,7 @@ pub mod Masks
 pub mod Encoding
 pub mod Grammar
 pub mod Decoded
+pub mod Survey
 pub mod Cursor
 pub mod ImageFile
 pub mod Digest

@@ -6,11 +6,13 @@ ghost use Rattle.onll_pmem.specs.Pmem.{words_of};
 ghost use Rattle.onll_log.specs.Grammar.{content_of, entries_from};
 ghost use Rattle.onll_log.specs.Head.{FitsHead};
 ghost use Rattle.onll_log.specs.Tested.{Knows};
+ghost use Rattle.onll_log.specs.Survey.{Surveys, survey_of};
 ghost use Rattle.onll_log.specs.Cursor.{entries_left, lines_passed, first_view, first_nodes, one_further, before_all};
 
 use crate::entry::is_entry;
 use crate::head::LogHead;
 use crate::image::{are_zero, node_of};
+use crate::survey::{LogSurvey, go_over};
 use onll_model::Node;
 use onll_words::Line;
 use std::marker::Model;
@@ -31,6 +33,8 @@ pub struct LogCursor<'a> {
     head: Option<LogHead>,
     /// How many entries were gone past, now or before: these are accepted.
     known: u64,
+    /// What the entries are as a whole, where that is known.
+    survey: Option<LogSurvey>,
     passed: u64,
     at: usize,
     next: Option<EntryView>,
@@ -48,7 +52,7 @@ impl<'a> Model for LogCursor<'a> {
       passed = s.passed;
     } };
 
-    ghost invariant = { λ s. StandsOver s.head (words_of s.lines.now) s.known s.passed s.at s.next };
+    ghost invariant = { λ s. StandsOver s.head (words_of s.lines.now) s.known s.survey s.passed s.at s.next };
 }
 
 /// The entry that begins at this line, after this many entries of the log, None where none is accepted there. The first `known`
@@ -79,16 +83,23 @@ impl<'a> LogCursor<'a> {
         ensures { let content = content_of (words_of lines.now) in
             MatchOption result (content ≡ None) (λ c. (content ≡ Some c.content) × (c.passed ≡ 0)) }
     {
-        LogCursor::over(lines, 0)
+        LogCursor::over(lines, 0, None)
     }
 
-    /// A cursor before the first entry of an image with this head, where this many entries are known to be accepted.
-    fn under(head: LogHead, lines: &'a [Line], known: u64) -> LogCursor<'a>
+    /// A cursor before the first entry of an image with this head, where this many entries are known to be accepted, and this of
+    /// all of them.
+    fn under(
+        head: LogHead,
+        lines: &'a [Line],
+        known: u64,
+        survey: Option<LogSurvey>,
+    ) -> LogCursor<'a>
         requires head { FitsHead head }
         requires some { 1 ≤ length lines.now }
         requires content { content_of (words_of lines.now)
             ≡ Some (record { head = Some head; entries = entries_from head 0 0 (drop 1 (words_of lines.now)) }) }
         requires known { Knows (words_of lines.now) known }
+        requires survey { Surveys (words_of lines.now) survey }
         ensures content { content_of (words_of lines.now) ≡ Some result.content }
         ensures first { result.passed ≡ 0 }
     {
@@ -97,21 +108,28 @@ impl<'a> LogCursor<'a> {
             lines,
             head: Some(head),
             known,
+            survey,
             passed: 0,
             at: 1,
             next,
         }
     }
 
-    /// A cursor before the first entry of an image, where this many entries are known to be accepted, None where the image is no log.
-    pub(crate) fn over(lines: &'a [Line], known: u64) -> Option<LogCursor<'a>>
-        requires { Knows (words_of lines.now) known }
+    /// A cursor before the first entry of an image, where this many entries are known to be accepted, and this of all of them; None
+    /// where the image is no log.
+    pub(crate) fn over(
+        lines: &'a [Line],
+        known: u64,
+        survey: Option<LogSurvey>,
+    ) -> Option<LogCursor<'a>>
+        requires known { Knows (words_of lines.now) known }
+        requires survey { Surveys (words_of lines.now) survey }
         ensures { let content = content_of (words_of lines.now) in
             MatchOption result (content ≡ None) (λ c. (content ≡ Some c.content) × (c.passed ≡ 0)) }
     {
         let first = lines.first()?;
         if let Some(head) = LogHead::of_line(first) {
-            return Some(LogCursor::under(head, lines, known));
+            return Some(LogCursor::under(head, lines, known, survey));
         }
         if !are_zero(lines) {
             return None;
@@ -120,6 +138,7 @@ impl<'a> LogCursor<'a> {
             lines,
             head: None,
             known: 0,
+            survey: None,
             passed: 0,
             at: 0,
             next: None,
@@ -172,6 +191,20 @@ impl<'a> LogCursor<'a> {
             self.at = 1;
             self.next = entry_at(&head, self.known, 0, 1, self.lines);
         }
+    }
+
+    /// What the entries are as a whole. Where that isn't known it goes past all of them, and back before the first.
+    pub fn survey(&mut self) -> LogSurvey
+        requires { self.old.passed ≡ 0 }
+        ensures survey { result ≡ survey_of self.old.content }
+        ensures again { self.new ≡ before_all self.old }
+    {
+        if let Some(survey) = self.survey {
+            return survey;
+        }
+        let survey = go_over(self);
+        self.rewind();
+        survey
     }
 
     /// How many entries were gone past.

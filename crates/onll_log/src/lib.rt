@@ -35,6 +35,7 @@ mod image_file;
 mod laws;
 mod log;
 mod mask;
+mod survey;
 mod tested;
 
 pub use cause::MakeCause;
@@ -46,4 +47,5 @@ pub use image::{DecodeFault, decode};
 pub use image_file::{LONGEST_IMAGE, image_lines, read_part};
 pub use laws::{cursor_law, encoded_laws, masks_law, remains_laws, torn_laws, written_laws};
 pub use log::{MakeFault, ThreadLog};
+pub use survey::LogSurvey;
 pub use tested::{LogImage, TestedImage};

@@ -1,13 +1,16 @@
 //! Images as recovery takes them: lines, and what is known of them beforehand.
 
-ghost use Rattle.std.specs.Prelude.{◌≡◌, ℕ, List, None, Some, length, max, take, IfOk, MatchOption};
+ghost use Rattle.std.specs.Prelude.{◌≡◌, ℕ, List, Option, None, Some, length, max, take, IfOk, MatchOption};
+ghost use Rattle.std.specs.Option.{option_map};
 ghost use Rattle.onll_pmem.specs.Pmem.{words_of};
-ghost use Rattle.onll_log.specs.Grammar.{content_of, format_in, used_by};
+ghost use Rattle.onll_log.specs.Grammar.{Content, content_of, format_in};
 ghost use Rattle.std.specs.Cow.{cow_slice_items};
+ghost use Rattle.onll_log.specs.Survey.{survey_of};
 ghost use Rattle.onll_log.specs.Tested.{used_in, entries_in, Knows};
 
 use crate::cursor::LogCursor;
 use crate::head::format_of;
+use crate::survey::LogSurvey;
 use onll_words::Line;
 use std::alloc::{AllocError, Global};
 use std::borrow::CowSlice;
@@ -39,45 +42,50 @@ impl LogImage for Vec<Line> {
     }
 }
 
-/// How many lines and how many entries of an image decide what it holds.
-#[derive(Clone, Copy)]
-struct Used {
-    lines: u64,
-    entries: u64,
-}
-
-/// How many lines and entries a log has.
-fn used_to_end(mut cursor: LogCursor<'_>) -> Used
-    requires { cursor.passed ≡ 0 }
-    ensures lines { result.lines ≡ used_by cursor.entry.content }
-    ensures entries { result.entries ≡ length cursor.entry.content.entries }
-{
-    while let Some(_) = cursor.peek() {
-        cursor.advance();
-    }
-    Used {
-        lines: cursor.used(),
-        entries: cursor.passed(),
-    }
-}
-
-/// How many lines of an image decide what it holds, and how many entries it has.
-fn used_of(lines: &[Line]) -> Used
-    ensures lines { result.lines ≡ used_in (content_of (words_of lines.now)) }
-    ensures entries { result.entries ≡ entries_in (content_of (words_of lines.now)) }
+/// What the entries of an image are as a whole, None where it is no log.
+fn surveyed(lines: &[Line]) -> Option<LogSurvey>
+    ensures { result ≡ option_map survey_of (content_of (words_of lines.now)) }
 {
     match LogCursor::open(lines) {
-        Some(cursor) => {
-            let used = used_to_end(cursor);
-            Used {
-                lines: used.lines.max(1),
-                entries: used.entries,
-            }
+        Some(mut cursor) => Some(cursor.survey()),
+        None => None,
+    }
+}
+
+/// How many lines decide what an image holds of whose entries this is known, None where it is no log.
+fn lines_used(survey: Option<LogSurvey>) -> u64
+    ensures { (content : Option Content) → survey ≡ option_map survey_of content → result ≡ used_in content }
+{
+    match survey {
+        Some(survey) => survey.lines.max(1),
+        None => 0,
+    }
+}
+
+/// How many entries an image has of whose entries this is known, None where it is no log.
+fn entries_known(survey: Option<LogSurvey>) -> u64
+    ensures { (content : Option Content) → survey ≡ option_map survey_of content → result ≡ entries_in content }
+{
+    match survey {
+        Some(survey) => survey.entries,
+        None => 0,
+    }
+}
+
+/// The first of these lines, this many.
+fn first_lines<'a>(lines: CowSlice<'a, Line, Global>, count: usize) -> CowSlice<'a, Line, Global>
+    ensures { words_of (cow_slice_items result) ≡ take count (words_of (cow_slice_items lines.entry)) }
+{
+    match lines {
+        CowSlice::Borrowed(lines) => {
+            let (first, _) = lines.split_at(count.min(lines.len()));
+            CowSlice::Borrowed(first)
         }
-        None => Used {
-            lines: 0,
-            entries: 0,
-        },
+        CowSlice::Owned(mut lines) => {
+            lines.truncate(count);
+            lines.shrink_to_fit();
+            CowSlice::Owned(lines)
+        }
     }
 }
 
@@ -86,32 +94,33 @@ fn used_of(lines: &[Line]) -> Used
 pub struct TestedImage<'a> {
     lines: CowSlice<'a, Line, Global>,
     known: u64,
+    /// What the entries are as a whole, where that is known.
+    survey: Option<LogSurvey>,
 }
 
 impl<'a> Model for TestedImage<'a> {
     ghost use Rattle.std.specs.Prelude.{List, ℕ};
     ghost use Rattle.std.specs.Cow.{cow_slice_items};
     ghost use Rattle.onll_pmem.specs.Pmem.{words_of};
-    ghost use Rattle.onll_log.specs.Tested.{Knows};
+    ghost use Rattle.onll_log.specs.Tested.{IsTested};
 
     ghost Value = { List (List ℕ) };
 
     ghost view = { λ i. words_of (cow_slice_items i.lines) };
 
-    ghost invariant = { λ i. Knows (words_of (cow_slice_items i.lines)) i.known };
+    ghost invariant = { λ i. IsTested (words_of (cow_slice_items i.lines)) i.known i.survey };
 }
 
 impl<'a> TestedImage<'a> {
     /// The lines that decide what an image holds as a log. Each of its entries is tested once.
-    pub fn of_lines(mut lines: Vec<Line>) -> TestedImage<'a>
-        ensures { let words = words_of lines.items in result ≡ take (used_in (content_of words)) words }
+    pub fn of_lines(lines: CowSlice<'a, Line, Global>) -> TestedImage<'a>
+        ensures { let words = words_of (cow_slice_items lines.entry) in result ≡ take (used_in (content_of words)) words }
     {
-        let used = used_of(&lines);
-        lines.truncate(used.lines as usize);
-        lines.shrink_to_fit();
+        let survey = surveyed(lines.as_slice());
         TestedImage {
-            lines: CowSlice::Owned(lines),
-            known: used.entries,
+            lines: first_lines(lines, lines_used(survey) as usize),
+            known: entries_known(survey),
+            survey,
         }
     }
 
@@ -120,7 +129,11 @@ impl<'a> TestedImage<'a> {
         requires { Knows (words_of (cow_slice_items lines)) known }
         ensures { result ≡ words_of (cow_slice_items lines.entry) }
     {
-        TestedImage { lines, known }
+        TestedImage {
+            lines,
+            known,
+            survey: None,
+        }
     }
 
     /// The lines.
@@ -142,7 +155,7 @@ impl<'a> LogImage for TestedImage<'a> {
     ghost lines_of = { λ i. i };
 
     fn open(&self) -> Option<LogCursor<'_>> {
-        LogCursor::over(self.lines.as_slice(), self.known)
+        LogCursor::over(self.lines.as_slice(), self.known, self.survey)
     }
 
     fn format(&self) -> u64 {

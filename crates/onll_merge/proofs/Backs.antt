@@ -1,8 +1,8 @@
 -- Logs that merge hold the trace that the merge gives.
 use Rattle.std.proofs.Common.{◌≡◌, ℕ, zero, suc, ◌+◌, ◌-◌, ◌<◌, ◌≤◌, ◌==◌, inl, inr, ⊎_elim, Bool, true, false, List, [], ◌∷◌, ◌++◌, length, get_or, take, drop, sym, refl, ap, subst, ◌∙◌, arith, Option, Some, None, Ok, option_to_list, eqb-true, cond}
-use Rattle.std.specs.Prelude.{nat_lt, IfSome, count_by}
+use Rattle.std.specs.Prelude.{IfSome, count_by}
 use Rattle.std.specs.List.{AllByRecursion}
-use Rattle.std.specs.Option.{option_or, option_map_or}
+use Rattle.std.specs.Option.{option_or, option_map, option_map_or}
 use mathlib.Core.Option.{some, some-injective, some-ne-none}
 use mathlib.Core.Logic.{dite}
 use native.Mathlib.Decide.{ℕ_discrete, dec_le}
@@ -14,7 +14,9 @@ use Rattle.onll_log.specs.declared.head.LogHead.{LogHead}
 use Rattle.onll_log.specs.Grammar.{Content, same_words}
 use Rattle.onll_merge.specs.declared.fault.RecoverFault.{RecoverFault}
 use Rattle.onll_merge.specs.declared.fault.RecoverFault.TheVariants.{NotThisRun, Disorder, Clash, Gap, Stray}
-use Rattle.onll_merge.specs.Merge.{node_in_segment, node_in_log, node_in_logs, nodes_to, top_in_log, top_of, same_head, fits_run, foreign, disorder_in, disorder, AllRise, first_to, same_node, agrees_at, differs, clash_from, clash_at, gap_at, unlike, stray_above, refusal, unless, merge}
+use Rattle.onll_log.specs.Survey.{top_in_log, disorder_from}
+use Rattle.onll_log.proofs.Surveys.{rises_from}
+use Rattle.onll_merge.specs.Merge.{node_in_segment, node_in_log, node_in_logs, nodes_to, top_of, same_head, fits_run, foreign, disorder_in, disorder, AllRise, first_to, same_node, agrees_at, differs, clash_from, clash_at, gap_at, unlike, stray_above, refusal, unless, merge}
 use Rattle.onll_merge.specs.Laws.{all_segments, EachSegment, HeadsFit, HoldMerged}
 use Rattle.onll_merge.proofs.Places.{node_among-at, node_among-above, node_in_log-low}
 use Rattle.onll_merge.proofs.Asked.{by_option, both, same_words-eq}
@@ -53,16 +55,13 @@ heads_fit i [] hs e = tt
 heads_fit i (c ∷ cs) [] e = tt
 heads_fit i (c ∷ cs) (h ∷ hs) e = let p = passed (fits_run c.head h) (foreign (suc i) cs hs) (NotThisRun i) e in (fits_run-eq c.head h p.0, heads_fit (suc i) cs hs p.1)
 
-lt_not : (a b : ℕ) → nat_lt a b ≡ false → b ≤ a
-lt_not a b h = grind arith
-
-rises : (i e last : ℕ) (ss : List Segment) → disorder_in i e last ss ≡ None → Rises last ss
-rises i e last [] h = tt
-rises i e last (s ∷ ss) h = let p = not_refused (nat_lt s.place (last + length s.nodes)) (disorder_in i (suc e) s.place ss) (Disorder i (suc e)) h in (lt_not s.place (last + length s.nodes) p.0, rises i (suc e) s.place ss p.1)
+none_mapped : {A B : Type 0} (f : A → B) (o : Option A) → option_map f o ≡ None → o ≡ None
+none_mapped f None e = refl
+none_mapped f (Some x) e = absurd (cc)
 
 all_rise : (i : ℕ) (cs : List Content) → disorder i cs ≡ None → AllRise cs
 all_rise i [] h = tt
-all_rise i (c ∷ cs) h = let e = none_both (disorder_in i 0 0 c.entries) (disorder (suc i) cs) h in (rises i 0 0 c.entries e.0, all_rise (suc i) cs e.1)
+all_rise i (c ∷ cs) h = let e = none_both (disorder_in i c.entries) (disorder (suc i) cs) h in (rises_from 0 0 c.entries (none_mapped (Disorder i) (disorder_from 0 0 c.entries) e.0), all_rise (suc i) cs e.1)
 
 none_at : (f : ℕ → Option RecoverFault) (k : ℕ) → first_to f k ≡ None → (p : ℕ) → 1 ≤ p → p ≤ k → f p ≡ None
 none_at f zero h p a b = absurd (omega arith)

@@ -1,8 +1,6 @@
 -- What images hold, one after the other.
 use Rattle.std.proofs.Common.{ℕ, ◌≡◌, ◌+◌, ◌<◌, ◌^◌, ◌++◌, ◌∷◌, [], List, Result, Ok, Err, map, length, drop, get_or, sym, ap, ◌∙◌, append_assoc}
 use Rattle.std.proofs.lemmas.List.{drop_more}
-use Rattle.onll_words.specs.declared.line.Line.{Line}
-use Rattle.onll_pmem.specs.Pmem.{words_of}
 use Rattle.onll_log.specs.declared.head.LogHead.{LogHead}
 use Rattle.onll_log.specs.Head.{head_for}
 use Rattle.onll_log.specs.declared.decoded.Decoded.{Decoded}

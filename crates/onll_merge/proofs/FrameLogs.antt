@@ -10,7 +10,8 @@ use Rattle.onll_model.proofs.Lists.{all_left, all_map}
 use Rattle.onll_model.proofs.Segments.{lies_left, lies_right, lies_either}
 use Rattle.onll_log.specs.declared.head.LogHead.{LogHead}
 use Rattle.onll_log.specs.Grammar.{Content}
-use Rattle.onll_merge.specs.Merge.{top_in_log, top_of}
+use Rattle.onll_log.specs.Survey.{top_in_log}
+use Rattle.onll_merge.specs.Merge.{top_of}
 use Rattle.onll_merge.specs.Laws.{all_segments, EachSegment, HeadsFit, HoldOne}
 use Rattle.onll_merge.specs.FrameLogs.{AreLogsOf, MergeToFront}
 use Rattle.onll_merge.proofs.Fronts.{merge-front, top_of-lies}

@@ -1,20 +1,22 @@
 -- Logs that hold one trace merge to its front.
-use Rattle.std.proofs.Common.{◌≡◌, ℕ, zero, suc, ◌+◌, ◌-◌, ◌<◌, ◌≤◌, ◌==◌, ◌⊎◌, inl, inr, ⊎_elim, Bool, true, false, List, [], ◌∷◌, ◌++◌, length, take, drop, sym, refl, ap, ◌∙◌, arith, Option, Some, None, Ok, option_to_list, eq-eqb, cond}
-use Rattle.std.specs.Prelude.{◌&&◌, nat_lt, IfSome, count_by}
+use Rattle.std.proofs.Common.{◌≡◌, ℕ, zero, suc, ◌+◌, ◌-◌, ◌<◌, ◌≤◌, ◌==◌, ◌⊎◌, inl, inr, ⊎_elim, Bool, true, List, [], ◌∷◌, ◌++◌, length, take, drop, sym, refl, ap, ◌∙◌, arith, Option, Some, None, Ok, option_to_list, eq-eqb, cond}
+use Rattle.std.specs.Prelude.{◌&&◌, IfSome, count_by}
 use Rattle.std.specs.List.{AllByRecursion}
-use Rattle.std.specs.Option.{option_or, option_map_or}
+use Rattle.std.specs.Option.{option_or, option_map, option_map_or}
 use mathlib.Core.Option.{some, some-injective, some-ne-none}
 use mathlib.Core.Logic.{dite}
 use native.Mathlib.Decide.{ℕ_discrete}
 use lib.ListN.{get_elem?}
 use Rattle.onll_model.specs.declared.node.Node.{Node}
-use Rattle.onll_model.specs.Segment.{Segment, Agrees, LiesIn, Rises}
+use Rattle.onll_model.specs.Segment.{Segment, Agrees, LiesIn}
 use Rattle.onll_model.specs.Trace.{is_of_thread, NumberedAbove}
 use Rattle.onll_log.specs.declared.head.LogHead.{LogHead}
 use Rattle.onll_log.specs.Grammar.{Content, same_words}
 use Rattle.onll_merge.specs.declared.fault.RecoverFault.{RecoverFault}
 use Rattle.onll_merge.specs.declared.fault.RecoverFault.TheVariants.{NotThisRun, Disorder, Clash, Gap, Stray}
-use Rattle.onll_merge.specs.Merge.{node_among, node_in_segment, node_in_log, node_in_logs, nodes_to, top_in_log, top_of, same_head, fits_run, foreign, disorder_in, disorder, AllRise, first_to, same_node, agrees_at, differs, clash_from, clash_at, gap_at, unlike, stray_above, refusal, unless, merge}
+use Rattle.onll_log.specs.Survey.{top_in_log}
+use Rattle.onll_log.proofs.Surveys.{in_order}
+use Rattle.onll_merge.specs.Merge.{node_among, node_in_segment, node_in_log, node_in_logs, nodes_to, top_of, same_head, fits_run, foreign, disorder, AllRise, first_to, same_node, agrees_at, differs, clash_from, clash_at, gap_at, unlike, stray_above, refusal, unless, merge}
 use Rattle.onll_merge.specs.Laws.{all_segments, EachSegment, HeadsFit, HoldOne}
 use Rattle.onll_merge.proofs.Places.{node_among-skip, node_among-first}
 use Rattle.onll_merge.proofs.Asked.{by_option, same_words-self, first_to-more}
@@ -111,16 +113,9 @@ no_foreign i [] hs f = refl
 no_foreign i (c ∷ cs) [] f = refl
 no_foreign i (c ∷ cs) (h ∷ hs) f = ap (λ (b : Bool). cond {A = Option RecoverFault} b (foreign (suc i) cs hs) (Some (NotThisRun i))) (fits_run-same c.head h f.0) ∙ no_foreign (suc i) cs hs f.1
 
-lt_no : (a b : ℕ) → b ≤ a → nat_lt a b ≡ false
-lt_no a b h = grind arith
-
-no_disorder_in : (i e last : ℕ) (ss : List Segment) → Rises last ss → disorder_in i e last ss ≡ None
-no_disorder_in i e last [] r = refl
-no_disorder_in i e last (s ∷ ss) r = ap (λ (b : Bool). cond {A = Option RecoverFault} b (Some (Disorder i (suc e))) (disorder_in i (suc e) s.place ss)) (lt_no s.place (last + length s.nodes) r.0) ∙ no_disorder_in i (suc e) s.place ss r.1
-
 no_disorder : (i : ℕ) (cs : List Content) → AllRise cs → disorder i cs ≡ None
 no_disorder i [] r = refl
-no_disorder i (c ∷ cs) r = ap (λ (o : Option RecoverFault). option_or o (disorder (suc i) cs)) (no_disorder_in i 0 0 c.entries r.0) ∙ no_disorder (suc i) cs r.1
+no_disorder i (c ∷ cs) r = ap (λ (o : Option RecoverFault). option_or o (disorder (suc i) cs)) (ap (option_map (Disorder i)) (in_order 0 0 c.entries r.0)) ∙ no_disorder (suc i) cs r.1
 
 same_node-self : (x : Node) → same_node x x ≡ true
 same_node-self x = ap (λ (b : Bool). b && ((x.number == x.number) && same_words x.row.w x.row.w)) (eq-eqb x.thread x.thread refl) ∙ (ap (λ (b : Bool). b && same_words x.row.w x.row.w) (eq-eqb x.number x.number refl) ∙ same_words-self x.row.w)

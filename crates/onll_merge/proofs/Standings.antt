@@ -1,21 +1,17 @@
 -- What cursors that stand below a place tell of it.
-use Rattle.std.proofs.Common.{◌≡◌, ℕ, zero, suc, ◌+◌, ◌<◌, ◌≤◌, Bool, false, List, [], ◌∷◌, ◌++◌, length, get_or, take, drop, map, set, sym, refl, ap, ◌∙◌, subst, arith, append_assoc, cond, Option, Some, None, Result, Ok, Err}
+use Rattle.std.proofs.Common.{◌≡◌, ℕ, zero, suc, ◌+◌, ◌<◌, ◌≤◌, List, [], ◌∷◌, ◌++◌, length, get_or, take, drop, map, set, sym, refl, ap, ◌∙◌, subst, arith, append_assoc, Option, Some, None, Result, Ok, Err}
 use Rattle.std.specs.List.{AllByRecursion, slice_get}
-use Rattle.std.specs.Option.{option_or, option_map_or, option_to_list, is_some}
-use Rattle.std.specs.Prelude.{nat_lt}
-use Rattle.std.proofs.lemmas.Bool.Decides.{nat_tests}
-use Rattle.std.proofs.lemmas.List.{take-append-drop, drop-map, drop_more, map-append, length-drop}
+use Rattle.std.specs.Option.{option_or, option_map_or, option_to_list}
+use Rattle.std.proofs.lemmas.List.{take-append-drop, drop-map, drop_more, map-append}
 use Rattle.onll_model.specs.declared.node.Node.{Node}
 use Rattle.onll_model.specs.Segment.{Segment, Rises}
-use Rattle.onll_log.specs.Grammar.{Content, content_of, used_with, used_by}
-use Rattle.onll_log.specs.Cursor.{CursorState, entries_passed, entries_left, lines_passed}
-use Rattle.onll_log.proofs.Cursors.{all_gone}
+use Rattle.onll_log.specs.Grammar.{Content, content_of}
+use Rattle.onll_log.specs.Cursor.{CursorState, entries_passed}
 use Rattle.onll_merge.specs.declared.fault.RecoverFault.{RecoverFault}
-use Rattle.onll_merge.specs.declared.fault.RecoverFault.TheVariants.{Gap, Disorder}
+use Rattle.onll_merge.specs.declared.fault.RecoverFault.TheVariants.{Gap}
 use Rattle.onll_merge.specs.declared.fault.ImagesFault.{ImagesFault}
-use Rattle.onll_merge.specs.declared.counts.LogCounts.{LogCounts}
-use Rattle.onll_merge.specs.Merge.{AllRise, disorder_in, node_in_segment, node_in_log, node_in_logs, nodes_to, first_to, clash_at, gap_at}
-use Rattle.onll_merge.specs.Recovered.{content_before, contents_from, log_counts}
+use Rattle.onll_merge.specs.Merge.{AllRise, node_in_segment, node_in_log, node_in_logs, nodes_to, first_to, clash_at, gap_at}
+use Rattle.onll_merge.specs.Recovered.{content_before, contents_from}
 use Rattle.onll_merge.proofs.Decoding.{onto}
 use Rattle.onll_merge.specs.Standing.{contents_under, StandsBelow, StandBelow, gap_fault}
 use Rattle.onll_merge.proofs.Places.{node_among-above, node_in_log-low}
@@ -144,26 +140,3 @@ open_more lines images i image cursors more x l same pushed is =
     ∙ (ap (λ (o : Option Content). onto (contents_under cursors) (content_before i o rest)) (sym is)
     ∙ (ap (λ v. onto (contents_under cursors) (content_before i (content_of (lines v)) rest)) same
     ∙ sym (ap (λ vs. onto (contents_under cursors) (contents_from i (map lines vs))) (drop_more images i image l))))))
-
--- ---- how much a log holds
--- an entry that begins above the one before it
-pub disorder_on : (log before last : ℕ) (s : Segment) (more : List Segment) → last + length s.nodes ≤ s.place → disorder_in log before last (s ∷ more) ≡ disorder_in log (suc before) s.place more
-disorder_on log before last s more l =
-    let test : nat_lt s.place (last + length s.nodes) ≡ false = grind (arith, nat_tests) in
-    ap (λ (b : Bool). cond b (Some (Disorder log (suc before))) (disorder_in log (suc before) s.place more)) test
-
-counts_same : (a b : LogCounts) → a.head ≡ b.head → a.entries ≡ b.entries → a.lines ≡ b.lines → a ≡ b
-counts_same a b e₁ e₂ e₃ =
-    ap (λ (h : Bool). record { head = h; entries = a.entries; lines = a.lines }) e₁
-    ∙ (ap (λ (n : ℕ). record { head = b.head; entries = n; lines = a.lines }) e₂ ∙ ap (λ (n : ℕ). record { head = b.head; entries = b.entries; lines = n }) e₃)
-
--- what a cursor counted that went past all entries
-pub counted_all : (c : CursorState) (content : Content) (counts : LogCounts) → c.content ≡ content → entries_left c ≡ [] → c.passed ≤ length content.entries
-    → counts.head ≡ is_some c.content.head → counts.entries ≡ c.passed → counts.lines ≡ lines_passed c → counts ≡ log_counts content
-counted_all c content counts same none most h e l =
-    let es = c.content.entries in
-    let passed : c.passed ≡ length content.entries = omega (arith, length-drop c.passed es, ap length none, ap (λ (x : Content). length x.entries) same, most) in
-    counts_same counts (log_counts content)
-    (h ∙ ap (λ (x : Content). is_some x.head) same)
-    (e ∙ passed)
-    (l ∙ (ap (used_with c.content.head) (all_gone es c.passed none) ∙ ap used_by same))

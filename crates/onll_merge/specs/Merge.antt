@@ -1,6 +1,6 @@
-use Rattle.std.specs.Prelude.{ℕ, zero, suc, ◌+◌, ◌==◌, ◌&&◌, max, nat_lt, if◌then◌else◌, Bool, true, List, [], ◌∷◌, ◌++◌, length, map, count_by, Option, Some, None, Result, Ok, Err}
+use Rattle.std.specs.Prelude.{ℕ, zero, suc, ◌+◌, ◌==◌, ◌&&◌, max, if◌then◌else◌, Bool, true, List, [], ◌∷◌, ◌++◌, length, map, count_by, Option, Some, None, Result, Ok, Err}
 use Rattle.std.specs.List.{AllByRecursion}
-use Rattle.std.specs.Option.{option_or, option_map_or, option_to_list}
+use Rattle.std.specs.Option.{option_or, option_map, option_map_or, option_to_list}
 use Rattle.onll_model.specs.declared.node.Node.{Node}
 use Rattle.onll_model.specs.Segment.{Segment, Rises}
 use Rattle.onll_model.specs.Trace.{is_of_thread}
@@ -8,6 +8,7 @@ use Rattle.onll_log.specs.declared.head.LogHead.{LogHead}
 use Rattle.onll_log.specs.declared.decoded.Decoded.{Decoded}
 use Rattle.onll_log.specs.Grammar.{Content, same_words}
 use Rattle.onll_log.specs.Decoded.{content_in}
+use Rattle.onll_log.specs.Survey.{top_in_log, disorder_from}
 use Rattle.onll_merge.specs.declared.fault.RecoverFault.{RecoverFault}
 use Rattle.onll_merge.specs.declared.fault.RecoverFault.TheVariants.{NotThisRun, Disorder, Clash, Gap, Stray}
 
@@ -43,10 +44,6 @@ nodes_to logs zero = []
 nodes_to logs (suc k) = nodes_to logs k ++ option_to_list (node_in_logs logs (suc k))
 
 -- the greatest last place, 0 where there is no entry
-abbrev pub top_in_log : List Segment → ℕ
-top_in_log [] = 0
-top_in_log (s ∷ ss) = max s.place (top_in_log ss)
-
 abbrev pub top_of : List Content → ℕ
 top_of [] = 0
 top_of (c ∷ cs) = max (top_in_log c.entries) (top_of cs)
@@ -68,17 +65,14 @@ foreign i (c ∷ cs) [] = None
 foreign i (c ∷ cs) (h ∷ hs) = if fits_run c.head h then foreign (suc i) cs hs else Some (NotThisRun i)
 
 -- ---- entries that do not rise
--- the first entry of log i whose first place is not above the last place of the one before it; e entries and the
--- place `last` stand before these
-abbrev pub disorder_in : ℕ → ℕ → ℕ → List Segment → Option RecoverFault
-disorder_in i e last [] = None
-disorder_in i e last (s ∷ ss) =
-    if nat_lt s.place (last + length s.nodes) then Some (Disorder i (suc e)) else disorder_in i (suc e) s.place ss
+-- the first entry of log i whose first place is not above the last place of the one before it
+abbrev pub disorder_in : ℕ → List Segment → Option RecoverFault
+disorder_in i ss = option_map (Disorder i) (disorder_from 0 0 ss)
 
 -- in the first of these logs that has one; they are numbered from i
 abbrev pub disorder : ℕ → List Content → Option RecoverFault
 disorder i [] = None
-disorder i (c ∷ cs) = option_or (disorder_in i 0 0 c.entries) (disorder (suc i) cs)
+disorder i (c ∷ cs) = option_or (disorder_in i c.entries) (disorder (suc i) cs)
 
 -- each log's entries rise, so that its places are 1 and above and each is held once
 abbrev pub AllRise : List Content → Type 0

@@ -4,7 +4,8 @@ ghost use Rattle.std.specs.Prelude.{◌≡◌, ℕ, ◌+◌, ◌<◌, ◌≤◌,
 ghost use Rattle.onll_model.specs.Segment.{Rises};
 ghost use Rattle.onll_log.specs.declared.decoded.Entry.{Entry};
 ghost use Rattle.onll_log.specs.Decoded.{segment_in, segments_in};
-ghost use Rattle.onll_merge.specs.Merge.{node_in_segment, node_in_log, agrees_at, top_in_log, disorder_in};
+ghost use Rattle.onll_log.specs.Survey.{top_in_log};
+ghost use Rattle.onll_merge.specs.Merge.{node_in_segment, node_in_log, agrees_at, disorder_in};
 ghost use Rattle.onll_merge.specs.Passed.{ArePassed};
 
 use crate::fault::RecoverFault;
@@ -13,8 +14,8 @@ use onll_model::Node;
 
 /// Whether each entry of a log begins above the last place of the one before it.
 pub fn check_order(entries: &[Entry], log: u64) -> Result<(), RecoverFault>
-    ensures order { MatchResult result (λ _. disorder_in log 0 0 (segments_in entries.now) ≡ None)
-        (λ e. disorder_in log 0 0 (segments_in entries.now) ≡ Some e) }
+    ensures order { MatchResult result (λ _. disorder_in log (segments_in entries.now) ≡ None)
+        (λ e. disorder_in log (segments_in entries.now) ≡ Some e) }
     ensures rises { OnOk result (Rises 0 (segments_in entries.now)) }
 {
     let mut last = 0;

@@ -5,7 +5,8 @@ ghost use Rattle.std.specs.Option.{option_or};
 ghost use Rattle.std.specs.List.{AllByRecursion};
 ghost use Rattle.onll_model.specs.Segment.{Rises};
 ghost use Rattle.onll_log.specs.Cursor.{before_all};
-ghost use Rattle.onll_merge.specs.Merge.{AllRise, foreign, disorder_in, disorder, top_in_log, top_of};
+ghost use Rattle.onll_log.specs.Survey.{top_in_log};
+ghost use Rattle.onll_merge.specs.Merge.{AllRise, foreign, disorder_in, disorder, top_of};
 ghost use Rattle.onll_merge.specs.Recovered.{contents_from, log_counts};
 ghost use Rattle.onll_merge.specs.Standing.{contents_under};
 ghost use Rattle.onll_merge.specs.declared.fault.RecoverFault.TheVariants.{NoMemory as OutOfMemory};
@@ -66,33 +67,26 @@ fn check_heads(cursors: &[LogCursor<'_>], heads: &[LogHead]) -> Result<(), Recov
 /// where it began, before the first entry.
 fn measure(log: u64, cursor: &mut LogCursor<'_>) -> Result<Measured, RecoverFault>
     requires { cursor.old.passed ≡ 0 }
-    ensures order { let found = disorder_in log 0 0 cursor.old.content.entries in
+    ensures order { let found = disorder_in log cursor.old.content.entries in
         MatchResult result (λ _. found ≡ None) (λ e. found ≡ Some e) }
     ensures rises { OnOk result (Rises 0 cursor.old.content.entries) }
     ensures counts { IfOk result (λ m. m.counts ≡ log_counts cursor.old.content) }
     ensures top { IfOk result (λ m. m.top ≡ top_in_log cursor.old.content.entries) }
     ensures again { OnOk result (cursor.new ≡ before_all cursor.old) }
 {
-    let mut last = 0;
-    let mut top = 0;
-    while let Some(entry) = cursor.peek() {
-        if entry.place < last || entry.place - last < entry.count {
-            return Err(RecoverFault::Disorder {
-                log,
-                entry: cursor.passed() + 1,
-            });
-        }
-        last = entry.place;
-        top = entry.place.max(top);
-        cursor.advance();
+    let survey = cursor.survey();
+    if let Some(entry) = survey.disorder {
+        return Err(RecoverFault::Disorder { log, entry });
     }
     let counts = LogCounts {
         head: cursor.head().is_some(),
-        entries: cursor.passed(),
-        lines: cursor.used(),
+        entries: survey.entries,
+        lines: survey.lines,
     };
-    cursor.rewind();
-    Ok(Measured { counts, top })
+    Ok(Measured {
+        counts,
+        top: survey.top,
+    })
 }
 
 /// What logs hold whose entries rise. It refuses the first entry of the first log that is out of order. The cursors end where they

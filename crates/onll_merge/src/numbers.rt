@@ -15,7 +15,10 @@ pub fn check_numbers(alloc: Global, nodes: &[Node]) -> Result<(), RecoverFault>
 {
     let mut counts: BTreeMap<u64, u64> = BTreeMap::new(alloc);
     for (below, node) in nodes.iter().enumerate() {
-        let wanted = counts.get(&node.thread).copied().unwrap_or(0) + 1;
+        let Ok(before) = counts.insert(node.thread, node.number) else {
+            return Err(RecoverFault::NoMemory);
+        };
+        let wanted = before.unwrap_or(0) + 1;
         if node.number != wanted {
             return Err(RecoverFault::Stray {
                 place: below as u64 + 1,
@@ -23,9 +26,6 @@ pub fn check_numbers(alloc: Global, nodes: &[Node]) -> Result<(), RecoverFault>
                 number: node.number,
                 wanted,
             });
-        }
-        if counts.insert(node.thread, wanted).is_err() {
-            return Err(RecoverFault::NoMemory);
         }
     }
     Ok(())

@@ -3,15 +3,17 @@
 ghost use Rattle.std.specs.Prelude.{◌≡◌, ℕ, ◌+◌, ◌-◌, ◌^◌, ◌<◌, ◌≤◌, ◌++◌, not, is_ok, true, refl, length, IfOk, OnOk, OnErr};
 ghost use Rattle.onll_pmem.specs.Device.{new_device, fenced_device, image_of, IsImage, zero_lines, line_at, FillsWords, settled, Write, WriteBack, Fence, FailedFence};
 ghost use Rattle.onll_pmem.specs.Pmem.{words_of, EightWords};
+ghost use Rattle.std.specs.Cow.{cow_slice_items};
 ghost use Rattle.onll_pmem.specs.Memory.{MemoryState, fails, faults_in_le, stepped, memory_view, EvenBut};
 
 use crate::front::{Front, ZERO};
-use crate::image::kept_front;
+use crate::image::{are_alike, kept_front};
 use crate::marks::Marks;
 use crate::pmem::{FenceFailed, Pmem};
 use crate::waiting::Waiting;
 use onll_words::{Line, NoMemory};
 use std::alloc::{AllocError, Global};
+use std::borrow::CowSlice;
 use std::marker::Model;
 
 /// Whether the fence of this number fails.
@@ -114,16 +116,38 @@ impl MemPmem {
         MemPmem::try_of_image(alloc, lines, failing).map_err(|_| NoMemory)
     }
 
-    /// The image that `image` makes of `keep`, but for those of its lines at the end that are zero since neither what is fenced
-    /// nor what was written reaches so far.
-    pub fn image_front(&self, alloc: Global, keep: u64) -> Result<Vec<Line>, NoMemory>
+    /// The same as `image_front`, in lines of its own.
+    fn mixed_front(&self, alloc: Global, keep: u64) -> Result<Vec<Line>, AllocError>
         ensures within { IfOk result (λ front. length front.items ≤ length self.now.device.read) }
         ensures exact { IfOk result (λ front. image_of self.now.device keep
             ≡ words_of front.items ++ zero_lines (length self.now.device.read - length front.items)) }
         ensures member { IfOk result (λ front. IsImage self.now.device
             (words_of front.items ++ zero_lines (length self.now.device.read - length front.items))) }
     {
-        kept_front(alloc, keep, &self.fenced, &self.read).map_err(|_| NoMemory)
+        kept_front(alloc, keep, &self.fenced, &self.read)
+    }
+
+    /// The image that `image` makes of `keep`, but for those of its lines at the end that are zero since neither what is fenced
+    /// nor what was written reaches so far. Where nothing is pending no line is copied.
+    pub fn image_front(
+        &self,
+        alloc: Global,
+        keep: u64,
+    ) -> Result<CowSlice<'_, Line, Global>, NoMemory>
+        ensures within { IfOk result (λ front. length (cow_slice_items front) ≤ length self.now.device.read) }
+        ensures exact { IfOk result (λ front. image_of self.now.device keep
+            ≡ words_of (cow_slice_items front) ++ zero_lines (length self.now.device.read - length (cow_slice_items front))) }
+        ensures member { IfOk result (λ front. IsImage self.now.device
+            (words_of (cow_slice_items front) ++ zero_lines (length self.now.device.read - length (cow_slice_items front)))) }
+    {
+        let held = self.read.held();
+        if are_alike(self.fenced.held(), held) {
+            return Ok(CowSlice::Borrowed(held));
+        }
+        match self.mixed_front(alloc, keep) {
+            Ok(front) => Ok(CowSlice::Owned(front)),
+            Err(_) => Err(NoMemory),
+        }
     }
 
     /// What a crash leaves: a pending word, one that reads otherwise than it is fenced, is as it reads where `keep` has
@@ -132,7 +156,7 @@ impl MemPmem {
         ensures exact { IfOk result (λ image. words_of image.items ≡ image_of self.now.device keep) }
         ensures member { IfOk result (λ image. IsImage self.now.device (words_of image.items)) }
     {
-        let mut image = self.image_front(alloc, keep)?;
+        let mut image = self.mixed_front(alloc, keep)?;
         image.resize(self.read.len(), ZERO)?;
         Ok(image)
     }

@@ -12,6 +12,7 @@ ghost use Rattle.onll_core.specs.Crash.{heads_of, images_of};
 ghost use Rattle.onll_core.specs.Outcomes.{returned_end, current_ends, ends_of, script_of};
 ghost use Rattle.onll_merge.specs.Recovered.{recovered_in, state_recovered};
 ghost use Rattle.onll_pmem.specs.Pmem.{words_of};
+ghost use Rattle.std.specs.Cow.{cow_slice_items};
 ghost use Rattle.onll_task.specs.ImageNames.{image_name, image_names};
 ghost use Rattle.onll_task.specs.Images.{StandsFor, StandFor, image_bytes, writing_stage};
 ghost use Rattle.onll_task.specs.Stop.{StopSays};
@@ -32,6 +33,7 @@ use onll_task::{Stop, write_image};
 use onll_text::{Piece, Report, Texted};
 use onll_words::{Line, NoMemory};
 use std::alloc::Global;
+use std::borrow::CowSlice;
 
 /// What became of the call of this number, from 0, of a thread: nothing, where it has taken no step.
 fn end_at<O: Texted>(returned: &[Returned<O>], current: Current, index: usize) -> Option<CallEnd<O>>
@@ -262,8 +264,8 @@ fn crash_answer<O: Texted + Drop>(
 
 /// An image: these lines, and then lines of zeros, `count` in all.
 #[derive(Drop)]
-struct ImageFront {
-    lines: Vec<Line>,
+struct ImageFront<'a> {
+    lines: CowSlice<'a, Line, Global>,
     count: u64,
 }
 
@@ -273,10 +275,10 @@ fn image_at<O: Texted + Drop>(
     core: &Core<O>,
     keep: u64,
     thread: u64,
-) -> Result<ImageFront, NoMemory>
+) -> Result<ImageFront<'_>, NoMemory>
     requires { thread < length core.now.threads }
-    ensures within { IfOk result (λ front. length front.lines.items ≤ front.count) }
-    ensures image { IfOk result (λ front. with_zeros (words_of front.lines.items) front.count
+    ensures within { IfOk result (λ front. length (cow_slice_items front.lines) ≤ front.count) }
+    ensures image { IfOk result (λ front. with_zeros (words_of (cow_slice_items front.lines)) front.count
         ≡ get_or (images_of keep core.now.threads) thread []) }
 {
     let device = core.device(thread);
@@ -286,14 +288,14 @@ fn image_at<O: Texted + Drop>(
 }
 
 /// Writes the image of a thread's device that this number picks, and gives the lines that decide what it holds.
-fn write_at<O: Texted + Drop, S: Store>(
+fn write_at<'a, O: Texted + Drop, S: Store>(
     alloc: Global,
-    core: &Core<O>,
+    core: &'a Core<O>,
     keep: u64,
     thread: u64,
     logs: &str,
     store: &mut S,
-) -> Result<TestedImage<'static>, Stop>
+) -> Result<TestedImage<'a>, Stop>
     requires { thread < length core.now.threads }
     ensures written { let image = get_or (images_of keep core.now.threads) thread [] in
         OnOk result (HasWritten (S.seen store.old) (S.seen store.new) (image_name logs.now thread) (image_bytes image)) }
@@ -309,13 +311,13 @@ fn write_at<O: Texted + Drop, S: Store>(
 }
 
 /// Writes the images that this number picks, one after the other, and gives of each the lines that decide what it holds.
-fn write_all<O: Texted + Drop, S: Store>(
+fn write_all<'a, O: Texted + Drop, S: Store>(
     alloc: Global,
-    core: &Core<O>,
+    core: &'a Core<O>,
     keep: u64,
     logs: &str,
     store: &mut S,
-) -> Result<Vec<TestedImage<'static>>, Stop>
+) -> Result<Vec<TestedImage<'a>>, Stop>
     ensures begins { let images = images_of keep core.now.threads in
         let names = image_names logs.now 0 (length images) in
         Begins names (S.seen store.old) (S.seen store.new) (writing_stage logs.now images) (λ _. tt) result }

@@ -7,7 +7,8 @@ use Rattle.onll_log.specs.declared.head.LogHead.{LogHead}
 use Rattle.onll_log.specs.Grammar.{Content, same_words}
 use Rattle.onll_merge.specs.declared.fault.RecoverFault.{RecoverFault}
 use Rattle.onll_merge.specs.declared.fault.RecoverFault.TheVariants.{NotThisRun, Clash, Gap}
-use Rattle.onll_merge.specs.Merge.{node_in_log, node_in_logs, nodes_to, top_in_log, top_of, same_head, fits_run, foreign, disorder_in, disorder, first_to, agrees_at, differs, clash_from, clash_at, gap_at, unlike, stray_above, unless, merge}
+use Rattle.onll_log.specs.Survey.{top_in_log}
+use Rattle.onll_merge.specs.Merge.{node_in_log, node_in_logs, nodes_to, top_of, same_head, fits_run, foreign, disorder_in, disorder, first_to, agrees_at, differs, clash_from, clash_at, gap_at, unlike, stray_above, unless, merge}
 use Rattle.onll_merge.specs.Laws.{HeadsFit}
 use Rattle.onll_merge.proofs.Asked.{same_words-self}
 use Rattle.onll_merge.proofs.Backs.{merge-back}
@@ -40,7 +41,7 @@ disorder_same : (i : ℕ) (cs ds : List Content) → SameEntries cs ds → disor
 disorder_same i [] [] s = refl
 disorder_same i [] (d ∷ ds) s = absurd s
 disorder_same i (c ∷ cs) [] s = absurd s
-disorder_same i (c ∷ cs) (d ∷ ds) s = λ k. option_or (disorder_in i 0 0 (s.0 k)) (disorder_same (suc i) cs ds s.1 k)
+disorder_same i (c ∷ cs) (d ∷ ds) s = λ k. option_or (disorder_in i (s.0 k)) (disorder_same (suc i) cs ds s.1 k)
 
 top_same : (cs ds : List Content) → SameEntries cs ds → top_of ds ≡ top_of cs
 top_same [] [] s = refl

@@ -3,6 +3,7 @@
 ghost use Rattle.std.specs.Prelude.{◌≡◌, ◌≤◌, ◌*◌, [], length, All, string_bytes, IfOk, IfErr, OnOk};
 ghost use Rattle.onll_outside.specs.Views.{SameOthers, BeginsWith, with_zeros};
 ghost use Rattle.onll_pmem.specs.Pmem.{words_of};
+ghost use Rattle.std.specs.Cow.{cow_slice_items};
 ghost use Rattle.onll_log.specs.ImageFile.{longest_image};
 ghost use Rattle.onll_task.specs.ImageNames.{image_name, image_names};
 ghost use Rattle.onll_task.specs.Images.{StandsFor, KeepsOf, KeepOf, FilesBegin, images_in, image_bytes, images_stage};
@@ -17,6 +18,7 @@ use onll_log::TestedImage;
 use onll_outside::Store;
 use onll_words::Line;
 use std::alloc::{AllocError, Global};
+use std::borrow::CowSlice;
 
 /// The name of a thread's image.
 pub fn image_name(alloc: Global, logs: &str, thread: u64) -> Result<String, AllocError>
@@ -97,17 +99,23 @@ pub fn into_lines(alloc: Global, images: Vec<TestedImage<'_>>) -> Result<Vec<Vec
 }
 
 /// Lines that have, before as many zeros as make up an image of so many lines, one at least where the image has one.
-fn with_one(mut front: Vec<Line>, count: u64) -> Result<Vec<Line>, AllocError>
-    requires { length front.items ≤ count }
-    ensures within { IfOk result (λ lines. length lines.items ≤ count) }
-    ensures some { IfOk result (λ lines. words_of lines.items ≡ [] → count ≡ 0) }
-    ensures same { IfOk result (λ lines. with_zeros (words_of lines.items) count ≡ with_zeros (words_of front.items) count) }
+fn with_one<'a>(
+    alloc: Global,
+    front: CowSlice<'a, Line, Global>,
+    count: u64,
+) -> Result<CowSlice<'a, Line, Global>, AllocError>
+    requires { length (cow_slice_items front) ≤ count }
+    ensures within { IfOk result (λ lines. length (cow_slice_items lines) ≤ count) }
+    ensures some { IfOk result (λ lines. words_of (cow_slice_items lines) ≡ [] → count ≡ 0) }
+    ensures same { IfOk result (λ lines. with_zeros (words_of (cow_slice_items lines)) count
+        ≡ with_zeros (words_of (cow_slice_items front.entry)) count) }
 {
-    if count == 0 || !front.is_empty() {
+    if count == 0 || front.len() > 0 {
         return Ok(front);
     }
-    front.push(Line { w: [0; 8] })?;
-    Ok(front)
+    let mut lines = Vec::new(alloc);
+    lines.push(Line { w: [0; 8] })?;
+    Ok(CowSlice::Owned(lines))
 }
 
 /// Writes these lines, and then lines of zeros, `count` in all, as the image of a thread's log, or gives what is said in its place.
@@ -133,25 +141,25 @@ fn write_thread<S: Store>(
 
 /// Writes these lines, and then lines of zeros, `count` in all, as the image of a thread's log, and gives the lines that decide what the
 /// image holds; or gives what is said in its place.
-pub fn write_image<S: Store>(
+pub fn write_image<'a, S: Store>(
     alloc: Global,
     logs: &str,
     thread: u64,
-    front: Vec<Line>,
+    front: CowSlice<'a, Line, Global>,
     count: u64,
     store: &mut S,
-) -> Result<TestedImage<'static>, Stop>
-    requires { length front.items ≤ count }
+) -> Result<TestedImage<'a>, Stop>
+    requires { length (cow_slice_items front) ≤ count }
     ensures written { OnOk result (HasWritten (S.seen store.old) (S.seen store.new) (image_name logs.now thread)
-        (image_bytes (with_zeros (words_of front.items) count))) }
-    ensures stands { IfOk result (λ lines. StandsFor lines (with_zeros (words_of front.items) count)) }
+        (image_bytes (with_zeros (words_of (cow_slice_items front.entry)) count))) }
+    ensures stands { IfOk result (λ lines. StandsFor lines (with_zeros (words_of (cow_slice_items front.entry)) count)) }
     ensures stop { IfErr result (λ stop. StopSays stop
         (CannotWrite (S.seen store.old) (S.seen store.new) (image_name logs.now thread))) }
     ensures cut { IfErr result (λ stop. WriteStops (S.seen store.old) (S.seen store.new) (image_name logs.now thread)) }
     ensures others { SameOthers (image_name logs.now thread) (S.seen store.old) (S.seen store.new) }
 {
-    let lines = with_one(front, count)?;
-    match write_thread(alloc, logs, thread, &lines, count, store) {
+    let lines = with_one(alloc, front, count)?;
+    match write_thread(alloc, logs, thread, lines.as_slice(), count, store) {
         Ok(()) => Ok(TestedImage::of_lines(lines)),
         Err(stop) => Err(stop),
     }

@@ -25,6 +25,7 @@ use onll_text::{
 };
 use onll_words::Line;
 use std::alloc::Global;
+use std::borrow::CowSlice;
 
 /// The first bytes of a file, or what is said in their place.
 fn read_bytes<S: Store>(
@@ -141,7 +142,7 @@ pub fn kept_image<S: Store>(alloc: Global, name: &str, store: &mut S) -> Result<
         Err(stop) => return Err(stop),
     };
     let FileLines { front, count } = read;
-    let image = TestedImage::of_lines(front);
+    let image = TestedImage::of_lines(CowSlice::Owned(front));
     Ok(KeptImage { image, count })
 }
 

@@ -1,4 +1,4 @@
-use Rattle.std.proofs.Common.{ℕ, ◌≡◌, ◌-◌, ◌++◌, take, length, sym, ap, ◌∙◌, arith}
+use Rattle.std.proofs.Common.{◌-◌, take, length, sym, ap, ◌∙◌, arith}
 use Rattle.onll_words.specs.declared.line.Line.{Line}
 use Rattle.onll_pmem.specs.Device.{zero_lines}
 use Rattle.onll_pmem.specs.Pmem.{words_of}

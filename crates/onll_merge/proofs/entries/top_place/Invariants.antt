@@ -1,6 +1,6 @@
 use Rattle.std.proofs.Common.{◌≡◌, max, drop}
 use Rattle.onll_log.specs.Decoded.{segments_in}
-use Rattle.onll_merge.specs.Merge.{top_in_log}
+use Rattle.onll_log.specs.Survey.{top_in_log}
 use Rattle.onll_merge.proofs.entries.top_place.Given as goal
 
 abbrev pub invariant-loop-entry : goal.invariant-loop-entry

@@ -1,7 +1,5 @@
 use Rattle.std.proofs.Common.{◌≡◌, ◌+◌, ◌++◌, ◌∷◌, [], length, length-append, sym, ap, ◌∙◌, subst, arith, rules}
 use Rattle.std.specs.List.{AllByRecursion}
-use Rattle.onll_pmem.specs.Pmem.{words_of}
-use Rattle.onll_log.specs.Grammar.{content_of}
 use Rattle.onll_log.specs.Cursor.{CursorState}
 use Rattle.onll_merge.proofs.Standings.{open_more, all_and}
 use Rattle.onll_merge.proofs.first_pass.open_all.Goals as goal

@@ -1,6 +1,5 @@
 use Rattle.std.proofs.Common.{◌≡◌, drop, length, map}
 use Rattle.std.specs.List.{AllByRecursion}
-use Rattle.onll_pmem.specs.Pmem.{words_of}
 use Rattle.onll_merge.specs.Recovered.{contents_from}
 use Rattle.onll_merge.specs.Standing.{contents_under}
 use Rattle.onll_merge.proofs.Decoding.{onto}

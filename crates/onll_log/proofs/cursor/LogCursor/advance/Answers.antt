@@ -33,6 +33,7 @@ invariant_of-self c =
     record {
       stands = further s.head (words_of s.lines.now) s.passed s.at s.next c.in-Some.head c.in-Some-next.entry c.entry_at-self-inside.result c.self.invariant.stands c.in-Some.is c.in-Some-next.is c.entry_at-self-inside.ensures;
       accepted = omega (arith, c.max-self-inside.ensures, c.self.invariant.accepted, there);
+      surveyed = c.self.invariant.surveyed;
     }
 
 pub returns-in_default-next : goal.returns-in_default-next

@@ -1,4 +1,4 @@
-use Rattle.std.proofs.Common.{ℕ, ◌+◌, ◌≤◌, List, length, drop, Some, refl, arith}
+use Rattle.std.proofs.Common.{drop, Some, refl, arith}
 use Rattle.std.proofs.lemmas.List.{length-map}
 use Rattle.onll_words.specs.declared.line.Line.{Line}
 use Rattle.onll_pmem.specs.Pmem.{words_of}
@@ -24,4 +24,5 @@ invariant_of-result c =
         looked = c.entry_at-next.ensures;
       };
       accepted = c.requires.known (record { head = Some c.args.head; entries = entries }) c.requires.content;
+      surveyed = c.requires.survey (record { head = Some c.args.head; entries = entries }) c.requires.content;
     }

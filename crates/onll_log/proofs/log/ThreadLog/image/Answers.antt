@@ -1,4 +1,4 @@
-use Rattle.std.proofs.Common.{◌≡◌, ap, sym, take, length, Some, subst, ◌∙◌, arith}
+use Rattle.std.proofs.Common.{◌≡◌, ap, sym, take, length, ◌∙◌, arith}
 use Rattle.std.specs.Cow.{cow_slice_items}
 use Rattle.onll_pmem.specs.Pmem.{words_of}
 use Rattle.onll_log.specs.Grammar.{Content, content_of}

@@ -3,10 +3,8 @@
 use Rattle.std.proofs.Common.{ℕ, zero, suc, ◌≡◌, ◌+◌, ◌*◌, ◌≤◌, ◌&&◌, Bool, true, false, true≢false, List, [], ◌∷◌, ◌++◌, length, max, take, cond, Option, Some, None, refl, sym, ap, ◌∙◌, subst, arith, ⊎_elim, nat_le, map}
 use Rattle.std.specs.Prelude.{IsSome}
 use Rattle.std.proofs.lemmas.Bool.{cases_Bool}
-use Rattle.std.proofs.lemmas.List.{take-append-le, length-take, length-take-le, length-map, length-append, take-map}
-use Rattle.onll_words.specs.declared.line.Line.{Line}
+use Rattle.std.proofs.lemmas.List.{take-append-le, length-take, length-take-le, length-map, length-append}
 use Rattle.onll_pmem.specs.Device.{zero_line, zero_lines}
-use Rattle.onll_pmem.specs.Pmem.{words_of}
 use Rattle.onll_model.specs.Segment.{Segment}
 use Rattle.onll_log.specs.declared.head.LogHead.{LogHead}
 use Rattle.onll_log.specs.Head.{word, is_head, head_of}
@@ -195,13 +193,6 @@ is_cut (l ∷ ls) = ⊎_elim
     (with_head l ls)
     (λ (f : is_head l ≡ false). ⊎_elim (with_zeros l ls f) (with_neither l ls f) (cases_Bool (are_zero_lines (l ∷ ls))))
     (cases_Bool (is_head l))
-
-length_cut : (n : ℕ) (image : List (List ℕ)) → length (take n image) ≤ n
-length_cut n image = omega (arith, length-take n image)
-
--- the first lines of an image
-pub words_taken : (old new : List Line) (n : ℕ) → new ≡ take n old → n ≡ used_in (content_of (words_of old)) → words_of new ≡ take (used_in (content_of (words_of old))) (words_of old)
-words_taken old new n cut used = ap words_of cut ∙ (sym (take-map (λ (l : Line). l.w) n old) ∙ ap (λ k. take k (words_of old)) used)
 
 -- all entries of an image are entries of the lines that decide what it holds
 pub all_known : (image lines : List (List ℕ)) (known : ℕ) → lines ≡ take (used_in (content_of image)) image → known ≡ entries_in (content_of image) → Knows lines known

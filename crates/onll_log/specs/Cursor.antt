@@ -64,7 +64,8 @@ pub record StandsAt (head : Option LogHead) (lines : List (List ℕ)) (passed at
   pub looked : next ≡ first_view at (entries_after head passed (drop at lines))
 
 -- so it stands, and this many entries are known to be accepted, and this of all of them
-pub record StandsOver (head : Option LogHead) (lines : List (List ℕ)) (known : ℕ) (survey : Option LogSurvey) (passed at : ℕ) (next : Option EntryView) : Type 0 where
+pub record StandsOver (head : Option LogHead) (lines : List (List ℕ))
+    (known : ℕ) (survey : Option LogSurvey) (passed at : ℕ) (next : Option EntryView) : Type 0 where
   pub stands : StandsAt head lines passed at next
   pub accepted : known ≤ length (entries_under head lines)
   pub surveyed : IfSome survey (λ s. s ≡ survey_of (record { head = head; entries = entries_under head lines }))

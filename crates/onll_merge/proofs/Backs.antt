@@ -32,11 +32,6 @@ passed : {A : Type 0} (b : Bool) (o : Option A) (x : A) → cond {A = Option A} 
 passed true o x e = (refl, e)
 passed false o x e = absurd (cc)
 
--- a test that refuses was not
-not_refused : {A : Type 0} (b : Bool) (o : Option A) (x : A) → cond {A = Option A} b (Some x) o ≡ None → (b ≡ false) × (o ≡ None)
-not_refused true o x e = absurd (cc)
-not_refused false o x e = (refl, e)
-
 same_head-eq : (x y : LogHead) → same_head x y ≡ true → x ≡ y
 same_head-eq x y e = let a = both (x.thread == y.thread) _ e in let b = both (x.threads == y.threads) _ a.1 in let c = both (x.object == y.object) _ b.1 in let d = both (same_words x.digest y.digest) _ c.1 in
     let t = eqb-true x.thread y.thread a.0 in let n = eqb-true x.threads y.threads b.0 in let o = eqb-true x.object y.object c.0 in let g = same_words-eq x.digest y.digest d.0 in let f = eqb-true x.format y.format d.1 in

@@ -10,7 +10,7 @@ use Rattle.onll_log.specs.declared.head.LogHead.{LogHead}
 use Rattle.onll_log.specs.Head.{word, is_head, head_of}
 use Rattle.onll_log.specs.Encoding.{guard}
 use Rattle.onll_log.specs.Grammar.{Content, all_named, is_entry, segment_of, node_of_line, entries_from, lines_in, is_zero_line, are_zero_lines, content_of, format_in}
-use Rattle.onll_log.specs.Tested.{used_in, entries_in, Knows}
+use Rattle.onll_log.specs.Tested.{used_in}
 use Rattle.onll_log.proofs.Accepted.{Accepted-if, is_entry-Accepted, is_entry-no_magic, entries_from-entry, entries_from-none, both_true}
 
 -- ---- an entry before other lines
@@ -193,10 +193,3 @@ is_cut (l ∷ ls) = ⊎_elim
     (with_head l ls)
     (λ (f : is_head l ≡ false). ⊎_elim (with_zeros l ls f) (with_neither l ls f) (cases_Bool (are_zero_lines (l ∷ ls))))
     (cases_Bool (is_head l))
-
--- all entries of an image are entries of the lines that decide what it holds
-pub all_known : (image lines : List (List ℕ)) (known : ℕ) → lines ≡ take (used_in (content_of image)) image → known ≡ entries_in (content_of image) → Knows lines known
-all_known image lines known cut count = λ c is.
-    let same : content_of image ≡ Some c = sym (is_cut image).content ∙ (ap content_of (sym cut) ∙ is) in
-    let counted : known ≡ length c.entries = count ∙ ap entries_in same in
-    omega (arith, counted)

@@ -15,3 +15,4 @@ pub mod Append
 pub mod Remains
 pub mod Laws
 pub mod Log
+pub mod Kept

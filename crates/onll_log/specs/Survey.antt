@@ -19,6 +19,15 @@ disorder_from before last (s ∷ ss) =
 abbrev pub survey_of : Content → LogSurvey
 survey_of c = record { entries = length c.entries; lines = used_by c; top = top_in_log c.entries; disorder = disorder_from 0 0 c.entries }
 
+-- a log with one entry more, of so many nodes, the last of them at this place, which begins above the last one
+abbrev pub with_entry : LogSurvey → ℕ → ℕ → LogSurvey
+with_entry s place count = record { entries = s.entries + 1; lines = s.lines + (1 + count); top = max s.top place; disorder = s.disorder }
+
+-- how many entries are known to be accepted where this is known of all of them
+abbrev pub entries_known : Option LogSurvey → ℕ
+entries_known None = 0
+entries_known (Some survey) = survey.entries
+
 -- what is known of an image's entries as a whole, if anything, is so, if it is a log
 abbrev pub Surveys : List (List ℕ) → Option LogSurvey → Type 0
 Surveys lines survey = (c : Content) → content_of lines ≡ Some c → IfSome survey (λ s. s ≡ survey_of c)

@@ -5,14 +5,13 @@ ghost use Rattle.onll_model.specs.Limits.{most_threads};
 ghost use Rattle.onll_pmem.specs.Pmem.{words_of};
 ghost use Rattle.onll_log.specs.Grammar.{content_of, entries_from};
 ghost use Rattle.onll_log.specs.Head.{FitsHead};
-ghost use Rattle.onll_log.specs.Tested.{Knows};
-ghost use Rattle.onll_log.specs.Survey.{Surveys, survey_of};
+ghost use Rattle.onll_log.specs.Survey.{Surveys, survey_of, entries_known};
 ghost use Rattle.onll_log.specs.Cursor.{entries_left, lines_passed, first_view, first_nodes, one_further, before_all};
 
 use crate::entry::is_entry;
 use crate::head::LogHead;
 use crate::image::{are_zero, node_of};
-use crate::survey::{LogSurvey, go_over};
+use crate::survey::{LogSurvey, entries_known, go_over};
 use onll_model::Node;
 use onll_words::Line;
 use std::marker::Model;
@@ -83,26 +82,20 @@ impl<'a> LogCursor<'a> {
         ensures { let content = content_of (words_of lines.now) in
             MatchOption result (content ≡ None) (λ c. (content ≡ Some c.content) × (c.passed ≡ 0)) }
     {
-        LogCursor::over(lines, 0, None)
+        LogCursor::over(lines, None)
     }
 
-    /// A cursor before the first entry of an image with this head, where this many entries are known to be accepted, and this of
-    /// all of them.
-    fn under(
-        head: LogHead,
-        lines: &'a [Line],
-        known: u64,
-        survey: Option<LogSurvey>,
-    ) -> LogCursor<'a>
+    /// A cursor before the first entry of an image with this head, where this is known of all entries.
+    fn under(head: LogHead, lines: &'a [Line], survey: Option<LogSurvey>) -> LogCursor<'a>
         requires head { FitsHead head }
         requires some { 1 ≤ length lines.now }
         requires content { content_of (words_of lines.now)
             ≡ Some (record { head = Some head; entries = entries_from head 0 0 (drop 1 (words_of lines.now)) }) }
-        requires known { Knows (words_of lines.now) known }
         requires survey { Surveys (words_of lines.now) survey }
         ensures content { content_of (words_of lines.now) ≡ Some result.content }
         ensures first { result.passed ≡ 0 }
     {
+        let known = entries_known(survey);
         let next = entry_at(&head, known, 0, 1, lines);
         LogCursor {
             lines,
@@ -115,21 +108,15 @@ impl<'a> LogCursor<'a> {
         }
     }
 
-    /// A cursor before the first entry of an image, where this many entries are known to be accepted, and this of all of them; None
-    /// where the image is no log.
-    pub(crate) fn over(
-        lines: &'a [Line],
-        known: u64,
-        survey: Option<LogSurvey>,
-    ) -> Option<LogCursor<'a>>
-        requires known { Knows (words_of lines.now) known }
+    /// A cursor before the first entry of an image, where this is known of all entries; None where the image is no log.
+    pub(crate) fn over(lines: &'a [Line], survey: Option<LogSurvey>) -> Option<LogCursor<'a>>
         requires survey { Surveys (words_of lines.now) survey }
         ensures { let content = content_of (words_of lines.now) in
             MatchOption result (content ≡ None) (λ c. (content ≡ Some c.content) × (c.passed ≡ 0)) }
     {
         let first = lines.first()?;
         if let Some(head) = LogHead::of_line(first) {
-            return Some(LogCursor::under(head, lines, known, survey));
+            return Some(LogCursor::under(head, lines, survey));
         }
         if !are_zero(lines) {
             return None;

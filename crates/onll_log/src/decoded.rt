@@ -4,9 +4,11 @@ ghost use Rattle.std.specs.Prelude.{◌≡◌, ◌<◌, ◌≤◌, ◌^◌, leng
 ghost use Rattle.onll_pmem.specs.Pmem.{words_of};
 ghost use Rattle.onll_log.specs.Grammar.{lines_in, used_by, are_zero_lines};
 ghost use Rattle.onll_log.specs.Decoded.{segments_in, content_in};
+ghost use Rattle.onll_log.specs.Survey.{survey_of, top_in_log, disorder_from};
 
 use crate::head::LogHead;
 use crate::image::are_zero;
+use crate::survey::{LogSurvey, disorder_with};
 use onll_model::Node;
 use onll_words::Line;
 use std::marker::Model;
@@ -108,6 +110,21 @@ impl Decoded {
         }
     }
 
+    /// What the entries are as a whole.
+    pub(crate) fn survey(&self) -> LogSurvey
+        requires { used_by (content_in self.now) < 2 ^ 64 }
+        ensures { result ≡ survey_of (content_in self.now) }
+    {
+        let entries = self.entries.as_slice();
+        let (top, disorder) = order_of(entries);
+        LogSurvey {
+            entries: entries.len() as u64,
+            lines: self.used(),
+            top,
+            disorder,
+        }
+    }
+
     /// Whether only zeros stand after the used lines of the image.
     pub fn only_zeros_after(&self, image: &[Line]) -> bool
         requires { used_by (content_in self.now) ≤ length image.now }
@@ -128,4 +145,21 @@ fn lines_of(entries: &[Entry]) -> u64
         lines += 1 + entry.nodes.as_slice().len() as u64;
     }
     lines
+}
+
+/// The greatest last place of these entries, 0 where there is none, and the first that is out of order.
+fn order_of(entries: &[Entry]) -> (u64, Option<u64>)
+    ensures top { result.0 ≡ top_in_log (segments_in entries.now) }
+    ensures disorder { result.1 ≡ disorder_from 0 0 (segments_in entries.now) }
+{
+    let mut last = 0;
+    let mut top = 0;
+    let mut disorder = None;
+    for (before, entry) in entries.iter().enumerate() {
+        let count = entry.nodes.as_slice().len() as u64;
+        disorder = disorder_with(disorder, before as u64, last, entry.place, count);
+        last = entry.place;
+        top = entry.place.max(top);
+    }
+    (top, disorder)
 }

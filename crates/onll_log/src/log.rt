@@ -19,6 +19,7 @@ use crate::decoded::{Decoded, Entry};
 use crate::entry::entry_head;
 use crate::head::LogHead;
 use crate::image::is_zero;
+use crate::survey::LogSurvey;
 use crate::tested::TestedImage;
 use onll_model::{Node, node_line};
 use onll_pmem::{FenceFailed, Pmem};
@@ -140,9 +141,8 @@ pub struct MakeFault<P> {
 pub struct ThreadLog<P: Pmem> {
     device: P,
     head: LogHead,
-    /// How many lines are used as read, the header's among them.
-    used: u64,
-    entries: u64,
+    /// What the entries are as a whole, as read.
+    survey: LogSurvey,
     /// The place of the last entry.
     last: u64,
     /// The fences since the header's.
@@ -151,7 +151,8 @@ pub struct ThreadLog<P: Pmem> {
 }
 
 impl<P: Pmem> Model for ThreadLog<P> {
-    ghost use Rattle.onll_log.specs.Log.{LogState, KeepsLog, entries_read};
+    ghost use Rattle.onll_log.specs.Log.{LogState, entries_read};
+    ghost use Rattle.onll_log.specs.Kept.{KeepsWhole};
 
     ghost Value = { LogState P };
 
@@ -163,8 +164,8 @@ impl<P: Pmem> Model for ThreadLog<P> {
       device = l.device;
     } };
 
-    ghost invariant = { λ l. KeepsLog (P.means l.device) l.head
-        (entries_read l.head (P.means l.device).read) l.used l.entries l.last l.fences l.broken };
+    ghost invariant = { λ l. KeepsWhole (P.means l.device) l.head
+        (entries_read l.head (P.means l.device).read) l.survey l.last l.fences l.broken };
 }
 
 impl<P: Pmem> ThreadLog<P> {
@@ -217,8 +218,12 @@ impl<P: Pmem> ThreadLog<P> {
             Ok(()) => Ok(ThreadLog {
                 device,
                 head,
-                used: 1,
-                entries: 0,
+                survey: LogSurvey {
+                    entries: 0,
+                    lines: 1,
+                    top: 0,
+                    disorder: None,
+                },
                 last: 0,
                 fences: 0,
                 broken: false,
@@ -245,15 +250,13 @@ impl<P: Pmem> ThreadLog<P> {
     {
         let Some(head) = log.head else { unreachable!() };
         let lines = device.lines();
-        let used = log.used();
-        prove!(used <= lines);
-        let entries = log.entries.as_slice();
+        let survey = log.survey();
+        prove!(survey.lines <= lines);
         ThreadLog {
             device,
             head,
-            used,
-            entries: entries.len() as u64,
-            last: last_of(entries),
+            survey,
+            last: last_of(log.entries.as_slice()),
             fences: 0,
             broken: false,
         }
@@ -277,7 +280,7 @@ impl<P: Pmem> ThreadLog<P> {
     pub fn free_lines(&self) -> u64
         ensures { result ≡ free_of (length (P.means self.now.device).read) self.now.entries }
     {
-        self.device.lines() - self.used
+        self.device.lines() - self.survey.lines
     }
 
     /// The lines of the log as read: its header's and those of its entries, all of them known to be accepted. Zeros stand behind them
@@ -287,15 +290,15 @@ impl<P: Pmem> ThreadLog<P> {
         ensures content { IfOk result (λ image. content_of image
             ≡ Some (record { head = Some self.now.head; entries = self.now.entries })) }
     {
-        let lines = front_of(alloc, &self.device, self.used)?;
-        Ok(TestedImage::known(lines, self.entries))
+        let lines = front_of(alloc, &self.device, self.survey.lines)?;
+        Ok(TestedImage::known(lines, self.survey))
     }
 
     /// How many entries there are as read, a pending one among them.
     pub fn entries(&self) -> u64
         ensures { result ≡ length self.now.entries }
     {
-        self.entries
+        self.survey.entries
     }
 
     /// The place of the last entry as read, 0 where there is none.
@@ -358,11 +361,10 @@ impl<P: Pmem> ThreadLog<P> {
         ensures failed { OnErr result ((P.means self.new.device).faults ≡ (P.means self.old.device).faults + 1) }
         ensures pending { OnErr result (ToldSettled (P.means self.new.device).told (P.means self.old.device).read) }
     {
-        let first = entry_head(self.head, self.entries + 1, place, nodes);
-        put_entry(&mut self.device, self.used, first, nodes);
+        let first = entry_head(self.head, self.survey.entries + 1, place, nodes);
+        put_entry(&mut self.device, self.survey.lines, first, nodes);
         let fenced = self.device.fence();
-        self.used += 1 + nodes.len() as u64;
-        self.entries += 1;
+        self.survey = self.survey.with_entry(place, nodes.len() as u64);
         self.last = place;
         self.fences += 1;
         self.broken = fenced.is_err();

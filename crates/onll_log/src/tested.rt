@@ -5,8 +5,8 @@ ghost use Rattle.std.specs.Option.{option_map};
 ghost use Rattle.onll_pmem.specs.Pmem.{words_of};
 ghost use Rattle.onll_log.specs.Grammar.{Content, content_of, format_in};
 ghost use Rattle.std.specs.Cow.{cow_slice_items};
-ghost use Rattle.onll_log.specs.Survey.{survey_of};
-ghost use Rattle.onll_log.specs.Tested.{used_in, entries_in, Knows};
+ghost use Rattle.onll_log.specs.Survey.{Surveys, survey_of};
+ghost use Rattle.onll_log.specs.Tested.{used_in};
 
 use crate::cursor::LogCursor;
 use crate::head::format_of;
@@ -62,16 +62,6 @@ fn lines_used(survey: Option<LogSurvey>) -> u64
     }
 }
 
-/// How many entries an image has of whose entries this is known, None where it is no log.
-fn entries_known(survey: Option<LogSurvey>) -> u64
-    ensures { (content : Option Content) → survey ≡ option_map survey_of content → result ≡ entries_in content }
-{
-    match survey {
-        Some(survey) => survey.entries,
-        None => 0,
-    }
-}
-
 /// The first of these lines, this many.
 fn first_lines<'a>(lines: CowSlice<'a, Line, Global>, count: usize) -> CowSlice<'a, Line, Global>
     ensures { words_of (cow_slice_items result) ≡ take count (words_of (cow_slice_items lines.entry)) }
@@ -89,12 +79,11 @@ fn first_lines<'a>(lines: CowSlice<'a, Line, Global>, count: usize) -> CowSlice<
     }
 }
 
-/// The lines of an image, of whose entries the first ones are known to be accepted, so that no cursor over it tests them again.
+/// The lines of an image that is known as a log, so that no cursor over it tests its entries again.
 #[derive(Drop)]
 pub struct TestedImage<'a> {
     lines: CowSlice<'a, Line, Global>,
-    known: u64,
-    /// What the entries are as a whole, where that is known.
+    /// What the entries are as a whole, None where the image is no log.
     survey: Option<LogSurvey>,
 }
 
@@ -102,13 +91,13 @@ impl<'a> Model for TestedImage<'a> {
     ghost use Rattle.std.specs.Prelude.{List, ℕ};
     ghost use Rattle.std.specs.Cow.{cow_slice_items};
     ghost use Rattle.onll_pmem.specs.Pmem.{words_of};
-    ghost use Rattle.onll_log.specs.Tested.{IsTested};
+    ghost use Rattle.onll_log.specs.Survey.{Surveys};
 
     ghost Value = { List (List ℕ) };
 
     ghost view = { λ i. words_of (cow_slice_items i.lines) };
 
-    ghost invariant = { λ i. IsTested (words_of (cow_slice_items i.lines)) i.known i.survey };
+    ghost invariant = { λ i. Surveys (words_of (cow_slice_items i.lines)) i.survey };
 }
 
 impl<'a> TestedImage<'a> {
@@ -119,20 +108,18 @@ impl<'a> TestedImage<'a> {
         let survey = surveyed(lines.as_slice());
         TestedImage {
             lines: first_lines(lines, lines_used(survey) as usize),
-            known: entries_known(survey),
             survey,
         }
     }
 
-    /// These lines, of whose entries this many are known to be accepted.
-    pub(crate) fn known(lines: CowSlice<'a, Line, Global>, known: u64) -> TestedImage<'a>
-        requires { Knows (words_of (cow_slice_items lines)) known }
+    /// These lines, where this is known of all entries.
+    pub(crate) fn known(lines: CowSlice<'a, Line, Global>, survey: LogSurvey) -> TestedImage<'a>
+        requires { Surveys (words_of (cow_slice_items lines)) (Some survey) }
         ensures { result ≡ words_of (cow_slice_items lines.entry) }
     {
         TestedImage {
             lines,
-            known,
-            survey: None,
+            survey: Some(survey),
         }
     }
 
@@ -155,7 +142,7 @@ impl<'a> LogImage for TestedImage<'a> {
     ghost lines_of = { λ i. i };
 
     fn open(&self) -> Option<LogCursor<'_>> {
-        LogCursor::over(self.lines.as_slice(), self.known, self.survey)
+        LogCursor::over(self.lines.as_slice(), self.survey)
     }
 
     fn format(&self) -> u64 {

@@ -13,8 +13,8 @@ use Rattle.onll_merge.specs.declared.fault.ImagesFault.{ImagesFault}
 use Rattle.onll_merge.specs.Merge.{AllRise, node_in_segment, node_in_log, node_in_logs, nodes_to, first_to, clash_at, gap_at}
 use Rattle.onll_merge.specs.Recovered.{content_before, contents_from}
 use Rattle.onll_merge.proofs.Decoding.{onto}
-use Rattle.onll_merge.specs.Standing.{contents_under, StandsBelow, StandBelow, gap_fault}
-use Rattle.onll_merge.proofs.Places.{node_among-above, node_in_log-low}
+use Rattle.onll_merge.specs.Standing.{contents_under, StandsBelow, StandBelow, IsFree, gap_fault}
+use Rattle.onll_merge.proofs.Places.{node_among-above, node_among-below, node_in_log-low}
 
 -- ---- the node of a place
 
@@ -44,6 +44,26 @@ pub node_at_end : (es : List Segment) (n p : ℕ) → drop n es ≡ [] → AllBy
 node_at_end es n p d h =
     let split : es ≡ take n es ++ [] = sym (take-append-drop n es) ∙ ap (λ (x : List Segment). take n es ++ x) d in
     ap (λ (x : List Segment). node_in_log x p) split ∙ past_none p (take n es) [] h
+
+-- entries that rise have as many nodes as their last place, or fewer
+pub first_fits : (last : ℕ) (es : List Segment) (n : ℕ) (s : Segment) (more : List Segment) → Rises last es → drop n es ≡ s ∷ more → length s.nodes ≤ s.place
+first_fits last es n s more r d =
+    let split : es ≡ take n es ++ s ∷ more = sym (take-append-drop n es) ∙ ap (λ (x : List Segment). take n es ++ x) d in
+    fits last (take n es) (subst (Rises last) split r)
+  where
+    fits : (last : ℕ) (ss : List Segment) → Rises last (ss ++ s ∷ more) → length s.nodes ≤ s.place
+    fits last [] r = let h = r.0 in omega arith
+    fits last (x ∷ ss) r = fits x.place ss r.1
+
+-- no place below the first node of the first entry that is left is held
+pub free_first : (c : CursorState) (free : ℕ) (s : Segment) (more : List Segment) → Rises 0 c.content.entries → drop c.passed c.content.entries ≡ s ∷ more
+    → free + length s.nodes ≤ s.place → IsFree free c
+free_first c free s more r d n = λ p one h b.
+    node_at_first c.content.entries c.passed p s more r d h (omega (arith, b, n)) ∙ node_among-below s.place s.nodes p (omega (arith, b, n))
+
+-- where no entry is left no place is held
+pub free_end : (c : CursorState) (free : ℕ) → drop c.passed c.content.entries ≡ [] → IsFree free c
+free_end c free d = λ p one h b. node_at_end c.content.entries c.passed p d h
 
 -- ---- all cursors
 pub all_and : {A : Type 0} (P : A → Type 0) (xs : List A) (x : A) → AllByRecursion P xs → P x → AllByRecursion P (xs ++ x ∷ [])

@@ -1,5 +1,5 @@
 -- How cursors stand over the images of one run whose places are asked for from below.
-use Rattle.std.specs.Prelude.{ℕ, ◌<◌, ◌≤◌, List, [], ◌∷◌, map, Option, Some, None}
+use Rattle.std.specs.Prelude.{ℕ, ◌≡◌, ◌<◌, ◌≤◌, List, [], ◌∷◌, map, Option, Some, None}
 use Rattle.std.specs.List.{AllByRecursion}
 use Rattle.onll_model.specs.declared.node.Node.{Node}
 use Rattle.onll_model.specs.Segment.{Segment}
@@ -8,7 +8,7 @@ use Rattle.onll_log.specs.Cursor.{CursorState, entries_passed}
 use Rattle.onll_merge.specs.declared.fault.RecoverFault.{RecoverFault}
 use Rattle.onll_merge.specs.declared.fault.RecoverFault.TheVariants.{Gap}
 use Rattle.onll_merge.specs.declared.second_pass.Holder.{Holder}
-use Rattle.onll_merge.specs.Merge.{clash_from, differs}
+use Rattle.onll_merge.specs.Merge.{clash_from, differs, node_in_log}
 
 -- what the images hold
 abbrev pub contents_under : List CursorState → List Content
@@ -20,6 +20,10 @@ StandsBelow place c = AllByRecursion (λ (s : Segment). s.place < place) (entrie
 
 abbrev pub StandBelow : ℕ → List CursorState → Type 0
 StandBelow place cursors = AllByRecursion (StandsBelow place) cursors
+
+-- of the places that a cursor stands below, the first of which is 1, its log holds none up to this one
+abbrev pub IsFree : ℕ → CursorState → Type 0
+IsFree free c = (place : ℕ) → 1 ≤ place → StandsBelow place c → place ≤ free → node_in_log c.content.entries place ≡ None
 
 -- the first of these entries, if there is one, ends at this place or above
 abbrev pub Reaches : ℕ → List Segment → Type 0

@@ -17,7 +17,7 @@ use crate::counts::LogCounts;
 use crate::fault::{ImagesFault, RecoverFault, StateFault};
 use crate::first_pass::{open_all, survey_logs};
 use crate::numbers::check_numbers;
-use crate::second_pass::gather;
+use crate::second_pass::{gather, readers_of};
 use onll_log::{LogCursor, LogHead, LogImage};
 use onll_model::{Node, Object, fold_nodes};
 use onll_words::NoMemory;
@@ -33,7 +33,7 @@ pub struct Recovery {
 /// The nodes of the places up to `top`, which logs whose entries rise hold alike, each with the next number of its thread.
 fn merge_places(
     alloc: Global,
-    mut cursors: Vec<LogCursor<'_>>,
+    cursors: Vec<LogCursor<'_>>,
     top: u64,
 ) -> Result<Vec<Node>, RecoverFault>
     requires rise { AllRise (contents_under cursors.items) }
@@ -43,7 +43,8 @@ fn merge_places(
         MatchResult result (λ _. found ≡ None) (λ e. (e ≡ OutOfMemory) ⊎ (found ≡ Some e)) }
     ensures nodes { IfOk result (λ nodes. nodes.items ≡ nodes_to (contents_under cursors.entry.items) top) }
 {
-    let nodes = gather(alloc, &mut cursors, top)?;
+    let mut readers = readers_of(alloc, cursors)?;
+    let nodes = gather(alloc, &mut readers, top)?;
     check_numbers(alloc, &nodes)?;
     Ok(nodes)
 }

@@ -10,7 +10,7 @@ use Rattle.onll_merge.proofs.second_pass.gather.Goals as goal
 
 pub returns-in_err-node-clause-places : goal.returns-in_err-node-clause-places
 returns-in_err-node-clause-places c =
-    let logs = contents_under c.args.cursors.now in
+    let logs = contents_under c.args.readers.now in
     let below = c.loop-below.below in
     let top = c.args.top in
     let clash = subst (λ (ls : List Content). clash_at ls (below + 1) ≡ Some c.in_err-node.field-0.0) c.loop-below.invariant.same c.in_err-node.ensures.clash in
@@ -20,7 +20,7 @@ returns-in_err-node-clause-places c =
 
 pub loop-below-preserved : goal.loop-below-preserved
 loop-below-preserved c =
-    let logs = contents_under c.args.cursors.now in
+    let logs = contents_under c.args.readers.now in
     let below = c.loop-below.below in
     let same = c.loop-below.invariant.same in
     let clash = subst (λ (ls : List Content). clash_at ls (below + 1) ≡ None) same c.in_ok-node.ensures.clash in
@@ -32,5 +32,5 @@ loop-below-preserved c =
       clash = g.clash_is;
       gap = g.gap_is;
       same = c.in_ok-node.ensures.same ∙ same;
-      below = stand_higher (below + 1) (below + 1 + 1) c.node_of_place.new.cursors (omega arith) c.in_ok-node.ensures.below;
+      below = stand_higher (below + 1) (below + 1 + 1) c.node_of_place.new.readers (omega arith) c.in_ok-node.ensures.below;
     }

@@ -12,9 +12,8 @@ invariant_of-result c =
     let words = words_of (cow_slice_items c.args.lines) in
     let is : c.surveyed-survey.result ≡ option_map survey_of (content_of words) =
     c.surveyed-survey.ensures ∙ ap (λ ls. option_map survey_of (content_of (words_of ls))) c.as_slice.ensures.value in
-    tested words (words_of (cow_slice_items c.first_lines.result)) c.entries_known.result c.surveyed-survey.result
-    (c.first_lines.ensures ∙ ap (λ n. take n words) (c.lines_used.ensures (content_of words) is))
-    (c.entries_known.ensures (content_of words) is) is
+    tested words (words_of (cow_slice_items c.first_lines.result)) c.surveyed-survey.result
+    (c.first_lines.ensures ∙ ap (λ n. take n words) (c.lines_used.ensures (content_of words) is)) is
 
 pub returns : goal.returns
 returns c =

@@ -6,3 +6,5 @@ pub mod SalesLaw
 pub mod Heads
 pub mod Shop
 pub mod GoingOn
+pub mod Resuming
+pub mod Reopening

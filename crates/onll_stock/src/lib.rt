@@ -19,6 +19,6 @@ pub use laws::{going_on_law, sales_law};
 pub use operation::{StockOp, StockQuery, StockReply};
 pub use recovery::recover_shop;
 pub use reopen::{ReopenFault, open_log, open_logs};
-pub use resume::resume_shop;
+pub use resume::{ResumeFault, resume_shop};
 pub use shop::{run_shop, run_short};
 pub use stock::Stock;

@@ -3,10 +3,11 @@
 ghost use Rattle.std.specs.Prelude.{◌≡◌, ◌≤◌, length, false, IfOk};
 ghost use Rattle.onll_pmem.specs.Pmem.{words_of};
 ghost use Rattle.onll_outside.specs.Views.{BeginsWith, image_bytes, with_zeros};
+ghost use Rattle.onll_stock.specs.Reopening.{of_image, of_outside};
 
 use crate::devices::DEVICE_LINES;
-use onll_log::{ThreadLog, decode};
-use onll_outside::{FileStore, Store};
+use onll_log::{DecodeFault, ThreadLog, decode};
+use onll_outside::{FileStore, OutsideFault, Store};
 use onll_pmem::FilePmem;
 use onll_words::Line;
 use std::alloc::{AllocError, Global};
@@ -20,12 +21,34 @@ pub enum ReopenFault {
     /// The lines are those of no log, or of one that is longer than a shop's.
     #[error("no log of a shop")]
     NotLog,
-    /// The file could not be made a device.
+    /// The file could not be made a device: the outside failed.
     #[error("the outside failed")]
     Outside,
     /// Memory ran out.
     #[error("out of memory")]
     NoMemory,
+}
+
+impl From<DecodeFault> for ReopenFault {
+    ghost from_gives = { λ e fault. fault ≡ of_image e };
+
+    fn from(e: DecodeFault) -> ReopenFault {
+        match e {
+            DecodeFault::NotLog => ReopenFault::NotLog,
+            DecodeFault::NoMemory => ReopenFault::NoMemory,
+        }
+    }
+}
+
+impl From<OutsideFault> for ReopenFault {
+    ghost from_gives = { λ e fault. fault ≡ of_outside e };
+
+    fn from(e: OutsideFault) -> ReopenFault {
+        match e {
+            OutsideFault::Failed => ReopenFault::Outside,
+            OutsideFault::NoMemory => ReopenFault::NoMemory,
+        }
+    }
 }
 
 /// These lines, and then lines of zeros, this many in all.
@@ -52,15 +75,11 @@ fn open_front<S: Store>(
     let Ok(whole) = with_zeros(alloc, front, DEVICE_LINES) else {
         return Err(ReopenFault::NoMemory);
     };
-    let Ok(log) = decode(alloc, &whole) else {
-        return Err(ReopenFault::NotLog);
-    };
+    let log = decode(alloc, &whole)?;
     if log.head.is_none_or(|head| head.format != 2) || !log.only_zeros_after(&whole) {
         return Err(ReopenFault::NotLog);
     }
-    let Ok(device) = store.reopen(alloc, name, front, DEVICE_LINES) else {
-        return Err(ReopenFault::Outside);
-    };
+    let device = store.reopen(alloc, name, front, DEVICE_LINES)?;
     Ok(ThreadLog::open(device, &log))
 }
 
@@ -68,10 +87,7 @@ fn open_front<S: Store>(
 fn used_lines(alloc: Global, lines: &[Line]) -> Result<usize, ReopenFault>
     ensures { IfOk result (λ used. used ≤ length lines.now) }
 {
-    match decode(alloc, lines) {
-        Ok(log) => Ok(log.used() as usize),
-        Err(_) => Err(ReopenFault::NotLog),
-    }
+    Ok(decode(alloc, lines)?.used() as usize)
 }
 
 /// Goes on in the log that a crash left in this file, which begins with these lines. What is left of an entry that the crash tore is

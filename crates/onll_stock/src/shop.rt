@@ -71,6 +71,8 @@ pub fn run_short<R: Threads + Wait + Sync, P: Pmem + Drop + Send, G: Gate + Sync
     requires fresh { AllByRecursion (λ device. IsFresh (zero_lines short_lines) (P.means device)) devices.items }
     ensures sold { IfOk result (λ ran. NeverOversells (anew had (shop_heads (length scripts.items) init.now)
         (map (λ script. script.items) scripts.items)) (left_in P.means ran)) }
+    ensures refused { IfErr result (λ fault. HasRefused P.means (shop_heads (length scripts.items) init.now)
+        (no_base (length scripts.items)).logs devices.items fault) }
 {
     match run_shop(rt, alloc, init, had, scripts, devices, gate) {
         Ok(ran) => Ok(ran),

@@ -162,4 +162,7 @@ if [ $status != 6 ]; then
     failed=1
 fi
 
+if [ $failed = 0 ]; then
+    echo 'all examples print and write what stands there'
+fi
 exit $failed

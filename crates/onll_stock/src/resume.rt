@@ -9,6 +9,7 @@ ghost use Rattle.onll_stock.specs.Resuming.{AreOfAll, CannotResume};
 
 use crate::stock::Stock;
 use onll_log::ThreadLog;
+use onll_model::MOST_THREADS;
 use onll_pmem::Pmem;
 use onll_shared::{GoOnFault, Onll, Pass};
 use std::alloc::Global;
@@ -51,7 +52,10 @@ fn are_logs<P: Pmem>(logs: &[ThreadLog<P>]) -> bool
 fn are_of_all<P: Pmem>(logs: &[ThreadLog<P>], rooms: &[u64]) -> bool
     ensures { (result ≡ true) ↔ AreOfAll logs.now rooms.now }
 {
-    !logs.is_empty() && logs.len() <= 16 && rooms.len() == logs.len() && are_logs(logs)
+    !logs.is_empty()
+        && logs.len() as u64 <= MOST_THREADS
+        && rooms.len() == logs.len()
+        && are_logs(logs)
 }
 
 /// A stock that began with `had` items and goes on from what these logs hold, and a pass for each, which may order as many updates as its

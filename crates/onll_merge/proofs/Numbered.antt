@@ -1,61 +1,58 @@
 -- The counts of each thread's nodes, one node after the other.
-use Rattle.std.proofs.Common.{◌≡◌, ℕ, ◌+◌, ◌<◌, ◌==◌, ◌⊎◌, inl, inr, Bool, true, false, cond, List, [], length, get_or, take, drop, sym, refl, ap, ◌∙◌, arith, eq-eqb, Option, Some, Less, Equal, Greater}
-use Rattle.std.specs.Prelude.{count_by, unwrap_or, nat_lt}
-use Rattle.std.specs.Ordering.{nat_cmp, is_eq}
-use Rattle.std.specs.BTreeMap.{is_at}
+use Rattle.std.proofs.Common.{◌≡◌, ℕ, ◌+◌, ◌<◌, ◌≤◌, ◌⊎◌, inl, inr, Bool, true, false, cond, List, [], length, get_or, set, take, drop, refl, sym, ap, ◌∙◌, arith, eq-eqb}
+use Rattle.std.specs.Prelude.{count_by}
 use Rattle.std.proofs.lemmas.Bool.{cases_eq, ne_eqb}
-use Rattle.std.proofs.lemmas.List.{take_more, drop_more}
+use Rattle.std.proofs.lemmas.List.{take_more, drop_more, get_or-set_same, get_or-set_other, length-set}
 use Rattle.std.proofs.lemmas.List.Sums.{count_by_more_yes, count_by_more_no}
+use Rattle.onll_model.specs.Limits.{most_threads}
 use Rattle.onll_model.specs.declared.node.Node.{Node}
 use Rattle.onll_model.specs.Trace.{is_of_thread}
 use Rattle.onll_merge.specs.Merge.{stray_above}
 
--- what is counted of each thread, and what is asked of the nodes that are left
-pub record Counted (counts : ℕ → Option ℕ) (nodes : List Node) (below : ℕ) : Type 0 where
-  pub counts_are : (t : ℕ) → unwrap_or (counts t) 0 ≡ count_by (is_of_thread t) (take below nodes)
+-- what is counted of each thread that a run can have, and what is asked of the nodes that are left
+pub record Counted (counts : List ℕ) (nodes : List Node) (below : ℕ) : Type 0 where
+  pub many : length counts ≡ most_threads
+  pub counts_are : (t : ℕ) → t < most_threads → get_or counts t 0 ≡ count_by (is_of_thread t) (take below nodes)
   pub rest_is : stray_above (take below nodes) (drop below nodes) ≡ stray_above [] nodes
-
-equal_at : (p q : Bool) → p ≡ false → q ≡ true → is_eq (cond p Less (cond q Equal Greater)) ≡ true
-equal_at p q e f = ap (λ (b : Bool). is_eq (cond b Less (cond q Equal Greater))) e ∙ ap (λ (b : Bool). is_eq (cond b Equal Greater)) f
-
-unequal_at : (p q : Bool) → q ≡ false → is_eq (cond p Less (cond q Equal Greater)) ≡ false
-unequal_at true q f = refl
-unequal_at false q f = ap (λ (b : Bool). is_eq (cond b Equal Greater)) f
-
-not_below : (a b : ℕ) → a ≡ b → nat_lt a b ≡ false
-not_below a b e = grind arith
 
 taken : {A : Type 0} (b : Bool) (x y : A) → b ≡ true → cond b x y ≡ x
 taken true x y e = refl
 taken false x y e = absurd (cc)
 
 -- one node more, which has the next number of its thread
-pub counted_more : (counts next : ℕ → Option ℕ) (nodes : List Node) (below : ℕ) (d : Node) → below < length nodes → Counted counts nodes below
-    → ((t : ℕ) → next t ≡ cond (is_at (nat_cmp (get_or nodes below d).thread) t) (Some (get_or nodes below d).number) (counts t))
-    → (get_or nodes below d).number ≡ unwrap_or (counts (get_or nodes below d).thread) 0 + 1
-    → Counted next nodes (below + 1)
-counted_more counts next nodes below d low h is number = record {
-  counts_are = λ t. at t (cases_eq x.thread t);
-  rest_is = sym step ∙ h.rest_is;
-}
-  where
-    x : Node
-    x = get_or nodes below d
+module _ (nodes : List Node) (below : ℕ) (d : Node) (low : below < length nodes) where
+  abbrev x : Node
+  x = get_or nodes below d
 
-    at : (t : ℕ) → (x.thread ≡ t) ⊎ (x.thread ≡ t → ⊥) → unwrap_or (next t) 0 ≡ count_by (is_of_thread t) (take (below + 1) nodes)
-    at t (inl e) =
-        let here : is_at (nat_cmp x.thread) t ≡ true = equal_at (nat_lt x.thread t) (x.thread == t) (not_below x.thread t e) (eq-eqb x.thread t e) in
-        ap (λ (o : Option ℕ). unwrap_or o 0) (is t ∙ ap (λ (b : Bool). cond b (Some x.number) (counts t)) here)
-        ∙ (number ∙ (ap (λ (n : ℕ). n + 1) (h.counts_are x.thread ∙ ap (λ (n : ℕ). count_by (is_of_thread n) (take below nodes)) e)
-        ∙ sym (count_by_more_yes (is_of_thread t) nodes below d low (eq-eqb x.thread t e))))
-    at t (inr e) =
-        let other : is_at (nat_cmp x.thread) t ≡ false = unequal_at (nat_lt x.thread t) (x.thread == t) (ne_eqb x.thread t e) in
-        ap (λ (o : Option ℕ). unwrap_or o 0) (is t ∙ ap (λ (b : Bool). cond b (Some x.number) (counts t)) other)
-        ∙ (h.counts_are t ∙ sym (count_by_more_no (is_of_thread t) nodes below d low (ne_eqb x.thread t e)))
+  module _ (next : x.number ≡ count_by (is_of_thread x.thread) (take below nodes) + 1) where
+    rest_more : stray_above (take below nodes) (drop below nodes) ≡ stray_above [] nodes → stray_above (take (below + 1) nodes) (drop (below + 1) nodes) ≡ stray_above [] nodes
+    rest_more rest = sym (ap (stray_above (take below nodes)) (drop_more nodes below d low)
+        ∙ (taken _ _ _ (eq-eqb x.number (count_by (is_of_thread x.thread) (take below nodes) + 1) next)
+        ∙ ap (λ (ns : List Node). stray_above ns (drop (below + 1) nodes)) (sym (take_more nodes below d low)))) ∙ rest
 
-    right : (x.number == count_by (is_of_thread x.thread) (take below nodes) + 1) ≡ true
-    right = eq-eqb x.number (count_by (is_of_thread x.thread) (take below nodes) + 1) (number ∙ ap (λ (n : ℕ). n + 1) (h.counts_are x.thread))
+    own_more : count_by (is_of_thread x.thread) (take (below + 1) nodes) ≡ x.number
+    own_more = count_by_more_yes (is_of_thread x.thread) nodes below d low (eq-eqb x.thread x.thread refl) ∙ sym next
 
-    step : stray_above (take below nodes) (drop below nodes) ≡ stray_above (take (below + 1) nodes) (drop (below + 1) nodes)
-    step = ap (stray_above (take below nodes)) (drop_more nodes below d low)
-        ∙ (taken _ _ _ right ∙ ap (λ (ns : List Node). stray_above ns (drop (below + 1) nodes)) (sym (take_more nodes below d low)))
+    others_more : (t : ℕ) → (x.thread ≡ t → ⊥) → count_by (is_of_thread t) (take (below + 1) nodes) ≡ count_by (is_of_thread t) (take below nodes)
+    others_more t e = count_by_more_no (is_of_thread t) nodes below d low (ne_eqb x.thread t e)
+
+    -- its thread's count is kept
+    pub counted_more : (counts : List ℕ) → x.thread < most_threads → Counted counts nodes below → Counted (set counts x.thread x.number) nodes (below + 1)
+    counted_more counts small h = record {
+      many = length-set counts x.thread x.number ∙ h.many;
+      counts_are = λ t few. at t few (cases_eq x.thread t);
+      rest_is = rest_more h.rest_is;
+    }
+      where
+        at : (t : ℕ) → t < most_threads → (x.thread ≡ t) ⊎ (x.thread ≡ t → ⊥) → get_or (set counts x.thread x.number) t 0 ≡ count_by (is_of_thread t) (take (below + 1) nodes)
+        at t few (inl e) = ap (λ (n : ℕ). get_or (set counts x.thread x.number) n 0) (sym e) ∙ (get_or-set_same counts x.thread x.number 0 (let m = h.many in omega arith)
+            ∙ (sym own_more ∙ ap (λ (n : ℕ). count_by (is_of_thread n) (take (below + 1) nodes)) e))
+        at t few (inr e) = get_or-set_other counts x.thread t x.number 0 (λ same. e (sym same)) ∙ (h.counts_are t few ∙ sym (others_more t e))
+
+    -- it is of a thread that no run has
+    pub counted_other : (counts : List ℕ) → most_threads ≤ x.thread → Counted counts nodes below → Counted counts nodes (below + 1)
+    counted_other counts large h = record {
+      many = h.many;
+      counts_are = λ t few. h.counts_are t few ∙ sym (others_more t (λ (e : x.thread ≡ t). omega arith));
+      rest_is = rest_more h.rest_is;
+    }

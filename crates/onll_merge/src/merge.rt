@@ -28,6 +28,6 @@ pub fn recover(
     check_orders(logs)?;
     let top = top_of_logs(logs);
     let nodes = gather(alloc, logs, top)?;
-    check_numbers(alloc, &nodes)?;
+    check_numbers(&nodes)?;
     Ok(nodes)
 }

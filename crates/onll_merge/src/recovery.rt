@@ -45,7 +45,7 @@ fn merge_places(
 {
     let mut readers = readers_of(alloc, cursors)?;
     let nodes = gather(alloc, &mut readers, top)?;
-    check_numbers(alloc, &nodes)?;
+    check_numbers(&nodes)?;
     Ok(nodes)
 }
 

@@ -1,7 +1,7 @@
 -- Logs that are opened or begun one after the other, and devices that are handed back.
-use Rattle.std.proofs.Common.{◌≡◌, ℕ, zero, suc, ◌+◌, ◌<◌, ◌≤◌, List, [], ◌∷◌, ◌++◌, length, map, take, drop, get_or, Option, Some, None, refl, sym, ap, ◌∙◌, subst, arith, append_assoc, length-drop}
+use Rattle.std.proofs.Common.{◌≡◌, ℕ, zero, suc, ◌+◌, ◌<◌, ◌≤◌, List, [], ◌∷◌, ◌++◌, length, map, take, drop, get_or, Option, Some, None, refl, sym, ap, ◌∙◌, subst, arith, length-drop}
 use Rattle.std.specs.Prelude.{reverse}
-use Rattle.std.proofs.lemmas.List.{reverse-append, reverse-reverse, length-reverse, length-map, map-append, drop_more}
+use Rattle.std.proofs.lemmas.List.{reverse-append, reverse-reverse, length-reverse, length-map, drop_more}
 use Rattle.std.proofs.lemmas.List.Sums.{sum_by-cons}
 use Rattle.onll_pmem.specs.Pmem.{DeviceView}
 use Rattle.onll_log.specs.declared.head.LogHead.{LogHead}
@@ -11,7 +11,6 @@ use Rattle.onll_log.specs.Grammar.{Content}
 use Rattle.onll_log.specs.Log.{LogState, IsPending}
 use Rattle.onll_merge.specs.Merge.{contents_in}
 use Rattle.onll_outside.specs.Views.{one_fault}
-use Rattle.onll_shared.proofs.Making.{map_reverse}
 use Rattle.onll_run.specs.Left.{one_begun, begun_logs}
 use Rattle.onll_run.specs.Making.{CanOpen, AllCanOpen, OpensOn, IsOpen, AreOpen, HeadersTo, HeaderFailed, fences_of, faults_of, device_of}
 
@@ -213,17 +212,3 @@ module _ {Device : Type 0} (means : Device → DeviceView) where
       let e2 : length (reverse left) ≡ 0 = omega (arith, length-drop i heads) in
       open_all heads (contents_in base) devices logs (subst (λ (z : List LogHead × List Content × List Device). OpenTo heads (contents_in base) devices logs z.0 z.1 z.2)
       (λ j. (none_long (drop i heads) e0 j, none_long (contents_in (drop i base)) e1 j, none_long (reverse left) e2 j)) o)
-
--- elements are taken from one list and put into another, the last one first
-pub back_one : {A B : Type 0} (f : A → B) (now front : List A) (x : A) (done done' whole : List B)
-    → map f now ++ reverse done ≡ whole → now ≡ front ++ x ∷ [] → done' ≡ done ++ f x ∷ [] → map f front ++ reverse done' ≡ whole
-back_one f now front x done done' whole all is put =
-    ap (λ (ys : List _). map f front ++ ys) (ap reverse put ∙ reverse-append done (f x ∷ []))
-    ∙ (sym (append_assoc (map f front) (f x ∷ []) (reverse done))
-    ∙ (ap (λ (ys : List _). ys ++ reverse done) (sym (ap (map f) is ∙ map-append f front (x ∷ []))) ∙ all))
-
--- all were put there
-pub back_all : {A B C : Type 0} (f : A → C) (h : B → C) (now : List A) (done result : List B) (whole : List C)
-    → map f now ++ reverse (map h done) ≡ whole → now ≡ [] → result ≡ reverse done → map h result ≡ whole
-back_all f h now done result whole all none is =
-    ap (map h) is ∙ (map_reverse h done ∙ (ap (λ (xs : List _). map f xs ++ reverse (map h done)) (sym none) ∙ all))

@@ -42,6 +42,7 @@ use Rattle.onll_run.specs.Left.{Base, Plan, Left, LogLeft, LogTells, LogsTell, H
 use Rattle.onll_run.specs.Ended.{ThreadRun, script_of, ends_of, after_of, log_left, HaveRun, plan_of, left_of, IsWhole}
 use Rattle.onll_run.specs.declared.worker.Worked.{Worked}
 use Rattle.onll_run.specs.Crew.{AreFit, AreReady, AreDone, runs_of, pass_done, script_done, ends_done, CanEnd}
+use Rattle.onll_run.specs.Done.{HaveDone}
 use Rattle.onll_run.specs.Making.{AreHeads, StandsBy, CanOpen, AllCanOpen, IsOpen, AreOpen}
 use Rattle.onll_run.specs.Ran.{AreRoomy, HaveNumbers, CanRun, IsKept, AreKept, going_on, available, node_in, flag_in}
 use Rattle.onll_run.proofs.Beginning.{ready_all}
@@ -527,3 +528,17 @@ module _ {State Op Query Reply Device : Type 0} (b : Behaviour State Op Query Re
             (λ i. ((ends_are b means onll scripts passes all done ∙ sym e) i, (ap (map log_of) ended.passes_are ∙ sym l) i))
             (logs_kept b means onll 0 heads befores devices runs (can_open means heads befores scripts devices can) over new ended.have_run);
       }
+
+-- ---- the same of scripts that were done
+module _ {State Op Query Reply Device : Type 0} (b : Behaviour State Op Query Reply) (means : Device → DeviceView) (state : State) (heads : List LogHead) (befores : List Content)
+    (scripts : List (List (Call State Op Query Reply))) (devices : List Device) (nodes : List Node) (onll : OnllView State) (all : List (Worked State Device Op Query Reply))
+    (can : CanRun means heads befores scripts devices) (d : HaveDone b means state heads befores scripts devices nodes onll all) where
+  pub done_ended : CanEnd b means onll scripts d.passes all
+  done_ended = passes_ended b means onll heads befores scripts devices d.logs d.rooms d.passes can d.open_on d.begun all d.done
+
+  pub scripts_were : map script_done all ≡ scripts
+  scripts_were = scripts_done b means onll scripts d.passes all d.done
+
+  pub done_leaves : (ends : List (List (CallEnd State Op Query Reply))) (trace : List Ended) (after : List (LogState Device)) → ends ≡ map ends_done all → after ≡ map log_of (map pass_done all)
+      → (above : List Ended) × (trace ≡ available nodes ++ above) × HasClosed onll.trace (map pass_done all) above → Leaves b means state heads befores scripts devices ends trace after
+  done_leaves = run_leaves b means onll state heads befores scripts devices d.logs d.rooms nodes d.passes all d.first d.base can d.open_on d.held d.begun d.done

@@ -5,3 +5,4 @@ pub mod Ended
 pub mod Crew
 pub mod Making
 pub mod Ran
+pub mod Done

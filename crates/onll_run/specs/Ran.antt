@@ -89,15 +89,20 @@ node_in end = end.node
 abbrev pub flag_in : Ended → Bool
 flag_in end = end.flag
 
+-- what a run left, as plain data
+abbrev pub left_by : {State Device Op Query Reply : Type 0} → (Device → DeviceView) → List (DoneScript State Op Query Reply)
+    → List Ended → List (LogState Device) → Left State Op Query Reply
+left_by means threads trace logs = record {
+  ends = map ends_in threads;
+  nodes = map node_in trace;
+  flags = map flag_in trace;
+  logs = map (log_left means) logs;
+}
+
 -- what the call left, as plain data
 abbrev pub left_in : {State Device Op Query Reply : Type 0} → (Device → DeviceView) → Ran State Device Op Query Reply
     → Left State Op Query Reply
-left_in means ran = record {
-  ends = map ends_in ran.threads.items;
-  nodes = map node_in ran.trace.items;
-  flags = map flag_in ran.trace.items;
-  logs = map (log_left means) ran.logs.items;
-}
+left_in means ran = left_by means ran.threads.items ran.trace.items ran.logs.items
 
 -- A thread's log is handed back with its device. Where that tells its fenced words, they are the log without the entry whose fence
 -- failed. It has as many lines as before, and counts the fences of the log, the header's where the log was begun, and a fault where

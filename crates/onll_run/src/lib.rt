@@ -32,5 +32,5 @@ mod worker;
 pub use crew::run_passes;
 pub use laws::{passes_law, ready_law, run_law};
 pub use logs::{RunFault, new_logs, open_logs};
-pub use run::{DoneScript, Ran, resume_scripts, run_scripts};
+pub use run::{DoneScript, Ran, RunLogs, resume_scripts, run_for_logs, run_scripts};
 pub use worker::{Worked, Worker, run_all};

@@ -1,11 +1,12 @@
 //! Scripts run on threads, over logs that are opened or begun anew.
 
-ghost use Rattle.std.specs.Prelude.{◌≡◌, ◌≤◌, ◌++◌, length, map, All, IfOk, IfErr, Ok, Err};
+ghost use Rattle.std.specs.Prelude.{◌≡◌, ◌≤◌, ◌++◌, List, length, map, All, IfOk, IfErr, Ok, Err};
 ghost use Rattle.std.specs.List.{AllByRecursion};
 ghost use Rattle.onll_model.specs.Limits.{most_threads, most_updates};
 ghost use Rattle.onll_model.specs.Calls.{updates_in};
 ghost use Rattle.onll_merge.specs.Merge.{contents_in, merge};
 ghost use Rattle.onll_trace.specs.Closing.{AreAll};
+ghost use Rattle.onll_trace.specs.declared.trace.Ended.{Ended as SomeEnded};
 ghost use Rattle.onll_shared.specs.Starts.{AreLogs};
 ghost use Rattle.onll_shared.specs.Found.{HoldBase, content_held, head_held};
 ghost use Rattle.onll_shared.specs.Passes.{IsTied, spot_of, log_of};
@@ -13,7 +14,8 @@ ghost use Rattle.onll_shared.specs.Ends.{HasClosed};
 ghost use Rattle.onll_run.specs.Crew.{pass_done, script_done, ends_done};
 ghost use Rattle.onll_run.specs.Left.{HasRun, no_base};
 ghost use Rattle.onll_run.specs.Making.{HasRefused};
-ghost use Rattle.onll_run.specs.Ran.{CanRun, AreKept, available, going_on, anew, left_in, script_in, ends_in};
+ghost use Rattle.onll_run.specs.Ran.{CanRun, AreKept, available, going_on, anew, left_by, left_in, script_in, ends_in};
+ghost use Rattle.onll_run.specs.Done.{HaveDone};
 
 use crate::crew::run_passes;
 use crate::logs::{RunFault, new_logs, open_logs};
@@ -43,6 +45,21 @@ pub struct Ran<O: Object, P: Pmem> {
     pub threads: Vec<DoneScript<O>>,
     pub trace: Vec<Ended>,
     pub logs: Vec<ThreadLog<P>>,
+}
+
+/// What a run left but for its trace: what became of the calls of each thread, and each thread's log.
+#[derive(Drop)]
+pub struct RunLogs<O: Object, P: Pmem> {
+    pub threads: Vec<DoneScript<O>>,
+    pub logs: Vec<ThreadLog<P>>,
+}
+
+/// Scripts that were done on the passes of an object, and the nodes from which it went on.
+#[derive(Drop)]
+struct Done<O: Object, P: Pmem> {
+    base: Vec<Node>,
+    onll: Onll<O>,
+    all: Vec<Worked<O, P>>,
 }
 
 /// The scripts that were done, and the passes.
@@ -88,6 +105,26 @@ fn finish<O: Object + Drop, P: Pmem + Drop>(
             trace: whole_trace(alloc, base, trace)?,
             logs,
         }),
+        Err(_) => Err(NoMemory),
+    }
+}
+
+/// The end of an object after these scripts were done on its passes, without a list of its trace.
+fn finish_logs<O: Object + Drop, P: Pmem + Drop>(
+    alloc: Global,
+    onll: Onll<O>,
+    all: Vec<Worked<O, P>>,
+) -> Result<RunLogs<O, P>, NoMemory>
+    requires all { AreAll onll.trace (map spot_of (map pass_done all.items)) }
+    requires tied { AllByRecursion (IsTied O.means P.means onll) (map pass_done all.items) }
+    ensures scripts { IfOk result (λ ran. map script_in ran.threads.items ≡ map script_done all.items) }
+    ensures ends { IfOk result (λ ran. map ends_in ran.threads.items ≡ map ends_done all.items) }
+    ensures closed { IfOk result (λ _. (above : List SomeEnded) × HasClosed onll.trace (map pass_done all.items) above) }
+    ensures logs { IfOk result (λ ran. ran.logs.items ≡ map log_of (map pass_done all.items)) }
+{
+    let (threads, passes) = take_apart(alloc, all)?;
+    match onll.end(alloc, passes) {
+        Ok(logs) => Ok(RunLogs { threads, logs }),
         Err(_) => Err(NoMemory),
     }
 }
@@ -150,6 +187,41 @@ fn whole_trace(alloc: Global, base: &[Node], above: Vec<Ended>) -> Result<Vec<En
     Ok(trace)
 }
 
+/// Does each script in a thread of its own, where one can be started, on its own pass of an object that began in this state, over the
+/// log of the head at its place. The logs held the base before: each is opened on the device at its place, or begun on it where it
+/// has no head. No thread begins before all headers are fenced.
+fn do_scripts<
+    R: Threads + Wait + Sync,
+    O: Object + Drop + Send + Sync,
+    P: Pmem + Drop + Send,
+    G: Gate + Sync,
+>(
+    rt: &R,
+    alloc: Global,
+    object: O,
+    heads: &[LogHead],
+    base: &[Decoded],
+    scripts: Vec<Vec<Call<O>>>,
+    devices: Vec<P>,
+    gate: &G,
+) -> Result<Done<O, P>, RunFault<P>>
+    requires { CanRun P.means heads.now (contents_in base.now) (map (λ script. script.items) scripts.items) devices.items }
+    ensures done { IfOk result (λ done. HaveDone O.means P.means object heads.now (contents_in base.now)
+        (map (λ script. script.items) scripts.items) devices.items done.base.items done.onll done.all.items) }
+    ensures refused { IfErr result (λ fault. HasRefused P.means heads.now (contents_in base.now) devices.items fault) }
+{
+    let rooms = rooms_for(alloc, &scripts)?;
+    let logs = open_logs(alloc, heads, base, devices)?;
+    let held = base_of(alloc, &logs)?;
+    let (onll, passes) = Onll::resume(alloc, object, &held.nodes, &held.marks, logs, &rooms)?;
+    let all = run_passes(rt, alloc, &onll, gate, scripts, passes)?;
+    Ok(Done {
+        base: held.nodes,
+        onll,
+        all,
+    })
+}
+
 /// Runs each script in a thread of its own, where one can be started, on its own pass of an object that began in this state, over the
 /// log of the head at its place. The logs held the base before: each is opened on the device at its place, or begun on it where it
 /// has no head. No thread begins before all headers are fenced.
@@ -177,12 +249,9 @@ pub fn resume_scripts<
         devices.items ran.logs.items) }
     ensures refused { IfErr result (λ fault. HasRefused P.means heads.now (contents_in base.now) devices.items fault) }
 {
-    let rooms = rooms_for(alloc, &scripts)?;
-    let logs = open_logs(alloc, heads, base, devices)?;
-    let held = base_of(alloc, &logs)?;
-    let (onll, passes) = Onll::resume(alloc, object, &held.nodes, &held.marks, logs, &rooms)?;
-    let all = run_passes(rt, alloc, &onll, gate, scripts, passes)?;
-    Ok(finish(alloc, &held.nodes, onll, all)?)
+    let done = do_scripts(rt, alloc, object, heads, base, scripts, devices, gate)?;
+    let Done { base, onll, all } = done;
+    Ok(finish(alloc, &base, onll, all)?)
 }
 
 /// The same over logs that are begun anew.
@@ -210,4 +279,34 @@ pub fn run_scripts<
 {
     let base = new_logs(alloc, heads.len())?;
     resume_scripts(rt, alloc, object, heads, &base, scripts, devices, gate)
+}
+
+/// The same over logs that are begun anew, for who wants no list of the trace. It takes no memory for one.
+pub fn run_for_logs<
+    R: Threads + Wait + Sync,
+    O: Object + Drop + Send + Sync,
+    P: Pmem + Drop + Send,
+    G: Gate + Sync,
+>(
+    rt: &R,
+    alloc: Global,
+    object: O,
+    heads: &[LogHead],
+    scripts: Vec<Vec<Call<O>>>,
+    devices: Vec<P>,
+    gate: &G,
+) -> Result<RunLogs<O, P>, RunFault<P>>
+    requires { CanRun P.means heads.now (no_base (length heads.now)).logs (map (λ script. script.items) scripts.items) devices.items }
+    ensures scripts { IfOk result (λ ran. map script_in ran.threads.items ≡ map (λ script. script.items) scripts.items) }
+    ensures run { IfOk result (λ ran. (trace : List SomeEnded) × HasRun O.means
+        (anew object heads.now (map (λ script. script.items) scripts.items))
+        (left_by P.means ran.threads.items trace ran.logs.items)) }
+    ensures kept { IfOk result (λ ran. AreKept P.means (no_base (length heads.now)).logs (map ends_in ran.threads.items)
+        devices.items ran.logs.items) }
+    ensures refused { IfErr result (λ fault. HasRefused P.means heads.now (no_base (length heads.now)).logs devices.items fault) }
+{
+    let base = new_logs(alloc, heads.len())?;
+    let done = do_scripts(rt, alloc, object, heads, &base, scripts, devices, gate)?;
+    let Done { onll, all, .. } = done;
+    Ok(finish_logs(alloc, onll, all)?)
 }

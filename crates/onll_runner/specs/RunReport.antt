@@ -9,10 +9,13 @@ use Rattle.onll_model.specs.declared.call.Call.{Call}
 use Rattle.onll_model.specs.declared.call.CallEnd.{CallEnd}
 use Rattle.onll_model.specs.Object.{Behaviour}
 use Rattle.onll_model.specs.Trace.{state_after}
+use Rattle.onll_pmem.specs.Pmem.{DeviceView}
 use Rattle.onll_log.specs.declared.head.LogHead.{LogHead}
 use Rattle.onll_log.specs.Grammar.{used_by}
+use Rattle.onll_log.specs.Log.{LogState}
 use Rattle.onll_run.specs.Outcomes.{failed_in}
 use Rattle.onll_run.specs.Left.{Base, Left, LogLeft, content_in, HasRun}
+use Rattle.onll_run.specs.Ended.{log_left}
 use Rattle.onll_text.specs.Kinds.{ObjectKind}
 use Rattle.onll_text.specs.Wording.{Wording}
 use Rattle.onll_text.specs.Lines.{trace_line, state_lines}
@@ -95,6 +98,15 @@ pub record RanOver {State Op Query Reply : Type 0} (b : Behaviour State Op Query
   pub base : Base
   pub operations : AllByRecursion (λ (n : Node). IsSome (b.op_at n.row)) base.nodes
   pub run : HasRun b (record { state = state; scripts = scripts; heads = heads; base = base }) left
+
+-- a run over some base, whose rows are operations, left these logs and a trace of these nodes
+pub record LogsOfRun {State Op Query Reply Device : Type 0} (b : Behaviour State Op Query Reply) (means : Device → DeviceView)
+    (state : State) (heads : List LogHead) (nodes : List Node) (logs : List (LogState Device)) : Type 0 where
+  pub scripts : List (List (Call State Op Query Reply))
+  pub left : Left State Op Query Reply
+  pub over : RanOver b state heads scripts left
+  pub nodes_are : left.nodes ≡ nodes
+  pub logs_are : left.logs ≡ map (log_left means) logs
 
 -- ---- of a plan
 -- how many nodes are said to be gone on from: those of the base, where logs are reopened

@@ -7,6 +7,6 @@ mod report;
 mod resume;
 mod run;
 
-pub use report::recover_run;
+pub use report::recover_logs;
 pub use resume::resume_on;
 pub use run::{new_heads, run_on};

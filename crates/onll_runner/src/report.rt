@@ -1,8 +1,9 @@
 //! The report of a run: how many nodes it went on from, what became of each call, the trace, the logs, failed fences, and the last state.
 
-ghost use Rattle.std.specs.Prelude.{◌≡◌, ◌≤◌, ◌<◌, ◌^◌, ◌++◌, ◌∷◌, true, length, map, IfOk, IfSome, OnOk, All, IsSome, Some};
+ghost use Rattle.std.specs.Prelude.{◌≡◌, ◌≤◌, ◌<◌, ◌^◌, ◌++◌, ◌∷◌, true, length, map, IfOk, IfSome, OnOk, All, IsSome, Some, List};
 ghost use Rattle.std.specs.List.{AllByRecursion};
 ghost use Rattle.onll_words.specs.Texts.{line_text};
+ghost use Rattle.onll_model.specs.declared.node.Node.{Node as SomeNode};
 ghost use Rattle.onll_model.specs.Recovered.{operations_front};
 ghost use Rattle.onll_model.specs.Trace.{state_after};
 ghost use Rattle.onll_pmem.specs.Pmem.{words_of};
@@ -19,7 +20,7 @@ ghost use Rattle.onll_text.specs.Reports.{EndsRead, NodeReads, StateReads};
 ghost use Rattle.onll_recovery.specs.RecoverJob.{recovered_line};
 ghost use Rattle.onll_recovery.specs.ReplayJob.{LogReads, EachReads, resumed_lines, thread_lines, flagged_lines, counted_lines};
 ghost use Rattle.onll_outside.specs.LineFiles.{IsWholeLine};
-ghost use Rattle.onll_runner.specs.RunReport.{faults_at, fault_lines, log_data, run_data, run_report, RunReads, RanOver};
+ghost use Rattle.onll_runner.specs.RunReport.{faults_at, fault_lines, log_data, run_data, run_report, RunReads, RanOver, LogsOfRun};
 
 use onll_log::{LogHead, TestedImage, ThreadLog};
 use onll_merge::{LogCounts, Recovery, StateFault, recover_state};
@@ -197,7 +198,28 @@ fn wants_memory(fault: StateFault) -> NoMemory
 
 /// Recovers the object from the lines of a run's devices as read. They give the trace, and the object is after it. The rows of the
 /// base, from which the run went on, are operations.
-pub fn recover_run<O: Object, P: Pmem>(
+pub fn recover_logs<O: Object, P: Pmem>(
+    alloc: Global,
+    object: &mut O,
+    heads: &[LogHead],
+    logs: &[ThreadLog<P>],
+) -> Result<Recovery, NoMemory>
+    requires { (nodes : List SomeNode) × LogsOfRun O.means P.means object.old heads.now nodes logs.now }
+    ensures logs { IfOk result (λ r. r.logs.items ≡ map log_counts (map content_in (map (log_left P.means) logs.now))) }
+    ensures nodes { IfOk result (λ r. (nodes : List SomeNode)
+        → LogsOfRun O.means P.means object.old heads.now nodes logs.now → r.nodes.items ≡ nodes) }
+    ensures state { IfOk result (λ r. object.new ≡ state_after O.means object.old r.nodes.items) }
+    ensures whole { OnOk result (All (λ log. AllByRecursion IsWholeLine (P.means log.device).read) logs.now) }
+{
+    let images = images_of(alloc, logs)?;
+    match recover_state(alloc, object, heads, &images) {
+        Ok(recovery) => Ok(recovery),
+        Err(fault) => Err(wants_memory(fault)),
+    }
+}
+
+/// The same of a run whose trace was listed.
+fn recover_run<O: Object, P: Pmem>(
     alloc: Global,
     object: &mut O,
     heads: &[LogHead],
@@ -210,11 +232,7 @@ pub fn recover_run<O: Object, P: Pmem>(
     ensures state { IfOk result (λ _. object.new ≡ state_after O.means object.old (map node_in ran.now.trace.items)) }
     ensures whole { OnOk result (All (λ log. AllByRecursion IsWholeLine (P.means log.device).read) ran.now.logs.items) }
 {
-    let images = images_of(alloc, &ran.logs)?;
-    match recover_state(alloc, object, heads, &images) {
-        Ok(recovery) => Ok(recovery),
-        Err(fault) => Err(wants_memory(fault)),
-    }
+    recover_logs(alloc, object, heads, &ran.logs)
 }
 
 /// Appends the lines of how many nodes are gone on from, of the calls of a run, and of its trace.

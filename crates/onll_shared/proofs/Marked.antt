@@ -1,6 +1,7 @@
 use Rattle.std.proofs.Common.{◌≡◌, ℕ, zero, suc, ◌+◌, ◌-◌, ◌<◌, ◌≤◌, ◌==◌, Bool, List, [], ◌∷◌, ◌++◌, length, map, drop, Some, refl, sym, ap, ◌∙◌, subst, arith, append_assoc, append-nil, eq-eqb, ne_eqb}
 use Rattle.std.specs.Prelude.{if◌then◌else◌, Ok}
 use Rattle.std.specs.List.{AllByRecursion, slice_get, slice_index_or}
+use Rattle.std.specs.Option.{option_map_or}
 use Rattle.std.proofs.lemmas.List.{length-map}
 use Rattle.onll_model.specs.declared.node.Node.{Node}
 use Rattle.onll_model.specs.declared.mark.Mark.{Mark}
@@ -13,16 +14,17 @@ use Rattle.onll_model.specs.Marks.{marked_of, marked_from, marked}
 use Rattle.onll_model.proofs.FirstFrames.{resumed_sound}
 use Rattle.onll_model.proofs.Lists.{all_append}
 use Rattle.onll_log.specs.Encoding.{FitsEntry, FitEntries}
-use Rattle.onll_log.specs.Grammar.{Content}
+use Rattle.onll_log.specs.declared.cursor.EntryView.{EntryView}
+use Rattle.onll_log.specs.Cursor.{CursorState, entries_left, first_view, lines_passed, one_further}
+use Rattle.onll_log.specs.Grammar.{Content, content_of}
 use Rattle.onll_log.specs.Log.{LogState}
-use Rattle.onll_log.specs.declared.decoded.Decoded.{Decoded}
-use Rattle.onll_log.specs.Decoded.{segments_in}
-use Rattle.onll_merge.specs.Merge.{merge, contents_in}
+use Rattle.onll_log.proofs.Cursors.{gone_on, viewed}
+use Rattle.onll_merge.specs.Merge.{merge}
 use Rattle.onll_merge.specs.Laws.{EachSegment}
 use Rattle.onll_merge.proofs.Backs.{merge-back}
 use Rattle.onll_merge.proofs.Resumed.{can_go_on}
 use Rattle.onll_shared.specs.Starts.{AreLogs, entries_of}
-use Rattle.onll_shared.specs.Found.{HoldBase, content_held, head_held, marks_of, marks_from}
+use Rattle.onll_shared.specs.Found.{HoldBase, content_held, head_held, image_entries, marks_of, marks_from}
 
 -- The marks of logs name what they hold.
 
@@ -94,23 +96,33 @@ module _ (base : List Node) where
           → marked_from (suc t) (length rest) base (before ++ (marks_of t ss ++ marks_from (suc t) rest)) ≡ rest
       there others = ap (marked_from (suc t) (length rest) base) (sym (append_assoc before (marks_of t ss) (marks_from (suc t) rest))) ∙ others
 
--- ---- marking one log after the other
-abbrev held_entries : List Decoded → List (List Segment)
-held_entries logs = map (λ (c : Content). c.entries) (contents_in logs)
+-- ---- marking one entry after the other, and one log after the other
+pub marks_more : (t : ℕ) (c next : CursorState) (e : EntryView) (ms new whole : List Mark) → Some e ≡ first_view (lines_passed c) (entries_left c)
+    → ms ++ marks_of t (entries_left c) ≡ whole → new ≡ ms ++ record { thread = t; place = e.place; count = e.count } ∷ [] → next ≡ one_further c
+    → new ++ marks_of t (entries_left next) ≡ whole
+marks_more t c next e ms new whole shown held new_is next_is =
+    let v = viewed (lines_passed c) (entries_left c) e shown in
+    let left : entries_left next ≡ v.more = ap entries_left next_is ∙ (gone_on c.content.entries c.passed v.s v.more v.split).left in
+    let mark : Mark = record { thread = t; place = e.place; count = e.count } in
+    (λ k. new_is k ++ marks_of t (left k))
+    ∙ (append_assoc ms (mark ∷ []) (marks_of t v.more)
+    ∙ ((λ k. ms ++ record { thread = t; place = v.place k; count = v.count k } ∷ marks_of t v.more)
+    ∙ (ap (λ (ss : List Segment). ms ++ marks_of t ss) (sym v.split) ∙ held)))
 
-entries_at : (logs : List Decoded) (t : ℕ) (x : Decoded) → t < length logs → x ≡ slice_index_or logs t x → drop t (held_entries logs) ≡ segments_in x.entries ∷ drop (suc t) (held_entries logs)
+entries_at : (images : List (List (List ℕ))) (t : ℕ) (x : List (List ℕ)) → t < length images → x ≡ slice_index_or images t x
+    → drop t (map image_entries images) ≡ image_entries x ∷ drop (suc t) (map image_entries images)
 entries_at [] t x low is = absurd (omega arith)
-entries_at (log ∷ logs) zero x low is = ap (λ (d : Decoded). segments_in d.entries ∷ held_entries logs) (sym is)
-entries_at (log ∷ logs) (suc t) x low is = entries_at logs t x (omega arith) is
+entries_at (image ∷ images) zero x low is = ap (λ (i : List (List ℕ)). image_entries i ∷ map image_entries images) (sym is)
+entries_at (image ∷ images) (suc t) x low is = entries_at images t x (omega arith) is
 
-pub marks_next : (logs : List Decoded) (t : ℕ) (x : Decoded) (ms new whole : List Mark) → t < length logs → x ≡ slice_index_or logs t x
-    → ms ++ marks_from t (drop t (held_entries logs)) ≡ whole → new ≡ ms ++ marks_of t (segments_in x.entries)
-    → new ++ marks_from (t + 1) (drop (t + 1) (held_entries logs)) ≡ whole
-marks_next logs t x ms new whole low is held new_is =
+pub marks_next : (images : List (List (List ℕ))) (t : ℕ) (x : List (List ℕ)) (ms new whole : List Mark) → t < length images → x ≡ slice_index_or images t x
+    → ms ++ marks_from t (drop t (map image_entries images)) ≡ whole → new ≡ ms ++ marks_of t (image_entries x)
+    → new ++ marks_from (t + 1) (drop (t + 1) (map image_entries images)) ≡ whole
+marks_next images t x ms new whole low is held new_is =
     let next : t + 1 ≡ suc t = omega arith in
-    (λ k. new_is k ++ marks_from (next k) (drop (next k) (held_entries logs)))
-    ∙ (append_assoc ms (marks_of t (segments_in x.entries)) (marks_from (suc t) (drop (suc t) (held_entries logs)))
-    ∙ (ap (λ (es : List (List Segment)). ms ++ marks_from t es) (sym (entries_at logs t x low is)) ∙ held))
+    (λ k. new_is k ++ marks_from (next k) (drop (next k) (map image_entries images)))
+    ∙ (append_assoc ms (marks_of t (image_entries x)) (marks_from (suc t) (drop (suc t) (map image_entries images)))
+    ∙ (ap (λ (es : List (List Segment)). ms ++ marks_from t es) (sym (entries_at images t x low is)) ∙ held))
 
 -- ---- the logs of all threads
 module _ {Device : Type 0} where
@@ -121,6 +133,17 @@ module _ {Device : Type 0} where
   entries_same : (logs : List (LogState Device)) → map (λ (c : Content). c.entries) (map content_held logs) ≡ map entries_of logs
   entries_same [] = refl
   entries_same (log ∷ logs) = ap (λ (l : List (List Segment)). log.entries ∷ l) (entries_same logs)
+
+  -- images that hold the logs have their entries
+  pub images_have : (images : List (List (List ℕ))) (logs : List (LogState Device)) → map content_of images ≡ map Some (map content_held logs)
+      → map image_entries images ≡ map entries_of logs
+  images_have [] [] e = refl
+  images_have [] (log ∷ logs) e = absurd (cc)
+  images_have (image ∷ images) [] e = absurd (cc)
+  images_have (image ∷ images) (log ∷ logs) e =
+      let first : content_of image ≡ Some (content_held log) = (cc) in
+      let rest : map content_of images ≡ map Some (map content_held logs) = (cc) in
+      λ k. option_map_or (λ (c : Content). c.entries) (first k) [] ∷ images_have images logs rest k
 
   -- the entries of a log of this many threads
   fit_all : (count : ℕ) (logs : List (LogState Device)) → AllByRecursion (λ (log : LogState Device). log.head.threads ≡ count) logs
@@ -144,9 +167,9 @@ module _ {Device : Type 0} where
 
   pub holds_base : (logs : List (LogState Device)) (base : List Node) (marks : List Mark) → (1 ≤ length logs) × (length logs ≤ most_threads) → AreLogs logs
       → AllByRecursion (λ (log : LogState Device). FitEntries log.head.threads log.entries) logs
-      → merge (map head_held logs) (map content_held logs) ≡ Ok base → marks ≡ marks_from 0 (map (λ (c : Content). c.entries) (map content_held logs))
+      → merge (map head_held logs) (map content_held logs) ≡ Ok base → marks ≡ marks_from 0 (map entries_of logs)
       → HoldBase logs base marks
-  holds_base logs base marks many are fit merged marks_are = record {
+  holds_base logs base marks many are fit merged marks_is = record {
     merged = merged;
     entries = entries;
     resumable = λ rooms long room. record {
@@ -161,9 +184,6 @@ module _ {Device : Type 0} where
     where
       fits : EachSegment (FitsEntry (length logs)) (map content_held logs)
       fits = fit_all (length logs) logs (threads_all (length logs) logs (λ u x e. (are u x e).threads)) fit
-
-      marks_is : marks ≡ marks_from 0 (map entries_of logs)
-      marks_is = marks_are ∙ ap (marks_from 0) (entries_same logs)
 
       agree : AllByRecursion (AllByRecursion (Agrees base)) (map entries_of logs)
       agree = agree_all (length logs) base logs (merge-back base (map head_held logs) (map content_held logs) merged).agree fits

@@ -1,5 +1,6 @@
 -- What the logs of all threads hold of a trace, from which an object can go on.
 use Rattle.std.specs.Prelude.{ℕ, suc, List, [], ◌∷◌, ◌++◌, ◌≡◌, length, map, Some, Ok}
+use Rattle.std.specs.Option.{option_map_or}
 use Rattle.onll_model.specs.declared.node.Node.{Node}
 use Rattle.onll_model.specs.declared.mark.Mark.{Mark}
 use Rattle.onll_model.specs.Segment.{Segment}
@@ -7,7 +8,7 @@ use Rattle.onll_model.specs.Marks.{marked}
 use Rattle.onll_model.specs.Limits.{most_updates}
 use Rattle.onll_log.specs.declared.head.LogHead.{LogHead}
 use Rattle.onll_log.specs.Log.{LogState}
-use Rattle.onll_log.specs.Grammar.{Content}
+use Rattle.onll_log.specs.Grammar.{Content, content_of}
 use Rattle.onll_merge.specs.Merge.{merge}
 use Rattle.onll_trace.specs.Plans.{CanResume, HasRooms}
 use Rattle.onll_shared.specs.Starts.{entries_of}
@@ -15,6 +16,10 @@ use Rattle.onll_shared.specs.Starts.{entries_of}
 -- what a log reads as
 abbrev pub content_held : {Device : Type 0} → LogState Device → Content
 content_held log = record { head = Some log.head; entries = log.entries }
+
+-- the entries that an image holds, none where it is no log
+abbrev pub image_entries : List (List ℕ) → List Segment
+image_entries image = option_map_or (λ (c : Content). c.entries) (content_of image) []
 
 abbrev pub head_held : {Device : Type 0} → LogState Device → LogHead
 head_held log = log.head

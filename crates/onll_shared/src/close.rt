@@ -1,8 +1,9 @@
 //! The end of a shared object.
 
-ghost use Rattle.std.specs.Prelude.{◌≡◌, ◌++◌, ◌+◌, ◌<◌, ◌≤◌, [], length, map, reverse, IfOk, IfErr, vec_capacity};
+ghost use Rattle.std.specs.Prelude.{◌≡◌, ◌++◌, ◌+◌, ◌<◌, ◌≤◌, List, [], length, map, reverse, IfOk, IfErr, vec_capacity};
 ghost use Rattle.std.specs.List.{AllByRecursion};
 ghost use Rattle.onll_trace.specs.Closing.{AreAll};
+ghost use Rattle.onll_trace.specs.declared.trace.Ended.{Ended as SomeEnded};
 ghost use Rattle.onll_shared.specs.Passes.{IsTied, spot_of, log_of};
 ghost use Rattle.onll_shared.specs.Ends.{RestView, AreReady, HasClosed, joined, log_in};
 
@@ -139,7 +140,7 @@ fn put_together<O: Object + Drop, P: Pmem + Drop>(
     }
 }
 
-#[tactic(auto, using(crate::proofs::Ending::logs_none, crate::proofs::Ending::logs_fewer))]
+#[tactic(auto, using(crate::proofs::Ending::logs_none))]
 // The logs, in their order.
 fn logs_of<O: Object + Drop, P: Pmem + Drop>(
     mut rests: Vec<Rest<O, P>>,
@@ -156,7 +157,56 @@ fn logs_of<O: Object + Drop, P: Pmem + Drop>(
     logs
 }
 
+// The spots and the logs of passes, in their order.
+fn spots_and_logs<O: Object + Drop, P: Pmem + Drop>(
+    mut passes: Vec<Pass<O, P>>,
+    mut spots: Vec<Spot>,
+    mut logs: Vec<ThreadLog<P>>,
+) -> (Vec<Spot>, Vec<ThreadLog<P>>)
+    requires spots { (spots.items ≡ []) × (length passes.items ≤ vec_capacity spots) }
+    requires logs { (logs.items ≡ []) × (length passes.items ≤ vec_capacity logs) }
+    ensures spots { result.0.items ≡ map spot_of passes.items }
+    ensures logs { result.1.items ≡ map log_of passes.items }
+{
+    while let Some(pass) = passes.pop() {
+        let Pass { spot, log, .. } = pass;
+        spots.push_reserved(spot);
+        logs.push_reserved(log);
+    }
+    spots.reverse();
+    logs.reverse();
+    (spots, logs)
+}
+
 impl<O: Object + Drop> Onll<O> {
+    /// Gives the logs alone, in the order of the passes, without a list of the trace. Want of memory hands all back.
+    pub fn end<P: Pmem + Drop>(
+        self,
+        alloc: Global,
+        passes: Vec<Pass<O, P>>,
+    ) -> Result<Vec<ThreadLog<P>>, Unclosed<O, P>>
+        requires all { AreAll self.trace (map spot_of passes.items) }
+        requires tied { AllByRecursion (IsTied O.means P.means self) passes.items }
+        ensures closed { IfOk result (λ _. (trace : List SomeEnded) × HasClosed self.trace passes.items trace) }
+        ensures logs { IfOk result (λ logs. logs.items ≡ map log_of passes.items) }
+        ensures unchanged { IfErr result (λ unclosed. (unclosed.object ≡ self) × (unclosed.passes.items ≡ passes.items)) }
+    {
+        let count = passes.len();
+        let (Ok(spots), Ok(logs)) = (
+            Vec::with_capacity(alloc, count),
+            Vec::with_capacity(alloc, count),
+        ) else {
+            return Err(Unclosed {
+                object: self,
+                passes,
+            });
+        };
+        let (spots, logs) = spots_and_logs(passes, spots, logs);
+        let Onll { trace, .. } = self;
+        trace.end(spots);
+        Ok(logs)
+    }
+
     #[tactic(auto, using(crate::proofs::Ending::end_rules))]
     /// Gives the trace and the logs, in the order of the passes. Want of memory hands all back.
     pub fn close<P: Pmem + Drop>(

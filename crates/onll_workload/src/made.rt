@@ -1,14 +1,15 @@
 //! A workload that is run on threads, over devices in memory.
 
-ghost use Rattle.std.specs.Prelude.{◌≡◌, ◌≤◌, ◌<◌, ◌*◌, ◌^◌, length, map, replicate, sum, sum_by, IfOk};
+ghost use Rattle.std.specs.Prelude.{◌≡◌, ◌≤◌, ◌<◌, ◌*◌, ◌^◌, List, length, map, replicate, sum, sum_by, IfOk};
 ghost use Rattle.std.specs.List.{All};
 ghost use Rattle.onll_model.specs.Limits.{most_threads, most_updates};
 ghost use Rattle.onll_model.specs.Calls.{updates_in, reads_in};
 ghost use Rattle.onll_model.specs.Trace.{state_after};
 ghost use Rattle.onll_bank.specs.Object.{bank};
 ghost use Rattle.onll_pmem.specs.Device.{new_device};
+ghost use Rattle.onll_trace.specs.declared.trace.Ended.{Ended as SomeEnded};
 ghost use Rattle.onll_run.specs.Left.{HasRun};
-ghost use Rattle.onll_run.specs.Ran.{anew, left_in, script_in, node_in};
+ghost use Rattle.onll_run.specs.Ran.{anew, left_by, script_in, node_in};
 ghost use Rattle.onll_text.specs.Reports.{SaysOnly};
 ghost use Rattle.onll_workload.specs.Faultless.{faultless_view};
 ghost use Rattle.onll_workload.specs.Workload.{IsWorkload, device_lines};
@@ -24,8 +25,8 @@ use onll_core::count_updates;
 use onll_log::{LogHead, ThreadLog};
 use onll_model::{Call, Object};
 use onll_outside::Gate;
-use onll_run::{DoneScript, Ran, RunFault, run_scripts};
-use onll_runner::{new_heads, recover_run};
+use onll_run::{DoneScript, RunFault, RunLogs, run_for_logs};
+use onll_runner::{new_heads, recover_logs};
 use onll_text::Report;
 use onll_words::NoMemory;
 use std::alloc::Global;
@@ -45,38 +46,32 @@ fn devices_for(alloc: Global, workload: Workload) -> Result<Vec<FaultlessMem>, N
     Ok(devices)
 }
 
-/// How many of these calls are reads.
-fn count_reads(calls: &[Call<Bank>]) -> u64
+/// How many of these calls are updates, and how many are reads.
+fn count_calls(calls: &[Call<Bank>]) -> (u64, u64)
     requires { updates_in calls.now ≤ most_updates }
-    ensures { result ≡ reads_in calls.now }
+    ensures updates { result.0 ≡ updates_in calls.now }
+    ensures reads { result.1 ≡ reads_in calls.now }
 {
-    calls.len() as u64 - count_updates(calls)
+    let updates = count_updates(calls);
+    (updates, calls.len() as u64 - updates)
 }
 
-/// How many updates the scripts have.
-fn total_updates(threads: &[DoneScript<Bank>]) -> u64
+/// How many updates and how many reads the scripts have.
+fn total_calls(threads: &[DoneScript<Bank>]) -> (u64, u64)
     requires each { All (λ done. updates_in done.script.items ≤ most_updates) threads.now }
-    requires few { sum_by (λ done. updates_in done.script.items) threads.now < 2 ^ 64 }
-    ensures { result ≡ sum_by (λ done. updates_in done.script.items) threads.now }
+    requires few_updates { sum_by (λ done. updates_in done.script.items) threads.now < 2 ^ 64 }
+    requires few_reads { sum_by (λ done. reads_in done.script.items) threads.now < 2 ^ 64 }
+    ensures updates { result.0 ≡ sum_by (λ done. updates_in done.script.items) threads.now }
+    ensures reads { result.1 ≡ sum_by (λ done. reads_in done.script.items) threads.now }
 {
     let mut updates = 0;
-    for done in threads {
-        updates += count_updates(&done.script);
-    }
-    updates
-}
-
-/// How many reads the scripts have.
-fn total_reads(threads: &[DoneScript<Bank>]) -> u64
-    requires each { All (λ done. updates_in done.script.items ≤ most_updates) threads.now }
-    requires few { sum_by (λ done. reads_in done.script.items) threads.now < 2 ^ 64 }
-    ensures { result ≡ sum_by (λ done. reads_in done.script.items) threads.now }
-{
     let mut reads = 0;
     for done in threads {
-        reads += count_reads(&done.script);
+        let (own_updates, own_reads) = count_calls(&done.script);
+        updates += own_updates;
+        reads += own_reads;
     }
-    reads
+    (updates, reads)
 }
 
 /// How many fences the logs made after those of their headers.
@@ -106,27 +101,32 @@ fn summarize(
     alloc: Global,
     mut object: Bank,
     heads: &[LogHead],
-    ran: &Ran<Bank, FaultlessMem>,
+    ran: &RunLogs<Bank, FaultlessMem>,
 ) -> Result<Summary, NoMemory>
     requires each { All (λ done. updates_in done.script.items ≤ most_updates) ran.now.threads.items }
     requires updates { sum_by (λ done. updates_in done.script.items) ran.now.threads.items < 2 ^ 64 }
     requires reads { sum_by (λ done. reads_in done.script.items) ran.now.threads.items < 2 ^ 64 }
     requires fences { sum_by (λ log. log.fences) ran.now.logs.items < 2 ^ 64 }
-    requires run { HasRun bank (anew object heads.now (map script_in ran.now.threads.items)) (left_in faultless_view ran.now) }
-    ensures { IfOk result (λ summary. summary ≡ record {
-      threads = length ran.now.threads.items;
-      updates = sum_by (λ done. updates_in done.script.items) ran.now.threads.items;
-      reads = sum_by (λ done. reads_in done.script.items) ran.now.threads.items;
-      fences = sum_by (λ log. log.fences) ran.now.logs.items;
-      recovered = length (map node_in ran.now.trace.items);
-      total = sum (state_after bank object (map node_in ran.now.trace.items));
-    }) }
+    requires run { (trace : List SomeEnded) × HasRun bank (anew object heads.now (map script_in ran.now.threads.items))
+        (left_by faultless_view ran.now.threads.items trace ran.now.logs.items) }
+    ensures { IfOk result (λ summary. (trace : List SomeEnded)
+        → HasRun bank (anew object heads.now (map script_in ran.now.threads.items))
+        (left_by faultless_view ran.now.threads.items trace ran.now.logs.items)
+        → summary ≡ record {
+          threads = length ran.now.threads.items;
+          updates = sum_by (λ done. updates_in done.script.items) ran.now.threads.items;
+          reads = sum_by (λ done. reads_in done.script.items) ran.now.threads.items;
+          fences = sum_by (λ log. log.fences) ran.now.logs.items;
+          recovered = length (map node_in trace);
+          total = sum (state_after bank object (map node_in trace));
+        }) }
 {
-    let recovery = recover_run(alloc, &mut object, heads, ran)?;
+    let recovery = recover_logs(alloc, &mut object, heads, &ran.logs)?;
+    let (updates, reads) = total_calls(&ran.threads);
     Ok(Summary {
         threads: ran.threads.len() as u64,
-        updates: total_updates(&ran.threads),
-        reads: total_reads(&ran.threads),
+        updates,
+        reads,
         fences: total_fences(&ran.logs),
         recovered: recovery.nodes.len() as u64,
         total: total_of(&object),
@@ -148,7 +148,7 @@ fn run_made<R: Threads + Wait + Sync, G: Gate + Sync>(
     let first = bank.copy(alloc)?;
     let scripts = scripts_of(alloc, workload)?;
     let devices = devices_for(alloc, workload)?;
-    match run_scripts(rt, alloc, bank, &heads, scripts, devices, gate) {
+    match run_for_logs(rt, alloc, bank, &heads, scripts, devices, gate) {
         Ok(ran) => summarize(alloc, first, &heads, &ran),
         Err(RunFault::NoMemory) => Err(NoMemory),
         Err(RunFault::HeaderFailed { .. }) => unreachable!(),

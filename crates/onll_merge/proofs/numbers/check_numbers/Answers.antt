@@ -1,16 +1,19 @@
-use Rattle.std.proofs.Common.{ℕ, ◌+◌, [], ap, ◌∙◌, arith, Option}
-use Rattle.std.specs.Prelude.{unwrap_or}
-use Rattle.std.specs.Ordering.{nat_cmp}
-use Rattle.std.specs.BTreeMap.{get}
+use Rattle.std.proofs.Common.{ℕ, ◌+◌, [], List, set, sym, ap, ◌∙◌, subst}
 use Rattle.onll_model.specs.declared.node.Node.{Node}
-use Rattle.onll_merge.proofs.Numbered.{counted_more}
+use Rattle.onll_merge.proofs.Numbered.{Counted, counted_more, counted_other}
+use Rattle.onll_merge.proofs.numbers.check_numbers.Goals.{then-node-lt16, else-node-lt16}
 use Rattle.onll_merge.proofs.numbers.check_numbers.Goals as goal
 
 pub loop-below-preserved : goal.loop-below-preserved
 loop-below-preserved c =
     let none : Node = record { thread = 0; number = 0; row = record { w = [] } } in
     let i = c.loop-below.invariant in
-    let more = counted_more (get nat_cmp c.loop-below.counts) (get nat_cmp c.insert.new.self) c.args.nodes.now c.loop-below.below none (omega arith)
-    (record { counts_are = i.counts; rest_is = i.rest }) c.in-Ok.ensures.updates.0
-    (c.if-node-wanted.false ∙ ap (λ (n : ℕ). n + 1) (c.unwrap_or-wanted.ensures ∙ ap (λ (o : Option ℕ). unwrap_or o 0) c.in-Ok.ensures.old)) in
-    record { counts = more.counts_are; rest = more.rest_is }
+    let h : Counted c.loop-below.counts c.args.nodes.now c.loop-below.below = record { many = i.many; counts_are = i.counts; rest_is = i.rest } in
+    let next = c.if-node-wanted.false ∙ ap (λ (n : ℕ). n + 1) c.count_known-wanted.ensures in
+    let more : Counted c.if-node-lt16.counts c.args.nodes.now (c.loop-below.below + 1) = elim c.if-node-lt16.branch [
+      | then-node-lt16 w ↦ subst (λ (ns : List ℕ). Counted ns c.args.nodes.now (c.loop-below.below + 1)) (sym (w.counts-is ∙ ap (set c.loop-below.counts _) (sym c.if-node-wanted.false)))
+          (counted_more c.args.nodes.now c.loop-below.below none c.loop-below-test.true next c.loop-below.counts w.if-node-lt16.true h)
+      | else-node-lt16 w ↦ subst (λ (ns : List ℕ). Counted ns c.args.nodes.now (c.loop-below.below + 1)) (sym w.counts-is)
+          (counted_other c.args.nodes.now c.loop-below.below none c.loop-below-test.true next c.loop-below.counts w.if-node-lt16.false h)
+    ] in
+    record { many = more.many; counts = more.counts_are; rest = more.rest_is }

@@ -2,7 +2,7 @@ use Rattle.std.proofs.Common.{rules, ◌≡◌, ◌∷◌, ◌++◌, [], List, l
 use Rattle.std.specs.Prelude.{reverse}
 use Rattle.std.proofs.lemmas.List.{reverse-append}
 use Rattle.onll_run.specs.Making.{device_of}
-use Rattle.onll_run.proofs.Headers.{back_one}
+use Rattle.onll_shared.proofs.Taken.{back_one}
 use Rattle.onll_run.proofs.logs.devices_back.Goals as goal
 
 pub loop-log-init : goal.loop-log-init

@@ -1,88 +1,21 @@
-use Rattle.std.proofs.Common.{◌≤◌, List, ℕ, length, map, sym, ap, ◌∙◌, subst, arith}
-use Rattle.std.specs.Prelude.{All}
-use Rattle.std.proofs.lemmas.List.{length-map}
-use Rattle.onll_model.specs.Calls.{updates_in}
-use Rattle.onll_model.specs.Limits.{most_updates}
-use Rattle.onll_model.specs.Marks.{marked}
-use Rattle.onll_merge.specs.Merge.{contents_in}
-use Rattle.onll_trace.specs.Plans.{CanResume}
-use Rattle.onll_shared.specs.Starts.{AreLogs}
+use Rattle.std.proofs.Common.{map, ◌∙◌}
 use Rattle.onll_run.specs.Ran.{ends_in}
-use Rattle.onll_run.proofs.Leaving.{can_open, few_updates, logs_long, logs_are, no_fault, can_resume, entries_marked, logs_held, passes_long, passes_ready, passes_ended, scripts_done, run_leaves}
+use Rattle.onll_run.proofs.Leaving.{done_ended, scripts_were, done_leaves}
 use Rattle.onll_run.proofs.run.resume_scripts.Goals as goal
 
-pub rooms_for-requires-after_bounds : goal.rooms_for-requires-after_bounds
-rooms_for-requires-after_bounds g c κs within = subst (All (λ script. updates_in script.items ≤ most_updates)) (sym c.deref.ensures.value)
-    (few_updates g.P.Pmem.means (λ script. script.items) c.args.heads.now (contents_in c.args.base.now) c.args.scripts.items c.args.devices.items c.requires)
-
-pub open_logs-requires : goal.open_logs-requires
-open_logs-requires g c = can_open g.P.Pmem.means c.args.heads.now (contents_in c.args.base.now) _ c.args.devices.items c.requires
-
-pub base_of-requires-clause-many : goal.base_of-requires-clause-many
-base_of-requires-clause-many g c =
-    let n = logs_long g.P.Pmem.means c.args.heads.now (contents_in c.args.base.now) _ c.args.devices.items c.in_ok-logs.logs.items c.requires c.in_ok-logs.ensures.open in
-    let e = ap length c.deref-2.ensures.value in
-    let a = c.requires.some_thread in let b = c.requires.few in (omega arith, omega arith)
-
-pub base_of-requires-clause-logs : goal.base_of-requires-clause-logs
-base_of-requires-clause-logs g c = subst AreLogs (sym c.deref-2.ensures.value)
-    (logs_are g.P.Pmem.means c.args.heads.now (contents_in c.args.base.now) _ c.args.devices.items c.in_ok-logs.logs.items c.requires c.in_ok-logs.ensures.open)
-
-pub base_of-requires-clause-merged : goal.base_of-requires-clause-merged
-base_of-requires-clause-merged g c fault e =
-    no_fault g.P.Pmem.means c.args.heads.now (contents_in c.args.base.now) _ c.args.devices.items c.in_ok-logs.logs.items c.requires c.in_ok-logs.ensures.open fault
-    (rw c.deref-2.ensures.value at e)
-
-pub resume-requires-clause-resume : goal.resume-requires-clause-resume
-resume-requires-clause-resume g c κs within =
-    subst (λ (z : (List _ × List _) × List ℕ). CanResume z.0.0 z.0.1 z.1)
-    (λ i. ((sym c.deref-3.ensures.value i, sym c.deref-4.ensures.value i), sym (c.deref-5.ensures.value ∙ (c.in_ok-rooms.ensures ∙ ap (λ ss. map updates_in (map (λ script. script.items) ss)) c.deref.ensures.value)) i))
-    (can_resume g.P.Pmem.means c.args.heads.now (contents_in c.args.base.now) (map (λ script. script.items) c.args.scripts.items) c.args.devices.items c.in_ok-logs.logs.items c.requires c.in_ok-logs.ensures.open
-    c.in_ok-held.held.nodes.items c.in_ok-held.held.marks.items (rw c.deref-2.ensures.value at c.in_ok-held.ensures))
-
-pub resume-requires-clause-logs : goal.resume-requires-clause-logs
-resume-requires-clause-logs g c κs within = logs_are g.P.Pmem.means c.args.heads.now (contents_in c.args.base.now) _ c.args.devices.items c.in_ok-logs.logs.items c.requires c.in_ok-logs.ensures.open
-
-pub resume-requires-clause-entries : goal.resume-requires-clause-entries
-resume-requires-clause-entries g c κs within =
-    entries_marked g.P.Pmem.means c.args.heads.now (contents_in c.args.base.now) (map (λ script. script.items) c.args.scripts.items) c.args.devices.items c.in_ok-logs.logs.items c.requires c.in_ok-logs.ensures.open
-    c.in_ok-held.held.nodes.items c.in_ok-held.held.marks.items (rw c.deref-2.ensures.value at c.in_ok-held.ensures)
-    ∙ (λ i. marked (length (sym (c.deref-5.ensures.value ∙ (c.in_ok-rooms.ensures ∙ ap (λ ss. map updates_in (map (λ script. script.items) ss)) c.deref.ensures.value)) i)) (sym c.deref-3.ensures.value i) (sym c.deref-4.ensures.value i))
-
-pub run_passes-requires-clause-many : goal.run_passes-requires-clause-many
-run_passes-requires-clause-many g c κs within = sym (length-map c.args.scripts.items (λ script. script.items))
-    ∙ passes_long g.O.Object.means g.P.Pmem.means c.in_ok-onll.onll c.args.heads.now (contents_in c.args.base.now) _ c.args.devices.items c.in_ok-logs.logs.items _ c.in_ok-onll.passes.items c.requires c.in_ok-logs.ensures.open c.in_ok-onll.ensures.passes
-
-pub run_passes-requires-clause-ready : goal.run_passes-requires-clause-ready
-run_passes-requires-clause-ready g c κs within =
-    passes_ready g.O.Object.means g.P.Pmem.means c.in_ok-onll.onll c.args.heads.now (contents_in c.args.base.now) _ c.args.devices.items c.in_ok-logs.logs.items _ c.in_ok-onll.passes.items c.requires c.in_ok-logs.ensures.open c.in_ok-onll.ensures.passes
-    (c.deref-5.ensures.value ∙ (c.in_ok-rooms.ensures ∙ ap (λ ss. map updates_in (map (λ script. script.items) ss)) c.deref.ensures.value))
-
 pub finish-requires-clause-all : goal.finish-requires-clause-all
-finish-requires-clause-all g c κs within =
-    (passes_ended g.O.Object.means g.P.Pmem.means c.in_ok-onll.onll c.args.heads.now (contents_in c.args.base.now) _ c.args.devices.items c.in_ok-logs.logs.items _ c.in_ok-onll.passes.items c.requires c.in_ok-logs.ensures.open c.in_ok-onll.ensures.passes
-    c.in_ok-all.all.items c.in_ok-all.ensures).all_there
+finish-requires-clause-all g c κs within = (done_ended g.O.Object.means g.P.Pmem.means _ _ _ _ _ _ _ _ c.requires c.in_ok-done.ensures.done).all_there
 
 pub finish-requires-clause-tied : goal.finish-requires-clause-tied
-finish-requires-clause-tied g c κs within =
-    (passes_ended g.O.Object.means g.P.Pmem.means c.in_ok-onll.onll c.args.heads.now (contents_in c.args.base.now) _ c.args.devices.items c.in_ok-logs.logs.items _ c.in_ok-onll.passes.items c.requires c.in_ok-logs.ensures.open c.in_ok-onll.ensures.passes
-    c.in_ok-all.all.items c.in_ok-all.ensures).tied
+finish-requires-clause-tied g c κs within = (done_ended g.O.Object.means g.P.Pmem.means _ _ _ _ _ _ _ _ c.requires c.in_ok-done.ensures.done).tied
 
 pub returns-clause-scripts : goal.returns-clause-scripts
-returns-clause-scripts g c = c.in_ok-finish.ensures.scripts ∙ scripts_done g.O.Object.means g.P.Pmem.means c.in_ok-onll.onll _ c.in_ok-onll.passes.items c.in_ok-all.all.items c.in_ok-all.ensures
+returns-clause-scripts g c = c.in_ok-finish.ensures.scripts ∙ scripts_were g.O.Object.means g.P.Pmem.means _ _ _ _ _ _ _ _ c.requires c.in_ok-done.ensures.done
 
 pub returns-clause-run : goal.returns-clause-run
-returns-clause-run g c = (run_leaves g.O.Object.means g.P.Pmem.means c.in_ok-onll.onll c.args.object c.args.heads.now (contents_in c.args.base.now) (map (λ script. script.items) c.args.scripts.items) c.args.devices.items c.in_ok-logs.logs.items _ c.in_ok-held.held.nodes.items c.in_ok-onll.passes.items c.in_ok-all.all.items
-    c.in_ok-onll.ensures.object.0 (c.in_ok-onll.ensures.object.1 ∙ c.deref-3.ensures.value) c.requires c.in_ok-logs.ensures.open
-    (logs_held g.P.Pmem.means c.args.heads.now (contents_in c.args.base.now) (map (λ script. script.items) c.args.scripts.items) c.args.devices.items c.in_ok-logs.logs.items c.requires c.in_ok-logs.ensures.open
-    c.in_ok-held.held.nodes.items c.in_ok-held.held.marks.items (rw c.deref-2.ensures.value at c.in_ok-held.ensures))
-    c.in_ok-onll.ensures.passes c.in_ok-all.ensures
-    (map ends_in c.in_ok-finish.field-0.threads.items) c.in_ok-finish.field-0.trace.items c.in_ok-finish.field-0.logs.items c.in_ok-finish.ensures.ends c.in_ok-finish.ensures.logs (rw c.deref-6.ensures.value at c.in_ok-finish.ensures.closed)).run
+returns-clause-run g c = (done_leaves g.O.Object.means g.P.Pmem.means _ _ _ _ _ _ _ _ c.requires c.in_ok-done.ensures.done
+    (map ends_in c.in_ok-finish.field-0.threads.items) c.in_ok-finish.field-0.trace.items c.in_ok-finish.field-0.logs.items c.in_ok-finish.ensures.ends c.in_ok-finish.ensures.logs (rw c.deref.ensures.value at c.in_ok-finish.ensures.closed)).run
 
 pub returns-clause-kept : goal.returns-clause-kept
-returns-clause-kept g c = (run_leaves g.O.Object.means g.P.Pmem.means c.in_ok-onll.onll c.args.object c.args.heads.now (contents_in c.args.base.now) (map (λ script. script.items) c.args.scripts.items) c.args.devices.items c.in_ok-logs.logs.items _ c.in_ok-held.held.nodes.items c.in_ok-onll.passes.items c.in_ok-all.all.items
-    c.in_ok-onll.ensures.object.0 (c.in_ok-onll.ensures.object.1 ∙ c.deref-3.ensures.value) c.requires c.in_ok-logs.ensures.open
-    (logs_held g.P.Pmem.means c.args.heads.now (contents_in c.args.base.now) (map (λ script. script.items) c.args.scripts.items) c.args.devices.items c.in_ok-logs.logs.items c.requires c.in_ok-logs.ensures.open
-    c.in_ok-held.held.nodes.items c.in_ok-held.held.marks.items (rw c.deref-2.ensures.value at c.in_ok-held.ensures))
-    c.in_ok-onll.ensures.passes c.in_ok-all.ensures
-    (map ends_in c.in_ok-finish.field-0.threads.items) c.in_ok-finish.field-0.trace.items c.in_ok-finish.field-0.logs.items c.in_ok-finish.ensures.ends c.in_ok-finish.ensures.logs (rw c.deref-6.ensures.value at c.in_ok-finish.ensures.closed)).kept
+returns-clause-kept g c = (done_leaves g.O.Object.means g.P.Pmem.means _ _ _ _ _ _ _ _ c.requires c.in_ok-done.ensures.done
+    (map ends_in c.in_ok-finish.field-0.threads.items) c.in_ok-finish.field-0.trace.items c.in_ok-finish.field-0.logs.items c.in_ok-finish.ensures.ends c.in_ok-finish.ensures.logs (rw c.deref.ensures.value at c.in_ok-finish.ensures.closed)).kept

@@ -2,7 +2,7 @@ use Rattle.std.proofs.Common.{rules, map, ap, ◌∙◌}
 use Rattle.std.proofs.lemmas.List.{map-append}
 use Rattle.onll_run.specs.Crew.{script_done, ends_done, pass_done}
 use Rattle.onll_run.specs.Ran.{script_in, ends_in}
-use Rattle.onll_run.proofs.Headers.{back_one, back_all}
+use Rattle.onll_shared.proofs.Taken.{back_one, back_all}
 use Rattle.onll_run.proofs.run.take_apart.Goals as goal
 
 pub loop-worked-preserved : goal.loop-worked-preserved

@@ -1,15 +1,13 @@
-use Rattle.std.proofs.Common.{ap, map, sym, List, ◌∙◌}
-use Rattle.onll_log.specs.Grammar.{Content}
-use Rattle.onll_merge.specs.Merge.{contents_in, merge}
+use Rattle.std.proofs.Common.{ap, map, ◌∙◌}
+use Rattle.onll_log.specs.Grammar.{content_of}
 use Rattle.onll_shared.specs.Found.{marks_from}
-use Rattle.onll_shared.proofs.Marked.{holds_base}
+use Rattle.onll_shared.proofs.Marked.{holds_base, images_have}
 use Rattle.onll_shared.proofs.found.find_base.Goals as goal
 
 pub returns : goal.returns
 returns g c =
-    let heads = c.deref-2.ensures.value ∙ c.in-Ok-Ok.ensures' in
-    let contents = ap contents_in c.deref.ensures.value ∙ c.in-Ok-Ok.ensures.contents in
-    let again = ap contents_in c.deref-3.ensures.value ∙ c.in-Ok-Ok.ensures.contents in
-    holds_base c.args.logs.now c.in_ok-nodes.nodes.items c.in-Ok.marks.items c.requires.many c.requires.logs c.in-Ok-Ok.ensures.fit
-    (sym (λ i. merge (heads i) (contents i)) ∙ c.in_ok-nodes.ensures)
-    (c.in-Ok.ensures ∙ ap (λ (cs : List Content). marks_from 0 (map (λ (x : Content). x.entries) cs)) again)
+    let logs = c.args.logs.now in
+    let images = c.deref-2.result.now in
+    let held = ap (map content_of) c.deref-2.ensures.value ∙ c.in-Ok.ensures.contents in
+    holds_base logs c.in_ok-nodes.nodes.items c.in-Ok-mark_images.marks.items c.requires.many c.requires.logs c.in-Ok.ensures.fit
+    c.in_ok-nodes.ensures (c.in-Ok-mark_images.ensures ∙ ap (marks_from 0) (images_have images logs held))

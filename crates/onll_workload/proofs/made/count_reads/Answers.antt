@@ -1,9 +1,0 @@
-use Rattle.std.proofs.Common.{arith}
-use Rattle.onll_workload.proofs.Scripts.{calls_split}
-use Rattle.onll_workload.proofs.made.count_reads.Goals as goal
-
-pub overflow_sub-result : goal.overflow_sub-result
-overflow_sub-result c = let split = calls_split c.args.calls.now in let updates = c.count_updates.ensures in omega (arith, split, updates)
-
-pub returns : goal.returns
-returns c = let split = calls_split c.args.calls.now in let updates = c.count_updates.ensures in omega (arith, split, updates)

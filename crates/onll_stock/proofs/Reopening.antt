@@ -1,16 +1,25 @@
--- A file that begins with lines begins with the first of them.
+-- A file that begins with lines begins with the first of them, and these hold the log that all hold.
 
-use Rattle.std.proofs.Common.{ℕ, List, ◌++◌, ◌≡◌, ◌≤◌, ◌-◌, take, drop, length, replicate, Some, sym, ap, ◌∙◌, arith}
-use Rattle.std.proofs.lemmas.List.{take-append-drop, map-append, take_all}
-use Rattle.std.proofs.Common.{append_assoc}
+use Rattle.std.proofs.Common.{ℕ, List, [], ◌∷◌, ◌++◌, ◌≡◌, ◌≤◌, ◌-◌, false, true≢false, take, drop, length, Option, Some, None, is_some, sym, ap, refl, subst, ◌∙◌, inl, arith, append_assoc}
+use Rattle.std.specs.List.{All}
+use Rattle.std.proofs.lemmas.List.{take-append-drop, map-append, take-map}
+use Rattle.std.proofs.lemmas.List.Elements.{All-head, All-tail}
 use Rattle.std.proofs.lemmas.Grind.{flat_map-append}
 use Rattle.onll_words.specs.declared.line.Line.{Line}
 use Rattle.onll_words.specs.Lines.{bytes_of_words}
-use Rattle.onll_pmem.specs.Pmem.{words_of}
-use Rattle.onll_pmem.specs.Device.{zero_line, zero_lines}
-use Rattle.onll_pmem.proofs.Lines.{words_of-replicate, length-words_of}
-use Rattle.onll_outside.specs.Views.{StoreView, BeginsWith, image_bytes, with_zeros}
+use Rattle.onll_model.specs.Segment.{Segment}
+use Rattle.onll_pmem.specs.Pmem.{DeviceView, words_of}
+use Rattle.onll_pmem.specs.Device.{zero_lines}
+use Rattle.onll_log.specs.declared.head.LogHead.{LogHead}
+use Rattle.onll_log.specs.Grammar.{Content, content_of, used_by, used_with}
+use Rattle.onll_log.specs.Log.{LogState, IsNewest, EndsInZeros}
+use Rattle.onll_log.specs.Torn.{AreLines, IsLine}
+use Rattle.onll_log.proofs.Remains.{IsCut-Holds}
+use Rattle.onll_outside.specs.Views.{StoreView, BeginsWith, MayWipe, IsFresh, image_bytes, with_zeros}
+use Rattle.onll_shared.specs.Found.{content_held}
+use Rattle.onll_stock.specs.Reopening.{AreShopLog, HoldNoLog, IsReopened}
 
+-- ---- the first lines of a file
 parts : (n : ℕ) (lines : List Line) → image_bytes (words_of lines) ≡ image_bytes (words_of (take n lines)) ++ image_bytes (words_of (drop n lines))
 parts n lines =
     ap (λ (l : List Line). image_bytes (words_of l)) (sym (take-append-drop n lines))
@@ -23,11 +32,61 @@ begins_shorter view name n lines begins tells =
       b.1 ∙ ap Some (ap (λ (l : List ℕ). l ++ b.0) (parts n lines) ∙ append_assoc (image_bytes (words_of (take n lines))) (image_bytes (words_of (drop n lines))) b.0),
     )
 
--- lines of zeros after others
-pub words_of-resized : (front : List Line) (n m : ℕ) → length front ≤ n → m ≡ length front → words_of (take n front ++ replicate (n - m) (record { w = zero_line })) ≡ with_zeros (words_of front) n
-words_of-resized front n m few len =
-    map-append (λ (line : Line). line.w) (take n front) (replicate (n - m) (record { w = zero_line }))
-    ∙ (λ i. ap words_of (take_all n front few) i ++ (words_of-replicate (n - m) (record { w = zero_line }) ∙ ap zero_lines left) i)
-  where
-    left : n - m ≡ n - length (words_of front)
-    left = let count = length-words_of front in omega arith
+-- a file that is as it was
+pub unwiped : (view : StoreView) (name : List ℕ) (n : ℕ) (lines : List Line) → BeginsWith view name (image_bytes (words_of lines)) → MayWipe name (image_bytes (take n (words_of lines))) view view
+unwiped view name n lines begins =
+    subst (λ (ls : List (List ℕ)). MayWipe name (image_bytes ls) view view) (sym (take-map (λ (line : Line). line.w) n lines))
+    (λ tells. let b = begins_shorter view name n lines begins tells in record { was = b.0; rest = b.0; before = b.1; now = b.1; wiped = λ word. inl refl })
+
+-- ---- what lines hold
+some_same : {A : Type 0} (x y : A) → Some x ≡ Some y → x ≡ y
+some_same x y e = grind (arith, e)
+
+-- they hold one log
+one_log : (lines : List (List ℕ)) (log other : Content) → content_of lines ≡ Some log → AreShopLog lines other → other ≡ log
+one_log lines log other e a = some_same other log (sym a.holds ∙ e)
+
+pub not_held : (lines : List (List ℕ)) → content_of lines ≡ None → HoldNoLog lines
+not_held lines e log a = true≢false (ap is_some (sym a.holds ∙ e))
+
+pub not_newest : (lines : List (List ℕ)) (log : Content) → content_of lines ≡ Some log → (IsNewest log.head → ⊥) → HoldNoLog lines
+not_newest lines log e not other a = not (subst (λ (c : Content). IsNewest c.head) (one_log lines log other e a) a.newest)
+
+pub not_short : (lines : List (List ℕ)) (log : Content) → content_of lines ≡ Some log → (used_by log ≤ 1701 → ⊥) → HoldNoLog lines
+not_short lines log e not other a = not (subst (λ (c : Content). used_by c ≤ 1701) (one_log lines log other e a) a.short)
+
+pub eight_words : (lines : List Line) → All (λ (line : Line). IsLine line.w) lines → AreLines (words_of lines)
+eight_words [] h = tt
+eight_words (line ∷ lines) h =
+    let Eight : Line → Type 0 = λ (line : Line). IsLine line.w in
+    (All-head Eight line lines h, eight_words lines (All-tail Eight line lines h))
+
+-- the used lines and then zeros hold what all lines hold, and nothing stands after it
+cut_under : (head : Option LogHead) (ss : List Segment) (image : List (List ℕ)) (zeros : ℕ) → AreLines image → content_of image ≡ Some (record { head = head; entries = ss }) → IsNewest head
+    → (content_of (take (used_with head ss) image ++ zero_lines zeros) ≡ Some (record { head = head; entries = ss })) × EndsInZeros (take (used_with head ss) image ++ zero_lines zeros) (record { head = head; entries = ss })
+cut_under None ss image zeros eight holds newest = absurd newest
+cut_under (Some head) ss image zeros eight holds newest = let c = IsCut-Holds head ss image zeros eight holds in (c.holds, c.rest)
+
+-- a device that reads as the used lines and then zeros
+pub device_holds : (lines front : List Line) (log : Content) (read : List (List ℕ)) → All (λ (line : Line). IsLine line.w) lines → AreShopLog (words_of lines) log
+    → front ≡ take (used_by log) lines → read ≡ with_zeros (words_of front) 1701 → (content_of read ≡ Some log) × EndsInZeros read log
+device_holds lines front log read eight a first is =
+    let used : words_of front ≡ take (used_by log) (words_of lines) = ap words_of first ∙ sym (take-map (λ (line : Line). line.w) (used_by log) lines) in
+    let same : read ≡ take (used_by log) (words_of lines) ++ zero_lines (1701 - length (words_of front)) = is ∙ ap (λ (ls : List (List ℕ)). ls ++ zero_lines (1701 - length (words_of front))) used in
+    subst (λ (ls : List (List ℕ)). (content_of ls ≡ Some log) × EndsInZeros ls log) (sym same)
+    (cut_under log.head log.entries (words_of lines) (1701 - length (words_of front)) (eight_words lines eight) a.holds a.newest)
+
+pub reopened : {Device : Type 0} (means : Device → DeviceView) (lines front : List Line) (log : Content) (device : Device) (made : LogState Device) → AreShopLog (words_of lines) log
+    → front ≡ take (used_by log) lines → IsFresh (with_zeros (words_of front) 1701) (means device) → log.head ≡ Some made.head → made.entries ≡ log.entries → made.fences ≡ 0 → made.broken ≡ false → made.device ≡ device
+    → IsReopened means (words_of lines) made
+reopened {Device} means lines front log device made a first fresh head entries fences whole on =
+    let used : words_of front ≡ take (used_by log) (words_of lines) = ap words_of first ∙ sym (take-map (λ (line : Line). line.w) (used_by log) lines) in
+    let same : log ≡ content_held made = (λ i. record { head = head i; entries = sym entries i }) in
+    record {
+      held = subst (AreShopLog (words_of lines)) same a;
+      fences = fences;
+      whole = whole;
+      device = subst (λ (d : Device). IsFresh (with_zeros (take (used_by (content_held made)) (words_of lines)) 1701) (means d)) (sym on)
+          (subst (λ (c : Content). IsFresh (with_zeros (take (used_by c) (words_of lines)) 1701) (means device)) same
+          (subst (λ (ls : List (List ℕ)). IsFresh (with_zeros ls 1701) (means device)) used fresh));
+    }

@@ -1,16 +1,21 @@
 //! The log that a crash left in a file, opened again.
 
-ghost use Rattle.std.specs.Prelude.{◌≡◌, ◌≤◌, length, false, IfOk};
+ghost use Rattle.std.specs.Prelude.{◌≡◌, ◌≤◌, length, take, IfOk, IfErr, MatchResult};
+ghost use Rattle.std.specs.List.{All};
 ghost use Rattle.onll_pmem.specs.Pmem.{words_of};
-ghost use Rattle.onll_outside.specs.Views.{BeginsWith, image_bytes, with_zeros};
-ghost use Rattle.onll_stock.specs.Reopening.{of_image, of_outside};
+ghost use Rattle.onll_log.specs.Decoded.{content_in};
+ghost use Rattle.onll_log.specs.Grammar.{Content, used_by};
+ghost use Rattle.onll_log.specs.Torn.{IsLine};
+ghost use Rattle.onll_outside.specs.Views.{BeginsWith, MayWipe, SameDevices, SameFaults, SameOthers, image_bytes};
+ghost use Rattle.onll_outside.specs.declared.store.FaultKind.TheVariants as kinds;
+ghost use Rattle.onll_stock.specs.Reopening.{AreShopLog, CannotReopen, FaultOf, HoldNoLog, IsReopened, of_image, of_outside};
 
 use crate::devices::DEVICE_LINES;
-use onll_log::{DecodeFault, ThreadLog, decode};
+use onll_log::{DecodeFault, Decoded, ThreadLog, decode};
 use onll_outside::{FileStore, OutsideFault, Store};
 use onll_pmem::FilePmem;
 use onll_words::Line;
-use std::alloc::{AllocError, Global};
+use std::alloc::Global;
 use std::os::unix::fs::FileExt;
 use std::rt::Files;
 use thiserror::Error;
@@ -51,48 +56,36 @@ impl From<OutsideFault> for ReopenFault {
     }
 }
 
-/// These lines, and then lines of zeros, this many in all.
-fn with_zeros(alloc: Global, front: &[Line], lines: u64) -> Result<Vec<Line>, AllocError>
-    requires { length front.now ≤ lines }
-    ensures { IfOk result (λ v. words_of v.items ≡ with_zeros (words_of front.now) lines) }
-{
-    let mut image = Vec::from_slice(alloc, front)?;
-    image.resize(lines as usize, Line { w: [0; 8] })?;
-    Ok(image)
-}
+/// A line has eight words.
+fn whole_line(line: Line)
+    ensures { IsLine line.w }
+{}
 
-/// Goes on in the log that these first lines of a file hold, over a device of `DEVICE_LINES` lines.
-fn open_front<S: Store>(
-    alloc: Global,
-    store: &mut S,
-    name: &str,
-    front: &[Line],
-) -> Result<ThreadLog<S::Dev>, ReopenFault>
-    requires front { length front.now ≤ 1701 }
-    requires begins { BeginsWith (S.seen store.old) name.now (image_bytes (words_of front.now)) }
-    ensures { IfOk result (λ log. log.broken ≡ false) }
+/// Each line has eight words.
+fn whole_lines(lines: &[Line])
+    ensures { All (λ line. IsLine line.w) lines.now }
 {
-    let Ok(whole) = with_zeros(alloc, front, DEVICE_LINES) else {
-        return Err(ReopenFault::NoMemory);
-    };
-    let log = decode(alloc, &whole)?;
-    if log.head.is_none_or(|head| head.format != 2) || !log.only_zeros_after(&whole) {
-        return Err(ReopenFault::NotLog);
+    for line in lines {
+        whole_line(*line);
     }
-    let device = store.reopen(alloc, name, front, DEVICE_LINES)?;
-    Ok(ThreadLog::open(device, &log))
 }
 
-/// How many of the lines of a file its log uses.
-fn used_lines(alloc: Global, lines: &[Line]) -> Result<usize, ReopenFault>
-    ensures { IfOk result (λ used. used ≤ length lines.now) }
+/// What these lines hold, where that is a log of the newest format for which a shop's device has lines enough.
+#[tactic(auto, using(crate::proofs::Reopening::not_held, crate::proofs::Reopening::not_newest, crate::proofs::Reopening::not_short))]
+fn decode_log(alloc: Global, lines: &[Line]) -> Result<Decoded, DecodeFault>
+    ensures log { IfOk result (λ log. AreShopLog (words_of lines.now) (content_in log)) }
+    ensures within { IfOk result (λ log. used_by (content_in log) ≤ length lines.now) }
+    ensures refused { IfErr result (λ fault. fault ≡ DecodeFault.NotLog → HoldNoLog (words_of lines.now)) }
 {
-    Ok(decode(alloc, lines)?.used() as usize)
+    let log = decode(alloc, lines)?;
+    match log.head {
+        Some(head) if head.format == 2 && log.used() <= DEVICE_LINES => Ok(log),
+        _ => Err(DecodeFault::NotLog),
+    }
 }
 
 /// Goes on in the log that a crash left in this file, which begins with these lines. What is left of an entry that the crash tore is
 /// wiped. It refuses a log whose first line was torn, which holds nothing.
-#[tactic(auto, using(crate::proofs::Reopening::begins_shorter))]
 pub fn open_log<S: Store>(
     alloc: Global,
     store: &mut S,
@@ -100,14 +93,20 @@ pub fn open_log<S: Store>(
     lines: &[Line],
 ) -> Result<ThreadLog<S::Dev>, ReopenFault>
     requires { BeginsWith (S.seen store.old) name.now (image_bytes (words_of lines.now)) }
-    ensures { IfOk result (λ log. log.broken ≡ false) }
+    ensures held { IfOk result (IsReopened S.Dev.means (words_of lines.now)) }
+    ensures refused { IfErr result (CannotReopen (words_of lines.now)) }
+    ensures faults { MatchResult result (λ _. SameFaults (S.seen store.old) (S.seen store.new))
+        (FaultOf (record { kind = kinds.Reopen; name = name.now }) (S.seen store.old) (S.seen store.new)) }
+    ensures wiped { (log : Content) → AreShopLog (words_of lines.now) log
+        → MayWipe name.now (image_bytes (take (used_by log) (words_of lines.now))) (S.seen store.old) (S.seen store.new) }
+    ensures others { SameOthers name.now (S.seen store.old) (S.seen store.new) }
+    ensures devices { SameDevices (S.seen store.old) (S.seen store.new) }
 {
-    let used = used_lines(alloc, lines)?;
-    if used as u64 > DEVICE_LINES {
-        return Err(ReopenFault::NotLog);
-    }
-    let (front, _) = lines.split_at(used);
-    open_front(alloc, store, name, front)
+    let log = decode_log(alloc, lines)?;
+    whole_lines(lines);
+    let (front, _) = lines.split_at(log.used() as usize);
+    let device = store.reopen(alloc, name, front, DEVICE_LINES)?;
+    Ok(ThreadLog::open(device, &log))
 }
 
 /// Goes on in the logs of these files of the system, which begin with these lines.

@@ -1,8 +1,10 @@
 -- A file that begins with lines begins with the first of them, and these hold the log that all hold.
 
-use Rattle.std.proofs.Common.{ℕ, List, [], ◌∷◌, ◌++◌, ◌≡◌, ◌≤◌, ◌-◌, false, true≢false, take, drop, length, Option, Some, None, is_some, sym, ap, refl, subst, ◌∙◌, inl, arith, append_assoc}
-use Rattle.std.specs.List.{All}
-use Rattle.std.proofs.lemmas.List.{take-append-drop, map-append, take-map}
+use Rattle.std.proofs.Common.{Vec, Global, ℕ, List, [], ◌∷◌, ◌++◌, ◌≡◌, ◌<◌, ◌≤◌, ◌+◌, ◌-◌, min, false, true≢false, take, drop, map, get_or, length, Option, Some, None, is_some, sym, ap, refl, subst, ◌∙◌, inl, arith, append_assoc}
+use denote.Ref.{Bor}
+use Rattle.std.specs.List.{All, AllByRecursion}
+use Rattle.std.proofs.lemmas.List.{take-append-drop, map-append, take-map, take_more, take_all, length-map, get_or-map}
+use Rattle.std.proofs.lemmas.Slice.Zip.{length-zip, get_or-zip, all_zipped_more}
 use Rattle.std.proofs.lemmas.List.Elements.{All-head, All-tail}
 use Rattle.std.proofs.lemmas.Grind.{flat_map-append}
 use Rattle.onll_words.specs.declared.line.Line.{Line}
@@ -15,9 +17,12 @@ use Rattle.onll_log.specs.Grammar.{Content, content_of, used_by, used_with}
 use Rattle.onll_log.specs.Log.{LogState, IsNewest, EndsInZeros}
 use Rattle.onll_log.specs.Torn.{AreLines, IsLine}
 use Rattle.onll_log.proofs.Remains.{IsCut-Holds}
-use Rattle.onll_outside.specs.Views.{StoreView, BeginsWith, MayWipe, IsFresh, image_bytes, with_zeros}
+use Rattle.onll_outside.specs.Views.{StoreView, BeginsWith, MayWipe, IsFresh, Rose, SameFaults, image_bytes, with_zeros}
+use Rattle.onll_outside.specs.declared.store.FaultKind.TheVariants.{Reopen}
 use Rattle.onll_shared.specs.Found.{content_held}
-use Rattle.onll_stock.specs.Reopening.{AreShopLog, HoldNoLog, IsReopened}
+use Rattle.onll_stock.specs.declared.reopen.ReopenFault.{ReopenFault}
+use Rattle.onll_stock.specs.declared.reopen.ReopenFault.TheVariants.{NotLog, Outside, NoMemory}
+use Rattle.onll_stock.specs.Reopening.{AreShopLog, HoldLog, HoldNoLog, IsReopened, CannotReopen, FaultOf, LogFile, log_files, AreReopened, HasStopped}
 
 -- ---- the first lines of a file
 parts : (n : ℕ) (lines : List Line) → image_bytes (words_of lines) ≡ image_bytes (words_of (take n lines)) ++ image_bytes (words_of (drop n lines))
@@ -47,13 +52,13 @@ one_log : (lines : List (List ℕ)) (log other : Content) → content_of lines �
 one_log lines log other e a = some_same other log (sym a.holds ∙ e)
 
 pub not_held : (lines : List (List ℕ)) → content_of lines ≡ None → HoldNoLog lines
-not_held lines e log a = true≢false (ap is_some (sym a.holds ∙ e))
+not_held lines e found = true≢false (ap is_some (sym found.1.holds ∙ e))
 
 pub not_newest : (lines : List (List ℕ)) (log : Content) → content_of lines ≡ Some log → (IsNewest log.head → ⊥) → HoldNoLog lines
-not_newest lines log e not other a = not (subst (λ (c : Content). IsNewest c.head) (one_log lines log other e a) a.newest)
+not_newest lines log e not found = not (subst (λ (c : Content). IsNewest c.head) (one_log lines log found.0 e found.1) found.1.newest)
 
 pub not_short : (lines : List (List ℕ)) (log : Content) → content_of lines ≡ Some log → (used_by log ≤ 1701 → ⊥) → HoldNoLog lines
-not_short lines log e not other a = not (subst (λ (c : Content). used_by c ≤ 1701) (one_log lines log other e a) a.short)
+not_short lines log e not found = not (subst (λ (c : Content). used_by c ≤ 1701) (one_log lines log found.0 e found.1) found.1.short)
 
 pub eight_words : (lines : List Line) → All (λ (line : Line). IsLine line.w) lines → AreLines (words_of lines)
 eight_words [] h = tt
@@ -90,3 +95,59 @@ reopened {Device} means lines front log device made a first fresh head entries f
           (subst (λ (c : Content). IsFresh (with_zeros (take (used_by c) (words_of lines)) 1701) (means device)) same
           (subst (λ (ls : List (List ℕ)). IsFresh (with_zeros ls 1701) (means device)) used fresh));
     }
+
+-- ---- the logs of several files
+pub files_more : (names : List (Bor (List ℕ))) (images : List (Vec Line Global)) (n : ℕ) (name : Bor (List ℕ)) (image : Vec Line Global) → n < length names → n < length images → name ≡ get_or names n name → image ≡ get_or images n image
+    → take (n + 1) (log_files names images) ≡ take n (log_files names images) ++ (name.now, words_of image.items) ∷ []
+files_more names images n name image low less first second =
+    let now : Bor (List ℕ) → List ℕ = λ (b : Bor (List ℕ)). b.now in
+    let words : Vec Line Global → List (List ℕ) = λ (v : Vec Line Global). words_of v.items in
+    let file : LogFile = (now name, words image) in
+    let many_names = length-map names now in
+    let many_images = length-map images words in
+    let low_ : n < length (map now names) = omega (arith, low, many_names) in
+    let less_ : n < length (map words images) = omega (arith, less, many_images) in
+    let many = length-zip (map now names) (map words images) in
+    let here : get_or (log_files names images) n file ≡ file =
+    get_or-zip (map now names) (map words images) n file low_ less_
+    ∙ (λ i. ((get_or-map now names n name (now name) low ∙ ap now (sym first)) i, (get_or-map words images n image (words image) less ∙ ap words (sym second)) i)) in
+    take_more (log_files names images) n file (omega (arith, many, low_, less_)) ∙ ap (λ (f : LogFile). take n (log_files names images) ++ f ∷ []) here
+
+pub files_all : (names : List (Bor (List ℕ))) (images : List (Vec Line Global)) (n : ℕ) → n ≡ min (length names) (length images) → take n (log_files names images) ≡ log_files names images
+files_all names images n end =
+    let now : Bor (List ℕ) → List ℕ = λ (b : Bor (List ℕ)). b.now in
+    let words : Vec Line Global → List (List ℕ) = λ (v : Vec Line Global). words_of v.items in
+    let many = length-zip (map now names) (map words images) in
+    take_all n (log_files names images) (omega (arith, end, many, length-map names now, length-map images words))
+
+module _ {Device : Type 0} (means : Device → DeviceView) where
+  pub logs_more : (files more : List LogFile) (file : LogFile) (logs pushed : List (LogState Device)) (log : LogState Device) → more ≡ files ++ file ∷ [] → pushed ≡ logs ++ log ∷ []
+      → AreReopened means files logs → IsReopened means file.1 log → AreReopened means more pushed
+  logs_more files more file logs pushed log m p all here =
+      subst (λ (fs : List LogFile). AreReopened means fs pushed) (sym m)
+      (subst (AreReopened means (files ++ file ∷ [])) (sym p) (all_zipped_more (λ (f : LogFile) (l : LogState Device). IsReopened means f.1 l) files logs file log all here))
+
+  all_hold : (files : List LogFile) (logs : List (LogState Device)) → AreReopened means files logs → AllByRecursion (λ (file : LogFile). HoldLog file.1) files
+  all_hold [] [] h = tt
+  all_hold [] (log ∷ logs) h = tt
+  all_hold (file ∷ files) [] h = absurd h
+  all_hold (file ∷ files) (log ∷ logs) h = ((content_held log, h.0.held), all_hold files logs h.1)
+
+  -- the first log that isn't opened
+  pub stops : (files : List LogFile) (n : ℕ) (name : List ℕ) (lines : List (List ℕ)) (logs : List (LogState Device)) (old mid new : StoreView) (fault : ReopenFault)
+      → take (n + 1) files ≡ take n files ++ (name, lines) ∷ [] → AreReopened means (take n files) logs → SameFaults old mid → CannotReopen lines fault → FaultOf (record { kind = Reopen; name = name }) mid new fault → HasStopped files old new fault
+  stops files n name lines logs old mid new fault next all same refused faults = record {
+    before = take n files;
+    name = name;
+    lines = lines;
+    after = drop (n + 1) files;
+    files_are = sym (take-append-drop (n + 1) files) ∙ ap (λ (fs : List LogFile). fs ++ drop (n + 1) files) next ∙ append_assoc (take n files) ((name, lines) ∷ []) (drop (n + 1) files);
+    opened = all_hold (take n files) logs all;
+    refused = refused;
+    faults = since fault faults;
+  }
+    where
+      since : (f : ReopenFault) → FaultOf (record { kind = Reopen; name = name }) mid new f → FaultOf (record { kind = Reopen; name = name }) old new f
+      since NotLog h = (h.0 ∙ same.0, h.1 ∙ same.1)
+      since Outside h = (subst (λ n. Rose n new.faults) same.0 h.0, h.1)
+      since NoMemory h = (h.0 ∙ same.0, h.1 ∙ same.1)

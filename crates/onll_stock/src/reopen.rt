@@ -1,14 +1,17 @@
 //! The log that a crash left in a file, opened again.
 
-ghost use Rattle.std.specs.Prelude.{◌≡◌, ◌≤◌, length, take, IfOk, IfErr, MatchResult};
+ghost use Rattle.std.specs.Prelude.{◌≡◌, ◌≤◌, length, take, IfOk, IfErr, OnOk, MatchResult};
 ghost use Rattle.std.specs.List.{All};
+ghost use Rattle.onll_pmem.specs.File.{file_view};
 ghost use Rattle.onll_pmem.specs.Pmem.{words_of};
 ghost use Rattle.onll_log.specs.Decoded.{content_in};
 ghost use Rattle.onll_log.specs.Grammar.{Content, used_by};
 ghost use Rattle.onll_log.specs.Torn.{IsLine};
+ghost use Rattle.onll_outside.specs.Faults.{untold};
 ghost use Rattle.onll_outside.specs.Views.{BeginsWith, MayWipe, SameDevices, SameFaults, SameOthers, image_bytes};
 ghost use Rattle.onll_outside.specs.declared.store.FaultKind.TheVariants as kinds;
-ghost use Rattle.onll_stock.specs.Reopening.{AreShopLog, CannotReopen, FaultOf, HoldNoLog, IsReopened, of_image, of_outside};
+ghost use Rattle.onll_stock.specs.Reopening.{AreReopened, AreShopLog, CannotReopen, FaultOf, HasStopped, HoldNoLog, IsReopened};
+ghost use Rattle.onll_stock.specs.Reopening.{log_files, of_image, of_outside};
 
 use crate::devices::DEVICE_LINES;
 use onll_log::{DecodeFault, Decoded, ThreadLog, decode};
@@ -109,7 +112,7 @@ pub fn open_log<S: Store>(
     Ok(ThreadLog::open(device, &log))
 }
 
-/// Goes on in the logs of these files of the system, which begin with these lines.
+/// Goes on in the logs of these files of the system, which begin with these lines. It stops at the first that it can't open.
 pub fn open_logs<R: Files + Drop>(
     alloc: Global,
     store: &mut FileStore<R>,
@@ -118,6 +121,10 @@ pub fn open_logs<R: Files + Drop>(
 ) -> Result<Vec<ThreadLog<FilePmem<R::File>>>, ReopenFault>
 where
     R::File: FileExt + Send,
+    ensures held { IfOk result (λ logs. AreReopened file_view (log_files names.now images.now) logs.items) }
+    ensures refused { IfErr result (HasStopped (log_files names.now images.now) (untold store.old) (untold store.new)) }
+    ensures faults { OnOk result (SameFaults (untold store.old) (untold store.new)) }
+    ensures devices { SameDevices (untold store.old) (untold store.new) }
 {
     let mut logs = Vec::new(alloc);
     for (name, lines) in names.iter().zip(images) {

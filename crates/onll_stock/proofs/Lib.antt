@@ -5,6 +5,8 @@ pub mod Rows
 pub mod Recovering
 pub mod Shops
 pub mod Short
+pub mod Files
+pub mod Reading
 pub mod Reopening
 pub mod Resuming
 pub mod Goings

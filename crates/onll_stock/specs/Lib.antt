@@ -7,4 +7,5 @@ pub mod Heads
 pub mod Shop
 pub mod GoingOn
 pub mod Resuming
+pub mod Devices
 pub mod Reopening

@@ -1,12 +1,12 @@
 -- When the log in a file is opened again, over which device, and why it isn't.
 
-use Rattle.std.specs.Prelude.{ℕ, List, ◌∷◌, ◌++◌, ◌≡◌, ◌≤◌, false, take, map, Some}
+use Rattle.std.specs.Prelude.{ℕ, List, ◌∷◌, ◌++◌, ◌≡◌, ◌≤◌, false, take, Some}
 use Rattle.std.specs.List.{AllByRecursion, AllZip, zip}
 use Rattle.std.specs.declared.vec.Vec.{Vec}
 use Rattle.std.specs.declared.alloc.Global.{Global}
 use denote.Ref.{Bor}
 use Rattle.onll_words.specs.declared.line.Line.{Line}
-use Rattle.onll_pmem.specs.Pmem.{DeviceView, words_of}
+use Rattle.onll_pmem.specs.Pmem.{DeviceView}
 use Rattle.onll_log.specs.Grammar.{Content, content_of, used_by}
 use Rattle.onll_log.specs.Log.{LogState, IsNewest}
 use Rattle.onll_log.specs.declared.image.DecodeFault.{DecodeFault}
@@ -19,6 +19,7 @@ use Rattle.onll_shared.specs.Found.{content_held}
 use Rattle.onll_stock.specs.declared.reopen.ReopenFault.{ReopenFault}
 use Rattle.onll_stock.specs.declared.reopen.ReopenFault.TheVariants.{NotLog, Outside, NoMemory}
 use Rattle.onll_stock.specs.Shop.{short_lines}
+use Rattle.onll_stock.specs.Devices.{names_in, images_in}
 
 -- why it isn't, by what a call below refused
 abbrev pub of_image : DecodeFault → ReopenFault
@@ -69,7 +70,7 @@ LogFile = List ℕ × List (List ℕ)
 
 -- as many as there are both names and images
 abbrev pub log_files : List (Bor (List ℕ)) → List (Vec Line Global) → List LogFile
-log_files names images = zip (map (λ (name : Bor (List ℕ)). name.now) names) (map (λ image. words_of image.items) images)
+log_files names images = zip (names_in names) (images_in images)
 
 -- the log of each file, in their order
 abbrev pub AreReopened : {Device : Type 0} → (Device → DeviceView) → List LogFile → List (LogState Device) → Type 0

@@ -7,6 +7,7 @@ pub mod Shops
 pub mod Short
 pub mod Files
 pub mod Reading
+pub mod Keeping
 pub mod Reopening
 pub mod Resuming
 pub mod Goings

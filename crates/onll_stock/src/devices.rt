@@ -43,7 +43,6 @@ pub fn new_devices<S: Store>(
 }
 
 /// The lines of a log's file, as a crash left them.
-#[tactic(auto, using(crate::proofs::Reading::lines_of_file))]
 fn read_image<S: Store>(
     alloc: Global,
     store: &mut S,
@@ -100,9 +99,10 @@ pub fn keep_logs<S: Store>(
 {
     logs.reverse();
     for name in names {
-        if let Some(log) = logs.pop() {
-            store.keep(alloc, name, log.into_device())?;
-        }
+        let Some(log) = logs.pop() else {
+            return Ok(());
+        };
+        store.keep(alloc, name, log.into_device())?;
     }
     Ok(())
 }

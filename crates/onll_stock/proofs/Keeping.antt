@@ -57,7 +57,7 @@ zip_none (x ∷ xs) = refl
 
 module _ {Device : Type 0} (means : Device → DeviceView) where
   -- the files of the names and logs that are left, the last of which comes first
-  pub left_files : List (Bor (List ℕ)) → List (LogState Device) → List KeptFile
+  abbrev pub left_files : List (Bor (List ℕ)) → List (LogState Device) → List KeptFile
   left_files names logs = kept_files means names (reverse logs)
 
   pub kept_start : (names : List (Bor (List ℕ))) (logs turned : List (LogState Device)) (store : StoreView) → turned ≡ reverse logs → KeptSo (kept_files means names logs) (left_files names turned) store
@@ -68,13 +68,14 @@ module _ {Device : Type 0} (means : Device → DeviceView) where
   one_left names i none logs rest log low is = λ j. kept_files means (drop_more names i none low j) ((ap reverse is ∙ reverse-append rest (log ∷ [])) j)
 
   -- the file whose turn it is
-  pub is_next : (names : List (Bor (List ℕ))) (i : ℕ) (none : Bor (List ℕ)) (files : List KeptFile) (logs rest : List (LogState Device)) (log : LogState Device) (store : StoreView) → i < length names → logs ≡ rest ++ log ∷ []
-      → KeptSo files (left_files (drop i names) logs) store → Contains files ((get_or names i none).now, means log.device)
-  is_next names i none files logs rest log store low is so =
+  pub here_next : (names : List (Bor (List ℕ))) (i : ℕ) (none : Bor (List ℕ)) (files : List KeptFile) (logs rest : List (LogState Device)) (log : LogState Device) (device : Device) (store : StoreView) → i < length names → logs ≡ rest ++ log ∷ []
+      → device ≡ log.device → KeptSo files (left_files (drop i names) logs) store → Contains files ((get_or names i none).now, means device)
+  here_next names i none files logs rest log device store low is on so =
       let file : KeptFile = ((get_or names i none).now, means log.device) in
       let left = left_files (drop (i + 1) names) rest in
       let first : Contains (file ∷ left) file = (0, omega arith, refl) in
-      subst (λ (fs : List KeptFile). Contains fs file) (sym (so.split ∙ ap (λ (fs : List KeptFile). so.done ++ fs) (one_left names i none logs rest log low is))) (Contains-append_right so.done (file ∷ left) file first)
+      subst (λ (d : Device). Contains files ((get_or names i none).now, means d)) (sym on)
+      (subst (λ (fs : List KeptFile). Contains fs file) (sym (so.split ∙ ap (λ (fs : List KeptFile). so.done ++ fs) (one_left names i none logs rest log low is))) (Contains-append_right so.done (file ∷ left) file first))
 
   pub kept_next : (names : List (Bor (List ℕ))) (i : ℕ) (none : Bor (List ℕ)) (files : List KeptFile) (logs rest : List (LogState Device)) (log : LogState Device) (device : Device) (mid new : StoreView) → i < length names → logs ≡ rest ++ log ∷ []
       → device ≡ log.device → KeptSo files (left_files (drop i names) logs) mid → SameOthers (get_or names i none).now mid new → KeepsDevice new (get_or names i none).now (means device) → KeptSo files (left_files (drop (i + 1) names) rest) new

@@ -18,8 +18,7 @@ keeps_still name other d mid new differs others keeps tells = let k = keeps (sym
 kept_more : (done : List KeptFile) (name : List ℕ) (d : DeviceView) (mid new : StoreView) → AreKept mid done → SameOthers name mid new → KeepsDevice new name d → AreKept new (done ++ (name, d) ∷ [])
 kept_more [] name d mid new kept others here = (λ last. here, tt)
 kept_more (file ∷ done) name d mid new kept others here =
-    let names = map-append name_of done ((name, d) ∷ []) in
-    (
+    let names = map-append name_of done ((name, d) ∷ []) in (
       λ last. keeps_still name file.0 file.1 mid new
           (λ is. last (subst (λ ns. Contains ns file.0) (sym names) (subst (Contains (map name_of done ++ name ∷ [])) (sym is) (Contains-push (map name_of done) name))))
           others (kept.0 (λ among. last (subst (λ ns. Contains ns file.0) (sym names) (Contains-append_left (map name_of done) (name ∷ []) file.0 among)))),

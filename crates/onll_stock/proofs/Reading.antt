@@ -19,8 +19,7 @@ begins_in limit None lines count h = absurd h
 begins_in limit (Some all) lines count h =
     let zeros = image_bytes (zero_lines (count - length lines)) in
     let part : take limit all ≡ image_bytes lines ++ (zeros ++ h.rest) =
-    h.whole ∙ ap (λ bs. bs ++ h.rest) (flat_map-append bytes_of_words lines (zero_lines (count - length lines))) ∙ append_assoc (image_bytes lines) zeros h.rest in
-    (
+    h.whole ∙ ap (λ bs. bs ++ h.rest) (flat_map-append bytes_of_words lines (zero_lines (count - length lines))) ∙ append_assoc (image_bytes lines) zeros h.rest in (
       (zeros ++ h.rest) ++ drop limit all,
       ap Some (sym (take-append-drop limit all) ∙ ap (λ bs. bs ++ drop limit all) part ∙ append_assoc (image_bytes lines) (zeros ++ h.rest) (drop limit all)),
     )

@@ -4,7 +4,14 @@ use Rattle.std.proofs.Common.{Vec, Global, ℕ, List, [], ◌∷◌, ◌++◌, �
 use denote.Ref.{Bor}
 use Rattle.std.specs.List.{All, AllByRecursion}
 use Rattle.std.proofs.lemmas.List.{take-append-drop, map-append, take-map, take_more, take_all, length-map, get_or-map}
-use Rattle.std.proofs.lemmas.Slice.Zip.{length-zip, get_or-zip, all_zipped_more}
+use Rattle.std.proofs.lemmas.Slice.Zip.{length-zip, get_or-zip, all_zipped_more, zip_turn}
+use Rattle.std.proofs.lemmas.Iterator.{zips}
+use Rattle.std.proofs.iter.Yields.{fronts}
+use Rattle.std.specs.Iterator.{Yields}
+use Rattle.std.specs.Iterator.Adapters.{zip_first, zip_second}
+use Rattle.std.specs.Slice.Iter.{iter_rest}
+use Rattle.core.specs.declared.iter.adapters.Zip.{Zip}
+use Rattle.core.specs.declared.iter.slices.Iter.{Iter}
 use Rattle.std.proofs.lemmas.List.Elements.{All-head, All-tail}
 use Rattle.std.proofs.lemmas.Grind.{flat_map-append}
 use Rattle.onll_words.specs.declared.line.Line.{Line}
@@ -60,6 +67,8 @@ not_newest lines log e not found = not (subst (λ (c : Content). IsNewest c.head
 pub not_short : (lines : List (List ℕ)) (log : Content) → content_of lines ≡ Some log → (used_by log ≤ 1701 → ⊥) → HoldNoLog lines
 not_short lines log e not found = not (subst (λ (c : Content). used_by c ≤ 1701) (one_log lines log found.0 e found.1) found.1.short)
 
+pub ruleset no_shop_log = (not_held, not_newest, not_short)
+
 pub eight_words : (lines : List Line) → All (λ (line : Line). IsLine line.w) lines → AreLines (words_of lines)
 eight_words [] h = tt
 eight_words (line ∷ lines) h =
@@ -67,10 +76,10 @@ eight_words (line ∷ lines) h =
     (All-head Eight line lines h, eight_words lines (All-tail Eight line lines h))
 
 -- the used lines and then zeros hold what all lines hold, and nothing stands after it
-cut_under : (head : Option LogHead) (ss : List Segment) (image : List (List ℕ)) (zeros : ℕ) → AreLines image → content_of image ≡ Some (record { head = head; entries = ss }) → IsNewest head
-    → (content_of (take (used_with head ss) image ++ zero_lines zeros) ≡ Some (record { head = head; entries = ss })) × EndsInZeros (take (used_with head ss) image ++ zero_lines zeros) (record { head = head; entries = ss })
-cut_under None ss image zeros eight holds newest = absurd newest
-cut_under (Some head) ss image zeros eight holds newest = let c = IsCut-Holds head ss image zeros eight holds in (c.holds, c.rest)
+cut_under : (head : Option LogHead) (ss : List Segment) (image : List (List ℕ)) (count : ℕ) → AreLines image → content_of image ≡ Some (record { head = head; entries = ss }) → IsNewest head
+    → (content_of (take (used_with head ss) image ++ zero_lines count) ≡ Some (record { head = head; entries = ss })) × EndsInZeros (take (used_with head ss) image ++ zero_lines count) (record { head = head; entries = ss })
+cut_under None ss image count eight holds newest = absurd newest
+cut_under (Some head) ss image count eight holds newest = let c = IsCut-Holds head ss image count eight holds in (c.holds, c.rest)
 
 -- a device that reads as the used lines and then zeros
 pub device_holds : (lines front : List Line) (log : Content) (read : List (List ℕ)) → All (λ (line : Line). IsLine line.w) lines → AreShopLog (words_of lines) log
@@ -97,7 +106,7 @@ reopened {Device} means lines front log device made a first fresh head entries f
     }
 
 -- ---- the logs of several files
-pub files_more : (names : List (Bor (List ℕ))) (images : List (Vec Line Global)) (n : ℕ) (name : Bor (List ℕ)) (image : Vec Line Global) → n < length names → n < length images → name ≡ get_or names n name → image ≡ get_or images n image
+files_more : (names : List (Bor (List ℕ))) (images : List (Vec Line Global)) (n : ℕ) (name : Bor (List ℕ)) (image : Vec Line Global) → n < length names → n < length images → name ≡ get_or names n name → image ≡ get_or images n image
     → take (n + 1) (log_files names images) ≡ take n (log_files names images) ++ (name.now, words_of image.items) ∷ []
 files_more names images n name image low less first second =
     let now : Bor (List ℕ) → List ℕ = λ (b : Bor (List ℕ)). b.now in
@@ -119,6 +128,15 @@ files_all names images n end =
     let words : Vec Line Global → List (List ℕ) = λ (v : Vec Line Global). words_of v.items in
     let many = length-zip (map now names) (map words images) in
     take_all n (log_files names images) (omega (arith, end, many, length-map names now, length-map images words))
+
+-- the file whose turn it is in a loop over names and images
+pub next_file : (names : List (Bor (List ℕ))) (images : List (Vec Line Global)) (turns : List (Bor (Bor (List ℕ)) × Bor (Vec Line Global))) (before now after : Zip (Iter (Bor (List ℕ))) (Iter (Vec Line Global)))
+    (found : Option (Bor (Bor (List ℕ)) × Bor (Vec Line Global))) (this : Bor (Bor (List ℕ)) × Bor (Vec Line Global)) → iter_rest (zip_first before) ≡ names → iter_rest (zip_second before) ≡ images → Yields (zips fronts fronts) before turns now
+    → found ≡ Some this → zips fronts fronts now found after
+    → take (length turns + 1) (log_files names images) ≡ take (length turns) (log_files names images) ++ (this.0.now.now, words_of this.1.now.items) ∷ []
+next_file names images turns before now after found this first second yields is steps =
+    let turn = zip_turn names images turns before now after found first second yields this is steps in
+    files_more names images (length turns) this.0.now this.1.now turn.0 turn.1 (turn.2 this.0.now) (turn.3 this.1.now)
 
 module _ {Device : Type 0} (means : Device → DeviceView) where
   pub logs_more : (files more : List LogFile) (file : LogFile) (logs pushed : List (LogState Device)) (log : LogState Device) → more ≡ files ++ file ∷ [] → pushed ≡ logs ++ log ∷ []

@@ -43,11 +43,7 @@ pub fn new_devices<S: Store>(
 }
 
 /// The lines of a log's file, as a crash left them.
-fn read_image<S: Store>(
-    alloc: Global,
-    store: &mut S,
-    name: &str,
-) -> Result<Vec<Line>, OutsideFault>
+fn read_image<S: Store>(alloc: Global, store: &mut S, name: &str) -> Result<Vec<Line>, OutsideFault>
     ensures lines { IfOk result (λ lines. AreLinesOf (S.seen store.old) name.now (words_of lines.items)) }
     ensures faults { FaultsOf (record { kind = kinds.Read; name = name.now }) (S.seen store.old) (S.seen store.new) result }
     ensures same { SameFiles (S.seen store.old) (S.seen store.new) }

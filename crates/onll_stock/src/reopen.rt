@@ -74,7 +74,7 @@ fn whole_lines(lines: &[Line])
 }
 
 /// What these lines hold, where that is a log of the newest format for which a shop's device has lines enough.
-#[tactic(auto, using(crate::proofs::Reopening::not_held, crate::proofs::Reopening::not_newest, crate::proofs::Reopening::not_short))]
+#[tactic(auto, using(crate::proofs::Reopening::no_shop_log))]
 fn decode_log(alloc: Global, lines: &[Line]) -> Result<Decoded, DecodeFault>
     ensures log { IfOk result (λ log. AreShopLog (words_of lines.now) (content_in log)) }
     ensures within { IfOk result (λ log. used_by (content_in log) ≤ length lines.now) }
@@ -87,8 +87,8 @@ fn decode_log(alloc: Global, lines: &[Line]) -> Result<Decoded, DecodeFault>
     }
 }
 
-/// Goes on in the log that a crash left in this file, which begins with these lines. What is left of an entry that the crash tore is
-/// wiped. It refuses a log whose first line was torn, which holds nothing.
+/// Goes on in the log that a crash left in this file, which begins with these lines. What is left of an entry that the crash tore
+/// is wiped. It refuses a log whose first line was torn, which holds nothing.
 pub fn open_log<S: Store>(
     alloc: Global,
     store: &mut S,

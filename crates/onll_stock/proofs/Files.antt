@@ -1,6 +1,6 @@
 -- The files of a shop's logs after a call for one of them.
 
-use Rattle.std.proofs.Common.{ℕ, List, [], ◌∷◌, ◌++◌, ◌≡◌, ◌<◌, ◌⊎◌, true, false, get_or, length, map, inl, inr, Err, refl, sym, ap, ◌∙◌, subst, ⊎_elim, Bor}
+use Rattle.std.proofs.Common.{ℕ, List, ◌≡◌, ◌<◌, ◌⊎◌, true, false, get_or, length, inl, inr, Err, sym, ◌∙◌, subst, ⊎_elim, Bor}
 use Rattle.std.specs.List.{Contains}
 use Rattle.std.specs.Str.{bytes_eq}
 use Rattle.std.proofs.lemmas.Bool.{cases_Bool}
@@ -11,7 +11,7 @@ use Rattle.onll_outside.specs.Views.{StoreView, FaultsOf, KeptOrZeros, Rose, Sam
 use Rattle.onll_outside.specs.declared.OutsideFault.{OutsideFault}
 use Rattle.onll_outside.specs.declared.OutsideFault.TheVariants.{Failed, NoMemory}
 use Rattle.onll_outside.specs.declared.store.FaultKind.{FaultKind}
-use Rattle.onll_stock.specs.Devices.{CallFailed, FaultsAmong, SameBut, names_in}
+use Rattle.onll_stock.specs.Devices.{FaultsAmong, SameBut, names_in}
 
 -- ---- names
 pub name_cases : (name other : List ℕ) → (name ≡ other) ⊎ (name ≡ other → ⊥)

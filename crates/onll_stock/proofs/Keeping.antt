@@ -1,6 +1,6 @@
 -- Devices of logs that are kept as files, one after the other.
 
-use Rattle.std.proofs.Common.{Bor, ℕ, List, [], ◌∷◌, ◌++◌, ◌≡◌, ◌≢◌, ◌<◌, ◌≤◌, ◌+◌, ◌⊎◌, drop, get_or, length, map, inl, inr, refl, sym, ap, ◌∙◌, subst, ⊎_elim, arith, append_assoc, append-nil}
+use Rattle.std.proofs.Common.{Bor, ℕ, List, [], ◌∷◌, ◌++◌, ◌≡◌, ◌<◌, ◌≤◌, ◌+◌, drop, get_or, length, map, inl, inr, refl, sym, ap, ◌∙◌, subst, ⊎_elim, arith, append_assoc, append-nil}
 use Rattle.std.specs.Prelude.{reverse}
 use Rattle.std.specs.List.{Contains, zip}
 use Rattle.std.proofs.lemmas.List.{drop_more, drop_all, map-append, reverse-append, reverse-reverse}

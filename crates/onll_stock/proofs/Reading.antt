@@ -1,6 +1,6 @@
 -- The lines of files that were read.
 
-use Rattle.std.proofs.Common.{Vec, Global, Bor, ℕ, List, [], ◌∷◌, ◌++◌, ◌≡◌, ◌<◌, ◌≤◌, ◌+◌, ◌-◌, take, drop, get_or, length, map, Option, Some, None, refl, sym, ap, ◌∙◌, subst, arith, append_assoc}
+use Rattle.std.proofs.Common.{Vec, Global, Bor, ℕ, List, [], ◌∷◌, ◌++◌, ◌≡◌, ◌<◌, ◌≤◌, ◌+◌, ◌-◌, take, drop, get_or, length, Option, Some, None, sym, ap, ◌∙◌, subst, arith, append_assoc}
 use Rattle.std.proofs.lemmas.List.{take-append-drop, take_more, take_all, get_or-map, length-map, map-append}
 use Rattle.std.proofs.lemmas.Slice.Zip.{all_zipped_more}
 use Rattle.std.proofs.lemmas.Grind.{flat_map-append}
@@ -10,7 +10,7 @@ use Rattle.onll_pmem.specs.Device.{zero_lines}
 use Rattle.onll_pmem.specs.Pmem.{words_of}
 use Rattle.onll_log.specs.ImageFile.{longest_image}
 use Rattle.onll_outside.specs.LineFiles.{FrontHasLines, GivesLines, IsFileFront}
-use Rattle.onll_outside.specs.Views.{StoreView, BeginsWith, SameFiles, image_bytes}
+use Rattle.onll_outside.specs.Views.{StoreView, SameFiles, image_bytes}
 use Rattle.onll_stock.specs.Devices.{AreImagesOf, AreLinesOf, images_in, names_in}
 
 -- ---- one file

@@ -1,4 +1,4 @@
-use Rattle.std.proofs.Common.{rules, ◌≡◌, [], length, refl, inl, arith}
+use Rattle.std.proofs.Common.{rules, ◌≡◌, [], refl, inl, arith}
 use Rattle.std.proofs.lemmas.Result.{err_from_is_err_and}
 use Rattle.onll_outside.specs.declared.store.FaultKind.TheVariants as kinds
 use Rattle.onll_stock.specs.Devices.{kept_files, names_in}

@@ -1,7 +1,7 @@
-use Rattle.std.proofs.Common.{rules, length, subst, arith}
+use Rattle.std.proofs.Common.{rules, arith}
 use Rattle.std.proofs.lemmas.Result.{err_from_is_err_and}
 use Rattle.onll_outside.specs.declared.store.FaultKind.TheVariants as kinds
-use Rattle.onll_stock.specs.Devices.{AreImagesOf, images_in, names_in}
+use Rattle.onll_stock.specs.Devices.{names_in}
 use Rattle.onll_stock.proofs.Files.{one_of, call_fails, faults_next, devices_next}
 use Rattle.onll_stock.proofs.Reading.{files_next, images_next, images_end}
 use Rattle.onll_stock.proofs.devices.read_images.Goals as goal

@@ -1,4 +1,4 @@
-use Rattle.std.proofs.Common.{rules, Vec, Global, Bor, List, ℕ, [], ◌∷◌, ◌++◌, ◌≡◌, length, take, get_or, ap, sym, subst, ◌∙◌, length-append}
+use Rattle.std.proofs.Common.{rules, List, [], ◌∷◌, length, take, ap, subst, ◌∙◌, length-append}
 use Rattle.std.proofs.lemmas.Result.{err_from_is_err_and}
 use Rattle.std.proofs.lemmas.Slice.Zip.{zip_end}
 use Rattle.onll_words.specs.declared.line.Line.{Line}

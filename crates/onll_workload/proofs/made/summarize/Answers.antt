@@ -1,4 +1,4 @@
-use Rattle.std.proofs.Common.{rules, ◌≡◌, List, length, map, sum, sum_by, sym, ap, ◌∙◌}
+use Rattle.std.proofs.Common.{rules, ◌≡◌, length, map, sum, sum_by, sym, ap, ◌∙◌}
 use Rattle.onll_model.specs.Calls.{updates_in, reads_in}
 use Rattle.onll_model.specs.Trace.{state_after}
 use Rattle.onll_bank.specs.Object.{bank}

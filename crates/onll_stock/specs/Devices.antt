@@ -31,7 +31,8 @@ pub record CallFailed (kind : FaultKind) (names : List (List ℕ)) (old new : St
   pub last : new.last ≡ Some (record { kind = kind; name = name })
 
 -- that is so exactly where it is the answer
-abbrev pub FaultsAmong : {T : Type 0} → FaultKind → List (List ℕ) → StoreView → StoreView → Result T OutsideFault → Type 0
+abbrev pub FaultsAmong : {T : Type 0} → FaultKind → List (List ℕ) → StoreView → StoreView → Result T OutsideFault
+    → Type 0
 FaultsAmong kind names old new (Ok x) = SameFaults old new
 FaultsAmong kind names old new (Err Failed) = CallFailed kind names old new
 FaultsAmong kind names old new (Err NoMemory) = SameFaults old new
@@ -59,7 +60,8 @@ abbrev pub KeptFile : Type 0
 KeptFile = List ℕ × DeviceView
 
 -- as many as there are both names and logs
-abbrev pub kept_files : {Device : Type 0} → (Device → DeviceView) → List (Bor (List ℕ)) → List (LogState Device) → List KeptFile
+abbrev pub kept_files : {Device : Type 0} → (Device → DeviceView) → List (Bor (List ℕ)) → List (LogState Device)
+    → List KeptFile
 kept_files means names logs = zip (names_in names) (map (λ log. means log.device) logs)
 
 abbrev pub name_of : KeptFile → List ℕ
@@ -68,9 +70,11 @@ name_of file = file.0
 -- each device was kept as its file, unless another was kept as that later
 abbrev pub AreKept : StoreView → List KeptFile → Type 0
 AreKept store [] = Unit {0}
-AreKept store (file ∷ files) = ((Contains (map name_of files) file.0 → ⊥) → KeepsDevice store file.0 file.1) × AreKept store files
+AreKept store (file ∷ files) =
+    ((Contains (map name_of files) file.0 → ⊥) → KeepsDevice store file.0 file.1) × AreKept store files
 
 -- where the store tells its files, the one of this name is as it was, or holds an image of a device that was to be kept as it
 abbrev pub MayBeKept : List KeptFile → StoreView → StoreView → List ℕ → Type 0
 MayBeKept files old new name =
-    new.tells ≡ true → (new.file name ≡ old.file name) ⊎ ((d : DeviceView) × Contains files (name, d) × HoldsImageOf new name d)
+    new.tells ≡ true → (new.file name ≡ old.file name)
+    ⊎ ((d : DeviceView) × Contains files (name, d) × HoldsImageOf new name d)

@@ -8,7 +8,7 @@ ghost use Rattle.onll_log.specs.Decoded.{content_in};
 ghost use Rattle.onll_log.specs.Grammar.{Content, used_by};
 ghost use Rattle.onll_log.specs.Torn.{IsLine};
 ghost use Rattle.onll_outside.specs.Faults.{untold};
-ghost use Rattle.onll_outside.specs.Views.{BeginsWith, MayWipe, SameDevices, SameFaults, SameOthers, image_bytes};
+ghost use Rattle.onll_outside.specs.Views.{BeginsWith, MayWipe, SameDevices, SameFaults, SameFiles, SameOthers, image_bytes};
 ghost use Rattle.onll_outside.specs.declared.store.FaultKind.TheVariants as kinds;
 ghost use Rattle.onll_stock.specs.Reopening.{AreReopened, AreShopLog, CannotReopen, FaultOf, HasStopped, HoldNoLog, IsReopened};
 ghost use Rattle.onll_stock.specs.Reopening.{log_files, of_image, of_outside};
@@ -102,6 +102,7 @@ pub fn open_log<S: Store>(
         (FaultOf (record { kind = kinds.Reopen; name = name.now }) (S.seen store.old) (S.seen store.new)) }
     ensures wiped { (log : Content) → AreShopLog (words_of lines.now) log
         → MayWipe name.now (image_bytes (take (used_by log) (words_of lines.now))) (S.seen store.old) (S.seen store.new) }
+    ensures untouched { IfErr result (λ fault. fault ≡ ReopenFault.NotLog → SameFiles (S.seen store.old) (S.seen store.new)) }
     ensures others { SameOthers name.now (S.seen store.old) (S.seen store.new) }
     ensures devices { SameDevices (S.seen store.old) (S.seen store.new) }
 {

@@ -10,8 +10,8 @@ use Rattle.std.proofs.iter.Yields.{fronts}
 use Rattle.std.specs.Iterator.{Yields}
 use Rattle.std.specs.Iterator.Adapters.{zip_first, zip_second}
 use Rattle.std.specs.Slice.Iter.{iter_rest}
-use Rattle.std.specs.declared.iter.adapters.Zip.{Zip}
-use Rattle.std.specs.declared.iter.slices.Iter.{Iter}
+use Rattle.std.specs.declared.iter.Zip.{Zip}
+use Rattle.std.specs.declared.slice.Iter.{Iter}
 use Rattle.std.proofs.lemmas.List.Elements.{All-head, All-tail}
 use Rattle.std.proofs.lemmas.Grind.{flat_map-append}
 use Rattle.onll_words.specs.declared.line.Line.{Line}

@@ -17,6 +17,7 @@ use Rattle.std.proofs.lemmas.Grind.{flat_map-append}
 use Rattle.onll_words.specs.declared.line.Line.{Line}
 use Rattle.onll_words.specs.Lines.{bytes_of_words}
 use Rattle.onll_model.specs.Segment.{Segment}
+use Rattle.onll_model.proofs.Lists.{same_some}
 use Rattle.onll_pmem.specs.Pmem.{DeviceView, words_of}
 use Rattle.onll_pmem.specs.Device.{zero_lines}
 use Rattle.onll_log.specs.declared.head.LogHead.{LogHead}
@@ -51,12 +52,9 @@ unwiped view name n lines begins =
     (λ tells. let b = begins_shorter view name n lines begins tells in record { was = b.0; rest = b.0; before = b.1; now = b.1; wiped = λ word. inl refl })
 
 -- ---- what lines hold
-some_same : {A : Type 0} (x y : A) → Some x ≡ Some y → x ≡ y
-some_same x y e = grind (arith, e)
-
 -- they hold one log
 one_log : (lines : List (List ℕ)) (log other : Content) → content_of lines ≡ Some log → AreShopLog lines other → other ≡ log
-one_log lines log other e a = some_same other log (sym a.holds ∙ e)
+one_log lines log other e a = same_some other log (sym a.holds ∙ e)
 
 pub not_held : (lines : List (List ℕ)) → content_of lines ≡ None → HoldNoLog lines
 not_held lines e found = true≢false (ap is_some (sym found.1.holds ∙ e))

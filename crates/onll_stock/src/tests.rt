@@ -6,10 +6,10 @@ ghost use Rattle.onll_shared.specs.Passes.{IsTied};
 ghost use Rattle.onll_stock.specs.Object.{stock};
 
 use crate::{
-    Stock, StockOp, StockQuery, StockReply, keep_logs, new_devices, open_logs, read_images,
-    recover_shop, resume_shop, run_short,
+    ReopenFault, Stock, StockOp, StockQuery, StockReply, keep_logs, new_devices, open_logs,
+    read_images, recover_shop, resume_shop, run_short,
 };
-use onll_log::ThreadLog;
+use onll_log::{LogHead, ThreadLog};
 use onll_model::{Call, CallEnd, Object};
 use onll_outside::{FileStore, FreeGate, MemStore};
 use onll_pmem::{MemPmem, Pmem};
@@ -241,5 +241,35 @@ fn a_killed_shop_goes_on(rt: HostRuntime) -> Result<(), Fail> {
         fs::remove_file(&rt, name)?;
     }
     fs::remove_dir(&rt, FOLDER)?;
+    Ok(())
+}
+
+/// The lines of a log that was begun.
+fn begun_lines(alloc: Global) -> Result<Vec<Line>, Fail> {
+    let device = MemPmem::new(alloc, 4, Vec::new(alloc))?;
+    match ThreadLog::make(device, LogHead::new(0, 1, Stock::CODE, INIT)) {
+        Ok(log) => Ok(log.device().image(alloc, 0)?),
+        Err(_) => Err("no log".into()),
+    }
+}
+
+/// How a log is refused that these lines hold, of a file that isn't there.
+fn refusal_of(rt: &HostRuntime, lines: Vec<Line>) -> Result<ReopenFault, Fail> {
+    let alloc = rt.alloc();
+    let mut store = FileStore::new(rt);
+    let images = vec![in alloc; lines]?;
+    match open_logs(alloc, &mut store, &["onll_stock_test.none"], &images) {
+        Ok(_) => Err("opened".into()),
+        Err(fault) => Ok(fault),
+    }
+}
+
+#[test]
+fn refusals_of_a_log(rt: HostRuntime) -> Result<(), Fail> {
+    let alloc = rt.alloc();
+    let zeros = vec![in alloc; Line { w: [0; 8] }]?;
+    assert_eq!(rt; refusal_of(&rt, Vec::new(alloc))?, ReopenFault::NotLog);
+    assert_eq!(rt; refusal_of(&rt, zeros)?, ReopenFault::NotLog);
+    assert_eq!(rt; refusal_of(&rt, begun_lines(alloc)?)?, ReopenFault::Outside);
     Ok(())
 }

@@ -192,10 +192,6 @@ impl<F: FileExt + OpenFile + Drop> Pmem for FilePmem<F> {
         line_of_bytes(self.bytes[line as usize])
     }
 
-    fn held(&self) -> Option<&[Line]> {
-        None
-    }
-
     fn write(&mut self, line: u64, value: Line)
         requires within { line < length self.old.read }
         requires fills { FillsWords (line_at self.old.read line) value.w }

@@ -35,7 +35,10 @@ pub trait Pmem {
     fn held(&self) -> Option<&[Line]>
         ensures within { IfSome result (λ front. length front.now ≤ length (means self.now).read) }
         ensures zeros { IfSome result (λ front. (means self.now).read
-            ≡ words_of front.now ++ zero_lines (length (means self.now).read - length front.now)) };
+            ≡ words_of front.now ++ zero_lines (length (means self.now).read - length front.now)) }
+    {
+        None
+    }
 
     /// Writes a line. No word that isn't zero may change.
     fn write(&mut self, line: u64, value: Line)

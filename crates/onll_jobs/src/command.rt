@@ -16,10 +16,10 @@ const USAGE: &[u8] = b"usage: onll fold INIT SCRIPT\n       \
       onll show IMAGE\n       \
       onll recover INIT LOGS T\n       \
       onll replay INIT SCHEDULE LOGS SCRIPT..\n       \
-      onll again INIT SCHEDULE LOGS SCRIPT..\n       \
-      onll resume INIT LOGS SCRIPT..\n       \
       onll run INIT LOGS SCRIPT..\n       \
-      onll make T N SEED\n";
+      onll make T N SEED\n       \
+      onll again INIT SCHEDULE LOGS SCRIPT..\n       \
+      onll resume INIT LOGS SCRIPT..\n";
 
 /// What is said where words are of no form.
 pub(crate) fn usage(alloc: Global) -> Stop

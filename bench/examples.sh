@@ -132,14 +132,7 @@ same 'it goes on from' "$(nodes "$folder/resumed" | head -n "$(nodes "$folder/fo
 same 'its recovery finds' "$(nodes "$folder/more")" "$(nodes "$folder/resumed")"
 same 'its report and its logs tell' "$(nodes "$top/examples/tickets/recovered")" "$(nodes "$top/examples/tickets/report")"
 
-usage='usage: onll fold INIT SCRIPT
-       onll show IMAGE
-       onll recover INIT LOGS T
-       onll replay INIT SCHEDULE LOGS SCRIPT..
-       onll again INIT SCHEDULE LOGS SCRIPT..
-       onll resume INIT LOGS SCRIPT..
-       onll run INIT LOGS SCRIPT..
-       onll make T N SEED'
+usage=$(sed -n '/^usage: /,/^```$/p' "$top/docs/FORMATS.md" | sed '$d')
 ends 2 "$usage"
 ends 2 "$usage" fold examples/transfer/bank examples/transfer/script examples/transfer/script
 ends 3 'refused examples/transfer/script 1 unknown object' \

@@ -155,6 +155,9 @@ if [ $status != 6 ]; then
     failed=1
 fi
 
+# The page of claims lists the files that the promise reaches.
+"$top/bench/sceptic.py" --check || failed=1
+
 if [ $failed = 0 ]; then
     echo 'all examples print and write what stands there'
 fi

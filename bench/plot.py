@@ -25,10 +25,12 @@ def draw(rows):
     left, top, scale, bar, gap = 210, 62, 0.75, 15, 26
     widest = max(max(p["ms"]) for p in programs)
     height = top + len(threads) * (len(programs) * bar + gap) + 20
-    width = int(left + widest * scale + 90)
+    title = f'Durable updates, {rows["updates"]} a thread: milliseconds, and the ratio to bare syncs'
+    # (a bold letter of 14 pixels is 9 wide at most, in whatever font stands for sans-serif)
+    width = int(max(left + widest * scale + 90, 24 + 9 * len(title), 24 + 7 * len(rows["machine"])))
     out = [f'<svg xmlns="http://www.w3.org/2000/svg" width="{width}" height="{height}" viewBox="0 0 {width} {height}">',
            f'<rect width="{width}" height="{height}" fill="white"/>',
-           text(12, 20, f'Durable updates, {rows["updates"]} a thread: milliseconds, and the ratio to bare syncs', 14, weight="bold"),
+           text(12, 20, title, 14, weight="bold"),
            text(12, 40, rows["machine"], 11)]
     y = top
     for i, count in enumerate(threads):

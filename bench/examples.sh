@@ -155,6 +155,20 @@ if [ $status != 6 ]; then
     failed=1
 fi
 
+# Each command of the README ends with 0, in the order in which they stand there, in a folder with the examples alone.
+mkdir "$folder/readme"
+cp -r "$top/examples" "$folder/readme/examples"
+for script in onll demo; do
+    printf '#!/bin/sh\nexec "%s" "$@"\n' "$top/$script" > "$folder/readme/$script"
+    chmod +x "$folder/readme/$script"
+done
+sed -n -e 's/^    \(\.\/onll .*\)$/\1/p' -e 's/^    \(\.\/demo\)$/\1/p' "$top/README.md" > "$folder/commands"
+same 'the README has no commands' "$(test -s "$folder/commands"; echo $?)" 0
+while read -r command; do
+    (cd "$folder/readme" && sh -c "$command") > /dev/null < /dev/null
+    same "$command of the README ends with" $? 0
+done < "$folder/commands"
+
 # The page of claims lists the files that the promise reaches.
 "$top/bench/sceptic.py" --check || failed=1
 

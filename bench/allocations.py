@@ -1,7 +1,7 @@
 #!/usr/bin/env python3
 """Counts how often `make T N` asks for memory, as N grows: no update and no read asks, so the count stays the same.
 Usage: bench/allocations.py [PROGRAM]
-Build the program first, by `rt run` in crates/onll_main; or name another one of the same words. It wants a C compiler (`cc`).
+Build the program first, by `./prove`; or name another one of the same words. It wants a C compiler (`cc`).
 
 Prints a line for each number of threads, and ends with 1 where a count isn't the same for each number of updates."""
 import os
@@ -9,7 +9,8 @@ import subprocess
 import sys
 import tempfile
 
-from memory import PROGRAM, make_refuser
+from memory import make_refuser
+from proved import proved_program
 
 THREADS = (1, 2, 4, 16)
 UPDATES = (512, 1024, 2048, 4096)
@@ -25,7 +26,7 @@ def count_of(program, library, counted, threads, updates):
 
 
 def main():
-    program = os.path.abspath(sys.argv[1]) if len(sys.argv) > 1 else PROGRAM
+    program = os.path.abspath(sys.argv[1]) if len(sys.argv) > 1 else proved_program()
     differs = False
     with tempfile.TemporaryDirectory() as work:
         library = make_refuser(work)

@@ -1,7 +1,7 @@
 #!/usr/bin/env python3
 """Kills runs over the files of the system, goes on from what each kill leaves, and kills that too.
 Usage: bench/chains.py [CHAINS [SEED [PROGRAM]]]
-Build the program first, by `rt run` in crates/onll_main; or name another one of the same words.
+Build the program first, by `./prove`; or name another one of the same words.
 
 A chain has six generations of four threads with 600 updates each: one `run`, and then `resume` over the logs that are there. Each is
 killed by signal 9 at a moment between its start and the time that a whole one takes; one that ends before that stays in the chain. No

@@ -1,7 +1,7 @@
 #!/usr/bin/env python3
 """Crashes random schedules, goes on from what is left and crashes again, and checks what is recovered of the logs.
 Usage: bench/crashes.py [RUNS [SEED]]
-Build the program first, by `rt run` in crates/onll_main.
+Build the program first, by `./prove`.
 
 A run has one to five generations. Of the first `replay` prints the calls and the trace and writes the images, of each further one
 `again`, which goes on from the images of the one before; `recover` reads the images of each. Checked is that both recover the
@@ -14,8 +14,10 @@ import subprocess
 import sys
 import tempfile
 
+from proved import proved_program
+
 TOP = os.path.dirname(os.path.dirname(os.path.abspath(__file__)))
-PROGRAM = os.path.join(TOP, "crates", "onll_main", "out", "onll_main")
+PROGRAM = proved_program()
 ALL = 2**64 - 1
 
 

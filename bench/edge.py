@@ -3,7 +3,7 @@
 read, a limit on the length of files, a full disk, a closed output, and words that no person types.
 Each case has the status that docs/FORMATS.md states, ends in time, and leaves every file that the words don't write as it was.
 Usage: bench/edge.py [PROGRAM]
-Build the program first, by `rt run` in crates/onll_main; or name another one of the same words. Ends with 0, or names each case that
+Build the program first, by `./prove`; or name another one of the same words. Ends with 0, or names each case that
 fails and ends with 1. A full disk and the permissions of files are tried where this runs as root, and are said to be left out else."""
 import os
 import resource
@@ -13,8 +13,9 @@ import sys
 import tempfile
 import threading
 
+from proved import proved_program
+
 TOP = os.path.dirname(os.path.dirname(os.path.abspath(__file__)))
-PROGRAM = os.path.join(TOP, "crates", "onll_main", "out", "onll_main")
 SECONDS = 20
 NOBODY = 65534
 
@@ -159,7 +160,7 @@ def words(program):
 
 
 def main():
-    program = os.path.abspath(sys.argv[1]) if len(sys.argv) > 1 else PROGRAM
+    program = os.path.abspath(sys.argv[1]) if len(sys.argv) > 1 else proved_program()
     with tempfile.TemporaryDirectory() as folder:
         os.chdir(folder)
         write("i", INIT)

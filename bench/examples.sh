@@ -2,7 +2,9 @@
 # Runs the commands of examples/ on a copy of that folder, and compares what each prints and writes with what stands there.
 # Ends with 0, or names what differs and ends with 1.
 # Usage: bench/examples.sh
+# It compares what the proved program does; `ONLL= bench/examples.sh` takes a trial build where none is proved.
 set -u
+export ONLL="${ONLL-proved}"
 
 top=$(cd "$(dirname "$0")/.." && pwd)
 folder=$(mktemp -d)

@@ -1,7 +1,7 @@
 #!/bin/sh
 # Times `onll fold` on the largest bank and script: 4,096 accounts, updates and reads.
 # Usage: bench/fold.sh [RUNS]
-# Build the program first, by `rt run` in crates/onll_main.
+# Build the program first, by `./prove`.
 set -eu
 
 runs=${1:-10}

@@ -1,7 +1,7 @@
 #!/usr/bin/env python3
 """Kills runs over the files of the system at random moments, and checks what is recovered of the logs that they leave.
 Usage: bench/kill.py [KILLS [SEED [PROGRAM]]]
-Build the program first, by `rt run` in crates/onll_main; or name another one of the same words.
+Build the program first, by `./prove`; or name another one of the same words.
 
 Each run has four threads of 1,000 updates, each update another one, and is killed by signal 9 at a moment between its start and
 the time that a whole run takes; a run that ends before that is done again. Where every log has its first line, `recover` must answer 0,
@@ -15,8 +15,9 @@ import sys
 import tempfile
 import time
 
+from proved import proved_program
+
 TOP = os.path.dirname(os.path.dirname(os.path.abspath(__file__)))
-PROGRAM = os.path.join(TOP, "crates", "onll_main", "out", "onll_main")
 THREADS, UPDATES = 4, 1000
 LOGS = [f"log.{thread}" for thread in range(THREADS)]
 SCRIPTS = [[f"deposit {thread} {number}" for number in range(1, UPDATES + 1)] for thread in range(THREADS)]
@@ -26,7 +27,7 @@ def asked():
     """The arguments of a script of this kind, and what stands for those that aren't there: how many, the random choices, the program."""
     count = int(sys.argv[1]) if len(sys.argv) > 1 else None
     rng = random.Random(int(sys.argv[2]) if len(sys.argv) > 2 else 1)
-    return count, rng, os.path.abspath(sys.argv[3]) if len(sys.argv) > 3 else PROGRAM
+    return count, rng, os.path.abspath(sys.argv[3]) if len(sys.argv) > 3 else proved_program()
 
 
 def make_bank():

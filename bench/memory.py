@@ -1,7 +1,7 @@
 #!/usr/bin/env python3
 """Refuses the program memory, one allocation a run: the first, then the second, and so on to the last that a run asks for.
 Usage: bench/memory.py [PROGRAM]
-Build the program first, by `rt run` in crates/onll_main; or name another one of the same words. It wants a C compiler (`cc`).
+Build the program first, by `./prove`; or name another one of the same words. It wants a C compiler (`cc`).
 
 A small library stands before the C library's `malloc` and `realloc`, counts the calls, and answers none to one of them. Each run is of
 one thread, or plays a schedule, so that its report is one text. It must end with that report and the same files, or with status 9 and
@@ -13,8 +13,9 @@ import subprocess
 import sys
 import tempfile
 
+from proved import proved_program
+
 TOP = os.path.dirname(os.path.dirname(os.path.abspath(__file__)))
-PROGRAM = os.path.join(TOP, "crates", "onll_main", "out", "onll_main")
 EXAMPLES = os.path.join(TOP, "examples")
 
 REFUSER = r"""
@@ -147,7 +148,7 @@ def faults_of(runs, row, number, whole, before):
 
 
 def main():
-    program = os.path.abspath(sys.argv[1]) if len(sys.argv) > 1 else PROGRAM
+    program = os.path.abspath(sys.argv[1]) if len(sys.argv) > 1 else proved_program()
     wrong = 0
     with tempfile.TemporaryDirectory() as work:
         runs = Runs(program, work)

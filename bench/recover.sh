@@ -1,7 +1,7 @@
 #!/bin/sh
 # Times `onll recover` on the logs of 16 threads with 65,536 updates in all.
 # Usage: bench/recover.sh [RUNS]
-# Build the program first, by `rt run` in crates/onll_main.
+# Build the program first, by `./prove`.
 set -eu
 
 runs=${1:-10}

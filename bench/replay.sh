@@ -1,7 +1,7 @@
 #!/bin/sh
 # Times `onll replay` on a schedule of 2,000,360 steps of 16 threads with 63,504 updates in all.
 # Usage: bench/replay.sh [RUNS]
-# Build the program first, by `rt run` in crates/onll_main.
+# Build the program first, by `./prove`.
 set -eu
 
 runs=${1:-10}

@@ -3,10 +3,7 @@
 
 top=$(cd "$(dirname "$0")/.." && pwd)
 program=$top/crates/onll_main/out/onll_main
-if [ ! -x "$program" ]; then
-    echo "no $program: build it by 'rt run' in crates/onll_main" >&2
-    exit 1
-fi
+ONLL=proved "$top/onll" show /dev/null > /dev/null || exit 1
 
 folder=$(mktemp -d)
 trap 'rm -r "$folder"' EXIT

@@ -3,7 +3,12 @@
 
 top=$(cd "$(dirname "$0")/.." && pwd)
 program=$top/crates/onll_main/out/onll_main
-ONLL=proved "$top/onll" show /dev/null > /dev/null || exit 1
+# (with no words it ends with 2, the usage text's status)
+status=0
+ONLL=proved "$top/onll" > /dev/null || status=$?
+if [ $status = 125 ]; then
+    exit 1
+fi
 
 folder=$(mktemp -d)
 trap 'rm -r "$folder"' EXIT

@@ -28,8 +28,8 @@ step_law = record {
   draft_stored = λ k slots id j word me h is short nine room. steps.drafts k slots id _ word j me h is short nine room refl;
   tail_loaded = λ k slots id me h is may. steps.looks k slots id me h is may;
   tail_recalled = λ k slots id me h is. joins.recalls k slots id me h is;
-  row_loaded = λ k slots id i me h is. steps.reads k slots id i me h is;
-  settled = λ k slots id i p n me h is logs. steps.settles k slots id i p n me h is logs;
+  row_loaded = λ k slots id i q j me h is nine cell. steps.reads k slots id i q j me h is nine cell;
+  settled = λ k slots id i p n me h is logs here. steps.settles k slots id i p n me h is logs here;
   tail_exchanged = λ k slots id old new row me h is loaded olds draft seven room news.
       let one : length me.0.known + 1 ≡ suc (length me.0.known) = omega arith in
       links.links k slots id old new row me h is loaded olds (draft ∙ ap (λ (n : ℕ). row ++ old ∷ n ∷ []) one) seven room news;

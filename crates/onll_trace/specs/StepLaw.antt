@@ -14,7 +14,7 @@ use Rattle.onll_trace.specs.Plans.{Plan, IsPlan, base_place}
 use Rattle.onll_trace.specs.Views.{Hand, View, note_of, without_first, only_first, gathering, spent}
 use Rattle.onll_trace.specs.Rule.{Shows, name_at, row_at, count_of, newcomers}
 use Rattle.onll_trace.specs.Hands.{with_note, drafted_row}
-use Rattle.onll_trace.specs.Plays.{Mine, base_in, own_row, Looked, Drafted, Read, Flagged, Linked, Settled, FlagSet as OwnFlagSet, Recalled}
+use Rattle.onll_trace.specs.Plays.{Mine, base_in, own_row, newest_row, IsRowWord, Looked, Drafted, Read, Flagged, Linked, Settled, FlagSet as OwnFlagSet, Recalled}
 use Rattle.onll_trace.specs.Spots.{MayAsk, MayLook}
 
 -- Each atomic step is an event on the frame that the table shows, or two of its thread, or leaves the frame as it is.
@@ -85,17 +85,18 @@ pub record StepLaw : Type 0 where
   pub draft_stored : (k : Plan) (slots id j word : ℕ) (me : Mine) (h : Hand) → me.0.hands ≡ h ∷ [] → j ≤ length h.draft
       → j < 9 → count_of h.thread me.0.known < me.0.plan.nodes
       → StepMakes k id me (own_row me.0 + j) (λ _. word) (λ _. Drafted (step slots (own_row me.0 + j) word 0 none) me word) (λ _. [])
-  -- a load of the tail, by a look
+  -- a load of the tail, which is word 0, by a look
   pub tail_loaded : (k : Plan) (slots id : ℕ) (me : Mine) (h : Hand) → me.0.hands ≡ h ∷ [] → MayLook h.draft h.part
       → StepMakes k id me 0 (λ n. n) (Looked (step slots 0 0 0 none) me) (λ _. look_events h.thread h.draft h.part.activity)
   -- a load of the tail, after a note was taken in
   pub tail_recalled : (k : Plan) (slots id : ℕ) (me : Mine) (h : Hand) → me.0.hands ≡ h ∷ []
       → StepMakes k id me 0 (λ n. n) (Recalled (step slots 0 0 0 none) me) (λ _. [])
   -- a load of a word of a row that is published
-  pub row_loaded : (k : Plan) (slots id i : ℕ) (me : Mine) (h : Hand) → me.0.hands ≡ h ∷ []
+  pub row_loaded : (k : Plan) (slots id i q j : ℕ) (me : Mine) (h : Hand) → me.0.hands ≡ h ∷ [] → j < 9 → IsRowWord me.0 q j i
       → StepMakes k id me i (λ n. n) (Read (step slots i 0 0 none) me) (λ _. [])
-  -- such a load after the log was fenced
+  -- such a load after the log was fenced, of the first word of the own newest row
   pub settled : (k : Plan) (slots id i p n : ℕ) (me : Mine) (h : Hand) → me.0.hands ≡ h ∷ [] → h.part.activity ≡ Logging p n
+      → i ≡ newest_row me.0
       → StepMakes k id me i (λ n. n) (Settled (step slots i 0 0 none) me) (λ _. Fence h.thread ∷ [])
   -- the exchange of the tail, where the row is whole and the spot knows nothing behind the tail that it looks for
   pub tail_exchanged : (k : Plan) (slots id old new : ℕ) (row : List ℕ) (me : Mine) (h : Hand) → me.0.hands ≡ h ∷ []

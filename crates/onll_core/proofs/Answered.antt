@@ -1,8 +1,9 @@
-use Rattle.std.proofs.Common.{ℕ, ◌≡◌, ◌+◌, ◌==◌, ◌⊎◌, inl, inr, ⊎_elim, Bool, true, false, List, [], ◌∷◌, length, map, Option, Some, None, Result, Ok, Err, MatchResult, IfOk, sym, refl, ap, ◌∙◌, subst}
+use Rattle.std.proofs.Common.{ℕ, ◌≡◌, ◌+◌, ◌==◌, ◌⊎◌, inl, inr, ⊎_elim, Bool, true, false, List, [], ◌∷◌, length, map, Option, Some, None, Result, Ok, Err, MatchResult, IfOk, IfErr, sym, refl, ap, ◌∙◌, subst}
 use Rattle.std.specs.Prelude.{if◌then◌else◌}
 use Rattle.onll_model.specs.declared.node.Node.{Node}
 use Rattle.onll_model.specs.Object.{Behaviour}
 use Rattle.onll_model.specs.Recovered.{operations_front}
+use Rattle.onll_model.specs.Trace.{state_after}
 use Rattle.onll_log.specs.declared.head.LogHead.{LogHead}
 use Rattle.onll_log.specs.Grammar.{Content, content_of}
 use Rattle.onll_merge.specs.declared.fault.RecoverFault.{RecoverFault}
@@ -13,11 +14,11 @@ use Rattle.onll_merge.specs.declared.fault.StateFault.{StateFault}
 use Rattle.onll_merge.specs.declared.fault.StateFault.TheVariants as states
 use Rattle.onll_merge.specs.Faults.{state_fault}
 use Rattle.onll_merge.specs.Merge.{merge}
-use Rattle.onll_merge.specs.Recovered.{Recovered, recovered_with, with_logs, merged, contents_from, with_operations, state_recovered}
+use Rattle.onll_merge.specs.Recovered.{Recovered, recovered_with, with_logs, merged, contents_from, with_operations, state_recovered, applied_nodes, state_left}
 use Rattle.onll_core.specs.declared.fault.ResumeFault.{ResumeFault}
 use Rattle.onll_core.specs.declared.fault.ResumeFault.TheVariants.{Images, OldFormat, NotOp, NoMemory}
 use Rattle.onll_core.specs.Resume.{Found, is_old, old_format, found_merged, found_newer, found_logs, found_in}
-use Rattle.onll_core.specs.Found.{is_old_log, first_old, answer_of, IsFound}
+use Rattle.onll_core.specs.Found.{is_old_log, first_old, answer_of, IsFound, object_left}
 use Rattle.onll_core.proofs.FoundLogs.{contents_are, contents_never}
 
 -- What is answered to images, from what was recovered and the first log of an old format.
@@ -150,3 +151,47 @@ still_ok {V} P old recovered result e h = subst (λ (r : Result V ResumeFault). 
     of_answer (Some x) (Err (states.NotMerged f)) h = tt
     of_answer None (Err (states.NotOperation p)) h = tt
     of_answer (Some x) (Err (states.NotOperation p)) h = tt
+
+-- ---- the object
+module _ {State Op Query Reply : Type 0} (b : Behaviour State Op Query Reply) (x : Result Recovered ImagesFault) (s s_new : State) where
+  -- the operations that are applied are all nodes where a state was recovered
+  applied_all : (y : Result Recovered ImagesFault) (r : Recovered) → with_operations b y ≡ Ok r → operations_front b r.nodes ≡ r.nodes → applied_nodes b y ≡ r.nodes
+  applied_all (Ok y) r e rows = by_test (length (operations_front b y.nodes) == length y.nodes) e
+    where
+      by_test : (q : Bool) → (if q then Ok y else Err (states.NotOperation (length (operations_front b y.nodes) + 1))) ≡ Ok r → operations_front b y.nodes ≡ r.nodes
+      by_test true e = let same : y ≡ r = (cc) in ap (λ (z : Recovered). operations_front b z.nodes) same ∙ rows
+      by_test false e = absurd (cc)
+  applied_all (Err f) r e rows = absurd (cc)
+
+  module _ {V : Type 0} (view : V → Recovered) where
+    -- recovery left the object so
+    abbrev Leaves : Result V StateFault → Type 0
+    Leaves recovered = MatchResult recovered (λ v. (applied_nodes b x ≡ (view v).nodes) × (s_new ≡ state_after b s (view v).nodes)) (λ e. s_new ≡ state_left b x s e)
+
+    -- what is answered leaves it so
+    abbrev Left : Result V ResumeFault → Type 0
+    Left result = MatchResult result (λ v. applied_nodes b x ≡ (view v).nodes) (λ e. s_new ≡ object_left b x s e)
+
+    of_answer : (old : Option ℕ) (recovered : Result V StateFault) → Leaves recovered → Left (answer_of old recovered)
+    of_answer None (Ok v) h = h.0
+    of_answer (Some log) (Ok v) h = h.1 ∙ ap (λ (ns : List Node). state_after b s ns) (sym h.0)
+    of_answer None (Err states.NoMemory) h = h
+    of_answer (Some log) (Err states.NoMemory) h = h
+    of_answer None (Err (states.NotLog i)) h = h
+    of_answer (Some log) (Err (states.NotLog i)) h = h
+    of_answer None (Err (states.NotMerged f)) h = h
+    of_answer (Some log) (Err (states.NotMerged f)) h = h
+    of_answer None (Err (states.NotOperation p)) h = h
+    of_answer (Some log) (Err (states.NotOperation p)) h = h
+
+    leaves : (recovered : Result V StateFault) → MatchResult recovered (λ v. with_operations b x ≡ Ok (view v)) (λ e. (e ≡ states.NoMemory) ⊎ (with_operations b x ≡ Err e))
+        → IfOk recovered (λ v. operations_front b (view v).nodes ≡ (view v).nodes) → IfOk recovered (λ v. s_new ≡ state_after b s (view v).nodes)
+        → IfErr recovered (λ e. s_new ≡ state_left b x s e) → Leaves recovered
+    leaves (Ok v) is rows state left = (applied_all x (view v) is rows, state)
+    leaves (Err e) is rows state left = left
+
+    -- a refusal leaves the object as its recovery left it
+    pub left_answered : (old : Option ℕ) (recovered : Result V StateFault) → MatchResult recovered (λ v. with_operations b x ≡ Ok (view v)) (λ e. (e ≡ states.NoMemory) ⊎ (with_operations b x ≡ Err e))
+        → IfOk recovered (λ v. operations_front b (view v).nodes ≡ (view v).nodes) → IfOk recovered (λ v. s_new ≡ state_after b s (view v).nodes)
+        → IfErr recovered (λ e. s_new ≡ state_left b x s e) → (result : Result V ResumeFault) → result ≡ answer_of old recovered → Left result
+    left_answered old recovered is rows state left result e = subst Left (sym e) (of_answer old recovered (leaves recovered is rows state left))

@@ -3,17 +3,19 @@ use Rattle.std.specs.Prelude.{ℕ, zero, suc, ◌≡◌, ◌+◌, ◌*◌, ◌<�
 use Rattle.onll_model.specs.Limits.{most_threads, most_updates}
 use Rattle.onll_model.specs.declared.call.Call.{Call}
 use Rattle.onll_model.specs.declared.node.Node.{Node}
-use Rattle.onll_model.specs.Trace.{is_of_thread}
+use Rattle.onll_model.specs.Object.{Behaviour}
+use Rattle.onll_model.specs.Trace.{is_of_thread, state_after}
 use Rattle.onll_model.specs.Calls.{updates_in}
 use Rattle.onll_pmem.specs.Device.{zero_lines}
 use Rattle.onll_log.specs.declared.head.LogHead.{LogHead}
 use Rattle.onll_log.specs.Head.{head_line}
 use Rattle.onll_log.specs.Grammar.{Content, content_of}
 use Rattle.onll_merge.specs.declared.counts.LogCounts.{LogCounts}
+use Rattle.onll_merge.specs.declared.fault.ImagesFault.{ImagesFault}
 use Rattle.onll_merge.specs.declared.fault.ImagesFault.TheVariants as images
 use Rattle.onll_merge.specs.declared.fault.StateFault.{StateFault}
 use Rattle.onll_merge.specs.declared.fault.StateFault.TheVariants as states
-use Rattle.onll_merge.specs.Recovered.{Recovered, recovered_with}
+use Rattle.onll_merge.specs.Recovered.{Recovered, recovered_with, applied_nodes}
 use Rattle.onll_core.specs.declared.fault.ResumeFault.{ResumeFault}
 use Rattle.onll_core.specs.declared.fault.ResumeFault.TheVariants.{Images, OldFormat, NotOp, NoMemory}
 use Rattle.onll_core.specs.declared.local.Local.{Local}
@@ -48,6 +50,13 @@ pub record IsFound (found : Result Found ResumeFault) (r : Recovered) : Type 0 w
   pub all : Found
   pub is : found ≡ Ok all
   pub told : r ≡ recovered_with all.logs all.nodes
+
+-- the object that a refusal leaves where images give this: after the operations before the first row that is none, and as it was
+-- where memory ran out
+abbrev pub object_left : {State Op Query Reply : Type 0} → Behaviour State Op Query Reply → Result Recovered ImagesFault → State
+    → ResumeFault → State
+object_left b recovered s NoMemory = s
+object_left b recovered s fault = state_after b s (applied_nodes b recovered)
 
 -- ---- threads
 -- the lines with which a device begins: the used ones of an image, or the head's where there are none

@@ -1,6 +1,6 @@
 //! What images of an earlier generation's logs give to a core that goes on, and why they may give nothing.
 
-ghost use Rattle.std.specs.Prelude.{◌≡◌, ◌<◌, ◌≤◌, ◌⊎◌, length, map, count_by, Some, None, IfOk, MatchResult};
+ghost use Rattle.std.specs.Prelude.{ℕ, ◌≡◌, ◌<◌, ◌≤◌, ◌⊎◌, length, map, count_by, Some, None, IfOk, IfErr, MatchResult};
 ghost use Rattle.std.specs.List.{All, AllByRecursion};
 ghost use Rattle.onll_model.specs.Limits.{most_threads, most_updates};
 ghost use Rattle.onll_model.specs.Calls.{updates_in};
@@ -9,10 +9,10 @@ ghost use Rattle.onll_pmem.specs.Device.{line_at};
 ghost use Rattle.onll_pmem.specs.Pmem.{words_of};
 ghost use Rattle.onll_log.specs.Grammar.{content_of};
 ghost use Rattle.onll_log.specs.Torn.{AreLines};
-ghost use Rattle.onll_merge.specs.Recovered.{recovered_in};
+ghost use Rattle.onll_merge.specs.Recovered.{recovered_from, recovered_in, applied_nodes};
 ghost use Rattle.onll_core.specs.Resume.{base_in, found_in, is_too_many, too_many};
-ghost use Rattle.onll_core.specs.Found.{is_old_log, first_old, answer_of, IsFound};
-ghost use Rattle.onll_core.specs.declared.fault.ResumeFault.TheVariants.{NoMemory as OutOfMemory};
+ghost use Rattle.onll_core.specs.Found.{is_old_log, first_old, answer_of, IsFound, object_left};
+ghost use Rattle.onll_core.specs.declared.fault.ResumeFault.TheVariants.{NoMemory as OutOfMemory, TooMany};
 
 use crate::fault::ResumeFault;
 use crate::worker::count_updates;
@@ -102,7 +102,8 @@ fn answer_of(
     }
 }
 
-/// What images give as logs that a core with these heads can go on from, and the object after their nodes.
+/// What images give as logs that a core with these heads can go on from, and the object after their nodes. A refusal leaves the
+/// object after those of them that come before a row that is no operation.
 pub fn find<O: Object>(
     alloc: Global,
     object: &mut O,
@@ -113,6 +114,9 @@ pub fn find<O: Object>(
     ensures found { let found = found_in O.means heads.now (map (λ image. words_of image.items) images.now) in
         MatchResult result (λ r. IsFound found (recovered_in r)) (λ e. (e ≡ OutOfMemory) ⊎ (found ≡ Err e)) }
     ensures state { IfOk result (λ r. object.new ≡ state_after O.means object.old r.nodes.items) }
+    ensures left { let recovered = recovered_from heads.now (map (λ image. words_of image.items) images.now) in
+        MatchResult result (λ r. applied_nodes O.means recovered ≡ r.nodes.items)
+        (λ e. object.new ≡ object_left O.means recovered object.old e) }
 {
     let recovered = recover_state(alloc, object, heads, images);
     answer_of(first_old(images), recovered)
@@ -149,8 +153,9 @@ pub fn check_room<O: Object>(
     requires few { length scripts.now ≤ most_threads }
     requires logs { length logs.now ≡ length scripts.now }
     requires updates { All (λ script. updates_in script.items ≤ most_updates) scripts.now }
-    ensures { let refused = too_many (length scripts.now) nodes.now 0 logs.now (map (λ script. script.items) scripts.now) in
+    ensures room { let refused = too_many (length scripts.now) nodes.now 0 logs.now (map (λ script. script.items) scripts.now) in
         MatchResult result (λ _. refused ≡ None) (λ e. refused ≡ Some e) }
+    ensures only { IfErr result (λ e. (t : ℕ) × (e ≡ TooMany t)) }
 {
     let threads = scripts.len() as u64;
     for (thread, script) in scripts.iter().enumerate() {
@@ -170,7 +175,8 @@ pub fn check_room<O: Object>(
 }
 
 /// What images give as logs that scripts can go on from with these heads, and the object after their nodes; or the first reason why
-/// they can't.
+/// they can't. A refusal leaves the object after those of the nodes that come before a row that is no operation, where the logs
+/// merge to nodes, and as it was where they don't.
 pub fn find_base<O: Object>(
     alloc: Global,
     object: &mut O,
@@ -186,6 +192,8 @@ pub fn find_base<O: Object>(
         (map (λ image. words_of image.items) images.now) in
         MatchResult result (λ r. IsFound base (recovered_in r)) (λ e. (e ≡ OutOfMemory) ⊎ (base ≡ Err e)) }
     ensures state { IfOk result (λ r. object.new ≡ state_after O.means object.old r.nodes.items) }
+    ensures left { IfErr result (λ e. object.new
+        ≡ object_left O.means (recovered_from heads.now (map (λ image. words_of image.items) images.now)) object.old e) }
 {
     let found = find(alloc, object, heads, images)?;
     match check_room(&found.nodes, &found.logs, scripts) {

@@ -4,6 +4,7 @@ use Rattle.std.specs.Option.{is_some}
 use Rattle.onll_model.specs.declared.node.Node.{Node}
 use Rattle.onll_model.specs.Object.{Behaviour}
 use Rattle.onll_model.specs.Recovered.{operations_front}
+use Rattle.onll_model.specs.Trace.{state_after}
 use Rattle.onll_log.specs.declared.head.LogHead.{LogHead}
 use Rattle.onll_log.specs.Head.{head_for}
 use Rattle.onll_log.specs.Grammar.{Content, content_of, format_in, used_by}
@@ -11,7 +12,7 @@ use Rattle.onll_merge.specs.declared.fault.RecoverFault.{RecoverFault}
 use Rattle.onll_merge.specs.declared.fault.ImagesFault.{ImagesFault}
 use Rattle.onll_merge.specs.declared.fault.ImagesFault.TheVariants.{NotLog, Recover}
 use Rattle.onll_merge.specs.declared.fault.StateFault.{StateFault}
-use Rattle.onll_merge.specs.declared.fault.StateFault.TheVariants.{NotOperation}
+use Rattle.onll_merge.specs.declared.fault.StateFault.TheVariants.{NotOperation, NoMemory}
 use Rattle.onll_merge.specs.Faults.{state_fault}
 use Rattle.onll_merge.specs.declared.counts.LogCounts.{LogCounts}
 use Rattle.onll_merge.specs.declared.recovery.Recovery.{Recovery}
@@ -89,3 +90,15 @@ with_operations b (Err fault) = Err (state_fault fault)
 abbrev pub state_recovered : {State Op Query Reply : Type 0} → Behaviour State Op Query Reply → List LogHead
     → List (List (List ℕ)) → Result Recovered StateFault
 state_recovered b heads images = with_operations b (recovered_from heads images)
+
+-- the nodes whose operations are applied where a state is asked for: those before the first whose row is none; where images give
+-- no nodes there are none
+abbrev pub applied_nodes : {State Op Query Reply : Type 0} → Behaviour State Op Query Reply → Result Recovered ImagesFault → List Node
+applied_nodes b (Ok r) = operations_front b r.nodes
+applied_nodes b (Err fault) = []
+
+-- the object that a refusal leaves: with these operations applied, and as it was where memory ran out
+abbrev pub state_left : {State Op Query Reply : Type 0} → Behaviour State Op Query Reply → Result Recovered ImagesFault → State
+    → StateFault → State
+state_left b recovered s NoMemory = s
+state_left b recovered s fault = state_after b s (applied_nodes b recovered)

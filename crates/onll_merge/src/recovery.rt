@@ -1,11 +1,11 @@
 //! Recovery: what the images of one run give.
 
-ghost use Rattle.std.specs.Prelude.{◌≡◌, ◌≤◌, ◌⊎◌, [], length, map, Ok, Err, Some, None, IfOk, MatchResult};
+ghost use Rattle.std.specs.Prelude.{◌≡◌, ◌≤◌, ◌⊎◌, [], length, map, Ok, Err, Some, None, IfOk, IfErr, MatchResult};
 ghost use Rattle.std.specs.Option.{option_or};
 ghost use Rattle.std.specs.List.{AllByRecursion};
 ghost use Rattle.onll_model.specs.Limits.{most_threads, greatest_code};
 ghost use Rattle.onll_merge.specs.Merge.{AllRise, unlike, nodes_to, stray_above};
-ghost use Rattle.onll_merge.specs.Recovered.{recovered_from, recovered_in, merge_images, expected_heads, state_recovered};
+ghost use Rattle.onll_merge.specs.Recovered.{recovered_from, recovered_in, merge_images, expected_heads, state_recovered, state_left};
 ghost use Rattle.onll_merge.specs.Standing.{contents_under};
 ghost use Rattle.onll_merge.specs.declared.fault.RecoverFault.TheVariants.{NoMemory as OutOfMemory};
 ghost use Rattle.onll_merge.specs.declared.fault.ImagesFault.TheVariants.{Recover};
@@ -114,7 +114,7 @@ pub fn expected_heads<I: LogImage>(
 }
 
 /// What images give over an object as the logs of one run with these heads: each row is applied to the object. It refuses the
-/// first row that is no operation, after all else.
+/// first row that is no operation, after all else; the object then has the operations before it.
 pub fn recover_state<O: Object, I: LogImage>(
     alloc: Global,
     object: &mut O,
@@ -127,6 +127,8 @@ pub fn recover_state<O: Object, I: LogImage>(
     ensures count { IfOk result (λ r. length r.logs.items ≡ length images.now) }
     ensures rows { IfOk result (λ r. operations_front O.means r.nodes.items ≡ r.nodes.items) }
     ensures state { IfOk result (λ r. object.new ≡ state_after O.means object.old r.nodes.items) }
+    ensures left { IfErr result (λ e. object.new
+        ≡ state_left O.means (recovered_from heads.now (map I.lines_of images.now)) object.old e) }
 {
     let recovery = recover_images(alloc, images, heads)?;
     match fold_nodes(object, &recovery.nodes) {

@@ -38,7 +38,7 @@ returns-in-Err g c =
     let within = within_limits (λ script. script.items) g.O.Object.CODE c.args.scripts.items g.met.O.Object.code_in_range c.requires.few c.requires.updates in
     let as_many : length I ≡ length S = length-map c.args.images.now (λ image. words_of image.items) ∙ (c.requires.images ∙ sym many) in
     let found : IsFound (found_in g.O.Object.means c.in_ok-heads.heads.items I) (recovered_in c.in_ok-found.found) = rw c.deref.ensures.value at c.in_ok-found.ensures.found in
-    inr (refused g.O.Object.means g.O.Object.CODE c.args.init.now c.args.object S within I c.told_lines.ensures as_many c.in_ok-heads.heads.items heads (recovered_in c.in_ok-found.found) found (length c.args.scripts.items) c.in-Err.fault (sym many) (rw (c.deref-2.ensures.value, c.deref-3.ensures.value, c.deref-4.ensures.value) at c.in-Err.ensures))
+    inr (refused g.O.Object.means g.O.Object.CODE c.args.init.now c.args.object S within I c.told_lines.ensures as_many c.in_ok-heads.heads.items heads (recovered_in c.in_ok-found.found) found (length c.args.scripts.items) c.in-Err.fault (sym many) (rw (c.deref-2.ensures.value, c.deref-3.ensures.value, c.deref-4.ensures.value) at c.in-Err.ensures.room))
 
 pub found_workers-requires-after_bounds : goal.found_workers-requires-after_bounds
 found_workers-requires-after_bounds g c κs bounds =
@@ -50,7 +50,7 @@ found_workers-requires-after_bounds g c κs bounds =
     let within = within_limits (λ script. script.items) g.O.Object.CODE c.args.scripts.items g.met.O.Object.code_in_range c.requires.few c.requires.updates in
     let as_many : length I ≡ length S = length-map c.args.images.now (λ image. words_of image.items) ∙ (c.requires.images ∙ sym many) in
     let found : IsFound (found_in g.O.Object.means c.in_ok-heads.heads.items I) (recovered_in c.in_ok-found.found) = rw c.deref.ensures.value at c.in_ok-found.ensures.found in
-    let none : too_many (length c.args.scripts.items) c.in_ok-found.found.nodes.items 0 c.in_ok-found.found.logs.items S ≡ None = rw (c.deref-2.ensures.value, c.deref-3.ensures.value, c.deref-4.ensures.value) at c.in_default.ensures in
+    let none : too_many (length c.args.scripts.items) c.in_ok-found.found.nodes.items 0 c.in_ok-found.found.logs.items S ≡ None = rw (c.deref-2.ensures.value, c.deref-3.ensures.value, c.deref-4.ensures.value) at c.in_default.ensures.room in
     rw (c.deref-7.ensures.value, c.deref-8.ensures.value) (made_roomy g.O.Object.means g.O.Object.CODE c.args.init.now c.args.object S within I c.told_lines.ensures as_many c.in_ok-heads.heads.items heads (recovered_in c.in_ok-found.found) found (length c.args.scripts.items) (sym many) none)
 
 pub invariant_of-result : goal.invariant_of-result
@@ -63,7 +63,7 @@ invariant_of-result g c =
     let within = within_limits (λ script. script.items) g.O.Object.CODE c.args.scripts.items g.met.O.Object.code_in_range c.requires.few c.requires.updates in
     let as_many : length I ≡ length S = length-map c.args.images.now (λ image. words_of image.items) ∙ (c.requires.images ∙ sym many) in
     let found : IsFound (found_in g.O.Object.means c.in_ok-heads.heads.items I) (recovered_in c.in_ok-found.found) = rw c.deref.ensures.value at c.in_ok-found.ensures.found in
-    let none : too_many (length c.args.scripts.items) c.in_ok-found.found.nodes.items 0 c.in_ok-found.found.logs.items S ≡ None = rw (c.deref-2.ensures.value, c.deref-3.ensures.value, c.deref-4.ensures.value) at c.in_default.ensures in
+    let none : too_many (length c.args.scripts.items) c.in_ok-found.found.nodes.items 0 c.in_ok-found.found.logs.items S ≡ None = rw (c.deref-2.ensures.value, c.deref-3.ensures.value, c.deref-4.ensures.value) at c.in_default.ensures.room in
     let after : c.find.new.object ≡ state_after g.O.Object.means c.args.object c.in_ok-found.found.nodes.items = c.in_ok-found.ensures.state ∙ ap (λ (s : _). state_after g.O.Object.means s c.in_ok-found.found.nodes.items) c.in_ok-after.ensures in
     let base : c.len-base.result ≡ length c.in_ok-found.found.nodes.items = c.len-base.ensures ∙ c.in_ok-found.found.nodes.ok.0 in
     let t : 4096 * length c.args.scripts.items ≤ vec_capacity c.in_ok-trace.trace = (let k = c.in_ok-trace.ensures.1 in omega arith) in
@@ -82,7 +82,7 @@ returns g c =
     let within = within_limits (λ script. script.items) g.O.Object.CODE c.args.scripts.items g.met.O.Object.code_in_range c.requires.few c.requires.updates in
     let as_many : length I ≡ length S = length-map c.args.images.now (λ image. words_of image.items) ∙ (c.requires.images ∙ sym many) in
     let found : IsFound (found_in g.O.Object.means c.in_ok-heads.heads.items I) (recovered_in c.in_ok-found.found) = rw c.deref.ensures.value at c.in_ok-found.ensures.found in
-    let none : too_many (length c.args.scripts.items) c.in_ok-found.found.nodes.items 0 c.in_ok-found.found.logs.items S ≡ None = rw (c.deref-2.ensures.value, c.deref-3.ensures.value, c.deref-4.ensures.value) at c.in_default.ensures in
+    let none : too_many (length c.args.scripts.items) c.in_ok-found.found.nodes.items 0 c.in_ok-found.found.logs.items S ≡ None = rw (c.deref-2.ensures.value, c.deref-3.ensures.value, c.deref-4.ensures.value) at c.in_default.ensures.room in
     let after : c.find.new.object ≡ state_after g.O.Object.means c.args.object c.in_ok-found.found.nodes.items = c.in_ok-found.ensures.state ∙ ap (λ (s : _). state_after g.O.Object.means s c.in_ok-found.found.nodes.items) c.in_ok-after.ensures in
     let base : c.len-base.result ≡ length c.in_ok-found.found.nodes.items = c.len-base.ensures ∙ c.in_ok-found.found.nodes.ok.0 in
     let t : 4096 * length c.args.scripts.items ≤ vec_capacity c.in_ok-trace.trace = (let k = c.in_ok-trace.ensures.1 in omega arith) in

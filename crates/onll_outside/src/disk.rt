@@ -22,6 +22,9 @@ const LINE: u64 = 64;
 /// The lines of the parts in which a file is read and written.
 const PART: usize = 1024;
 
+/// How many names are tried for a file beside another.
+const BESIDE: u64 = 100;
+
 /// Makes durable that a file of this name is in its folder.
 fn sync_folder<R: Files>(files: &R, name: &str) -> io::Result<()> {
     match Path::new(name).parent() {
@@ -194,17 +197,26 @@ where
     Ok(file)
 }
 
-/// Cuts a file after its first lines, and fills it with zeros up to so many lines, durably. Where none is to stay
-/// its first line is never cut off, so that whatever ends this leaves a file with a line.
-pub fn cut_file<R: Files>(files: &R, name: &str, front: u64, lines: u64) -> io::Result<R::File>
+/// Cuts a file after its first lines, which are these, and fills it with zeros up to so many lines, durably. The first lines are
+/// written again: one whose sync failed may read as written and be lost with the power, and a sync alone writes it no more. Where
+/// none is to stay the file's first line is never cut off, so that whatever ends this leaves a file with a line.
+pub fn cut_file<R: Files>(
+    files: &R,
+    name: &str,
+    buffer: &mut Vec<u8>,
+    front: &[Line],
+    lines: u64,
+) -> io::Result<R::File>
 where
     R::File: FileExt,
-    requires front { front ≤ lines }
+    requires front { length front.now ≤ lines }
     requires few { lines ≤ 1000000 }
 {
-    let file = OpenOptions::new().write(true).open(files, name)?;
-    file.set_len(front.max(lines.min(1)) * LINE)?;
-    fill(&file, front * LINE, lines * LINE)?;
+    let kept = front.len() as u64;
+    let mut file = OpenOptions::new().write(true).open(files, name)?;
+    write_parts(&mut file, buffer, front)?;
+    file.set_len(kept.max(lines.min(1)) * LINE)?;
+    fill(&file, kept * LINE, lines * LINE)?;
     file.sync_all()?;
     Ok(file)
 }
@@ -218,26 +230,77 @@ fn is_named<R: Files>(files: &R, name: &str, file: &R::File) -> io::Result<bool>
     Ok(own.dev() == named.dev() && own.ino() == named.ino())
 }
 
-/// Writes the lines of a device, as they read, to a file of its own, durably.
-fn copy_device<R: Files>(files: &R, name: &str, device: &FilePmem<R::File>) -> io::Result<()>
+/// Whether a file may take this name: none is there, or a regular one.
+fn is_replaceable<R: Files>(files: &R, name: &str) -> bool {
+    match fs::metadata(files, name) {
+        Ok(data) => data.is_file(),
+        Err(e) => e.kind() == ErrorKind::NotFound,
+    }
+}
+
+/// An empty file in the folder of this one, and its name, which no other file had.
+fn create_beside<R: Files>(files: &R, alloc: Global, name: &str) -> io::Result<(String, R::File)> {
+    for number in 0..BESIDE {
+        let beside = format!(in alloc; "{name}.new{number}")?;
+        match fs::File::create_new(files, beside.as_str()) {
+            Ok(file) => return Ok((beside, file)),
+            Err(e) if e.kind() == ErrorKind::AlreadyExists => {}
+            Err(e) => return Err(e),
+        }
+    }
+    Err(io::Error::from(ErrorKind::AlreadyExists))
+}
+
+/// Makes the lines of a device, as they read, the whole of an empty file, durably.
+fn write_device<R: Files>(file: &mut R::File, device: &FilePmem<R::File>) -> io::Result<()>
 where
     R::File: FileExt,
 {
-    let mut file = fs::create(files, name)?;
     for line in 0..device.lines() {
         file.write_all(&line_bytes(device.read(line)))?;
     }
-    file.sync_all()?;
+    file.sync_all()
+}
+
+/// Makes the lines of a device, as they read, a file of another name than its own, durably. They are written beside that file and
+/// then take its name, so that whatever ends this leaves the old file or the new one whole.
+fn copy_device<R: Files>(
+    files: &R,
+    alloc: Global,
+    name: &str,
+    device: &FilePmem<R::File>,
+) -> io::Result<()>
+where
+    R::File: FileExt,
+{
+    if !is_replaceable(files, name) {
+        return Err(io::Error::from(ErrorKind::AlreadyExists));
+    }
+    let (beside, mut file) = create_beside(files, alloc, name)?;
+    let mut moved = write_device::<R>(&mut file, device);
+    if moved.is_ok() {
+        moved = fs::rename(files, beside.as_str(), name);
+    }
+    if let Err(fault) = moved {
+        // What could not take the name is removed where that can be.
+        let _ = fs::remove_file(files, beside.as_str());
+        return Err(fault);
+    }
     sync_folder(files, name)
 }
 
 /// Makes the file of that name hold an image of a device, durably. Where it is the device's own it does so already.
-pub fn keep_device<R: Files>(files: &R, name: &str, device: &FilePmem<R::File>) -> io::Result<()>
+pub fn keep_device<R: Files>(
+    files: &R,
+    alloc: Global,
+    name: &str,
+    device: &FilePmem<R::File>,
+) -> io::Result<()>
 where
     R::File: FileExt,
 {
     if is_named(files, name, device.file())? {
         return device.file().sync_all();
     }
-    copy_device(files, name, device)
+    copy_device(files, alloc, name, device)
 }

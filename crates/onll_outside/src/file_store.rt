@@ -161,7 +161,10 @@ where
         front: &[Line],
         lines: u64,
     ) -> Result<FilePmem<R::File>, OutsideFault> {
-        let file = match cut_file(&self.files, name, front.len() as u64, lines) {
+        let Ok(mut buffer) = part_buffer(alloc) else {
+            return Err(OutsideFault::NoMemory);
+        };
+        let file = match cut_file(&self.files, name, &mut buffer, front, lines) {
             Ok(file) => file,
             Err(e) if e.kind() == ErrorKind::OutOfMemory => return Err(OutsideFault::NoMemory),
             Err(_) => return Err(self.faults.raise(alloc, FaultKind::Reopen, name)),
@@ -182,7 +185,7 @@ where
             .device_faults
             .saturating_add(one_fault(device.faults()));
         self.device_fences = self.device_fences.saturating_add(device.fences());
-        match keep_device(&self.files, name, &device) {
+        match keep_device(&self.files, alloc, name, &device) {
             Ok(()) => Ok(()),
             Err(e) if e.kind() == ErrorKind::OutOfMemory => Err(OutsideFault::NoMemory),
             Err(_) => Err(self.faults.raise(alloc, FaultKind::Keep, name)),

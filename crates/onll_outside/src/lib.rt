@@ -14,6 +14,7 @@
 //! The test `outside` of `onll_uses` runs this.
 #![tactic(auto)]
 
+mod bytes;
 mod disk;
 mod faults;
 mod file_store;

@@ -1,6 +1,6 @@
 //! The store in memory.
 
-ghost use Rattle.std.specs.Prelude.{◌≡◌, ◌≤◌, ◌*◌, refl, length, MatchOption, None, IfOk, IfErr, OnOk, map, take};
+ghost use Rattle.std.specs.Prelude.{◌≡◌, ◌≤◌, ◌*◌, refl, length, MatchOption, None, IfOk, IfErr, OnOk, map};
 ghost use Rattle.std.specs.Option.{option_copied};
 ghost use Rattle.onll_pmem.specs.Device.{zero_lines, fenced_device, image_of, IsImage};
 ghost use Rattle.onll_pmem.specs.Pmem.{words_of};
@@ -9,11 +9,12 @@ ghost use Rattle.onll_outside.specs.Views.{SameFiles, SameOthers, Holds, Gives, 
 ghost use Rattle.onll_outside.specs.LineFiles.{IsFileFront, GivesLines};
 ghost use Rattle.onll_outside.specs.MemStore.{FilesHeld, texts_of, file_in, place_in, with_file, store_of, call_fails, called, MemReads, MemReadsLines, MemWrites, MemMakes, MemReopens, MemStores, back, failing_of, reopened};
 
+use crate::bytes::{file_bytes, front_of, image_bytes, with_zeros};
 use crate::faults::Faults;
 use crate::gather::lines_of;
 use crate::{FaultKind, FileLines, OutsideFault, Store};
 use onll_pmem::{MemPmem, Pmem};
-use onll_words::{Line, line_bytes};
+use onll_words::Line;
 use std::alloc::{AllocError, Global};
 use std::marker::Model;
 
@@ -74,14 +75,6 @@ fn find<'a>(files: &'a [Named], name: &str) -> Option<&'a Named>
     None
 }
 
-/// The first bytes of a file, this many at most.
-fn front_of(bytes: &[u8], limit: u64) -> &[u8]
-    ensures { result.now ≡ take limit bytes.now }
-{
-    let count = bytes.len().min(limit as usize);
-    &bytes[..count]
-}
-
 /// The place of the first file of that name, or the count of files where there is none.
 #[tactic(auto, using(crate::proofs::Names::same_names))]
 fn place_of(files: &[Named], name: &str) -> usize
@@ -140,36 +133,6 @@ fn failing_of(alloc: Global, fences: &[FenceAt], device: u64) -> Result<Vec<u64>
         }
     }
     Ok(failing)
-}
-
-/// The bytes of an image's file.
-fn image_bytes(alloc: Global, lines: &[Line]) -> Result<Vec<u8>, AllocError>
-    ensures { IfOk result (λ bytes. bytes.items ≡ image_bytes (words_of lines.now)) }
-{
-    let mut bytes = Vec::new(alloc);
-    for line in lines {
-        bytes.extend_from_slice(&line_bytes(*line))?;
-    }
-    Ok(bytes)
-}
-
-/// These lines, and then lines of zeros, this many in all.
-fn with_zeros(alloc: Global, front: &[Line], lines: u64) -> Result<Vec<Line>, AllocError>
-    requires { length front.now ≤ lines }
-    ensures { IfOk result (λ v. words_of v.items ≡ with_zeros (words_of front.now) lines) }
-{
-    let mut image = Vec::from_slice(alloc, front)?;
-    image.resize(lines as usize, Line { w: [0; 8] })?;
-    Ok(image)
-}
-
-/// The bytes of the file of these lines, and then lines of zeros, this many in all.
-fn file_bytes(alloc: Global, front: &[Line], lines: u64) -> Result<Vec<u8>, AllocError>
-    requires { length front.now ≤ lines }
-    ensures { IfOk result (λ bytes. bytes.items ≡ image_bytes (with_zeros (words_of front.now) lines)) }
-{
-    let image = with_zeros(alloc, front, lines)?;
-    image_bytes(alloc, &image)
 }
 
 /// The file of what a crash leaves of a device that loses all that is pending.

@@ -7,6 +7,8 @@ ghost use Rattle.onll_outside.specs.Views.{StoreView, SameFiles, SameFaults, Sam
 ghost use Rattle.onll_outside.specs.LineFiles.{IsFileFront, GivesLines};
 
 use crate::OutsideFault;
+use crate::bytes::{file_bytes, front_of};
+use crate::gather::lines_of;
 use onll_pmem::Pmem;
 use onll_words::Line;
 use std::alloc::Global;
@@ -61,7 +63,14 @@ pub trait Store {
         ensures few { IfOk result (λ l. 64 * l.count ≤ limit) }
         ensures same { SameFiles (seen self.old) (seen self.new) }
         ensures faults { FaultsOf (record { kind = FaultKind.Read; name = name.now }) (seen self.old) (seen self.new) result }
-        ensures devices { SameDevices (seen self.old) (seen self.new) };
+        ensures devices { SameDevices (seen self.old) (seen self.new) }
+    {
+        let bytes = self.read(alloc, name, limit)?;
+        match lines_of(alloc, front_of(&bytes, limit)) {
+            Ok(lines) => Ok(lines),
+            Err(_) => Err(OutsideFault::NoMemory),
+        }
+    }
 
     /// Makes these bytes the file `name`. A write that fails may leave anything in that file; where memory
     /// can't be had, the file is as it was.
@@ -85,7 +94,13 @@ pub trait Store {
         ensures others { SameOthers name.now (seen self.old) (seen self.new) }
         ensures kept { IfErr result (λ e. e ≡ OutsideFault.NoMemory → SameFiles (seen self.old) (seen self.new)) }
         ensures faults { FaultsOf (record { kind = FaultKind.Write; name = name.now }) (seen self.old) (seen self.new) result }
-        ensures devices { SameDevices (seen self.old) (seen self.new) };
+        ensures devices { SameDevices (seen self.old) (seen self.new) }
+    {
+        let Ok(bytes) = file_bytes(alloc, front, count) else {
+            return Err(OutsideFault::NoMemory);
+        };
+        self.write(alloc, name, &bytes)
+    }
 
     /// Makes a device of so many lines of zeros, to be kept in the file `name`. That file stays as it was, or holds
     /// zeros alone.

@@ -4,7 +4,7 @@ ghost use Rattle.std.specs.Prelude.{refl};
 ghost use Rattle.onll_outside.specs.MemStore.{store_of};
 
 use onll_calls::{Program, words_of};
-use onll_outside::{FileLines, FreeGate, MemSink, MemStore, OutsideFault, Store};
+use onll_outside::{FreeGate, MemSink, MemStore, OutsideFault, Store};
 use onll_pmem::MemPmem;
 use onll_words::Line;
 use std::alloc::{AllocError, Global};
@@ -37,30 +37,8 @@ impl Store for Asked {
         self.files.read(alloc, name, limit)
     }
 
-    fn read_lines(
-        &mut self,
-        alloc: Global,
-        name: &str,
-        limit: u64,
-    ) -> Result<FileLines, OutsideFault> {
-        let Ok(()) = self.limits.push(limit) else {
-            return Err(OutsideFault::NoMemory);
-        };
-        self.files.read_lines(alloc, name, limit)
-    }
-
     fn write(&mut self, alloc: Global, name: &str, bytes: &[u8]) -> Result<(), OutsideFault> {
         self.files.write(alloc, name, bytes)
-    }
-
-    fn write_lines(
-        &mut self,
-        alloc: Global,
-        name: &str,
-        front: &[Line],
-        count: u64,
-    ) -> Result<(), OutsideFault> {
-        self.files.write_lines(alloc, name, front, count)
     }
 
     fn device(&mut self, alloc: Global, name: &str, lines: u64) -> Result<MemPmem, OutsideFault> {

@@ -10,7 +10,7 @@ use Rattle.onll_text.specs.Script.{script_of}
 use Rattle.onll_text.specs.Init.{init_of}
 use Rattle.onll_text.specs.Kinds.{ObjectKind, kind_at}
 use Rattle.onll_text.proofs.EachKind.{kind_goes}
-use Rattle.onll_outside.specs.Views.{Puts, Rose, counted}
+use Rattle.onll_outside.specs.Views.{Puts, WentUp, counted}
 use Rattle.onll_task.specs.declared.ending.Ending.{Ending}
 use Rattle.onll_task.specs.declared.ending.Exit.{Exit}
 use Rattle.onll_task.specs.declared.ending.Exit.TheVariants as exits
@@ -51,7 +51,7 @@ module _ (seen : Seen) (none : NoneRose seen) where
   did_over init bytes logs names object over form told accepted exits.SinkFault h = absurd (none.sink h.rose)
   did_over init bytes logs names object over form told accepted exits.NoMemory h = tt
 
-counted_rose : (n m now : ℕ) → 1 ≤ m → now ≡ counted n m → n < 2 ^ 64 → Rose n now
+counted_rose : (n m now : ℕ) → 1 ≤ m → now ≡ counted n m → n < 2 ^ 64 → WentUp n now
 counted_rose n m now some is low = (omega (arith, some, is, low), omega (arith, some, is, low))
 
 -- ---- what it says of a run

@@ -12,7 +12,7 @@ use Rattle.onll_text.specs.Script.{script_of}
 use Rattle.onll_text.specs.Init.{init_of}
 use Rattle.onll_text.specs.declared.any_object.AnyObject.{AnyObject}
 use Rattle.onll_text.specs.Kinds.{ObjectKind, on_object}
-use Rattle.onll_outside.specs.Views.{StoreView, Puts, Rose, counted}
+use Rattle.onll_outside.specs.Views.{StoreView, Puts, WentUp, counted}
 use Rattle.onll_task.specs.Images.{images_stage}
 use Rattle.onll_task.specs.Reading.{IsTold}
 use Rattle.onll_task.specs.Running.{RunPlan, RunLeft, HasKept, HeaderFault, DeviceFault}
@@ -100,7 +100,7 @@ RunPut seen init logs names Ran = PutOverInit seen init (λ k bytes s store afte
 -- ---- when a run is done
 -- the store's count of device faults rose, where it is a count of 64 bits
 abbrev pub DeviceFailed : Seen → Type 0
-DeviceFailed seen = seen.store.device_faults < 2 ^ 64 → Rose seen.store.device_faults seen.store_after.device_faults
+DeviceFailed seen = seen.store.device_faults < 2 ^ 64 → WentUp seen.store.device_faults seen.store_after.device_faults
 
 module _ (k : ObjectKind) (init : List ℕ) (s : k.State) (seen : Seen) (status : ℕ) (logs : List ℕ) (names : List (List ℕ)) where
   -- what was put of a run over this state

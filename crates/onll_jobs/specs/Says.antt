@@ -85,7 +85,7 @@ pub record Ended (seen : Seen) (status : ℕ) : Type 0 where
   pub is : status ≡ exit_status exit
   pub says : ExitSays seen exit
 
--- no count of faults rose
+-- no count of faults rose, as each call that fails raises one of them by one
 pub record NoneRose (seen : Seen) : Type 0 where
   pub store : Rose seen.store.faults seen.store_after.faults → ⊥
   pub sink : Rose seen.sink.faults seen.sink_after.faults → ⊥

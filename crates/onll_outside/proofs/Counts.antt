@@ -1,7 +1,7 @@
 use Rattle.std.proofs.Common.{ℕ, ◌-◌, ◌^◌, ◌≤◌, List, Result, Ok, Err, refl, ◌∙◌, arith}
 use Rattle.onll_outside.specs.declared.OutsideFault.{OutsideFault}
 use Rattle.onll_outside.specs.declared.OutsideFault.TheVariants.{Failed, NoMemory}
-use Rattle.onll_outside.specs.Views.{Last, StoreView, SinkView, Rose, SameFiles, FaultsOf, PutOf}
+use Rattle.onll_outside.specs.Views.{Last, StoreView, SinkView, SameFiles, FaultsOf, PutOf}
 
 -- a store's count never falls
 pub faults-le : {T : Type 0} (this : Last) (old new : StoreView) (r : Result T OutsideFault) → FaultsOf this old new r → old.faults ≤ new.faults
@@ -21,13 +21,6 @@ faults-end this old new r h e = omega (arith, faults-le this old new r h)
 
 pub put_faults-end : {T : Type 0} (old new : SinkView) (bytes : List ℕ) (r : Result T OutsideFault) → PutOf old new bytes r → 2 ^ 64 - 1 ≤ old.faults → 2 ^ 64 - 1 ≤ new.faults
 put_faults-end old new bytes r h e = omega (arith, put_faults-le old new bytes r h)
-
--- a count rises over two calls where it rises in one and doesn't fall in the other
-pub Rose-then : (a b c : ℕ) → Rose a b → b ≤ c → Rose a c
-Rose-then a b c h k = (omega arith, omega arith)
-
-pub Rose-after : (a b c : ℕ) → a ≤ b → Rose b c → Rose a c
-Rose-after a b c h k = (omega arith, omega arith)
 
 pub SameFiles-refl : (s : StoreView) → SameFiles s s
 SameFiles-refl s = record { tells = refl; file = λ name. refl }

@@ -31,9 +31,13 @@ pub record SinkView : Type 0 where
   pub taken : Option (List ℕ)
   pub faults : ℕ
 
--- a count went up, or stands at its type's end
+-- a count went up by one, or stands at its type's end
 abbrev pub Rose : ℕ → ℕ → Type 0
-Rose before now = (before ≤ now) × (min (before + 1) (2 ^ 64 - 1) ≤ now)
+Rose before now = (before ≤ now) × (now ≡ min (before + 1) (2 ^ 64 - 1))
+
+-- a count went up, by one or by more, or stands at its type's end
+abbrev pub WentUp : ℕ → ℕ → Type 0
+WentUp before now = (before ≤ now) × (min (before + 1) (2 ^ 64 - 1) ≤ now)
 
 -- no file changed
 pub record SameFiles (old new : StoreView) : Type 0 where
@@ -62,7 +66,7 @@ Gives view name limit bytes = view.tells ≡ true → IsFront limit (view.file n
 abbrev pub SameFaults : StoreView → StoreView → Type 0
 SameFaults old new = (new.faults ≡ old.faults) × (new.last ≡ old.last)
 
--- a call is a fault exactly where it answers Failed, and is then the last one
+-- a call is a fault exactly where it answers Failed: it is then counted once, and is the last one
 abbrev pub FaultsOf : {T : Type 0} → Last → StoreView → StoreView → Result T OutsideFault → Type 0
 FaultsOf this old new (Ok x) = SameFaults old new
 FaultsOf this old new (Err Failed) = Rose old.faults new.faults × (new.last ≡ Some this)

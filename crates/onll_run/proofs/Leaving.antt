@@ -2,7 +2,7 @@
 use Rattle.std.proofs.Common.{◌≡◌, ℕ, zero, suc, ◌+◌, ◌-◌, ◌<◌, ◌≤◌, ◌↔◌, Bool, true, false, if◌then◌else◌, List, [], ◌∷◌, ◌++◌, length, map, take, Option, Some, None, Ok, refl, sym, ap, ◌∙◌, subst, arith}
 use Rattle.std.specs.Prelude.{is_some, slice_index_or, drop, max, count_by, Err, All}
 use Rattle.std.specs.List.{AllByRecursion, slice_get}
-use Rattle.std.proofs.lemmas.List.{length-map}
+use Rattle.std.proofs.lemmas.List.{drop_at, length-map}
 use Rattle.std.proofs.lemmas.List.Elements.{All-from_recursion}
 use mathlib.Core.List.{IsPrefix}
 use Rattle.onll_model.specs.Limits.{most_updates}
@@ -18,11 +18,13 @@ use Rattle.onll_model.specs.Marks.{marked}
 use Rattle.onll_model.specs.Frames.{is_available}
 use Rattle.onll_model.specs.Legal.{placed_updates}
 use Rattle.onll_model.proofs.Lists.{same_some, some_not_none}
+use Rattle.onll_pmem.specs.Device.{zero_lines}
 use Rattle.onll_pmem.specs.Pmem.{DeviceView, ToldSettled}
 use Rattle.onll_log.specs.declared.head.LogHead.{LogHead}
-use Rattle.onll_log.specs.Grammar.{Content, content_of, lines_in, used_with}
+use Rattle.onll_log.specs.Encoding.{log_lines}
+use Rattle.onll_log.specs.Grammar.{Content, content_of, are_zero_lines, lines_in, used_with}
 use Rattle.onll_log.specs.Log.{LogState, free_of}
-use Rattle.onll_log.proofs.Encoded.{content_of-log_lines}
+use Rattle.onll_log.proofs.Encoded.{content_of-log_lines, length-log_lines}
 use Rattle.onll_merge.specs.declared.fault.RecoverFault.{RecoverFault}
 use Rattle.onll_merge.specs.Merge.{merge}
 use Rattle.onll_merge.specs.Laws.{HeadsFit}
@@ -54,6 +56,10 @@ use Rattle.onll_run.proofs.Headers.{open_fences, opened_faults, opened_lines}
 -- the heads and the tails of equal lists
 same_cons : {A : Type 0} (x y : A) (xs ys : List A) → x ∷ xs ≡ y ∷ ys → (x ≡ y) × (xs ≡ ys)
 same_cons x y xs ys e = (cc, cc)
+
+zeros_are : (n : ℕ) → are_zero_lines (zero_lines n) ≡ true
+zeros_are zero = refl
+zeros_are (suc n) = zeros_are n
 
 -- ---- what scripts, heads, logs and devices that fit give
 abbrev pub before_of : {State Op Query Reply Device : Type 0} → ThreadRun State Op Query Reply Device → PassView State Device
@@ -291,6 +297,9 @@ module _ {State Op Query Reply Device : Type 0} (b : Behaviour State Op Query Re
       record {
         head_is = w.gone_on.same.head ∙ a.head_is;
         holds = ap content_of holds.read ∙ content_of-log_lines r.after.log.head r.after.log.entries (free_of (length (means r.after.log.device).read) r.after.log.entries) holds.fits holds.fit;
+        zeros = ap (λ ls. are_zero_lines (drop (1 + lines_in r.after.log.entries) ls)) holds.read
+            ∙ (ap are_zero_lines (drop_at (log_lines r.after.log.head r.after.log.entries) (zero_lines (free_of (length (means r.after.log.device).read) r.after.log.entries)) (1 + lines_in r.after.log.entries) (length-log_lines r.after.log.head r.after.log.entries))
+            ∙ zeros_are (free_of (length (means r.after.log.device).read) r.after.log.entries));
         goes_on = subst (λ (ss : List Segment). IsPrefix ss r.after.log.entries) a.entries w.gone_on.goes_on;
         entries = omega arith;
         fences = omega arith;

@@ -12,7 +12,7 @@ use Rattle.onll_model.specs.Legal.{placed_updates, IsLegal, IsOver}
 use Rattle.onll_pmem.specs.Device.{Mixed}
 use Rattle.onll_log.specs.declared.head.LogHead.{LogHead}
 use Rattle.onll_log.specs.Grammar.{Content, content_of}
-use Rattle.onll_log.specs.Log.{free_of, but_last}
+use Rattle.onll_log.specs.Log.{EndsInZeros, free_of, but_last}
 use Rattle.onll_log.specs.Torn.{log_image}
 use Rattle.onll_merge.specs.Merge.{merge}
 use Rattle.onll_run.specs.Outcomes.{failed_in, StandsIn}
@@ -86,10 +86,11 @@ AllOver (calls ∷ scripts) [] = ⊥
 AllOver (calls ∷ scripts) (ends ∷ more) = (length ends ≡ length calls) × AllByRecursion IsOver ends × AllOver scripts more
 
 -- A log of this head held this before, and its thread has this many updates with a place since: its device reads as what it is
--- said to hold, which is what it held and an entry more for each of them, made with one fence.
+-- said to hold, and then zeros. That is what it held and an entry more for each of them, made with one fence.
 pub record LogTells (head : LogHead) (before : Content) (updates : ℕ) (log : LogLeft) : Type 0 where
   pub head_is : log.head ≡ head
   pub holds : content_of log.read ≡ Some (content_in log)
+  pub zeros : EndsInZeros log.read (content_in log)
   pub goes_on : IsPrefix before.entries log.entries
   pub entries : length log.entries ≡ length before.entries + updates
   pub fences : log.fences ≡ updates

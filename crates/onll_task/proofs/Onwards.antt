@@ -1,6 +1,6 @@
 -- How jobs that read and write go on.
 
-use Rattle.std.proofs.Common.{ℕ, zero, suc, true, false, List, [], ◌∷◌, ◌≡◌, inl, inr, ⊎_elim, Option, Some, cond, ◌+◌, ◌<◌, length, take, drop, get_or, Bool, true≢false, Result, refl, sym, ap, ◌∙◌, subst, arith}
+use Rattle.std.proofs.Common.{ℕ, zero, suc, true, false, List, [], ◌∷◌, ◌≡◌, ◌⊎◌, inl, inr, ⊎_elim, Option, Some, cond, ◌+◌, ◌^◌, ◌<◌, length, take, drop, get_or, Bool, true≢false, Result, refl, sym, ap, ◌∙◌, subst, arith}
 use Rattle.std.proofs.lemmas.List.{drop_more}
 use Rattle.std.proofs.lemmas.Bool.{cases_Bool}
 use Rattle.std.proofs.lemmas.Slice.Eq.{bytes_eq-Decides}
@@ -16,8 +16,11 @@ use Rattle.onll_task.specs.ImageNames.{image_name, image_names}
 use Rattle.onll_task.specs.Images.{image_bytes, writing_images}
 use Rattle.onll_text.specs.Kinds.{ObjectKind}
 use Rattle.onll_log.specs.Grammar.{Content}
-use Rattle.onll_run.specs.Left.{begun_logs}
-use Rattle.onll_task.specs.Running.{RunPlan, RunLeft, HasKept, StaysOrZeros, LogsStayOrWipe, FilesStand, DeviceLast, RunStops, broken_threads, fences_of, log_files}
+use Rattle.onll_model.specs.declared.call.Call.{Call}
+use Rattle.onll_model.specs.declared.call.CallEnd.{CallEnd}
+use Rattle.onll_model.specs.Calls.{updates_in}
+use Rattle.onll_run.specs.Left.{LogLeft, begun_logs}
+use Rattle.onll_task.specs.Running.{RunPlan, RunLeft, HasKept, HasSize, HaveSizes, IsNoLonger, StaysOrZeros, FileStands, AllStand, FilesStand, HoldTo, KeptTo, NoneCounted, NotMade, NotKept, IsCutShort, RunStops, broken_threads, fences_of, log_files}
 use Rattle.onll_task.specs.Writing.{FilesStay, SameCounts, AllButStay, OthersStay, SameBut, HasWritten, CannotWrite, WriteFailed, written}
 use Rattle.onll_task.specs.Job.{Job, Say, Read, Write, Threads, JobEnds, JobCut, GoesOn, on_value, reading, reading_whole}
 use Rattle.onll_task.proofs.Jobs.{files_stay, cannot_from}
@@ -55,6 +58,25 @@ cannot_write_from store mid after name WriteFault text files same h =
 but_more : (names : List (List ℕ)) (store mid after : StoreView) → FilesStay store mid → AllButStay names mid after → AllButStay names store after
 but_more names store mid after first then_ = record { tells = then_.tells ∙ first.tells; file = λ tells other differs. then_.file (first.tells ∙ tells) other differs ∙ first.file tells other }
 
+no_longer_from : (store mid : StoreView) (name : List ℕ) (read : List (List ℕ)) → FilesStay store mid → IsNoLonger mid name read → IsNoLonger store name read
+no_longer_from store mid name read files h on bytes is = h (files.tells ∙ on) bytes (files.file on name ∙ is)
+
+size_from : (reopens : Bool) (threads : ℕ) (store mid : StoreView) (name : List ℕ) (before : Content) (updates : ℕ) (log : LogLeft) → FilesStay store mid → HasSize reopens threads mid name before updates log → HasSize reopens threads store name before updates log
+size_from false threads store mid name before updates log files h = h
+size_from true threads store mid name before updates log files h = (h.0, no_longer_from store mid name log.read files h.1)
+
+sizes_from : {State Op Query Reply : Type 0} (reopens : Bool) (threads : ℕ) (store mid : StoreView) (names : List (List ℕ)) (befores : List Content) (scripts : List (List (Call State Op Query Reply))) (logs : List LogLeft) → FilesStay store mid
+    → HaveSizes reopens threads mid names befores scripts logs → HaveSizes reopens threads store names befores scripts logs
+sizes_from reopens threads store mid [] [] [] [] files h = tt
+sizes_from reopens threads store mid (name ∷ names) (before ∷ befores) (script ∷ scripts) (log ∷ logs) files h =
+    (size_from reopens threads store mid name before (updates_in script) log files h.0, sizes_from reopens threads store mid names befores scripts logs files h.1)
+sizes_from reopens threads store mid [] [] [] (log ∷ logs) files h = absurd h
+sizes_from reopens threads store mid [] [] (script ∷ scripts) logs files h = absurd h
+sizes_from reopens threads store mid [] (before ∷ befores) scripts logs files h = absurd h
+sizes_from reopens threads store mid (name ∷ names) [] scripts logs files h = absurd h
+sizes_from reopens threads store mid (name ∷ names) (before ∷ befores) [] logs files h = absurd h
+sizes_from reopens threads store mid (name ∷ names) (before ∷ befores) (script ∷ scripts) [] files h = absurd h
+
 kept_from : {k : ObjectKind} (plan : RunPlan k) (left : RunLeft k) (store mid kept : StoreView) → FilesStay store mid → SameCounts store mid → HasKept plan left mid kept → HasKept plan left store kept
 kept_from plan left store mid kept files counts h = record {
   calls = faults_more store mid kept counts.0 h.calls;
@@ -62,34 +84,60 @@ kept_from plan left store mid kept files counts h = record {
   fences = h.fences ∙ ap (λ n. counted n (fences_of left.logs + begun_logs plan.run.base.logs)) counts.1.1;
   files = h.files;
   fit = h.fit;
+  sizes = sizes_from plan.reopens (length plan.run.scripts) store mid (log_files plan) plan.run.base.logs plan.run.scripts left.logs files h.sizes;
   others = but_more (log_files plan) store mid kept files h.others;
 }
 
-zeros_from : (store mid after : StoreView) (names : List (List ℕ)) → FilesStay store mid → AllByRecursion (StaysOrZeros mid after) names → AllByRecursion (StaysOrZeros store after) names
-zeros_from store mid after [] files h = tt
-zeros_from store mid after (name ∷ names) files h = (first, zeros_from store mid after names files h.1)
-  where
-    first : StaysOrZeros store after name
-    first tells = ⊎_elim (λ (e : after.file name ≡ mid.file name). inl (e ∙ files.file tells name)) (λ z. inr z) (h.0 (files.tells ∙ tells))
+zeros_from : (store mid after : StoreView) (name : List ℕ) → FilesStay store mid → StaysOrZeros mid after name → StaysOrZeros store after name
+zeros_from store mid after name files h tells = ⊎_elim (λ (e : after.file name ≡ mid.file name). inl (e ∙ files.file tells name)) (λ z. inr z) (h (files.tells ∙ tells))
 
 wiped_from : (store mid after : StoreView) (name front : List ℕ) → FilesStay store mid → MayWipe name front mid after → MayWipe name front store after
 wiped_from store mid after name front files h on =
     let w = h (files.tells ∙ on) in record { was = w.was; rest = w.rest; before = sym (files.file on name) ∙ w.before; now = w.now; wiped = w.wiped }
 
-wipes_from : (store mid after : StoreView) (names : List (List ℕ)) (logs : List Content) → FilesStay store mid → LogsStayOrWipe mid after names logs → LogsStayOrWipe store after names logs
-wipes_from store mid after [] [] files h = tt
-wipes_from store mid after [] (log ∷ logs) files h = absurd h
-wipes_from store mid after (name ∷ names) [] files h = absurd h
-wipes_from store mid after (name ∷ names) (log ∷ logs) files h =
-    ((h.0.0, h.0.1, wiped_from store mid after name (image_bytes h.0.0) files h.0.2), wipes_from store mid after names logs files h.1)
+file_stands_from : (reopens : Bool) (store mid after : StoreView) → FilesStay store mid → (name : List ℕ) (log : Content) → FileStands reopens mid after name log → FileStands reopens store after name log
+file_stands_from false store mid after files name log h = zeros_from store mid after name files h
+file_stands_from true store mid after files name log h = (h.0, h.1, wiped_from store mid after name (image_bytes h.0) files h.2)
 
-stand_from : (reopens : Bool) (store mid after : StoreView) (names : List (List ℕ)) (logs : List Content) → FilesStay store mid → FilesStand reopens names logs mid after → FilesStand reopens names logs store after
-stand_from false store mid after names logs files h = zeros_from store mid after names files h
-stand_from true store mid after names logs files h = wipes_from store mid after names logs files h
+-- files that stand so stand as well in any way that follows
+pub all_stand_by : {S T : List ℕ → Content → Type 0} → ((name : List ℕ) (log : Content) → S name log → T name log) → (names : List (List ℕ)) (logs : List Content) → AllStand S names logs → AllStand T names logs
+all_stand_by follows [] [] h = tt
+all_stand_by follows [] (log ∷ logs) h = absurd h
+all_stand_by follows (name ∷ names) [] h = absurd h
+all_stand_by follows (name ∷ names) (log ∷ logs) h = (follows name log h.0, all_stand_by follows names logs h.1)
 
-last_from : {k : ObjectKind} (plan : RunPlan k) (store mid after : StoreView) (name : List ℕ) → FilesStay store mid → DeviceLast plan mid after name → DeviceLast plan store after name
-last_from plan store mid after name files (inl h) = inl (record { last = h.last; files = stand_from plan.reopens store mid after (log_files plan) plan.run.base.logs files h.files })
-last_from plan store mid after name files (inr h) = inr h
+pub stand_from : {k : ObjectKind} (plan : RunPlan k) (store mid after : StoreView) → FilesStay store mid → FilesStand plan mid after → FilesStand plan store after
+stand_from plan store mid after files h = all_stand_by (file_stands_from plan.reopens store mid after files) (log_files plan) plan.run.base.logs h
+
+hold_to_by : {S T : List ℕ → Content → Type 0} {State Op Query Reply : Type 0} (after : StoreView) → ((name : List ℕ) (log : Content) → S name log → T name log) → (names : List (List ℕ)) (befores : List Content) (logs : List LogLeft)
+    (ends : List (List (CallEnd State Op Query Reply))) (t : ℕ) → HoldTo S after names befores logs ends t → HoldTo T after names befores logs ends t
+hold_to_by after follows (name ∷ names) (before ∷ befores) (log ∷ logs) (es ∷ ends) zero h =
+    (⊎_elim (λ s. inl (follows name before s)) (λ held. inr held) h.0, all_stand_by follows names befores h.1)
+hold_to_by after follows (name ∷ names) (before ∷ befores) (log ∷ logs) (es ∷ ends) (suc t) h = (h.0, hold_to_by after follows names befores logs ends t h.1)
+hold_to_by after follows [] befores logs ends t h = absurd h
+hold_to_by after follows (name ∷ names) [] logs ends t h = absurd h
+hold_to_by after follows (name ∷ names) (before ∷ befores) [] ends t h = absurd h
+hold_to_by after follows (name ∷ names) (before ∷ befores) (log ∷ logs) [] t h = absurd h
+
+kept_to_from : {k : ObjectKind} (plan : RunPlan k) (left : RunLeft k) (thread : ℕ) (store mid after : StoreView) → FilesStay store mid → SameCounts store mid → KeptTo plan left thread mid after → KeptTo plan left thread store after
+kept_to_from plan left thread store mid after files counts h = record {
+  files = hold_to_by after (file_stands_from plan.reopens store mid after files) (log_files plan) plan.run.base.logs left.logs left.ends thread h.files;
+  faults = h.faults ∙ ap (λ n. counted n (broken_threads left.ends)) counts.1.0;
+  fences = h.fences ∙ ap (λ n. counted n (fences_of left.logs + begun_logs plan.run.base.logs)) counts.1.1;
+}
+
+none_counted_from : (store mid after : StoreView) → SameCounts store mid → NoneCounted mid after → NoneCounted store after
+none_counted_from store mid after counts h = (
+  (λ few. h.0 (subst (λ n. n < 2 ^ 64) (sym counts.1.0) few) ∙ counts.1.0),
+  (λ few. h.1 (subst (λ n. n < 2 ^ 64) (sym counts.1.1) few) ∙ counts.1.1),
+)
+
+cause_from : {k : ObjectKind} (plan : RunPlan k) (store mid after : StoreView) (thread : ℕ) → FilesStay store mid → SameCounts store mid → NotMade plan mid after (image_name plan.logs thread) ⊎ NotKept plan mid after thread
+    → NotMade plan store after (image_name plan.logs thread) ⊎ NotKept plan store after thread
+cause_from plan store mid after thread files counts (inl h) =
+    inl (record { last = h.last; devices = none_counted_from store mid after counts h.devices; files = stand_from plan store mid after files h.files })
+cause_from plan store mid after thread files counts (inr h) =
+    inr (record { last = h.last; left = h.left; run = h.run; kept = kept_to_from plan h.left thread store mid after files counts h.kept })
 
 run_stops_from : {k : ObjectKind} (plan : RunPlan k) (store mid after : StoreView) (ending : Ending) (text : List ℕ) → FilesStay store mid → SameCounts store mid → RunStops plan mid after ending text → RunStops plan store after ending text
 run_stops_from plan store mid after Done text files counts h = absurd h
@@ -102,17 +150,18 @@ run_stops_from plan store mid after WriteFault text files counts h = record {
   within = h.within;
   line = h.line;
   rose = subst (λ n. Rose n after.faults) counts.0.0 h.rose;
-  last = last_from plan store mid after (image_name plan.logs h.thread) files h.last;
+  cause = cause_from plan store mid after h.thread files counts h.cause;
   others = but_more (log_files plan) store mid after files h.others;
 }
 run_stops_from plan store mid after Faulty text files counts h = record {
   thread = h.thread;
   within = h.within;
+  begun = h.begun;
   line = h.line;
   calls = faults_more store mid after counts.0 h.calls;
   faults = h.faults ∙ ap (λ n. counted n 1) counts.1.0;
   fences = h.fences ∙ ap (λ n. counted n (begun_logs (take (h.thread + 1) plan.run.base.logs))) counts.1.1;
-  files = stand_from plan.reopens store mid after (log_files plan) plan.run.base.logs files h.files;
+  files = stand_from plan store mid after files h.files;
   others = but_more (log_files plan) store mid after files h.others;
 }
 
@@ -134,7 +183,19 @@ pub stay_cut : (store after : StoreView) (job : Job) → FilesStay store after �
 stay_cut store after (Say e t) h = h
 stay_cut store after (Read name next) h = inl h
 stay_cut store after (Write name bytes next) h = inl (inl h)
-stay_cut store after (Threads kind plan next) h = inl (record { tells = h.tells; file = λ tells other differs. h.file tells other })
+stay_cut store after (Threads kind plan next) h = inl (inl h)
+
+short_from : {k : ObjectKind} (plan : RunPlan k) (store mid after : StoreView) → FilesStay store mid → SameCounts store mid → IsCutShort plan mid after → IsCutShort plan store after
+short_from plan store mid after files counts (inl h) = inl (stay_more store mid after files h)
+short_from plan store mid after files counts (inr (inl h)) =
+    inr (inl (record { files = stand_from plan store mid after files h.files; others = but_more (log_files plan) store mid after files h.others }))
+short_from plan store mid after files counts (inr (inr h)) = inr (inr (record {
+  left = h.left;
+  run = h.run;
+  thread = h.thread;
+  kept = kept_to_from plan h.left h.thread store mid after files counts h.kept;
+  others = but_more (log_files plan) store mid after files h.others;
+}))
 
 cut_from : (store mid after : StoreView) (job : Job) → FilesStay store mid → SameCounts store mid → JobCut mid after job → JobCut store after job
 cut_from store mid after (Say e t) files counts h = stay_more store mid after files h
@@ -145,7 +206,7 @@ cut_from store mid after (Write name bytes next) files counts (inl (inl h)) = in
 cut_from store mid after (Write name bytes next) files counts (inl (inr h)) = inl (inr (write_failed_from store mid after name files counts h))
 cut_from store mid after (Write name bytes next) files counts (inr h) =
     inr (cut_from (written store name bytes) (written mid name bytes) after next (written_stays store mid name bytes files) counts h)
-cut_from store mid after (Threads kind plan next) files counts (inl h) = inl (but_more (log_files plan) store mid after files h)
+cut_from store mid after (Threads kind plan next) files counts (inl h) = inl (short_from plan store mid after files counts h)
 cut_from store mid after (Threads kind plan next) files counts (inr h) =
     inr (h.0, h.1, h.2, kept_from plan h.0 store mid h.1 files counts h.3, h.4)
 
@@ -158,14 +219,19 @@ cannot_write_failed store after name ReadFault text h = absurd h
 cannot_write_failed store after name Faulty text h = absurd h
 cannot_write_failed store after name WriteFault text h = h.failed
 
-run_stops_cut : {k : ObjectKind} (plan : RunPlan k) (store after : StoreView) (ending : Ending) (text : List ℕ) → RunStops plan store after ending text → AllButStay (log_files plan) store after
+device_fault_cut : {k : ObjectKind} (plan : RunPlan k) (store after : StoreView) (thread : ℕ) → AllButStay (log_files plan) store after → NotMade plan store after (image_name plan.logs thread) ⊎ NotKept plan store after thread
+    → IsCutShort plan store after
+device_fault_cut plan store after thread others (inl h) = inr (inl (record { files = h.files; others = others }))
+device_fault_cut plan store after thread others (inr h) = inr (inr (record { left = h.left; run = h.run; thread = thread; kept = h.kept; others = others }))
+
+run_stops_cut : {k : ObjectKind} (plan : RunPlan k) (store after : StoreView) (ending : Ending) (text : List ℕ) → RunStops plan store after ending text → IsCutShort plan store after
 run_stops_cut plan store after Done text h = absurd h
 run_stops_cut plan store after Usage text h = absurd h
 run_stops_cut plan store after Refused text h = absurd h
 run_stops_cut plan store after BadLog text h = absurd h
 run_stops_cut plan store after ReadFault text h = absurd h
-run_stops_cut plan store after WriteFault text h = h.others
-run_stops_cut plan store after Faulty text h = h.others
+run_stops_cut plan store after WriteFault text h = device_fault_cut plan store after h.thread h.others h.cause
+run_stops_cut plan store after Faulty text h = inr (inl (record { files = h.files; others = h.others }))
 
 -- a job that ended may have stopped there
 pub ends_cut : (store after : StoreView) (job : Job) (ending : Ending) (text : List ℕ) → JobEnds store after job ending text → JobCut store after job

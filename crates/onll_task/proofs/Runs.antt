@@ -11,10 +11,11 @@ use Rattle.onll_task.specs.declared.answer.Stop.{Stop}
 use Rattle.onll_task.specs.declared.answer.Stop.TheVariants.{Says, NoMemory}
 use Rattle.onll_task.specs.Job.{Job, Threads, JobEnds}
 use Rattle.onll_task.specs.Doing.{Task, after_stage, Does}
-use Rattle.onll_task.specs.Running.{RunPlan, RunLeft, HasKept, RunStops, log_files}
+use Rattle.onll_task.specs.Running.{RunPlan, RunLeft, HasKept, IsCutShort, RunStops, log_files}
 use Rattle.onll_task.specs.Standing.{StandsForRuns, threads_stage}
 use Rattle.onll_task.specs.Stop.{StopSays}
-use Rattle.onll_task.specs.Writing.{AllButStay, SameBut}
+use Rattle.onll_task.specs.Writing.{SameBut}
+use Rattle.onll_task.proofs.Onwards.{ends_cut}
 
 -- a job's node of a kind stands for the runs of that kind
 pub stands_at : (kind : Kind) → StandsForRuns (kind_at kind) (Threads kind)
@@ -55,13 +56,17 @@ module _ {k : ObjectKind} (threads : RunPlan k → (RunLeft k → Job) → Job) 
     );
     files = files;
   }
-  broken_does store after left NoMemory said run kept files ends says =
-      record { done = tt; reports = tt; stops = stands.cut plan (λ l. (next l).job) store after (inl kept.others); files = files }
+  broken_does store after left NoMemory said run kept files ends says = record {
+    done = tt;
+    reports = tt;
+    stops = stands.cut plan (λ l. (next l).job) store after (inr (left, after, run, kept, ends_cut after after (next left).job Faulty said ends));
+    files = files;
+  }
 
-  -- the run stopped so
-  pub stopped_does : {A : Type 0} (store after : StoreView) (s : Stop) → SameBut (log_files plan) store after → AllButStay (log_files plan) store after
+  -- the run stopped so, or was cut short
+  pub stopped_does : {A : Type 0} (store after : StoreView) (s : Stop) → SameBut (log_files plan) store after → IsCutShort plan store after
       → StopSays s (RunStops plan store after) → Does {A = A} (log_files plan) store after (after_stage (threads_stage threads plan) next) (Err s)
-  stopped_does store after (Says ending text) files others says = record {
+  stopped_does store after (Says ending text) files short says = record {
     done = tt;
     reports = tt;
     stops = (not_done ending says, stands.ends plan (λ l. (next l).job) store after ending text.items (inl says));
@@ -71,5 +76,5 @@ module _ {k : ObjectKind} (threads : RunPlan k → (RunLeft k → Job) → Job) 
       not_done : (ending : Ending) → RunStops plan store after ending text.items → ending ≡ Done → ⊥
       not_done Done h e = h
       not_done ending h e = subst (λ x. RunStops plan store after x text.items) e h
-  stopped_does store after NoMemory files others says =
-      record { done = tt; reports = tt; stops = stands.cut plan (λ l. (next l).job) store after (inl others); files = files }
+  stopped_does store after NoMemory files short says =
+      record { done = tt; reports = tt; stops = stands.cut plan (λ l. (next l).job) store after (inl short); files = files }

@@ -1,12 +1,15 @@
 -- Scripts run on threads over devices of a store: what is run, what the store keeps of it, and how that may end a call.
 
-use Rattle.std.specs.Prelude.{ℕ, suc, ◌+◌, ◌<◌, ◌≡◌, ◌⊎◌, Bool, true, false, List, [], ◌∷◌, length, take, sum_by, Option, Some, None}
+use Rattle.std.specs.Prelude.{ℕ, zero, suc, max, ◌+◌, ◌*◌, ◌^◌, ◌<◌, ◌≤◌, ◌≡◌, ◌⊎◌, Bool, true, false, List, [], ◌∷◌, length, take, sum_by, Option, Some, None}
 use Rattle.std.specs.List.{AllByRecursion}
 use Rattle.onll_words.specs.Texts.{line_text}
+use Rattle.onll_model.specs.declared.call.Call.{Call}
 use Rattle.onll_model.specs.declared.call.CallEnd.{CallEnd}
+use Rattle.onll_model.specs.Calls.{updates_in}
 use Rattle.onll_pmem.specs.Device.{Mixed}
 use Rattle.onll_log.specs.declared.head.LogHead.{LogHead}
 use Rattle.onll_log.specs.Grammar.{Content, content_of, used_by}
+use Rattle.onll_log.specs.ImageFile.{image_lines}
 use Rattle.onll_outside.specs.Views.{StoreView, SameFaults, Rose, MayWipe, counted, image_bytes, AreZeros}
 use Rattle.onll_outside.specs.declared.store.FaultKind.{FaultKind}
 use Rattle.onll_outside.specs.declared.store.FaultKind.TheVariants as kinds
@@ -18,7 +21,7 @@ use Rattle.onll_task.specs.declared.ending.Ending.TheVariants.{WriteFault, Fault
 use Rattle.onll_task.specs.FileLines.{FitFile}
 use Rattle.onll_task.specs.ImageNames.{image_name, image_names}
 use Rattle.onll_task.specs.Printed.{write_fault_text, fault_line}
-use Rattle.onll_task.specs.Writing.{AllButStay}
+use Rattle.onll_task.specs.Writing.{FilesStay, AllButStay}
 
 -- ---- what is run
 -- scripts on an object, over logs whose files have this name and their threads' numbers; their devices are reopened from the files of
@@ -59,18 +62,45 @@ HoldsLogs store logs t (log ∷ rest) (ends ∷ more) =
     HoldsLog store (image_name logs t) log (failed_in ends) × HoldsLogs store logs (suc t) rest more
 HoldsLogs store logs t rest ends = ⊥
 
+-- where the store tells its files, the image that is read of the named one has no more lines than these
+abbrev pub IsNoLonger : StoreView → List ℕ → List (List ℕ) → Type 0
+IsNoLonger store name read = store.tells ≡ true → (bytes : List ℕ) → store.file name ≡ Some bytes
+    → length (image_lines bytes) ≤ length read
+
+-- The lines of a log, among so many threads, by the updates of its script. One that is begun on a device made anew has the header's
+-- and those of the longest entry for each update. One whose device was reopened has room for as many entries after all that it used,
+-- and is no shorter than the image that was read.
+abbrev pub HasSize : Bool → (threads : ℕ) → StoreView → List ℕ → Content → (updates : ℕ) → LogLeft → Type 0
+HasSize false threads store name before updates log = length log.read ≡ 1 + (threads + 1) * updates
+HasSize true threads store name before updates log =
+    (max 1 (used_by before) + (threads + 1) * updates ≤ length log.read) × IsNoLonger store name log.read
+
+-- so has the log of each script
+abbrev pub HaveSizes : {State Op Query Reply : Type 0} → Bool → ℕ → StoreView → List (List ℕ) → List Content
+    → List (List (Call State Op Query Reply)) → List LogLeft → Type 0
+HaveSizes reopens threads store [] [] [] [] = Unit {0}
+HaveSizes reopens threads store (name ∷ names) (before ∷ befores) (script ∷ scripts) (log ∷ logs) =
+    HasSize reopens threads store name before (updates_in script) log × HaveSizes reopens threads store names befores scripts logs
+HaveSizes reopens threads store names befores scripts logs = ⊥
+
+-- the logs of a plan that were left have their sizes
+abbrev pub AreSized : {k : ObjectKind} → RunPlan k → List LogLeft → StoreView → Type 0
+AreSized plan logs store =
+    HaveSizes plan.reopens (length plan.run.scripts) store (log_files plan) plan.run.base.logs plan.run.scripts logs
+
 -- The store has kept what a run left: no call of it failed, its counts of devices rose by the threads whose fence failed and by
 -- the fences, one for the header of each log that was begun among them, and each log's file holds its log, whose lines are read back
--- from it.
+-- from it and are as many as its script wants.
 pub record HasKept {k : ObjectKind} (plan : RunPlan k) (left : RunLeft k) (store kept : StoreView) : Type 0 where
   pub calls : SameFaults store kept
   pub faults : kept.device_faults ≡ counted store.device_faults (broken_threads left.ends)
   pub fences : kept.device_fences ≡ counted store.device_fences (fences_of left.logs + begun_logs plan.run.base.logs)
   pub files : HoldsLogs kept plan.logs 0 left.logs left.ends
   pub fit : AllByRecursion (λ (log : LogLeft). FitFile log.read) left.logs
+  pub sizes : AreSized plan left.logs store
   pub others : AllButStay (log_files plan) store kept
 
--- ---- how it may stop
+-- ---- files over which no device was kept
 -- where the store tells its files, the named one is as it was, or holds zeros alone
 abbrev pub StaysOrZeros : StoreView → StoreView → List ℕ → Type 0
 StaysOrZeros store after name = store.tells ≡ true
@@ -85,28 +115,56 @@ IsFrontFor (Some head) log front = (content_of front ≡ Some log) × (length fr
 abbrev pub StaysOrWipes : StoreView → StoreView → List ℕ → Content → Type 0
 StaysOrWipes store after name log = (front : List (List ℕ)) × IsFrontFor log.head log front × MayWipe name (image_bytes front) store after
 
--- so is the file of each log
-abbrev pub LogsStayOrWipe : StoreView → StoreView → List (List ℕ) → List Content → Type 0
-LogsStayOrWipe store after [] [] = Unit {0}
-LogsStayOrWipe store after (name ∷ names) (log ∷ logs) = StaysOrWipes store after name log × LogsStayOrWipe store after names logs
-LogsStayOrWipe store after names logs = ⊥
+-- so stands a file over which no device was kept: one over which a device is made anew is as it was or holds zeros alone, one that is
+-- reopened begins with its log
+abbrev pub FileStands : Bool → StoreView → StoreView → List ℕ → Content → Type 0
+FileStands false store after name log = StaysOrZeros store after name
+FileStands true store after name log = StaysOrWipes store after name log
 
--- What a call leaves of the files before any device is kept: a file over which a device is made anew is as it was or holds zeros alone;
--- one that is reopened holds its log.
-abbrev pub FilesStand : Bool → List (List ℕ) → List Content → StoreView → StoreView → Type 0
-FilesStand false names logs store after = AllByRecursion (StaysOrZeros store after) names
-FilesStand true names logs store after = LogsStayOrWipe store after names logs
+-- each of these files stands so, by what its log held
+abbrev pub AllStand : (List ℕ → Content → Type 0) → List (List ℕ) → List Content → Type 0
+AllStand Stands [] [] = Unit {0}
+AllStand Stands (name ∷ names) (log ∷ logs) = Stands name log × AllStand Stands names logs
+AllStand Stands names logs = ⊥
 
--- The fence of a thread's header failed. This line alone is said, nothing is kept, and every device is given up: of the logs up to that
--- thread's, its own among them, the headers of those that were begun were fenced.
+-- no device was kept: the files of all logs stand so
+abbrev pub FilesStand : {k : ObjectKind} → RunPlan k → StoreView → StoreView → Type 0
+FilesStand plan store after = AllStand (FileStands plan.reopens store after) (log_files plan) plan.run.base.logs
+
+-- ---- files over which devices were kept up to a thread's
+-- The file of each thread before this one holds its log. Its own does too or stands so, and those of the threads after it stand so.
+abbrev pub HoldTo : {State Op Query Reply : Type 0} → (List ℕ → Content → Type 0) → StoreView → List (List ℕ) → List Content
+    → List LogLeft → List (List (CallEnd State Op Query Reply)) → (thread : ℕ) → Type 0
+HoldTo Stands after (name ∷ names) (before ∷ befores) (log ∷ logs) (ends ∷ more) zero =
+    (Stands name before ⊎ HoldsLog after name log (failed_in ends)) × AllStand Stands names befores
+HoldTo Stands after (name ∷ names) (before ∷ befores) (log ∷ logs) (ends ∷ more) (suc t) =
+    HoldsLog after name log (failed_in ends) × HoldTo Stands after names befores logs more t
+HoldTo Stands after names befores logs ends t = ⊥
+
+-- What a run left was handed back to the store, whose counts of devices rose by all of it, and is kept up to this thread's log.
+pub record KeptTo {k : ObjectKind} (plan : RunPlan k) (left : RunLeft k) (thread : ℕ) (store after : StoreView) : Type 0 where
+  pub files : HoldTo (FileStands plan.reopens store after) after (log_files plan) plan.run.base.logs left.logs left.ends thread
+  pub faults : after.device_faults ≡ counted store.device_faults (broken_threads left.ends)
+  pub fences : after.device_fences ≡ counted store.device_fences (fences_of left.logs + begun_logs plan.run.base.logs)
+
+-- ---- how it may stop
+-- the log of this thread is begun anew: it held no head
+abbrev pub IsBegun : ℕ → List Content → Type 0
+IsBegun zero (before ∷ logs) = before.head ≡ None
+IsBegun (suc t) (before ∷ logs) = IsBegun t logs
+IsBegun t [] = ⊥
+
+-- The fence of a thread's header failed, which is that of a log that is begun anew. This line alone is said, nothing is kept, and every
+-- device is given up: of the logs up to that thread's, its own among them, the headers of those that were begun were fenced.
 pub record HeaderFault {k : ObjectKind} (plan : RunPlan k) (store after : StoreView) (text : List ℕ) : Type 0 where
   pub thread : ℕ
   pub within : thread < length plan.run.scripts
+  pub begun : IsBegun thread plan.run.base.logs
   pub line : text ≡ line_text (fault_line thread 0)
   pub calls : SameFaults store after
   pub faults : after.device_faults ≡ counted store.device_faults 1
   pub fences : after.device_fences ≡ counted store.device_fences (begun_logs (take (thread + 1) plan.run.base.logs))
-  pub files : FilesStand plan.reopens (log_files plan) plan.run.base.logs store after
+  pub files : FilesStand plan store after
   pub others : AllButStay (log_files plan) store after
 
 -- the call that makes a device, by whether files are reopened
@@ -114,23 +172,31 @@ abbrev pub device_call : Bool → FaultKind
 device_call false = kinds.Device
 device_call true = kinds.Reopen
 
--- a device of this name could not be made, and no device was kept
+-- the devices that were handed back made no fence: the store's counts, where they are counts of 64 bits, stand
+abbrev pub NoneCounted : StoreView → StoreView → Type 0
+NoneCounted store after = (store.device_faults < 2 ^ 64 → after.device_faults ≡ store.device_faults)
+    × (store.device_fences < 2 ^ 64 → after.device_fences ≡ store.device_fences)
+
+-- A device of this name could not be made, and no device was kept. Those before it were given up, of which none was fenced.
 pub record NotMade {k : ObjectKind} (plan : RunPlan k) (store after : StoreView) (name : List ℕ) : Type 0 where
   pub last : after.last ≡ Some (record { kind = device_call plan.reopens; name = name })
-  pub files : FilesStand plan.reopens (log_files plan) plan.run.base.logs store after
+  pub devices : NoneCounted store after
+  pub files : FilesStand plan store after
 
--- a device of this name could not be made, or could not be kept, and is the store's last fault
-abbrev pub DeviceLast : {k : ObjectKind} → RunPlan k → StoreView → StoreView → List ℕ → Type 0
-DeviceLast plan store after name =
-    NotMade plan store after name ⊎ (after.last ≡ Some (record { kind = kinds.Keep; name = name }))
+-- What a run left could not be kept from this thread's device on; those after it were given up.
+pub record NotKept {k : ObjectKind} (plan : RunPlan k) (store after : StoreView) (thread : ℕ) : Type 0 where
+  pub last : after.last ≡ Some (record { kind = kinds.Keep; name = image_name plan.logs thread })
+  pub left : RunLeft k
+  pub run : HasRun k.means plan.run left
+  pub kept : KeptTo plan left thread store after
 
--- A thread's device could not be made, or could not be kept: the store's count rose, and this line says so.
+-- A thread's device could not be made, or could not be kept: the store's count rose, this line says so, and it is the store's last fault.
 pub record DeviceFault {k : ObjectKind} (plan : RunPlan k) (store after : StoreView) (text : List ℕ) : Type 0 where
   pub thread : ℕ
   pub within : thread < length plan.run.scripts
   pub line : text ≡ write_fault_text (image_name plan.logs thread)
   pub rose : Rose store.faults after.faults
-  pub last : DeviceLast plan store after (image_name plan.logs thread)
+  pub cause : NotMade plan store after (image_name plan.logs thread) ⊎ NotKept plan store after thread
   pub others : AllButStay (log_files plan) store after
 
 -- a run stops so, and gives nothing
@@ -146,7 +212,24 @@ abbrev pub RunGoes : {k : ObjectKind} → RunPlan k → (store after : StoreView
 RunGoes {k} plan store after ending text Next = RunStops plan store after ending text
     ⊎ ((left : RunLeft k) × (kept : StoreView) × HasRun k.means plan.run left × HasKept plan left store kept × Next left kept)
 
--- The run was cut, with no file changed but those of its logs; or it left something, and this was cut.
+-- No device was kept, and no file changed but those of the logs.
+pub record NoneKept {k : ObjectKind} (plan : RunPlan k) (store after : StoreView) : Type 0 where
+  pub files : FilesStand plan store after
+  pub others : AllButStay (log_files plan) store after
+
+-- What a run left is kept up to the log of some thread, and no file changed but those of the logs.
+pub record KeptInPart {k : ObjectKind} (plan : RunPlan k) (store after : StoreView) : Type 0 where
+  pub left : RunLeft k
+  pub run : HasRun k.means plan.run left
+  pub thread : ℕ
+  pub kept : KeptTo plan left thread store after
+  pub others : AllButStay (log_files plan) store after
+
+-- a run was cut before all that it left was kept: no file changed, or no device was kept, or not all of them
+abbrev pub IsCutShort : {k : ObjectKind} → RunPlan k → (store after : StoreView) → Type 0
+IsCutShort plan store after = FilesStay store after ⊎ NoneKept plan store after ⊎ KeptInPart plan store after
+
+-- The run was cut short; or it left something, which the store keeps, and this was cut.
 abbrev pub RunCut : {k : ObjectKind} → RunPlan k → (store after : StoreView) → (RunLeft k → StoreView → Type 0) → Type 0
-RunCut {k} plan store after Next = AllButStay (log_files plan) store after
+RunCut {k} plan store after Next = IsCutShort plan store after
     ⊎ ((left : RunLeft k) × (kept : StoreView) × HasRun k.means plan.run left × HasKept plan left store kept × Next left kept)

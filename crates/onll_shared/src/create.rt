@@ -126,7 +126,7 @@ impl<O: Object + Drop> Onll<O> {
     #[tactic(auto, using(crate::proofs::Starting::begun_on))]
     /// A shared object that goes on from recovered nodes, of which each log's entries hold those that its marks name. Each pass
     /// may order as many updates as its room.
-    pub fn resume<P: Pmem + Drop>(
+    pub fn resume_marked<P: Pmem + Drop>(
         alloc: Global,
         object: O,
         base: &[Node],

@@ -1,6 +1,6 @@
 //! What the logs of all threads hold of a trace, from which an object goes on.
 
-ghost use Rattle.std.specs.Prelude.{◌≡◌, ◌≤◌, ◌++◌, ◌⊎◌, length, map, Some, Ok, Err, IfOk, OnOk, MatchResult};
+ghost use Rattle.std.specs.Prelude.{◌≡◌, ◌≤◌, ◌++◌, ◌⊎◌, List, length, map, Some, Ok, Err, IfOk, OnOk, MatchResult};
 ghost use Rattle.std.specs.List.{AllByRecursion};
 ghost use Rattle.onll_model.specs.Limits.{most_threads};
 ghost use Rattle.onll_log.specs.Grammar.{content_of};
@@ -114,6 +114,20 @@ fn mark_images(alloc: Global, images: &[TestedImage<'_>]) -> Result<Vec<Mark>, N
         mark_image(&mut marks, thread as u64, image)?;
     }
     Ok(marks)
+}
+
+// A mark of each entry of each log, which name what the logs hold of the nodes that they merge to.
+pub(crate) fn mark_logs<P: Pmem>(
+    alloc: Global,
+    logs: &[ThreadLog<P>],
+) -> Result<Vec<Mark>, NoMemory>
+    requires many { (1 ≤ length logs.now) × (length logs.now ≤ most_threads) }
+    requires logs { AreLogs logs.now }
+    ensures { IfOk result (λ marks. (base : List Node) → merge (map head_held logs.now) (map content_held logs.now) ≡ Ok base
+        → HoldBase logs.now base marks.items) }
+{
+    let images = images_of(alloc, logs)?;
+    mark_images(alloc, &images)
 }
 
 /// The nodes that the logs of all threads hold, with their marks; or the first reason why these are not the logs of one run.

@@ -9,13 +9,14 @@ ghost use Rattle.onll_shared.specs.Starts.{AreLogs, HasBegun};
 ghost use Rattle.onll_shared.specs.Found.{HoldBase, content_held, head_held};
 ghost use Rattle.onll_shared.specs.GoesOn.{CannotGoOn, IsFull};
 
-use crate::found::{Base, find_base};
+use crate::found::{Base, find_base, mark_logs};
 use crate::onll::Onll;
 use crate::pass::Pass;
 use onll_log::ThreadLog;
 use onll_merge::RecoverFault;
 use onll_model::{MOST_UPDATES, Node, Object};
 use onll_pmem::Pmem;
+use onll_words::NoMemory;
 use std::alloc::Global;
 use thiserror::Error;
 
@@ -67,6 +68,27 @@ fn base_of<P: Pmem>(alloc: Global, logs: &[ThreadLog<P>], rooms: &[u64]) -> Resu
 }
 
 impl<O: Object + Drop> Onll<O> {
+    /// A shared object that goes on from the nodes that the logs merge to, over its initial state, and a pass for each log, which may
+    /// order as many updates as its room.
+    pub fn resume<P: Pmem + Drop>(
+        alloc: Global,
+        object: O,
+        base: &[Node],
+        logs: Vec<ThreadLog<P>>,
+        rooms: &[u64],
+    ) -> Result<(Onll<O>, Vec<Pass<O, P>>), NoMemory>
+        requires many { (1 ≤ length logs.items) × (length logs.items ≤ most_threads) }
+        requires logs { AreLogs logs.items }
+        requires merged { merge (map head_held logs.items) (map content_held logs.items) ≡ Ok base.now }
+        requires count { length rooms.now ≡ length logs.items }
+        requires rooms { HasRooms base.now rooms.now most_updates }
+        ensures object { IfOk result (λ r. (r.0.first ≡ object) × (r.0.trace.plan.base ≡ base.now)) }
+        ensures passes { IfOk result (λ r. HasBegun O.means P.means r.0 logs.items rooms.now r.1.items) }
+    {
+        let marks = mark_logs(alloc, &logs)?;
+        Onll::resume_marked(alloc, object, base, &marks, logs, rooms)
+    }
+
     /// A shared object that goes on from what the logs of all threads hold, and a pass for each log, which may order as many
     /// updates as its room.
     pub fn go_on<P: Pmem + Drop>(
@@ -87,7 +109,7 @@ impl<O: Object + Drop> Onll<O> {
         if let Some(thread) = first_full(&base.nodes, rooms) {
             return Err(GoOnFault::NoRoom { thread });
         }
-        match Onll::resume(alloc, object, &base.nodes, &base.marks, logs, rooms) {
+        match Onll::resume_marked(alloc, object, &base.nodes, &base.marks, logs, rooms) {
             Ok(begun) => Ok(begun),
             Err(_) => Err(GoOnFault::NoMemory),
         }

@@ -3,25 +3,15 @@
 Usage: bench/wrong.py [CRATE..]
 Run `rt ci` first, on this machine and with these very files, since the crates below are taken as it proved them. It works on a copy.
 An edit has the form of a must-fail edit. Each gets a line: refused, NOT REFUSED, BAD EDIT or NOT TRIED. The last line is `N refused, M not`."""
-import importlib.util
 import os
 import re
-import shutil
 import sys
 import tempfile
-from importlib.machinery import SourceFileLoader
+
+from toolchain import module
 
 TOP = os.path.dirname(os.path.dirname(os.path.abspath(__file__)))
 WRONG = os.path.join(TOP, "bench", "wrong")
-
-
-def toolchain():
-    """The toolchain's own module of the gate, which knows how an edit is tried."""
-    loader = SourceFileLoader("rt", os.path.realpath(shutil.which("rt")))
-    module = importlib.util.module_from_spec(importlib.util.spec_from_loader("rt", loader))
-    sys.modules["rt"] = module
-    loader.exec_module(module)
-    return module
 
 
 def edits_of(crate):
@@ -60,9 +50,8 @@ def try_edits(rt, room, names):
 
 
 def main():
-    sys.dont_write_bytecode = True
     names = sys.argv[1:] or sorted(os.listdir(WRONG))
-    rt = toolchain()
+    rt = module("rt")
     rt.rtlib.guarded()
     with tempfile.TemporaryDirectory(prefix=f"rt-copy-{os.getpid()}-") as room:
         tried = try_edits(rt, room, names)

@@ -6,7 +6,10 @@ Build the program first, by `./prove`; or name another one of the same words. It
 A small library stands before the C library's `malloc` and `realloc`, counts the calls, and answers none to one of them. Each run is of
 one thread, or plays a schedule, so that its report is one text. It must end with that report and the same files, or with status 9 and
 some of the first bytes of the report; no file changes that the words don't write, and what `recover` finds then begins with what it
-found before. Ends with 0, or names each run that does otherwise and ends with 1."""
+found before. With status 9 the log files of a `run` and of a `resume` are compared one by one: each begins with the lines that its log
+used before, and every word after them is as it was, zero, or the word that the whole run leaves there, since a device over a file writes
+at each fence.
+Ends with 0, or names each run that does otherwise and ends with 1."""
 import os
 import shutil
 import subprocess
@@ -128,7 +131,37 @@ class Runs:
         return [line for line in lines if line.startswith("node ")] if done.returncode == 0 else None
 
 
-def faults_of(runs, row, number, whole, before):
+    def used(self, name):
+        """How many lines the log in this file of the last run uses, by what `show` says of it."""
+        done = subprocess.run([self.program, "show", name], cwd=os.path.join(self.work, "files"), capture_output=True, timeout=60)
+        last = done.stdout.decode().splitlines()[-1].split()
+        return int(last[3]) if last[0] == "entries" else 0
+
+
+def words_of(data):
+    return [data[at:at + 8] for at in range(0, len(data), 8)]
+
+
+def stands(old, new, whole, lines):
+    """Whether a file still has the first lines that it had, and after them only words that are as they were, zero, or the whole run's."""
+    if new is None:
+        return old is None
+    befores, ends = words_of(old or b""), words_of(whole)
+    front = 8 * lines
+    after = list(enumerate(words_of(new)))[front:]
+    return new[:64 * lines] == (old or b"")[:64 * lines] and all(
+        not any(word) or word in befores[at:at + 1] or word in ends[at:at + 1] for at, word in after)
+
+
+def lost_logs(row, files, whole, old, lines):
+    """The names of the log files that lost what they held, after a call that ran out of memory."""
+    stem, threads = WRITES[row]
+    for name in (f"{stem}{thread}" for thread in range(threads)):
+        if not stands(old.get(name), files.get(name), whole[3][name], lines.get(name, 0)):
+            yield name
+
+
+def faults_of(runs, row, number, whole, before, old, lines):
     """What is wrong with the run in which this call is refused."""
     status, out, err, files, _ = runs.once(row, number)
     stem = WRITES[row][0] if row in WRITES else None
@@ -141,6 +174,9 @@ def faults_of(runs, row, number, whole, before):
         yield f"printed {out!r}"
     if others != {name: data for name, data in whole[3].items() if name in others}:
         yield "a file changed that the words don't write"
+    if status == 9 and row in ("run", "resume"):
+        for name in lost_logs(row, files, whole, old, lines):
+            yield f"{name} lost what it held"
     if before is not None and status == 9:
         nodes = runs.recovered(row)
         if nodes is None or nodes[:len(before)] != before:
@@ -153,12 +189,13 @@ def main():
     with tempfile.TemporaryDirectory() as work:
         runs = Runs(program, work)
         for row, (words, names) in ROWS.items():
-            before = None
+            before, old, lines = None, {}, {}
             if row in ("again", "resume"):
                 for name, source in names.items():
                     os.makedirs(os.path.join(work, "files"), exist_ok=True)
                     shutil.copyfile(os.path.join(EXAMPLES, source), os.path.join(work, "files", name))
-                before = runs.recovered(row)
+                before, old = runs.recovered(row), files_of(os.path.join(work, "files"))
+                lines = {name: runs.used(name) for name in old if name.startswith(WRITES[row][0])}
             whole = runs.once(row, 0)
             if whole[0] != 0 or whole[4] == 0:
                 print(f"{row}: status {whole[0]} with ample memory, {whole[4]} calls counted")
@@ -166,7 +203,7 @@ def main():
                 continue
             ends = 0
             for number in range(1, whole[4] + 1):
-                for fault in faults_of(runs, row, number, whole, before):
+                for fault in faults_of(runs, row, number, whole, before, old, lines):
                     print(f"{row}, call {number} refused: {fault}")
                     wrong += 1
                 ends += 1

@@ -24,6 +24,7 @@ use Rattle.onll_jobs.proofs.ResumeEnds.{resume_whole, resume_broken, resume_no_d
 use Rattle.onll_jobs.proofs.RunEnds.{run_whole, run_broken, run_no_device, run_not_bad}
 use Rattle.onll_jobs.proofs.RecoverCrashes.{recovers_crashes}
 use Rattle.onll_jobs.proofs.RecoverRuns.{recovers_runs}
+use Rattle.onll_jobs.proofs.RunCuts.{run_is_cut, resume_is_cut}
 use Rattle.onll_jobs.proofs.RunDone.{run_done}
 use Rattle.onll_jobs.proofs.MakeEnds.{make_put, make_sink, make_answers}
 
@@ -54,6 +55,7 @@ resume_kept seen x says = record {
   device = λ init logs names form e. device_kept seen x e says (resume_no_device seen init logs names form);
   refused = λ init logs names form e. resume_refused seen init logs names form (said_of seen x Refused (λ e. omega arith) e says);
   bad_logs = λ init logs names form e. resume_bad seen init logs names form (said_of seen x BadLog (λ e. omega arith) e says);
+  memory = λ init logs names form e. resume_is_cut seen init logs names form (no_memory_of seen x e says).files;
   left = resumes_left seen x says;
   run = resumes_run seen x says;
 }
@@ -65,6 +67,7 @@ run_kept seen x says = record {
   device = λ init logs names form e. device_kept seen x e says (run_no_device seen init logs names form);
   only = λ e. faulty_run seen (said_of seen x Faulty (λ e. omega arith) e says);
   recovers = λ init logs names form e. run_not_bad seen init logs names form (said_of seen x BadLog (λ e. omega arith) e says);
+  memory = λ init logs names form e. run_is_cut seen init logs names form (no_memory_of seen x e says).files;
   done = λ init logs names form tells none. run_done seen x init logs names form tells none says;
 }
 

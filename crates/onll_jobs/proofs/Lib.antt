@@ -18,5 +18,6 @@ pub mod RunDone
 mod FormsDetermined
 mod ShowDetermined
 mod Kept
+mod RunCuts
 mod Dispatched
 pub mod MakeEnds

@@ -52,6 +52,7 @@ kept_after plan left store kept after h stay same = record {
   fences = same.1.1 ∙ h.fences;
   files = logs_after kept after plan.logs 0 left.logs left.ends stay h.files;
   fit = h.fit;
+  sizes = h.sizes;
   others = record {
     tells = stay.tells ∙ h.others.tells;
     file = λ told name other. stay.file (h.others.tells ∙ told) name ∙ h.others.file told name other;

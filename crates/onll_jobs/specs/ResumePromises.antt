@@ -22,7 +22,7 @@ use Rattle.onll_recovery.specs.ReplayJob.{ReadScripts}
 use Rattle.onll_jobs.specs.AgainPromises.{TellScripts}
 use Rattle.onll_jobs.specs.Command.{Resume, form_of}
 use Rattle.onll_jobs.specs.Durable.{TellImages, IsLeft, LeavesAll}
-use Rattle.onll_jobs.specs.RunPromises.{RanWhole, RanBroken, HasNoDevice, RunPut, SaysRan, plan_from}
+use Rattle.onll_jobs.specs.RunPromises.{RanWhole, RanBroken, HasNoDevice, HasCut, OfFiles, RunIsCut, RunPut, SaysRan, plan_from}
 use Rattle.onll_jobs.specs.RunRecovers.{IsLeftByRun}
 use Rattle.onll_jobs.specs.Says.{NoneRose, SaysThis, SinkFailed}
 use Rattle.onll_jobs.specs.Seen.{Seen}
@@ -56,6 +56,10 @@ module _ (k : ObjectKind) (init : List ℕ) (s : k.State) (store after : StoreVi
 
   abbrev pub HasBadBase : Type 0
   HasBadBase = HasNoBase BadLog
+
+-- from what the files give a run went on, and was cut
+abbrev pub ResumedCut : OfFiles
+ResumedCut k init s store after logs names = (found : Found) × HasCut (Some found) k init s store after logs names
 
 -- this text refuses a script, and those before it are accepted
 abbrev pub RefusesScript : {State Op Query Reply : Type 0} → Wording State Op Query Reply → StoreView → List (List ℕ) → List ℕ → Type 0
@@ -121,9 +125,10 @@ Resumes seen Holds = (init logs bytes : List ℕ) (names : List (List ℕ)) (obj
     → on_object (λ k s. Holds k bytes s logs names) object
 
 -- What a run that goes on promises beside, for any store: what is printed is what its threads did from what the logs gave, which the
--- store keeps. Where a fence or a device failed that is said, and until a device is kept no log loses what it held. A text is refused,
--- or a script for too many updates; that logs are bad is said only of those that it read. From the files that crashes or a run left it
--- goes on, unless a script has too many updates.
+-- store keeps. Where a fence or a device failed that is said. No log loses what it held, also where a device or memory could not be had:
+-- its file begins with that, or holds an image of the log that the run left. A text is refused, or a script for too many updates; that
+-- logs are bad is said only of those that it read. From the files that crashes or a run left it goes on, unless a script has too many
+-- updates.
 pub record ResumePromises (seen : Seen) (status : ℕ) : Type 0 where
   pub whole : (init logs : List ℕ) (names : List (List ℕ)) → form_of seen.words ≡ Some (Resume init logs names)
       → status ≡ 0 → RunPut seen init logs names ResumedWhole
@@ -135,5 +140,7 @@ pub record ResumePromises (seen : Seen) (status : ℕ) : Type 0 where
       → status ≡ 3 → InitRefused seen init ⊎ RunPut seen init logs names HasRefused
   pub bad_logs : (init logs : List ℕ) (names : List (List ℕ)) → form_of seen.words ≡ Some (Resume init logs names)
       → status ≡ 4 → RunPut seen init logs names HasBadBase
+  pub memory : (init logs : List ℕ) (names : List (List ℕ)) → form_of seen.words ≡ Some (Resume init logs names)
+      → status ≡ 9 → RunIsCut seen init logs names ResumedCut
   pub left : Resumes seen (λ k bytes s logs names. ResumesLeft k bytes s seen status logs names)
   pub run : Resumes seen (λ k bytes s logs names. ResumesRun k bytes s seen status logs names)

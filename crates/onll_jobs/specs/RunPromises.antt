@@ -14,8 +14,9 @@ use Rattle.onll_text.specs.declared.any_object.AnyObject.{AnyObject}
 use Rattle.onll_text.specs.Kinds.{ObjectKind, on_object}
 use Rattle.onll_outside.specs.Views.{StoreView, Puts, WentUp, counted}
 use Rattle.onll_task.specs.Images.{images_stage}
-use Rattle.onll_task.specs.Reading.{IsTold}
-use Rattle.onll_task.specs.Running.{RunPlan, RunLeft, HasKept, HeaderFault, DeviceFault}
+use Rattle.onll_task.specs.Reading.{IsTold, ReadsWhole}
+use Rattle.onll_task.specs.Running.{RunPlan, RunLeft, HasKept, HeaderFault, DeviceFault, RunCut}
+use Rattle.onll_task.specs.Writing.{FilesStay}
 use Rattle.onll_recovery.specs.ReplayJob.{ReadScripts}
 use Rattle.onll_runner.specs.ResumeJob.{resume_plan}
 use Rattle.onll_runner.specs.RunJob.{run_plan}
@@ -73,7 +74,8 @@ module _ (from : Option Found) (k : ObjectKind) (init : List ℕ) (s : k.State) 
     pub begins : BeginsFrom from k init store logs scripts
     pub fault : HeaderFault (plan_from from k init logs s scripts) store after text
 
-  -- A thread's device could not be made or kept, and this text says which. Where it could not be made, so does each log.
+  -- A thread's device could not be made or kept, and this text says which. Where it could not be made, so does each log; where it could
+  -- not be kept, each log before it is kept, and so does each that is not.
   pub record HasNoDevice : Type 0 where
     pub scripts : List (List (Call k.State k.Op k.Query k.Reply))
     pub read : ReadScripts k.wording store names scripts
@@ -87,6 +89,33 @@ module _ (from : Option Found) (k : ObjectKind) (init : List ℕ) (s : k.State) 
   -- one in which fences failed, with their lines; or the line of a header whose fence failed
   abbrev pub RanBroken : Type 0
   RanBroken = ((r : HasReported) × (1 ≤ fault_count r.left.ends)) ⊎ HasNoHeader
+
+module _ (from : Option Found) (k : ObjectKind) (init : List ℕ) (s : k.State) (store after : StoreView) (logs : List ℕ)
+    (names : List (List ℕ)) where
+  -- Memory could not be had after the files were read: no file changed; or no device was kept, and each log that is gone on from still
+  -- begins with what it held; or what the run left is kept up to some thread's log, and so stand the files of those after it; or it is
+  -- kept whole.
+  pub record HasCut : Type 0 where
+    pub scripts : List (List (Call k.State k.Op k.Query k.Reply))
+    pub read : ReadScripts k.wording store names scripts
+    pub begins : BeginsFrom from k init store logs scripts
+    pub cut : RunCut (plan_from from k init logs s scripts) store after (λ left kept. FilesStay kept after)
+
+-- what is said of files, by the kind of object, the bytes of its initial state, that state, the store before and after, and the names of
+-- the logs and of the scripts
+abbrev pub OfFiles : Type 1
+OfFiles = (k : ObjectKind) → List ℕ → k.State → StoreView → StoreView → List ℕ → List (List ℕ) → Type 0
+
+-- what is left of a run over the initial state that a file holds
+pub record LeftOverInit (seen : Seen) (init logs : List ℕ) (names : List (List ℕ)) (Left : OfFiles) : Type 0 where
+  pub bytes : List ℕ
+  pub object : AnyObject
+  pub read : ReadsWhole seen.store init_of init bytes object
+  pub left : on_object (λ k s. Left k bytes s seen.store seen.store_after logs names) object
+
+-- a run was cut: no file changed, or this is left of it
+abbrev pub RunIsCut : (seen : Seen) → (init logs : List ℕ) → List (List ℕ) → OfFiles → Type 0
+RunIsCut seen init logs names Left = FilesStay seen.store seen.store_after ⊎ LeftOverInit seen init logs names Left
 
 -- what is said of a text, by the kind of object, the bytes of its initial state, that state, the store before and after, and the names of
 -- the logs and of the scripts
@@ -139,7 +168,8 @@ pub record IsOfRun (seen : Seen) : Type 0 where
 
 -- What a run promises beside, for any store: what is printed is what its threads did, which the store keeps. Where a fence failed the
 -- status says so, and that of no other call does but of a run that goes on. Where a device failed that is said, or the sink failed. Its
--- logs never fail to recover. Where its texts are accepted and no call of the store or of the sink failed, it is run to its end.
+-- logs never fail to recover. Where memory could not be had, its files are as they were or hold zeros, or the run's logs. Where its texts
+-- are accepted and no call of the store or of the sink failed, it is run to its end.
 pub record RunPromises (seen : Seen) (status : ℕ) : Type 0 where
   pub whole : (init logs : List ℕ) (names : List (List ℕ)) → form_of seen.words ≡ Some (Run init logs names)
       → status ≡ 0 → RunPut seen init logs names (RanWhole None)
@@ -150,5 +180,7 @@ pub record RunPromises (seen : Seen) (status : ℕ) : Type 0 where
       → status ≡ 6 → SinkFailed seen ⊎ RunPut seen init logs names (HasNoDevice None)
   pub recovers : (init logs : List ℕ) (names : List (List ℕ)) → form_of seen.words ≡ Some (Run init logs names)
       → status ≡ 4 → ⊥
+  pub memory : (init logs : List ℕ) (names : List (List ℕ)) → form_of seen.words ≡ Some (Run init logs names)
+      → status ≡ 9 → RunIsCut seen init logs names (HasCut None)
   pub done : (init logs : List ℕ) (names : List (List ℕ)) → form_of seen.words ≡ Some (Run init logs names)
       → TellsTexts seen.store init names → NoneRose seen → IsRun seen status

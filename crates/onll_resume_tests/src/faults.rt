@@ -3,7 +3,8 @@
 
 use onll_calls::Program;
 use onll_calls::images::{
-    DEPOSIT_5, FIRST_AT_1, HEAD_0, HEAD_1, Image, ONES, SECOND, SECOND_AT_2, ZERO,
+    DEPOSIT_5, DEPOSIT_7, FIRST_AT_1, HEAD_0, HEAD_1, Image, ONES, OWN_AT_1, SECOND, SECOND_AT_2,
+    ZERO,
 };
 use onll_outside::{FenceAt, MemStore, Store};
 use std::alloc::{AllocError, Global};
@@ -159,9 +160,14 @@ fn expect_logs<R: Abort>(
 }
 
 /// Writes both logs as they are before, by two calls.
-fn put_logs(alloc: Global, store: &mut MemStore) -> Result<(), Fail> {
-    store.write(alloc, "out.0", &bytes_of(alloc, TORN)?)?;
-    store.write(alloc, "out.1", &bytes_of(alloc, EMPTY)?)?;
+fn put_logs(
+    alloc: Global,
+    store: &mut MemStore,
+    first: &[[u64; 8]],
+    second: &[[u64; 8]],
+) -> Result<(), Fail> {
+    store.write(alloc, "out.0", &bytes_of(alloc, first)?)?;
+    store.write(alloc, "out.1", &bytes_of(alloc, second)?)?;
     Ok(())
 }
 
@@ -178,7 +184,7 @@ fn expect_call<R: Abort + Threads + Wait + Sync>(
         failing_puts: &[],
     };
     let mut store = program.store(alloc)?;
-    put_logs(alloc, &mut store)?;
+    put_logs(alloc, &mut store, TORN, EMPTY)?;
     program.expect_over(rt, alloc, &mut store, case.output, case.status, case.output)?;
     expect_logs(rt, alloc, &store, case.first, case.second, case.output)
 }
@@ -204,10 +210,34 @@ fn a_header_whose_fence_fails(rt: HostRuntime) -> Result<(), Fail> {
     let alloc = rt.alloc();
     let program = Program::new(RESUME, FILES);
     let mut store = program.store_with(alloc, &[HEADER])?;
-    put_logs(alloc, &mut store)?;
+    put_logs(alloc, &mut store, TORN, EMPTY)?;
     let line = "fault thread 1 place 0\n";
     program.expect_over(&rt, alloc, &mut store, line, 7, line)?;
     expect_logs(&rt, alloc, &store, WIPED, EMPTY, line)?;
     program.expect_over(&rt, alloc, &mut store, "the same again", 0, REPORT)?;
     expect_logs(&rt, alloc, &store, KEPT, BEGUN, "the same again")
+}
+
+/// A first log that is begun, with room for one update of two threads, before its header is fenced.
+const NOT_BEGUN: &[[u64; 8]] = &[ZERO, ZERO, ZERO, ZERO];
+
+/// A second log that is gone on from: one update of its own.
+const GONE_ON: &[[u64; 8]] = &[HEAD_1, OWN_AT_1, DEPOSIT_7];
+
+/// The first fence of the first log.
+const FIRST_HEADER: FenceAt = FenceAt {
+    device: 0,
+    fence: 1,
+};
+
+/// The thread whose header failed is named, and not the next, whose log goes on and has no header to fence.
+#[test]
+fn a_header_before_a_log_that_goes_on(rt: HostRuntime) -> Result<(), Fail> {
+    let alloc = rt.alloc();
+    let program = Program::new(RESUME, FILES);
+    let mut store = program.store_with(alloc, &[FIRST_HEADER])?;
+    put_logs(alloc, &mut store, EMPTY, GONE_ON)?;
+    let line = "fault thread 0 place 0\n";
+    program.expect_over(&rt, alloc, &mut store, line, 7, line)?;
+    expect_logs(&rt, alloc, &store, NOT_BEGUN, GONE_ON, line)
 }

@@ -1,11 +1,12 @@
 -- How scripts go on from the images of logs that are read, or why they don't.
 
-use Rattle.std.proofs.Common.{Vec, ℕ, List, [], ◌∷◌, ◌≡◌, ◌≤◌, length, Result, Ok, Err, sym, ap, ◌∙◌, subst}
+use Rattle.std.proofs.Common.{Vec, ℕ, zero, suc, true, List, [], ◌∷◌, ◌≡◌, ◌≤◌, length, map, Some, Result, Ok, Err, sym, ap, ◌∙◌, subst, arith}
 use Rattle.std.specs.List.{AllByRecursion}
 use Rattle.onll_model.specs.declared.call.Call.{Call}
 use Rattle.onll_model.specs.Object.{Behaviour}
 use Rattle.onll_log.specs.declared.head.LogHead.{LogHead}
 use Rattle.onll_log.specs.Grammar.{content_of}
+use Rattle.onll_log.specs.ImageFile.{image_lines}
 use Rattle.onll_log.specs.Tested.{used_in}
 use Rattle.onll_core.specs.declared.fault.ResumeFault.{ResumeFault}
 use Rattle.onll_core.specs.declared.fault.ResumeFault.TheVariants.{Images, OldFormat, NotOp, TooMany, NoMemory}
@@ -16,7 +17,8 @@ use Rattle.onll_text.specs.Kinds.{ObjectKind}
 use Rattle.onll_task.specs.declared.ending.Ending.TheVariants.{Done}
 use Rattle.onll_task.specs.declared.answer.Stop.{Stop}
 use Rattle.onll_task.specs.Job.{Job}
-use Rattle.onll_task.specs.Doing.{Does}
+use Rattle.onll_task.specs.Doing.{Does, AreKnown, lines_stage}
+use Rattle.onll_task.specs.ImageNames.{image_name, image_names}
 use Rattle.onll_task.specs.Images.{StandFor}
 use Rattle.onll_task.specs.Running.{RunPlan, RunLeft}
 use Rattle.onll_task.specs.Stop.{StopSays}
@@ -24,7 +26,7 @@ use Rattle.onll_task.proofs.Stages.{wider, says_does}
 use Rattle.onll_recovery.specs.AgainJob.{resume_ending, resume_text}
 use Rattle.onll_recovery.proofs.Standing.{contents_stand}
 use Rattle.onll_runner.specs.RunJob.{calls_task}
-use Rattle.onll_runner.specs.ResumeJob.{plan_over, based_task}
+use Rattle.onll_runner.specs.ResumeJob.{AreLong, plan_over, based_task}
 
 -- lines that stand for images are no more than decide what they hold
 pub used_all : (lines images : List (List (List ℕ))) → StandFor lines images → AllByRecursion (λ image. length image ≤ used_in (content_of image)) lines
@@ -32,6 +34,20 @@ used_all [] [] s = tt
 used_all [] (image ∷ images) s = absurd s
 used_all (l ∷ lines) [] s = absurd s
 used_all (l ∷ lines) (image ∷ images) s = (subst (λ c. length l ≤ used_in c) (sym s.0.content) s.0.few, used_all lines images s.1)
+
+-- the images that were read are as long as they are said to be
+pub long_all : (logs : List ℕ) (t n : ℕ) (images : List (List (List ℕ))) (counts : List ℕ) (store : StoreView) → counts ≡ map length images → AreKnown lines_stage (image_names logs t n) store images → AreLong logs t counts store
+long_all logs t zero [] [] store e known = tt
+long_all logs t zero [] (count ∷ counts) store e known = absurd (omega (arith, ap length e))
+long_all logs t zero (image ∷ images) counts store e known = absurd known
+long_all logs t (suc n) [] counts store e known = absurd known
+long_all logs t (suc n) (image ∷ images) [] store e known = absurd (omega (arith, ap length e))
+long_all logs t (suc n) (image ∷ images) (count ∷ counts) store e known =
+    let here : count ≡ length image = (cc) in
+    let rest : counts ≡ map length images = (cc) in
+    let long : store.tells ≡ true → (bytes : List ℕ) → store.file (image_name logs t) ≡ Some bytes → length (image_lines bytes) ≡ count = λ on bytes is.
+    (let held = known.0.held on in let same : known.0.bytes ≡ bytes = (cc) in ap (λ b. length (image_lines b)) (sym same) ∙ sym (ap length known.0.image) ∙ sym here) in
+    (long, long_all logs (suc t) n images counts store rest known.1)
 
 -- they give what the images give
 pub base_stands : {State Op Query Reply : Type 0} (b : Behaviour State Op Query Reply) (heads : List LogHead) (scripts : List (List (Call State Op Query Reply))) (lines images : List (List (List ℕ))) → StandFor lines images

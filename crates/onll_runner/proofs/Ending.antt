@@ -1,6 +1,6 @@
 -- What a run left is kept, and its report is said.
 
-use Rattle.std.proofs.Common.{Vec, Global, ℕ, true, List, [], ◌∷◌, ◌≡◌, ◌≤◌, ◌+◌, ◌*◌, length, map, Result, Ok, Err, is_some, sym, ap, ◌∙◌, subst, arith}
+use Rattle.std.proofs.Common.{Vec, Global, ℕ, zero, suc, true, List, [], ◌∷◌, ◌≡◌, ◌<◌, ◌≤◌, ◌+◌, ◌*◌, inl, inr, length, map, Result, Ok, Err, is_some, refl, sym, ap, ◌∙◌, subst, arith}
 use Rattle.std.specs.List.{All, AllByRecursion}
 use Rattle.std.specs.Result.{IsErrAnd}
 use Rattle.std.proofs.lemmas.List.{length-map}
@@ -11,28 +11,25 @@ use Rattle.onll_pmem.specs.Laws.{SameLaw}
 use Rattle.onll_pmem.specs.Pmem.{DeviceView}
 use Rattle.onll_log.specs.ImageFile.{longest_image}
 use Rattle.onll_log.specs.Log.{LogState}
-use Rattle.onll_outside.specs.Views.{StoreView, SameFaults, counted}
-use Rattle.onll_outside.specs.declared.store.FaultKind.TheVariants as kinds
+use Rattle.onll_outside.specs.Views.{StoreView, SameFiles, SameFaults, counted}
 use Rattle.onll_log.specs.Grammar.{Content}
 use Rattle.onll_run.specs.Left.{LogLeft, begun_logs}
 use Rattle.onll_run.specs.Ended.{log_left}
 use Rattle.onll_run.specs.Making.{device_of}
 use Rattle.onll_run.specs.Ran as ran
 use Rattle.onll_text.specs.Kinds.{ObjectKind}
-use Rattle.onll_task.specs.declared.ending.Ending.{Ending}
 use Rattle.onll_task.specs.declared.ending.Ending.TheVariants.{Faulty}
 use Rattle.onll_task.specs.declared.answer.Stop.{Stop}
 use Rattle.onll_task.specs.declared.answer.Stop.TheVariants.{Says, NoMemory}
 use Rattle.onll_outside.specs.LineFiles.{IsWholeLine}
 use Rattle.onll_task.specs.FileLines.{FitFile}
 use Rattle.onll_task.specs.ImageNames.{image_names}
-use Rattle.onll_task.specs.Running.{RunPlan, RunLeft, HasKept, HoldsLogs, broken_threads, fences_of, log_files}
-use Rattle.onll_task.specs.Stop.{StopSays}
+use Rattle.onll_task.specs.Running.{RunPlan, RunLeft, HoldsLogs, HoldTo, broken_threads, fences_of, log_files}
 use Rattle.onll_task.specs.Writing.{SameBut, AllButStay}
-use Rattle.onll_runner.specs.Devices.{AreKept, HandsEach, ThreadFails, fault_of, fences_in}
+use Rattle.onll_runner.specs.Devices.{AreKept, AreKeptTo, KeepFails, HandsEach, fault_of, fences_in}
 use Rattle.onll_runner.specs.RunReport.{plan_report, PlanReads}
-use Rattle.onll_runner.specs.RunEnds.{NotKept, EndSays, HasEnded}
-use Rattle.onll_runner.proofs.Keeping.{risen_all, kept_logs, kept_many, faults_sum, fences_sum}
+use Rattle.onll_runner.specs.RunEnds.{IsStored, IsStoredTo, IsAsBefore, HasEnded}
+use Rattle.onll_runner.proofs.Keeping.{risen_all, kept_logs, held_to, kept_befores, kept_many, faults_sum, fences_sum}
 
 pub but_stay : {names : List (List ℕ)} {old new : StoreView} → SameBut names old new → AllButStay names old new
 but_stay same = record { tells = same.tells; file = λ on other differs. same.file other differs }
@@ -45,6 +42,12 @@ fit_logs {Device} means (log ∷ logs) whole small =
     let Whole : LogState Device → Type 0 = λ (log : LogState Device). AllByRecursion IsWholeLine (means log.device).read in
     let Small : LogState Device → Type 0 = λ (log : LogState Device). 64 * length (means log.device).read ≤ longest_image in
     (record { each = All-head Whole log logs whole; few = All-head Small log logs small }, fit_logs means logs (All-tail Whole log logs whole) (All-tail Small log logs small))
+
+-- the thread up to which devices were kept is there
+kept_to_low : (name : List ℕ) (t : ℕ) (ds : List DeviceView) (thread : ℕ) (old new : StoreView) → AreKeptTo name t ds thread old new → thread < length ds
+kept_to_low name t [] thread old new h = absurd h
+kept_to_low name t (d ∷ ds) zero old new h = omega arith
+kept_to_low name t (d ∷ ds) (suc thread) old new h = let low = kept_to_low name (suc t) ds thread old new h.1 in omega (arith, low)
 
 module _ {State Op Query Reply Device : Type 0} (means : Device → DeviceView) where
   hands_faults : (befores : List Content) (ends : List (List (CallEnd State Op Query Reply))) (olds : List Device) (logs : List (LogState Device)) (store after : StoreView) → 1 ≤ length logs → ran.AreKept means befores ends olds logs
@@ -63,9 +66,9 @@ module _ {k : ObjectKind} {Device : Type 0} (same : SameLaw) (means : Device →
     (logs_are : left.logs ≡ map (log_left means) logs) (some : 1 ≤ length plan.run.scripts) (many : length left.ends ≡ length plan.run.scripts) (all : ran.AreKept means plan.run.base.logs left.ends olds logs)
     (whole : All (λ (log : LogState Device). AllByRecursion IsWholeLine (means log.device).read) logs) (small : All (λ (log : LogState Device). 64 * length (means log.device).read ≤ longest_image) logs) where
   -- devices that were kept hold what a run left
-  pub has_kept : (after.tells ≡ true → (d : Device) → is_some (means d).told ≡ true) → AreKept plan.logs 0 (map means (map device_of logs)) after → SameFaults store after
-      → HandsEach (map means (map device_of logs)) store after → SameBut (image_names plan.logs 0 (length logs)) store after → HasKept plan left store after
-  has_kept tells kept faults hands others =
+  pub has_stored : (after.tells ≡ true → (d : Device) → is_some (means d).told ≡ true) → AreKept plan.logs 0 (map means (map device_of logs)) after → SameFaults store after
+      → HandsEach (map means (map device_of logs)) store after → SameBut (image_names plan.logs 0 (length logs)) store after → IsStored plan left store after
+  has_stored tells kept faults hands others =
       let long : length logs ≡ length plan.run.scripts = kept_many means plan.run.base.logs left.ends olds logs all ∙ many in
       let there : 1 ≤ length logs = omega (arith, long, some) in
       record {
@@ -79,37 +82,63 @@ module _ {k : ObjectKind} {Device : Type 0} (same : SameLaw) (means : Device →
       }
 
   -- the same of devices that are those of the logs
-  pub kept_by : (devices : List Device) → devices ≡ map device_of logs → (after.tells ≡ true → (d : Device) → is_some (means d).told ≡ true) → AreKept plan.logs 0 (map means devices) after → SameFaults store after
-      → HandsEach (map means devices) store after → SameBut (image_names plan.logs 0 (length devices)) store after → HasKept plan left store after
-  kept_by devices is tells kept faults hands others = has_kept tells
+  pub stored_by : (devices : List Device) → devices ≡ map device_of logs → (after.tells ≡ true → (d : Device) → is_some (means d).told ≡ true) → AreKept plan.logs 0 (map means devices) after → SameFaults store after
+      → HandsEach (map means devices) store after → SameBut (image_names plan.logs 0 (length devices)) store after → IsStored plan left store after
+  stored_by devices is tells kept faults hands others = has_stored tells
       (subst (λ (ds : List Device). AreKept plan.logs 0 (map means ds) after) is kept) faults
       (subst (λ (ds : List Device). HandsEach (map means ds) store after) is hands)
       (subst (λ n. SameBut (image_names plan.logs 0 n) store after) (ap length is ∙ length-map logs device_of) others)
 
+  -- devices that were kept up to a thread's hold so much of it
+  pub stored_to : (devices : List Device) → devices ≡ map device_of logs → (after.tells ≡ true → (d : Device) → is_some (means d).told ≡ true) → (s : Stop) → KeepFails plan.logs (map means devices) store after s
+      → HandsEach (map means devices) store after → SameBut (image_names plan.logs 0 (length devices)) store after → IsStoredTo plan left store after s
+  stored_to devices is tells s fails hands_ others =
+      let long : length logs ≡ length plan.run.scripts = kept_many means plan.run.base.logs left.ends olds logs all ∙ many in
+      let there : 1 ≤ length logs = omega (arith, long, some) in
+      let hands : HandsEach (map means (map device_of logs)) store after = subst (λ (ds : List Device). HandsEach (map means ds) store after) is hands_ in
+      let kept : AreKeptTo plan.logs 0 (map means (map device_of logs)) fails.thread store after = subst (λ (ds : List Device). AreKeptTo plan.logs 0 (map means ds) fails.thread store after) is fails.files in
+      let befores = kept_befores means plan.run.base.logs left.ends olds logs all in
+      let mapped = length-map (map device_of logs) means in
+      let mapped_ = length-map logs device_of in
+      let names : length plan.run.base.logs ≡ length plan.run.scripts = omega (arith, befores, mapped, mapped_, long) in
+      let low = kept_to_low plan.logs 0 (map means (map device_of logs)) fails.thread store after kept in
+      record {
+        thread = fails.thread;
+        within = omega (arith, low, befores, names);
+        files = subst (λ ls. HoldTo (IsAsBefore store after) after (log_files plan) plan.run.base.logs ls left.ends fails.thread) (sym logs_are)
+            (subst (λ n. HoldTo (IsAsBefore store after) after (image_names plan.logs 0 n) plan.run.base.logs (map (log_left means) logs) left.ends fails.thread) names
+            (held_to same means store after plan.logs 0 plan.run.base.logs left.ends olds logs fails.thread others.tells tells all kept));
+        faults = hands_faults means plan.run.base.logs left.ends olds logs store after there all hands;
+        fences = hands_fences means plan.run.base.logs left.ends olds logs store after there all hands
+            ∙ ap (λ (ls : List LogLeft). counted store.device_fences (fences_of ls + begun_logs plan.run.base.logs)) (sym logs_are);
+        says = fails.says;
+      }
+
 module _ {k : ObjectKind} (plan : RunPlan k) (left : RunLeft k) (store after : StoreView) where
-  pub ended_whole : {A : Type 0} (text : Vec ℕ A) → HasKept plan left store after → broken_threads left.ends ≡ 0 → text.items ≡ plan_report plan left
+  pub ended_whole : {A : Type 0} (text : Vec ℕ A) → IsStored plan left store after → broken_threads left.ends ≡ 0 → text.items ≡ plan_report plan left
       → PlanReads plan left → SameBut (log_files plan) store after → HasEnded plan left store after (Ok text)
   ended_whole text kept whole report reads others = record { kept = kept; whole = whole; report = report; reads = reads; stop = tt; others = others }
 
-  pub ended_broken : {A : Type 0} (text : Vec ℕ Global) → HasKept plan left store after → 1 ≤ broken_threads left.ends → text.items ≡ plan_report plan left
+  pub ended_broken : {A : Type 0} (text : Vec ℕ Global) → IsStored plan left store after → 1 ≤ broken_threads left.ends → text.items ≡ plan_report plan left
       → SameBut (log_files plan) store after → HasEnded plan left store after {A = A} (Err (Says Faulty text))
-  ended_broken text kept broken report others = record { kept = tt; whole = tt; report = tt; reads = tt; stop = (kept, broken, report); others = others }
+  ended_broken text kept broken report others = record { kept = tt; whole = tt; report = tt; reads = tt; stop = inl (record { stored = kept; broken = broken; says = (refl, report) }); others = others }
 
-  unkept : (ending : Ending) (text : List ℕ) → ThreadFails kinds.Keep plan.logs (length plan.run.scripts) store after ending text → EndSays plan left store after ending text
-  unkept ending text h = subst (λ e. EndSays plan left store after e text) (sym h.fails.ends) fault
-    where
-      fault : NotKept plan store after text
-      fault = record { thread = h.thread; within = h.within; line = h.fails.line; rose = h.fails.rose; last = h.fails.last }
+  -- it is kept in part
+  pub ended_unkept : {A : Type 0} (s : Stop) → IsStoredTo plan left store after s → SameBut (log_files plan) store after → HasEnded plan left store after {A = A} (Err s)
+  ended_unkept s stored others = record { kept = tt; whole = tt; report = tt; reads = tt; stop = inr (inl stored); others = others }
 
-  pub ended_unkept : {A : Type 0} (s : Stop) → StopSays s (ThreadFails kinds.Keep plan.logs (length plan.run.scripts) store after) → SameBut (log_files plan) store after → HasEnded plan left store after {A = A} (Err s)
-  ended_unkept (Says ending text) h others = record { kept = tt; whole = tt; report = tt; reads = tt; stop = unkept ending text.items h; others = others }
-  ended_unkept NoMemory h others = record { kept = tt; whole = tt; report = tt; reads = tt; stop = tt; others = others }
-
-  -- memory could not be had
-  pub ended_none : {A : Type 0} (r : Result (Vec ℕ A) Stop) → IsErrAnd r (λ stop. stop ≡ NoMemory) → SameBut (log_files plan) store after → HasEnded plan left store after r
-  ended_none {A} r h others =
-      let p = err_from_is_err_and r h in
-      subst (HasEnded plan left store after) (sym p.1) (record { kept = tt; whole = tt; report = tt; reads = tt; stop = subst (λ s. StopSays s (EndSays plan left store after)) (sym p.2) tt; others = others })
+-- memory could not be had
+pub ended_none : {k : ObjectKind} {A : Type 0} (plan : RunPlan k) (left : RunLeft k) (store : StoreView) (r : Result (Vec ℕ A) Stop) → IsErrAnd r (λ stop. stop ≡ NoMemory) → HasEnded plan left store store r
+ended_none plan left store r h =
+    let p = err_from_is_err_and r h in
+    subst (HasEnded plan left store store) (sym p.1) (record {
+      kept = tt;
+      whole = tt;
+      report = tt;
+      reads = tt;
+      stop = inr (inr (p.2, record { tells = refl; file = λ name. refl }));
+      others = record { tells = refl; file = λ other differs. refl };
+    })
 
 -- ---- as many devices as threads
 module _ {State Op Query Reply Device A : Type 0} (means : Device → DeviceView) (befores : List Content) (ends : List (List (CallEnd State Op Query Reply))) (olds : List Device) (logs : List (LogState Device)) (threads : List A)
@@ -121,6 +150,3 @@ module _ {State Op Query Reply Device A : Type 0} (means : Device → DeviceView
       → SameBut (image_names name 0 (length (map f threads))) store after
   others_many f few is all = subst (λ n. SameBut (image_names name 0 n) store after) (run_many few is all ∙ sym (length-map threads f))
 
-  pub fails_many : {B : Type 0} (f : A → B) (s : Stop) → length ends ≡ length threads → devices ≡ map device_of logs → ran.AreKept means befores ends olds logs
-      → StopSays s (ThreadFails kinds.Keep name (length devices) store after) → StopSays s (ThreadFails kinds.Keep name (length (map f threads)) store after)
-  fails_many f s few is all = subst (λ n. StopSays s (ThreadFails kinds.Keep name n store after)) (run_many few is all ∙ sym (length-map threads f))

@@ -24,7 +24,7 @@ use Rattle.onll_core.specs.Resume.{Found, base_in}
 use Rattle.onll_core.proofs.Based.{base_is}
 use Rattle.onll_outside.specs.Views.{StoreView}
 use Rattle.onll_outside.specs.declared.store.FaultKind.TheVariants as kinds
-use Rattle.onll_run.specs.Left.{Plan}
+use Rattle.onll_run.specs.Left.{LogLeft, Plan}
 use Rattle.onll_run.specs.Making.{AreHeads}
 use Rattle.onll_run.specs.Ran.{CanRun, AreRoomy, HaveNumbers, going_on}
 use Rattle.onll_text.specs.Kinds.{ObjectKind}
@@ -32,15 +32,15 @@ use Rattle.onll_task.specs.declared.answer.Stop.{Stop}
 use Rattle.onll_task.specs.ImageNames.{image_names}
 use Rattle.onll_task.specs.Job.{Job}
 use Rattle.onll_task.specs.Doing.{Does}
-use Rattle.onll_task.specs.Running.{RunPlan, RunLeft, LogsStayOrWipe, log_files}
+use Rattle.onll_task.specs.Running.{RunPlan, RunLeft, HaveSizes, AreSized, NoneCounted, FileStands, AllStand, FilesStand, log_files}
 use Rattle.onll_task.specs.Standing.{StandsForRuns}
 use Rattle.onll_task.specs.Stop.{StopSays}
 use Rattle.onll_task.specs.Writing.{SameBut, SameCounts}
 use Rattle.onll_runner.specs.Devices.{ThreadFails, AreReopened, AreWiped, AreHeld, AreWithin, fronts_by}
-use Rattle.onll_runner.specs.ResumeJob.{AreRead, AreFitting, lines_over, plan_over}
-use Rattle.onll_runner.specs.RunEnds.{HasGone}
+use Rattle.onll_runner.specs.ResumeJob.{AreRead, AreFitting, AreLong, lines_over, plan_over}
+use Rattle.onll_runner.specs.RunEnds.{HasGone, lines_left}
 use Rattle.onll_runner.specs.RunJob.{calls_task}
-use Rattle.onll_runner.proofs.Reopening.{AreSound, are_sound, logs_stay, are_within, lines_small, roomy_again, small_again, fronts_within}
+use Rattle.onll_runner.proofs.Reopening.{AreSound, are_sound, logs_stay, are_within, lines_small, roomy_again, small_again, fronts_within, sizes_again, lines_reopened}
 use Rattle.onll_runner.proofs.RunSteps.{gone_does, unmade_does}
 
 -- ---- lists
@@ -173,26 +173,36 @@ module _ (k : ObjectKind) {V : Type 0} (items : V → List (Call k.State k.Op k.
       files_here : SameBut (log_files plan_here) old mid
       files_here = subst (λ n. SameBut (image_names name 0 n) old mid) (read.many ∙ sym (length-map scripts items)) files
 
-      stay_here : LogsStayOrWipe old mid (log_files plan_here) all.logs
+      stay_here : FilesStand plan_here old mid
       stay_here =
           let stay = logs_stay name 0 found.all.logs images old mid sound (subst (λ (ls : List LogCounts). AreWiped name 0 (fronts_by ls images) old mid) counts_are wiped) in
-          subst (λ n. LogsStayOrWipe old mid (image_names name 0 n) all.logs) (sym (length-map scripts items))
-          (subst (λ (f : Found). LogsStayOrWipe old mid (image_names name 0 (length scripts)) f.logs) (sym all_same) (subst (λ n. LogsStayOrWipe old mid (image_names name 0 n) found.all.logs) logs_many stay))
+          subst (λ n. AllStand (FileStands true old mid) (image_names name 0 n) all.logs) (sym (length-map scripts items))
+          (subst (λ (f : Found). AllStand (FileStands true old mid) (image_names name 0 (length scripts)) f.logs) (sym all_same)
+          (subst (λ n. AllStand (FileStands true old mid) (image_names name 0 n) found.all.logs) logs_many stay))
 
       named : {A : Type 0} (new : StoreView) (res : Result (Vec ℕ A) Stop) → Does (log_files plan_here) old new (calls_task k threads plan_here) res → Does (image_names name 0 (length scripts)) old new (calls_task k threads plan_here) res
       named new res = subst (λ n. Does (image_names name 0 n) old new (calls_task k threads plan_here) res) (length-map scripts items)
 
       -- what was run over reopened devices has gone so
-      pub goes_on : {A : Type 0} (new : StoreView) (res : Result (Vec ℕ A) Stop) → SameCounts old mid → HasGone {k = k} (record { logs = name; reopens = true; run = going_on state heads r.nodes logs (map items scripts) }) mid new res
+      pub goes_on : {A Device : Type 0} (means : Device → DeviceView) (devices : List Device) (lines : List ℕ) → lines ≡ lines_over (length scripts) r.logs counts (map items scripts) → AreReopened means (fronts_by r.logs images) lines devices
+          → AreLong name 0 counts old → (new : StoreView) (res : Result (Vec ℕ A) Stop) → SameCounts old mid
+          → HasGone {k = k} (record { logs = name; reopens = true; run = going_on state heads r.nodes logs (map items scripts) }) (map (λ (d : Device). length (means d).read) devices) mid new res
           → Does (image_names name 0 (length scripts)) old new (calls_task k threads plan_here) res
-      goes_on new res counted gone =
+      goes_on {A} {Device} means devices lines lines_are reopened files_long new res counted gone =
+          let long : List ℕ = map (λ (d : Device). length (means d).read) devices in
           let nodes : r.nodes ≡ all.nodes = nodes_are ∙ ap (λ (f : Found). f.nodes) (sym all_same) in
           let contents : logs ≡ all.logs = same_logs ∙ ap (λ (f : Found). f.logs) (sym all_same) in
           let run : going_on state heads r.nodes logs (map items scripts) ≡ going_on state heads all.nodes all.logs (map items scripts) =
           ap (λ (ns : List Node). going_on state heads ns logs (map items scripts)) nodes ∙ ap (λ (ls : List Content). going_on state heads all.nodes ls (map items scripts)) contents in
-          named new res (gone_does threads stands plan_here old mid new res counted files_here stay_here
-          (subst (λ (p : Plan k.State k.Op k.Query k.Reply). HasGone {k = k} (record { logs = name; reopens = true; run = p }) mid new res) run gone))
+          let asked : long ≡ lines_over (length scripts) (map log_counts found.all.logs) counts (map items scripts) =
+          lines_reopened means (fronts_by r.logs images) lines devices (fronts_within r.logs images lines (held_many ∙ sym read.many) (within lines lines_are)) reopened ∙ over_logs lines lines_are in
+          let sized : (left : List LogLeft) → map lines_left left ≡ long → AreSized plan_here left old = λ left e.
+          subst (λ (f : Found). HaveSizes true (length (map items scripts)) old (log_files plan_here) f.logs (map items scripts) left) (sym all_same)
+          (subst (λ n. HaveSizes true n old (log_files plan_here) found.all.logs (map items scripts) left) (sym (length-map scripts items))
+          (sizes_again (length scripts) old name 0 found.all.logs counts (map items scripts) left (e ∙ asked) files_long (read.counted ∙ sym logs_many) (length-map scripts items ∙ sym logs_many))) in
+          named new res (gone_does threads stands plan_here old mid new long res counted files_here stay_here sized
+          (subst (λ (p : Plan k.State k.Op k.Query k.Reply). HasGone {k = k} (record { logs = name; reopens = true; run = p }) long mid new res) run gone))
 
       -- a device could not be reopened
-      pub not_reopened : {A : Type 0} (s : Stop) → StopSays s (ThreadFails kinds.Reopen name (length images) old mid) → Does {A = A} (image_names name 0 (length scripts)) old mid (calls_task k threads plan_here) (Err s)
-      not_reopened s h = named mid (Err s) (unmade_does threads stands plan_here old mid s (subst (λ n. StopSays s (ThreadFails kinds.Reopen name n old mid)) (read.many ∙ sym (length-map scripts items)) h) files_here stay_here)
+      pub not_reopened : {A : Type 0} (s : Stop) → StopSays s (ThreadFails kinds.Reopen name (length images) old mid) → NoneCounted old mid → Does {A = A} (image_names name 0 (length scripts)) old mid (calls_task k threads plan_here) (Err s)
+      not_reopened s h none = named mid (Err s) (unmade_does threads stands plan_here old mid s (subst (λ n. StopSays s (ThreadFails kinds.Reopen name n old mid)) (read.many ∙ sym (length-map scripts items)) h) files_here stay_here none)

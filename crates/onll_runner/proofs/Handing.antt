@@ -1,22 +1,26 @@
 -- Devices that are made, kept and given up, one thread after the other.
 
-use Rattle.std.proofs.Common.{ℕ, zero, suc, true, false, List, [], ◌∷◌, ◌++◌, ◌≡◌, ◌+◌, ◌<◌, ◌^◌, length, map, reverse, drop, get_or, decimal, codes, inl, inr, ⊎_elim, refl, sym, ap, ◌∙◌, subst, arith, append_assoc, append-nil, length-append}
+use Rattle.std.proofs.Common.{ℕ, zero, suc, true, false, List, [], ◌∷◌, ◌++◌, ◌≡◌, ◌+◌, ◌<◌, ◌^◌, ◌⊎◌, Some, length, map, reverse, drop, get_or, decimal, codes, inl, inr, ⊎_elim, refl, sym, ap, ◌∙◌, subst, arith, append_assoc, append-nil, length-append}
 use Rattle.std.proofs.lemmas.Bool.{cases_Bool}
 use Rattle.std.proofs.lemmas.Fmt.{decimal_injective}
 use Rattle.std.proofs.lemmas.List.{drop_more, map-append, length-map, reverse-append, reverse-reverse, length-reverse, append_cancel_left}
 use Rattle.std.proofs.lemmas.Slice.Eq.{bytes_eq-Decides}
+use Rattle.std.specs.List.{AllByRecursion}
 use Rattle.std.specs.Str.{bytes_eq}
+use Rattle.onll_model.proofs.Lists.{all_append}
 use Rattle.onll_pmem.specs.Device.{zero_lines}
 use Rattle.onll_pmem.specs.Pmem.{DeviceView}
 use Rattle.onll_outside.specs.declared.store.FaultKind.{FaultKind}
+use Rattle.onll_outside.specs.declared.store.FaultKind.TheVariants as kinds
 use Rattle.onll_task.specs.declared.answer.Stop.{Stop}
 use Rattle.onll_task.specs.declared.answer.Stop.TheVariants.{Says, NoMemory}
 use Rattle.onll_task.specs.Stop.{StopSays}
-use Rattle.onll_outside.specs.Views.{StoreView, Rose, SameFiles, SameOthers, SameFaults, HandsBack, IsFresh, KeepsDevice, KeptOrZeros}
+use Rattle.onll_outside.specs.Views.{StoreView, Rose, SameFiles, SameOthers, SameFaults, SameDevices, HandsBack, HoldsImageOf, IsFresh, KeepsDevice, KeptOrZeros, MayKeep, counted, one_fault}
 use Rattle.onll_task.specs.ImageNames.{image_name, image_names}
+use Rattle.onll_task.specs.Running.{NoneCounted}
 use Rattle.onll_task.specs.Writing.{SameBut, SameCounts}
 use Rattle.onll_task.proofs.Onwards.{counts_more, others_on}
-use Rattle.onll_runner.specs.Devices.{DeviceFails, ThreadFails, AreNew, AreBlank, AreKept, HandsEach, risen, fault_of, fences_in}
+use Rattle.onll_runner.specs.Devices.{DeviceFails, ThreadFails, KeepFails, AreNew, AreBlank, AreKept, AreKeptTo, AreAsBefore, HandsEach, risen, fault_of, fences_in}
 
 -- ---- files that hold zeros
 pub blank_none : (logs : List ℕ) (t n : ℕ) (store : StoreView) → AreBlank logs t n store store
@@ -68,6 +72,49 @@ kept_more : (logs : List ℕ) (t last : ℕ) (ds : List DeviceView) (d : DeviceV
 kept_more logs t last [] d store e h k = (subst (λ i. KeepsDevice store (image_name logs i) d) (sym e ∙ omega arith) k, tt)
 kept_more logs t last (x ∷ ds) d store e h k = (h.0, kept_more logs (suc t) last ds d store (omega arith) h.1 k)
 
+-- ---- files that are kept up to a thread's
+kept_same : (logs : List ℕ) (t : ℕ) (ds : List DeviceView) (mid new : StoreView) → SameFiles mid new → AreKept logs t ds mid → AreKept logs t ds new
+kept_same logs t [] mid new same h = tt
+kept_same logs t (d ∷ ds) mid new same h = (kept_stays (image_name logs t) d mid new same.tells (same.file (image_name logs t)) h.0, kept_same logs (suc t) ds mid new same h.1)
+
+later_none : (logs : List ℕ) (t n : ℕ) (store : StoreView) → AreAsBefore logs t n store store
+later_none logs t zero store = tt
+later_none logs t (suc n) store = (refl, later_none logs (suc t) n store)
+
+later_since : (logs : List ℕ) (t n : ℕ) (old mid new : StoreView) → SameFiles mid new → AreAsBefore logs t n old mid → AreAsBefore logs t n old new
+later_since logs t zero old mid new same h = tt
+later_since logs t (suc n) old mid new same h = (same.file (image_name logs t) ∙ h.0, later_since logs (suc t) n old mid new same h.1)
+
+-- where another before them is kept
+later_next : (logs : List ℕ) (last t n : ℕ) (old mid new : StoreView) → last < t → t + n < 2 ^ 64 → SameOthers (image_name logs last) mid new → AreAsBefore logs t n old mid → AreAsBefore logs t n old new
+later_next logs last t zero old mid new less few others h = tt
+later_next logs last t (suc n) old mid new less few others h =
+    let differs : image_name logs t ≡ image_name logs last → ⊥ = λ same. let is = name_differs logs t last (omega (arith, few)) (omega (arith, less, few)) same in absurd (omega (arith, is, less)) in
+    (others.file (image_name logs t) differs ∙ h.0, later_next logs last (suc t) n old mid new (omega (arith, less)) (omega (arith, few)) others h.1)
+
+kept_to : (logs : List ℕ) (t last : ℕ) (fs : List DeviceView) (d : DeviceView) (ds : List DeviceView) (old new : StoreView) → t + length fs ≡ last → AreKept logs t fs new → MayKeep (image_name logs last) d old new
+    → AreAsBefore logs (suc last) (length ds) old new → AreKeptTo logs t (fs ++ d ∷ ds) (length fs) old new
+kept_to logs t last [] d ds old new e kept may later =
+    let here : last ≡ t = omega (arith, e) in
+    (subst (λ i. MayKeep (image_name logs i) d old new) here may, subst (λ i. AreAsBefore logs (suc i) (length ds) old new) here later)
+kept_to logs t last (f ∷ fs) d ds old new e kept may later = (kept.0, kept_to logs (suc t) last fs d ds old new (omega (arith, e)) kept.1 may later)
+
+may_keep_since : (name : List ℕ) (d : DeviceView) (old mid new last : StoreView) → mid.file name ≡ old.file name → SameFiles new last → MayKeep name d mid new → MayKeep name d old last
+may_keep_since name d old mid new last before same h on = by (h (sym same.tells ∙ on))
+  where
+    by : (new.file name ≡ mid.file name) ⊎ HoldsImageOf new name d → (last.file name ≡ old.file name) ⊎ HoldsImageOf last name d
+    by (inl e) = inl (same.file name ∙ e ∙ before)
+    by (inr k) = inr (k.0, same.file name ∙ k.1, k.2)
+
+fails_since : (kind : FaultKind) (name : List ℕ) (old mid new last : StoreView) (s : Stop) → SameFaults old mid → SameFaults new last → StopSays s (DeviceFails kind name mid new) → StopSays s (DeviceFails kind name old last)
+fails_since kind name old mid new last (Says ending text) first then_ h = record {
+  ends = h.ends;
+  line = h.line;
+  rose = subst (λ n. Rose n last.faults) first.0 (subst (Rose mid.faults) (sym then_.0) h.rose);
+  last = then_.1 ∙ h.last;
+}
+fails_since kind name old mid new last NoMemory first then_ h = tt
+
 pub files_more : (old mid new : StoreView) → SameFiles old mid → SameFiles mid new → SameFiles old new
 files_more old mid new first then_ = record { tells = then_.tells ∙ first.tells; file = λ name. then_.file name ∙ first.file name }
 
@@ -76,6 +123,14 @@ files_more old mid new first then_ = record { tells = then_.tells ∙ first.tell
 pub hands_more : (d : DeviceView) (ds : List DeviceView) (mid new : StoreView) → HandsBack d mid new
     → (risen new.device_faults (map fault_of ds) ≡ risen mid.device_faults (map fault_of (d ∷ ds))) × (risen new.device_fences (map fences_in ds) ≡ risen mid.device_fences (map fences_in (d ∷ ds)))
 hands_more d ds mid new h = (ap (λ n. risen n (map fault_of ds)) h.0, ap (λ n. risen n (map fences_in ds)) h.1)
+
+-- devices that made no fence leave a count as it is
+risen_none : (g : DeviceView → ℕ) (n : ℕ) (ds : List DeviceView) → n < 2 ^ 64 → AllByRecursion (λ (d : DeviceView). g d ≡ 0) ds → risen n (map g ds) ≡ n
+risen_none g n [] few none = refl
+risen_none g n (d ∷ ds) few none =
+    let zero_here = none.0 in
+    let same : counted n (g d) ≡ n = omega (arith, zero_here, few) in
+    ap (λ m. risen m (map g ds)) same ∙ risen_none g n ds few none.1
 
 -- some were handed back, and these are left, the last of them first
 pub record HandedSo (all left : List DeviceView) (old mid : StoreView) : Type 0 where
@@ -86,6 +141,34 @@ module _ {Device : Type 0} (means : Device → DeviceView) where
   map_reverse : (xs : List Device) → map means (reverse xs) ≡ reverse (map means xs)
   map_reverse [] = refl
   map_reverse (x ∷ xs) = ap (map means) (reverse-append (x ∷ []) xs) ∙ (map-append means (reverse xs) (x ∷ []) ∙ (ap (λ (l : List DeviceView). l ++ means x ∷ []) (map_reverse xs) ∙ sym (reverse-append (means x ∷ []) (map means xs))))
+
+  -- a device that was not fenced
+  pub record IsUnused (d : Device) : Type 0 where
+    pub fences : (means d).fences ≡ 0
+    pub faults : (means d).faults ≡ 0
+
+  none_fenced : (ds : List Device) → AllByRecursion IsUnused ds → AllByRecursion (λ (d : DeviceView). fences_in d ≡ 0) (map means (reverse ds))
+  none_fenced [] h = tt
+  none_fenced (d ∷ ds) h = subst (AllByRecursion (λ (x : DeviceView). fences_in x ≡ 0)) (sym (ap (map means) (reverse-append (d ∷ []) ds) ∙ map-append means (reverse ds) (d ∷ [])))
+      (all_append (λ (x : DeviceView). fences_in x ≡ 0) (map means (reverse ds)) (means d ∷ []) (none_fenced ds h.1) (h.0.fences, tt))
+
+  none_failed : (ds : List Device) → AllByRecursion IsUnused ds → AllByRecursion (λ (d : DeviceView). fault_of d ≡ 0) (map means (reverse ds))
+  none_failed [] h = tt
+  none_failed (d ∷ ds) h = subst (AllByRecursion (λ (x : DeviceView). fault_of x ≡ 0)) (sym (ap (map means) (reverse-append (d ∷ []) ds) ∙ map-append means (reverse ds) (d ∷ [])))
+      (all_append (λ (x : DeviceView). fault_of x ≡ 0) (map means (reverse ds)) (means d ∷ []) (none_failed ds h.1) (ap one_fault h.0.faults, tt))
+
+  -- such devices were given up
+  pub none_counted : (ds : List Device) (old mid new last : StoreView) → AllByRecursion IsUnused ds → SameDevices old mid → SameDevices mid new → HandsEach (map means (reverse ds)) new last → NoneCounted old last
+  none_counted ds old mid new last unused first then_ hands =
+      let faults : new.device_faults ≡ old.device_faults = then_.0 ∙ first.0 in
+      let fences : new.device_fences ≡ old.device_fences = then_.1 ∙ first.1 in (
+        (λ few. hands.faults ∙ risen_none fault_of new.device_faults (map means (reverse ds)) (subst (λ n. n < 2 ^ 64) (sym faults) few) (none_failed ds unused) ∙ faults),
+        (λ few. hands.fences ∙ risen_none fences_in new.device_fences (map means (reverse ds)) (subst (λ n. n < 2 ^ 64) (sym fences) few) (none_fenced ds unused) ∙ fences),
+      )
+
+  pub unused_more : (devices pushed : List Device) (d : Device) (front : List (List ℕ)) → pushed ≡ devices ++ d ∷ [] → IsFresh front (means d) → AllByRecursion IsUnused devices → AllByRecursion IsUnused pushed
+  unused_more devices pushed d front p fresh h =
+      subst (AllByRecursion IsUnused) (sym p) (all_append IsUnused devices (d ∷ []) h (record { fences = fresh.fences; faults = fresh.faults }, tt))
 
   popped : (left rest : List Device) (d : Device) → left ≡ rest ++ d ∷ [] → reverse (map means left) ≡ means d ∷ reverse (map means rest)
   popped left rest d e = ap (λ (l : List Device). reverse (map means l)) e ∙ ap reverse (map-append means rest (d ∷ [])) ∙ reverse-append (map means rest) (means d ∷ [])
@@ -117,6 +200,7 @@ module _ {Device : Type 0} (means : Device → DeviceView) where
     pub whole : front ++ reverse left ≡ all
     pub count : length front ≡ thread
     pub kept : AreKept logs 0 (map means front) mid
+    pub later : AreAsBefore logs thread (length left) old mid
     pub faults : SameFaults old mid
     pub handed : HandedSo (map means all) (map means left) old mid
     pub others : SameBut (image_names logs 0 (length all)) old mid
@@ -130,6 +214,7 @@ module _ {Device : Type 0} (means : Device → DeviceView) where
         whole = back;
         count = refl;
         kept = tt;
+        later = later_none logs 0 (length left) store;
         faults = (refl, refl);
         handed = record { faults = ap (λ ds. risen store.device_faults (map fault_of ds)) same; fences = ap (λ ds. risen store.device_fences (map fences_in ds)) same };
         others = record { tells = refl; file = λ other differs. refl };
@@ -164,6 +249,14 @@ module _ {Device : Type 0} (means : Device → DeviceView) where
         count = omega (arith, one, count);
         kept = subst (λ ds. AreKept logs 0 ds new) (sym (map-append means so.front (d ∷ [])))
             (kept_more logs 0 thread (map means so.front) (means d) new in_front (kept_others logs 0 thread (map means so.front) mid new in_front (omega (arith, low, few)) others so.kept) keeps);
+        later = (let more : length left ≡ suc (length rest) = (let long_ = ap length e ∙ length-append rest (d ∷ []) in omega (arith, long_)) in
+            let left_long = length-reverse left in
+            let total_ = ap length so.whole in
+            let front_long = length-append so.front (reverse left) in
+            let after : AreAsBefore logs (suc thread) (length rest) old mid = (subst (λ n. AreAsBefore logs thread n old mid) more so.later).1 in
+            let next : suc thread ≡ thread + 1 = omega arith in
+            subst (λ n. AreAsBefore logs n (length rest) old new) next
+            (later_next logs thread (suc thread) (length rest) old mid new (omega arith) (omega (arith, more, left_long, total_, front_long, count, few)) others after));
         faults = (faults.0 ∙ so.faults.0, faults.1 ∙ so.faults.1);
         handed = handed_next (map means all) left rest d old mid new e hands so.handed;
         others = others_on old mid new logs (length all) thread low so.others others;
@@ -176,10 +269,49 @@ module _ {Device : Type 0} (means : Device → DeviceView) where
       let here : HandedSo (map means all) [] old mid = subst (λ (l : List Device). HandedSo (map means all) (map means l) old mid) none so.handed in
       (subst (λ (l : List Device). AreKept logs 0 (map means l) mid) whole so.kept, record { faults = here.faults; fences = here.fences })
 
+  -- one could not be kept, and those after it were given up
+  pub keep_fails : (logs : List ℕ) (all left rest : List Device) (d : Device) (thread : ℕ) (old mid new last : StoreView) (s : Stop) → left ≡ rest ++ d ∷ [] → length all < 2 ^ 64 → KeptSo logs all left thread old mid
+      → MayKeep (image_name logs thread) (means d) mid new → SameOthers (image_name logs thread) mid new → SameFiles new last → SameFaults new last → StopSays s (DeviceFails kinds.Keep (image_name logs thread) mid new)
+      → KeepFails logs (map means all) old last s
+  keep_fails logs all left rest d thread old mid new last s e few so may others same faults says =
+      let back : reverse left ≡ d ∷ reverse rest = ap reverse e ∙ reverse-append rest (d ∷ []) in
+      let whole : so.front ++ d ∷ reverse rest ≡ all = ap (λ l. so.front ++ l) (sym back) ∙ so.whole in
+      let total = ap length whole in
+      let long = length-append so.front (d ∷ reverse rest) in
+      let rest_long = length-reverse rest in
+      let count = so.count in
+      let low : thread < length all = omega (arith, total, long, count) in
+      let mapped : length (map means so.front) ≡ thread = length-map so.front means ∙ count in
+      let more : length left ≡ suc (length rest) = (let left_long = ap length e ∙ length-append rest (d ∷ []) in omega (arith, left_long)) in
+      let later : AreAsBefore logs thread (suc (length rest)) old mid = subst (λ n. AreAsBefore logs thread n old mid) more so.later in
+      let after : AreAsBefore logs (suc thread) (length rest) old last =
+      later_since logs (suc thread) (length rest) old new last same (later_next logs thread (suc thread) (length rest) old mid new (omega arith) (omega (arith, total, long, rest_long, count, few)) others later.1) in
+      let in_front : 0 + length (map means so.front) ≡ thread = omega (arith, mapped) in
+      let kept : AreKept logs 0 (map means so.front) last = kept_same logs 0 (map means so.front) new last same (kept_others logs 0 thread (map means so.front) mid new in_front (omega (arith, low, few)) others so.kept) in
+      let mine : MayKeep (image_name logs thread) (means d) old last = may_keep_since (image_name logs thread) (means d) old mid new last later.0 same may in
+      let rest_many : length rest ≡ length (map means (reverse rest)) = sym (length-map (reverse rest) means ∙ rest_long) in
+      let files = kept_to logs 0 thread (map means so.front) (means d) (map means (reverse rest)) old last in_front kept mine (subst (λ n. AreAsBefore logs (suc thread) n old last) rest_many after) in
+      record {
+        thread = thread;
+        files = subst (λ ds. AreKeptTo logs 0 ds thread old last) (sym (map-append means so.front (d ∷ reverse rest)) ∙ ap (map means) whole)
+            (subst (λ n. AreKeptTo logs 0 (map means so.front ++ means d ∷ map means (reverse rest)) n old last) mapped files);
+        says = fails_since kinds.Keep (image_name logs thread) old mid new last s so.faults faults says;
+      }
+
+  pub hands_all : (logs : List ℕ) (all left rest : List Device) (d : Device) (thread : ℕ) (old mid new last : StoreView) → left ≡ rest ++ d ∷ [] → KeptSo logs all left thread old mid → HandsBack (means d) mid new → HandsEach (map means (reverse rest)) new last
+      → HandsEach (map means all) old last
+  hands_all logs all left rest d thread old mid new last e so hands given =
+      let next = handed_next (map means all) left rest d old mid new e hands so.handed in
+      record {
+        faults = given.faults ∙ ap (λ ds. risen new.device_faults (map fault_of ds)) (map_reverse rest) ∙ next.faults;
+        fences = given.fences ∙ ap (λ ds. risen new.device_fences (map fences_in ds)) (map_reverse rest) ∙ next.fences;
+      }
+
   -- The devices of the threads before were made.
   pub record MadeSo (logs : List ℕ) (lines : List ℕ) (devices : List Device) (thread : ℕ) (old mid : StoreView) : Type 0 where
     pub made : (rest : List Device) → AreNew means (drop thread lines) rest → AreNew means lines (devices ++ rest)
     pub count : length devices ≡ thread
+    pub unused : AllByRecursion IsUnused devices
     pub counts : SameCounts old mid
     pub files : AreBlank logs 0 (length lines) old mid
     pub others : SameBut (image_names logs 0 (length lines)) old mid
@@ -188,6 +320,7 @@ module _ {Device : Type 0} (means : Device → DeviceView) where
   made_start logs lines devices store none = record {
     made = λ rest h. subst (λ (l : List Device). AreNew means lines (l ++ rest)) (sym none) h;
     count = ap length none;
+    unused = subst (AllByRecursion IsUnused) (sym none) tt;
     counts = ((refl, refl), (refl, refl));
     files = blank_none logs 0 (length lines) store;
     others = record { tells = refl; file = λ other differs. refl };
@@ -202,6 +335,7 @@ module _ {Device : Type 0} (means : Device → DeviceView) where
         let first : AreNew means (drop thread lines) (d ∷ rest) = subst (λ (l : List ℕ). AreNew means l (d ∷ rest)) (ap (λ m. m ∷ drop (thread + 1) lines) is ∙ sym (drop_more lines thread 0 low)) here in
         subst (AreNew means lines) (sym (ap (λ (l : List Device). l ++ rest) p ∙ append_assoc devices (d ∷ []) rest)) (so.made (d ∷ rest) first);
     count = ap length p ∙ length-append devices (d ∷ []) ∙ ap (λ m. m + 1) so.count;
+    unused = unused_more devices pushed d (zero_lines n) p fresh so.unused;
     counts = counts_more old mid new so.counts counts;
     files = blank_next logs 0 (length lines) (image_name logs thread) old mid new so.files blank others;
     others = others_on old mid new logs (length lines) thread low so.others others;

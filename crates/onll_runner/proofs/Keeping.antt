@@ -1,6 +1,6 @@
 -- What a store keeps of the logs that a run hands back.
 
-use Rattle.std.proofs.Common.{ℕ, suc, true, false, Bool, List, [], ◌∷◌, ◌≡◌, ◌+◌, ◌≤◌, ◌||◌, ◌⊎◌, inl, inr, ⊎_elim, length, map, sum_by, Option, Some, None, is_some, refl, sym, ap, ◌∙◌, subst, arith, true≢false}
+use Rattle.std.proofs.Common.{ℕ, zero, suc, true, false, Bool, List, [], ◌∷◌, ◌≡◌, ◌+◌, ◌≤◌, ◌||◌, ◌⊎◌, inl, inr, ⊎_elim, length, map, sum_by, Option, Some, None, is_some, refl, sym, ap, ◌∙◌, subst, arith, true≢false}
 use Rattle.std.proofs.lemmas.List.Sums.{sum_by-cons}
 use Rattle.std.specs.List.{list_any}
 use Rattle.onll_pmem.specs.Device.{Mixed}
@@ -8,16 +8,17 @@ use Rattle.onll_pmem.specs.Laws.{SameLaw}
 use Rattle.onll_pmem.specs.Pmem.{DeviceView, Told, ToldSettled}
 use Rattle.onll_log.specs.Log.{LogState}
 use Rattle.onll_model.specs.declared.call.CallEnd.{CallEnd}
-use Rattle.onll_outside.specs.Views.{StoreView, KeepsDevice, counted, image_bytes, one_fault}
+use Rattle.onll_outside.specs.Views.{StoreView, HoldsImageOf, KeepsDevice, MayKeep, counted, image_bytes, one_fault}
 use Rattle.onll_run.specs.Outcomes.{failed_in, fault_in}
 use Rattle.onll_log.specs.Grammar.{Content}
 use Rattle.onll_run.specs.Left.{LogLeft, begun_logs, fenced_in}
 use Rattle.onll_run.specs.Ended.{log_left}
 use Rattle.onll_run.specs.Making.{device_of}
 use Rattle.onll_run.specs.Ran as ran
-use Rattle.onll_task.specs.ImageNames.{image_name}
-use Rattle.onll_task.specs.Running.{HoldsLog, HoldsLogs, broken_threads, fences_of}
-use Rattle.onll_runner.specs.Devices.{AreKept, risen, fault_of, fences_in}
+use Rattle.onll_task.specs.ImageNames.{image_name, image_names}
+use Rattle.onll_task.specs.Running.{HoldsLog, HoldsLogs, AllStand, HoldTo, broken_threads, fences_of}
+use Rattle.onll_runner.specs.Devices.{AreKept, AreKeptTo, AreAsBefore, risen, fault_of, fences_in}
+use Rattle.onll_runner.specs.RunEnds.{IsAsBefore}
 
 -- ---- counts
 counted_twice : (n a b : ℕ) → counted (counted n a) b ≡ counted n (a + b)
@@ -36,6 +37,22 @@ told_by d h = by d.told refl h
     by None e h = absurd (true≢false (sym h))
     by (Some t) e h = (t, e)
 
+pub kept_befores : {State Op Query Reply Device : Type 0} (means : Device → DeviceView) (befores : List Content) (ends : List (List (CallEnd State Op Query Reply))) (olds : List Device) (logs : List (LogState Device))
+    → ran.AreKept means befores ends olds logs → length (map means (map device_of logs)) ≡ length befores
+kept_befores means [] [] [] [] all = refl
+kept_befores means (before ∷ befores) (es ∷ ends) (d ∷ olds) (log ∷ logs) all = ap suc (kept_befores means befores ends olds logs all.1)
+kept_befores means [] [] [] (log ∷ logs) all = absurd all
+kept_befores means [] [] (d ∷ olds) logs all = absurd all
+kept_befores means [] (es ∷ ends) olds logs all = absurd all
+kept_befores means (before ∷ befores) [] olds logs all = absurd all
+kept_befores means (before ∷ befores) (es ∷ ends) [] logs all = absurd all
+kept_befores means (before ∷ befores) (es ∷ ends) (d ∷ olds) [] all = absurd all
+
+-- files that are as they were stand so
+later_stand : (name : List ℕ) (t : ℕ) (befores : List Content) (old new : StoreView) → AreAsBefore name t (length befores) old new → AllStand (IsAsBefore old new) (image_names name t (length befores)) befores
+later_stand name t [] old new h = tt
+later_stand name t (before ∷ befores) old new h = ((λ on. h.0), later_stand name (suc t) befores old new h.1)
+
 module _ (same : SameLaw) where
   -- the file of a device that was kept holds its log
   kept_log : (store : StoreView) (name : List ℕ) (log : LogLeft) (failed : Option ℕ) (d : DeviceView) → (store.tells ≡ true → is_some d.told ≡ true) → d.read ≡ log.read → ToldSettled d.told (fenced_in log failed)
@@ -50,7 +67,39 @@ module _ (same : SameLaw) where
       let t = told_by d (tells on) in
       (k.0, subst (λ r. Mixed (fenced_in log (Some place)) r k.0) read (subst (λ f. Mixed f d.read k.0) (settled t.0 t.1) (k.2 t.0 t.1)), k.1)
 
+  -- that of a device that could not be kept does, or is as it was
+  held_own : (old new : StoreView) (name : List ℕ) (before : Content) (log : LogLeft) (failed : Option ℕ) (d : DeviceView) → new.tells ≡ old.tells → (new.tells ≡ true → is_some d.told ≡ true) → d.read ≡ log.read
+      → ToldSettled d.told (fenced_in log failed) → MayKeep name d old new → IsAsBefore old new name before ⊎ HoldsLog new name log failed
+  held_own old new name before log failed d tells told read settled h = by new.tells refl
+    where
+      either : (new.file name ≡ old.file name) ⊎ HoldsImageOf new name d → IsAsBefore old new name before ⊎ HoldsLog new name log failed
+      either (inl e) = inl (λ on. e)
+      either (inr k) = inr (kept_log new name log failed d told read settled (λ on. k))
+
+      by : (t : Bool) → new.tells ≡ t → IsAsBefore old new name before ⊎ HoldsLog new name log failed
+      by true e = either (h e)
+      by false e = inl (λ on. absurd (true≢false (sym on ∙ sym tells ∙ e)))
+
   module _ {State Op Query Reply Device : Type 0} (means : Device → DeviceView) where
+    -- devices were kept up to a thread's
+    pub held_to : (old new : StoreView) (name : List ℕ) (t : ℕ) (befores : List Content) (ends : List (List (CallEnd State Op Query Reply))) (olds : List Device) (logs : List (LogState Device)) (thread : ℕ) → new.tells ≡ old.tells
+        → (new.tells ≡ true → (d : Device) → is_some (means d).told ≡ true) → ran.AreKept means befores ends olds logs → AreKeptTo name t (map means (map device_of logs)) thread old new
+        → HoldTo (IsAsBefore old new) new (image_names name t (length befores)) befores (map (log_left means) logs) ends thread
+    held_to old new name t (before ∷ befores) (es ∷ ends) (d ∷ olds) (log ∷ logs) zero same_tells tells all kept = (
+      held_own old new (image_name name t) before (log_left means log) (failed_in es) (means log.device) same_tells (λ on. tells on log.device) refl all.0.fenced kept.0,
+      later_stand name (suc t) befores old new (subst (λ n. AreAsBefore name (suc t) n old new) (kept_befores means befores ends olds logs all.1) kept.1),
+    )
+    held_to old new name t (before ∷ befores) (es ∷ ends) (d ∷ olds) (log ∷ logs) (suc thread) same_tells tells all kept = (
+      kept_log new (image_name name t) (log_left means log) (failed_in es) (means log.device) (λ on. tells on log.device) refl all.0.fenced kept.0,
+      held_to old new name (suc t) befores ends olds logs thread same_tells tells all.1 kept.1,
+    )
+    held_to old new name t befores ends olds [] thread same_tells tells all kept = absurd kept
+    held_to old new name t [] [] [] (log ∷ logs) thread same_tells tells all kept = absurd all
+    held_to old new name t [] [] (d ∷ olds) (log ∷ logs) thread same_tells tells all kept = absurd all
+    held_to old new name t [] (es ∷ ends) olds (log ∷ logs) thread same_tells tells all kept = absurd all
+    held_to old new name t (before ∷ befores) [] olds (log ∷ logs) thread same_tells tells all kept = absurd all
+    held_to old new name t (before ∷ befores) (es ∷ ends) [] (log ∷ logs) thread same_tells tells all kept = absurd all
+
     -- so do the files of all devices
     pub kept_logs : (store : StoreView) (name : List ℕ) (t : ℕ) (befores : List Content) (ends : List (List (CallEnd State Op Query Reply))) (olds : List Device) (logs : List (LogState Device))
         → (store.tells ≡ true → (d : Device) → is_some (means d).told ≡ true) → ran.AreKept means befores ends olds logs

@@ -22,14 +22,16 @@ use Rattle.onll_merge.specs.Laws.{HeadsFit}
 use Rattle.onll_merge.specs.Recovered.{log_counts}
 use Rattle.onll_outside.specs.Views.{StoreView, SameOthers, SameFiles, IsFresh, BeginsWith, AreZeros, WipesAfter, MayWipe, word_bytes, image_bytes, with_zeros}
 use Rattle.onll_outside.specs.Views as views
+use Rattle.onll_run.specs.Left.{LogLeft}
 use Rattle.onll_run.specs.Making.{AreHeads, StandsBy, StandsAt}
 use Rattle.onll_run.specs.Ran.{IsRoomyFor, AreRoomy}
 use Rattle.onll_task.specs.ImageNames.{image_name, image_names}
 use Rattle.onll_task.specs.Images.{FilesBegin}
-use Rattle.onll_task.specs.Running.{IsFrontFor, LogsStayOrWipe}
+use Rattle.onll_task.specs.Running.{IsFrontFor, FileStands, AllStand, HaveSizes}
 use Rattle.onll_runner.specs.Devices.{AreReopened, AreWiped, AreHeld, AreWithin, front_by, fronts_by}
-use Rattle.onll_runner.specs.ResumeJob.{AreFitting, lines_over}
-use Rattle.onll_runner.proofs.Handing.{name_differs}
+use Rattle.onll_runner.specs.ResumeJob.{AreFitting, AreLong, lines_over}
+use Rattle.onll_runner.specs.RunEnds.{lines_left}
+use Rattle.onll_runner.proofs.Handing.{IsUnused, name_differs, unused_more}
 
 -- ---- files that begin with lines
 begins_none : (store : StoreView) (name : List ℕ) (lines : List (List ℕ)) → BeginsWith store name (image_bytes lines) → BeginsWith store name (image_bytes [])
@@ -151,9 +153,14 @@ module _ {Device : Type 0} (means : Device → DeviceView) where
   pub record ReopenedSo (fronts : List (List (List ℕ))) (lines : List ℕ) (devices : List Device) (thread : ℕ) : Type 0 where
     pub made : (rest : List Device) → AreReopened means (drop thread fronts) (drop thread lines) rest → AreReopened means fronts lines (devices ++ rest)
     pub count : length devices ≡ thread
+    pub unused : AllByRecursion (IsUnused means) devices
 
   pub reopened_start : (fronts : List (List (List ℕ))) (lines : List ℕ) (devices : List Device) → devices ≡ [] → ReopenedSo fronts lines devices 0
-  reopened_start fronts lines devices none = record { made = λ rest h. subst (λ (l : List Device). AreReopened means fronts lines (l ++ rest)) (sym none) h; count = ap length none }
+  reopened_start fronts lines devices none = record {
+    made = λ rest h. subst (λ (l : List Device). AreReopened means fronts lines (l ++ rest)) (sym none) h;
+    count = ap length none;
+    unused = subst (AllByRecursion (IsUnused means)) (sym none) tt;
+  }
 
   pub reopened_next : (fronts : List (List (List ℕ))) (lines : List ℕ) (devices pushed : List Device) (d : Device) (thread n : ℕ) (front : List (List ℕ)) → thread < length fronts → thread < length lines → n ≡ get_or lines thread 0
       → front ≡ get_or fronts thread [] → pushed ≡ devices ++ d ∷ [] → ReopenedSo fronts lines devices thread → IsFresh (with_zeros front n) (means d) → ReopenedSo fronts lines pushed (thread + 1)
@@ -166,6 +173,7 @@ module _ {Device : Type 0} (means : Device → DeviceView) where
         subst (λ l. AreReopened means (drop thread fronts) l (d ∷ rest)) ns (subst (λ f. AreReopened means f (n ∷ drop (thread + 1) lines) (d ∷ rest)) fs here) in
         subst (AreReopened means fronts lines) (sym (ap (λ (l : List Device). l ++ rest) p ∙ append_assoc devices (d ∷ []) rest)) (so.made (d ∷ rest) first);
     count = ap length p ∙ length-append devices (d ∷ []) ∙ ap (λ m. m + 1) so.count;
+    unused = unused_more means devices pushed d (with_zeros front n) p fresh so.unused;
   }
 
   pub reopened_end : (fronts : List (List (List ℕ))) (lines : List ℕ) (devices : List Device) (thread : ℕ) → drop thread fronts ≡ [] → drop thread lines ≡ [] → ReopenedSo fronts lines devices thread → AreReopened means fronts lines devices
@@ -261,7 +269,7 @@ front_for log image s = by log.head refl
 
 -- the files stand so
 pub logs_stay : (name : List ℕ) (t : ℕ) (logs : List Content) (images : List (List (List ℕ))) (old new : StoreView) → AreSound logs images → AreWiped name t (fronts_by (map log_counts logs) images) old new
-    → LogsStayOrWipe old new (image_names name t (length logs)) logs
+    → AllStand (FileStands true old new) (image_names name t (length logs)) logs
 logs_stay name t [] [] old new s w = tt
 logs_stay name t [] (image ∷ images) old new s w = absurd s
 logs_stay name t (log ∷ logs) [] old new s w = absurd s
@@ -325,6 +333,23 @@ module _ {State Op Query Reply : Type 0} where
   lines_small threads (log ∷ logs) (count ∷ counts) (script ∷ scripts) fit few =
       (let room = fit.0 in let low = few.0 in omega (arith, room, low), lines_small threads logs counts scripts fit.1 few.1)
 
+  -- so large are the logs on such devices
+  pub sizes_again : (threads : ℕ) (store : StoreView) (name : List ℕ) (t : ℕ) (logs : List Content) (counts : List ℕ) (scripts : List (List (Call State Op Query Reply))) (left : List LogLeft)
+      → map lines_left left ≡ lines_over threads (map log_counts logs) counts scripts → AreLong name t counts store → length counts ≡ length logs → length scripts ≡ length logs
+      → HaveSizes true threads store (image_names name t (length scripts)) logs scripts left
+  sizes_again threads store name t [] counts [] [] e long many few = tt
+  sizes_again threads store name t [] counts [] (l ∷ left) e long many few = absurd (omega (arith, ap length e))
+  sizes_again threads store name t [] counts (script ∷ scripts) left e long many few = absurd (omega (arith, few))
+  sizes_again threads store name t (log ∷ logs) [] scripts left e long many few = absurd (omega (arith, many))
+  sizes_again threads store name t (log ∷ logs) (count ∷ counts) [] left e long many few = absurd (omega (arith, few))
+  sizes_again threads store name t (log ∷ logs) (count ∷ counts) (script ∷ scripts) [] e long many few = absurd (omega (arith, ap length e))
+  sizes_again threads store name t (log ∷ logs) (count ∷ counts) (script ∷ scripts) (l ∷ left) e long many few =
+      let here : lines_left l ≡ max (max 1 (used_by log) + (threads + 1) * updates_in script) count = (cc) in
+      let rest : map lines_left left ≡ lines_over threads (map log_counts logs) counts scripts = (cc) in (
+        (omega (arith, here), (λ on bytes is. let read = long.0 on bytes is in omega (arith, here, read))),
+        sizes_again threads store name (suc t) logs counts scripts left rest long.1 (omega (arith, many)) (omega (arith, few)),
+      )
+
   module _ {Device : Type 0} (means : Device → DeviceView) where
     is_roomy : (threads : ℕ) (log : Content) (image : List (List ℕ)) (count : ℕ) (script : List (Call State Op Query Reply)) (d : Device) → IsSound log image
         → IsFresh (with_zeros (front_by (is_some log.head) image) (max (max 1 (used_by log) + (threads + 1) * updates_in script) count)) (means d) → IsRoomyFor means threads log script d
@@ -367,6 +392,17 @@ module _ {Device : Type 0} (means : Device → DeviceView) where
       let long : length (means d).read ≡ n = ap length r.0.read ∙ long_zeros front n w.0 in
       let low = small.0 in
       (omega (arith, long, low), small_again fronts lines ds w.1 small.1 r.1)
+
+  -- they have the lines that they were asked for
+  pub lines_reopened : (fronts : List (List (List ℕ))) (lines : List ℕ) (devices : List Device) → AreWithin fronts lines → AreReopened means fronts lines devices → map (λ (d : Device). length (means d).read) devices ≡ lines
+  lines_reopened [] [] [] w r = refl
+  lines_reopened [] [] (d ∷ ds) w r = absurd r
+  lines_reopened [] (n ∷ lines) ds w r = absurd w
+  lines_reopened (front ∷ fronts) [] ds w r = absurd w
+  lines_reopened (front ∷ fronts) (n ∷ lines) [] w r = absurd r
+  lines_reopened (front ∷ fronts) (n ∷ lines) (d ∷ ds) w r =
+      let long : length (means d).read ≡ n = ap length r.0.read ∙ long_zeros front n w.0 in
+      ap (λ m. m ∷ map (λ (x : Device). length (means x).read) ds) long ∙ ap (λ ms. n ∷ ms) (lines_reopened fronts lines ds w.1 r.1)
 
 -- the lines with which devices begin are no more than the images have
 pub fronts_within : (held : List LogCounts) (images : List (List (List ℕ))) (lines : List ℕ) → length held ≡ length images → AreWithin images lines → AreWithin (fronts_by held images) lines

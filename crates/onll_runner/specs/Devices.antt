@@ -1,16 +1,20 @@
 -- Devices that a store hands out for the logs of a run, and takes back.
 
 use Rattle.std.specs.Prelude.{ℕ, zero, suc, ◌<◌, ◌≤◌, ◌≡◌, Bool, true, false, List, [], ◌∷◌, length, map, Some}
+use Rattle.std.specs.List.{AllByRecursion}
 use Rattle.onll_pmem.specs.Device.{zero_lines}
 use Rattle.onll_pmem.specs.Pmem.{DeviceView}
 use Rattle.onll_log.specs.Grammar.{Content, content_of, used_by}
 use Rattle.onll_merge.specs.declared.counts.LogCounts.{LogCounts}
-use Rattle.onll_outside.specs.Views.{StoreView, Rose, IsFresh, KeepsDevice, KeptOrZeros, MayWipe, counted, image_bytes, one_fault, with_zeros}
+use Rattle.onll_outside.specs.Views.{StoreView, Rose, IsFresh, KeepsDevice, KeptOrZeros, MayKeep, MayWipe, counted, image_bytes, one_fault, with_zeros}
 use Rattle.onll_outside.specs.declared.store.FaultKind.{FaultKind}
+use Rattle.onll_outside.specs.declared.store.FaultKind.TheVariants as kinds
 use Rattle.onll_task.specs.declared.ending.Ending.{Ending}
 use Rattle.onll_task.specs.declared.ending.Ending.TheVariants.{WriteFault}
-use Rattle.onll_task.specs.ImageNames.{image_name}
+use Rattle.onll_task.specs.declared.answer.Stop.{Stop}
+use Rattle.onll_task.specs.ImageNames.{image_name, image_names}
 use Rattle.onll_task.specs.Printed.{write_fault_text}
+use Rattle.onll_task.specs.Stop.{StopSays}
 
 -- A call of this kind failed for the file of this name, which this line says.
 pub record DeviceFails (kind : FaultKind) (name : List ℕ) (store after : StoreView) (ending : Ending) (text : List ℕ) : Type 0 where
@@ -101,3 +105,20 @@ pub record HandsEach (ds : List DeviceView) (old new : StoreView) : Type 0 where
 abbrev pub AreKept : List ℕ → ℕ → List DeviceView → StoreView → Type 0
 AreKept logs t [] store = Unit {0}
 AreKept logs t (d ∷ ds) store = KeepsDevice store (image_name logs t) d × AreKept logs (suc t) ds store
+
+-- each thread's file, from thread t on, is as it was
+abbrev pub AreAsBefore : List ℕ → ℕ → ℕ → StoreView → StoreView → Type 0
+AreAsBefore logs t threads old new = AllByRecursion (λ name. new.file name ≡ old.file name) (image_names logs t threads)
+
+-- This many devices were kept as their threads' files, from thread t on. The file of the next is as it was or holds an image of its
+-- device, and those after it are as they were.
+abbrev pub AreKeptTo : List ℕ → ℕ → List DeviceView → (kept : ℕ) → StoreView → StoreView → Type 0
+AreKeptTo logs t [] kept old new = ⊥
+AreKeptTo logs t (d ∷ ds) zero old new = MayKeep (image_name logs t) d old new × AreAsBefore logs (suc t) (length ds) old new
+AreKeptTo logs t (d ∷ ds) (suc kept) old new = KeepsDevice new (image_name logs t) d × AreKeptTo logs (suc t) ds kept old new
+
+-- The devices before that of a thread were kept, and that one could not be, which is said unless there is no memory to.
+pub record KeepFails (logs : List ℕ) (ds : List DeviceView) (store after : StoreView) (stop : Stop) : Type 0 where
+  pub thread : ℕ
+  pub files : AreKeptTo logs 0 ds thread store after
+  pub says : StopSays stop (DeviceFails kinds.Keep (image_name logs thread) store after)

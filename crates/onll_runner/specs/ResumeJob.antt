@@ -1,12 +1,12 @@
 -- What `resume INIT LOGS SCRIPT..` does: scripts go on, on threads, from the logs of an earlier generation, told as `run` tells it.
 
-use Rattle.std.specs.Prelude.{ℕ, ◌≡◌, ◌≤◌, ◌+◌, ◌*◌, max, true, List, [], ◌∷◌, length, Result, Ok, Err}
+use Rattle.std.specs.Prelude.{ℕ, ◌≡◌, ◌≤◌, ◌+◌, ◌*◌, suc, max, true, List, [], ◌∷◌, length, Some, Result, Ok, Err}
 use Rattle.std.specs.List.{All, AllByRecursion}
 use Rattle.onll_model.specs.declared.call.Call.{Call}
 use Rattle.onll_model.specs.Calls.{updates_in}
 use Rattle.onll_log.specs.declared.head.LogHead.{LogHead}
 use Rattle.onll_log.specs.Grammar.{content_of}
-use Rattle.onll_log.specs.ImageFile.{longest_image}
+use Rattle.onll_log.specs.ImageFile.{longest_image, image_lines}
 use Rattle.onll_log.specs.Tested.{used_in}
 use Rattle.onll_merge.specs.declared.counts.LogCounts.{LogCounts}
 use Rattle.onll_core.specs.declared.fault.ResumeFault.{ResumeFault}
@@ -18,6 +18,7 @@ use Rattle.onll_text.specs.Kinds.{ObjectKind}
 use Rattle.onll_task.specs.Running.{RunPlan, RunLeft}
 use Rattle.onll_task.specs.Job.{Job}
 use Rattle.onll_task.specs.Doing.{Task, after_stage, say_task}
+use Rattle.onll_task.specs.ImageNames.{image_name}
 use Rattle.onll_task.specs.Images.{images_stage, FilesBegin}
 use Rattle.onll_recovery.specs.AgainJob.{resume_ending, resume_text}
 use Rattle.onll_recovery.specs.ReplayJob.{scripts_stage}
@@ -36,6 +37,12 @@ abbrev pub resume_plan : (k : ObjectKind) → (init logs : List ℕ) → k.State
 resume_plan k init logs s scripts found = plan_over k logs s (created_heads k.code init scripts) scripts found
 
 -- ---- the devices
+-- where the store tells its files, the image that is read of each thread's, from thread t on, has so many lines
+abbrev pub AreLong : List ℕ → ℕ → List ℕ → StoreView → Type 0
+AreLong logs t [] store = Unit {0}
+AreLong logs t (count ∷ counts) store = (store.tells ≡ true → (bytes : List ℕ) → store.file (image_name logs t) ≡ Some bytes
+    → length (image_lines bytes) ≡ count) × AreLong logs (suc t) counts store
+
 -- What is kept of the images of so many logs: of each no more lines than decide what it holds, with which its file begins, and how
 -- many lines it has, which are no more than are read.
 pub record AreRead (logs : List ℕ) (threads : ℕ) (images : List (List (List ℕ))) (counts : List ℕ) (store : StoreView) : Type 0 where
@@ -43,6 +50,7 @@ pub record AreRead (logs : List ℕ) (threads : ℕ) (images : List (List (List 
   pub counted : length counts ≡ threads
   pub used : AllByRecursion (λ image. length image ≤ used_in (content_of image)) images
   pub few : All (λ count. 64 * count ≤ longest_image) counts
+  pub long : AreLong logs 0 counts store
   pub begins : FilesBegin logs 0 images store
 
 -- a log that uses so many lines has room in a file that is read for an entry of so many lines for each update

@@ -1,46 +1,73 @@
 -- How a run comes to its end: what it left is kept and reported, or a device can't be kept; or a header's fence failed.
 
-use Rattle.std.specs.Prelude.{ℕ, ◌≡◌, ◌<◌, ◌≤◌, ◌+◌, ◌⊎◌, List, length, take, Some, Result}
+use Rattle.std.specs.Prelude.{ℕ, ◌≡◌, ◌<◌, ◌≤◌, ◌+◌, ◌⊎◌, true, List, length, map, take, Result}
+use Rattle.std.specs.List.{AllByRecursion}
 use Rattle.std.specs.Result.{IfOk, IfErr, IsErrAnd}
 use Rattle.std.specs.declared.vec.Vec.{Vec}
-use Rattle.onll_outside.specs.Views.{StoreView, SameFiles, SameFaults, Rose, counted}
+use Rattle.onll_outside.specs.Views.{StoreView, SameFiles, SameFaults, counted}
 use Rattle.onll_outside.specs.declared.store.FaultKind.TheVariants as kinds
 use Rattle.onll_words.specs.Texts.{line_text}
-use Rattle.onll_run.specs.Left.{HasRun, begun_logs}
+use Rattle.onll_log.specs.Grammar.{Content}
+use Rattle.onll_run.specs.Left.{LogLeft, HasRun, begun_logs}
 use Rattle.onll_text.specs.Kinds.{ObjectKind}
-use Rattle.onll_task.specs.declared.ending.Ending.{Ending}
-use Rattle.onll_task.specs.declared.ending.Ending.TheVariants.{WriteFault, Faulty}
+use Rattle.onll_task.specs.declared.ending.Ending.TheVariants.{Faulty}
 use Rattle.onll_task.specs.declared.answer.Stop.{Stop}
-use Rattle.onll_task.specs.Printed.{fault_line, write_fault_text}
+use Rattle.onll_task.specs.declared.answer.Stop.TheVariants.{NoMemory}
+use Rattle.onll_task.specs.FileLines.{FitFile}
+use Rattle.onll_task.specs.Printed.{fault_line}
 use Rattle.onll_task.specs.ImageNames.{image_name}
-use Rattle.onll_task.specs.Running.{RunPlan, RunLeft, HasKept, broken_threads, log_files}
+use Rattle.onll_task.specs.Running.{RunPlan, RunLeft, HoldsLogs, HoldTo, IsBegun, broken_threads, fences_of, log_files}
 use Rattle.onll_task.specs.Stop.{StopSays}
-use Rattle.onll_task.specs.Writing.{SameBut}
+use Rattle.onll_task.specs.Writing.{SameBut, AllButStay}
+use Rattle.onll_runner.specs.Devices.{DeviceFails}
 use Rattle.onll_runner.specs.RunReport.{plan_report, PlanReads}
 
--- A thread's device could not be kept, and is the store's last fault: its count rose, and this line says so.
-pub record NotKept {k : ObjectKind} (plan : RunPlan k) (store after : StoreView) (text : List ℕ) : Type 0 where
-  pub thread : ℕ
-  pub within : thread < length plan.run.scripts
-  pub line : text ≡ write_fault_text (image_name plan.logs thread)
-  pub rose : Rose store.faults after.faults
-  pub last : after.last ≡ Some (record { kind = kinds.Keep; name = image_name plan.logs thread })
+-- how many lines a log has
+abbrev pub lines_left : LogLeft → ℕ
+lines_left log = length log.read
 
+-- where the store tells its files, the named one is as it was
+abbrev pub IsAsBefore : StoreView → StoreView → List ℕ → Content → Type 0
+IsAsBefore store after name before = store.tells ≡ true → after.file name ≡ store.file name
+
+-- ---- what a run left is handed back to the store
 module _ {k : ObjectKind} (plan : RunPlan k) (left : RunLeft k) (store after : StoreView) where
-  -- what is said in place of a report that nothing failed
-  abbrev pub EndSays : Ending → List ℕ → Type 0
-  EndSays WriteFault text = NotKept plan store after text
-  EndSays Faulty text = HasKept plan left store after × (1 ≤ broken_threads left.ends)
-      × (text ≡ plan_report plan left)
-  EndSays ending text = ⊥
+  -- All of it is kept: no call of the store failed, its counts rose by the devices, and the files hold the logs.
+  pub record IsStored : Type 0 where
+    pub calls : SameFaults store after
+    pub faults : after.device_faults ≡ counted store.device_faults (broken_threads left.ends)
+    pub fences : after.device_fences ≡ counted store.device_fences (fences_of left.logs + begun_logs plan.run.base.logs)
+    pub files : HoldsLogs after plan.logs 0 left.logs left.ends
+    pub fit : AllByRecursion (λ (log : LogLeft). FitFile log.read) left.logs
+    pub others : AllButStay (log_files plan) store after
 
-  -- What a run left was kept and is reported; or this is said.
+  -- It is kept up to this thread's log, whose device could not be kept: the store's counts rose by all devices, and each file that was
+  -- not made one of a log is as it was.
+  pub record IsStoredTo (stop : Stop) : Type 0 where
+    pub thread : ℕ
+    pub within : thread < length plan.run.scripts
+    pub files : HoldTo (IsAsBefore store after) after (log_files plan) plan.run.base.logs left.logs left.ends thread
+    pub faults : after.device_faults ≡ counted store.device_faults (broken_threads left.ends)
+    pub fences : after.device_fences ≡ counted store.device_fences (fences_of left.logs + begun_logs plan.run.base.logs)
+    pub says : StopSays stop (DeviceFails kinds.Keep (image_name plan.logs thread) store after)
+
+  -- Fences failed, and the report says so.
+  pub record IsBroken (stop : Stop) : Type 0 where
+    pub stored : IsStored
+    pub broken : 1 ≤ broken_threads left.ends
+    pub says : StopSays stop (λ ending text. (ending ≡ Faulty) × (text ≡ plan_report plan left))
+
+  -- memory could not be had, before any file was changed
+  abbrev pub IsLost : Stop → Type 0
+  IsLost stop = (stop ≡ NoMemory) × SameFiles store after
+
+  -- What a run left was kept and is reported; or it is said in place of a report that fences failed; or it is kept in part, or not at all.
   pub record HasEnded {A : Type 0} (result : Result (Vec ℕ A) Stop) : Type 0 where
-    pub kept : IfOk result (λ text. HasKept plan left store after)
+    pub kept : IfOk result (λ text. IsStored)
     pub whole : IfOk result (λ text. broken_threads left.ends ≡ 0)
     pub report : IfOk result (λ text. text.items ≡ plan_report plan left)
     pub reads : IfOk result (λ text. PlanReads plan left)
-    pub stop : IfErr result (λ stop. StopSays stop EndSays)
+    pub stop : IfErr result (λ stop. IsBroken stop ⊎ IsStoredTo stop ⊎ IsLost stop)
     pub others : SameBut (log_files plan) store after
 
 module _ {k : ObjectKind} (plan : RunPlan k) (store after : StoreView) where
@@ -49,6 +76,7 @@ module _ {k : ObjectKind} (plan : RunPlan k) (store after : StoreView) where
   pub record GaveUp (text : List ℕ) : Type 0 where
     pub thread : ℕ
     pub within : thread < length plan.run.scripts
+    pub begun : IsBegun thread plan.run.base.logs
     pub line : text ≡ line_text (fault_line thread 0)
     pub calls : SameFaults store after
     pub faults : after.device_faults ≡ counted store.device_faults 1
@@ -59,8 +87,10 @@ module _ {k : ObjectKind} (plan : RunPlan k) (store after : StoreView) where
     pub says : StopSays stop (λ ending text. (ending ≡ Faulty) × GaveUp text)
     pub files : SameFiles store after
 
--- What became of the run of a plan: it left something, which has come to its end, or nothing was left.
-abbrev pub HasGone : {k : ObjectKind} → RunPlan k → (store after : StoreView) → {A : Type 0} → Result (Vec ℕ A) Stop → Type 0
-HasGone {k} plan store after result =
-    ((left : RunLeft k) × HasRun k.means plan.run left × HasEnded plan left store after result)
+-- What became of the run of a plan over devices of so many lines: it left something, in logs of as many, which has come to its end, or
+-- nothing was left.
+abbrev pub HasGone : {k : ObjectKind} → RunPlan k → (lines : List ℕ) → (store after : StoreView) → {A : Type 0} → Result (Vec ℕ A) Stop
+    → Type 0
+HasGone {k} plan lines store after result =
+    ((left : RunLeft k) × HasRun k.means plan.run left × (map lines_left left.logs ≡ lines) × HasEnded plan left store after result)
     ⊎ IsErrAnd result (HasFailed plan store after)

@@ -4,12 +4,13 @@ ghost use Rattle.std.specs.Prelude.{◌≡◌, ◌≤◌, [], length, map, rever
 ghost use Rattle.std.specs.List.{All};
 ghost use Rattle.onll_model.specs.Limits.{most_threads};
 ghost use Rattle.onll_pmem.specs.Device.{zero_lines};
-ghost use Rattle.onll_outside.specs.Views.{SameFiles, SameFaults, SameOthers, IsFresh, KeepsDevice, KeptOrZeros, HandsBack};
+ghost use Rattle.onll_outside.specs.Views.{SameFiles, SameFaults, SameDevices, SameOthers, IsFresh, KeepsDevice, KeptOrZeros, MayKeep, HandsBack};
 ghost use Rattle.onll_outside.specs.declared.store.FaultKind.TheVariants as kinds;
 ghost use Rattle.onll_task.specs.ImageNames.{image_name, image_names};
+ghost use Rattle.onll_task.specs.Running.{NoneCounted};
 ghost use Rattle.onll_task.specs.Stop.{StopSays};
 ghost use Rattle.onll_task.specs.Writing.{SameBut, SameCounts};
-ghost use Rattle.onll_runner.specs.Devices.{DeviceFails, ThreadFails, AreNew, AreBlank, HandsEach, AreKept};
+ghost use Rattle.onll_runner.specs.Devices.{DeviceFails, ThreadFails, AreNew, AreBlank, HandsEach, AreKept, KeepFails};
 
 use onll_outside::{OutsideFault, Store};
 use onll_task::{Stop, image_name};
@@ -26,6 +27,7 @@ fn make_device<S: Store>(
     requires { lines ≤ 1000000 }
     ensures made { IfOk result (λ device. IsFresh (zero_lines lines) (S.Dev.means device)) }
     ensures counts { OnOk result (SameCounts (S.seen store.old) (S.seen store.new)) }
+    ensures devices { SameDevices (S.seen store.old) (S.seen store.new) }
     ensures stop { IfErr result (λ stop. StopSays stop
         (DeviceFails kinds.Device (image_name logs.now thread) (S.seen store.old) (S.seen store.new))) }
     ensures file { KeptOrZeros (image_name logs.now thread) (S.seen store.old) (S.seen store.new) }
@@ -49,7 +51,8 @@ fn keep_device<S: Store>(
 ) -> Result<(), Stop>
     ensures kept { OnOk result (KeepsDevice (S.seen store.new) (image_name logs.now thread) (S.Dev.means device)) }
     ensures faults { OnOk result (SameFaults (S.seen store.old) (S.seen store.new)) }
-    ensures devices { OnOk result (HandsBack (S.Dev.means device) (S.seen store.old) (S.seen store.new)) }
+    ensures file { MayKeep (image_name logs.now thread) (S.Dev.means device) (S.seen store.old) (S.seen store.new) }
+    ensures devices { HandsBack (S.Dev.means device) (S.seen store.old) (S.seen store.new) }
     ensures stop { IfErr result (λ stop. StopSays stop
         (DeviceFails kinds.Keep (image_name logs.now thread) (S.seen store.old) (S.seen store.new))) }
     ensures others { SameOthers (image_name logs.now thread) (S.seen store.old) (S.seen store.new) }
@@ -86,6 +89,7 @@ pub(crate) fn make_devices<S: Store>(
     requires { All (λ n. n ≤ 1000000) lines.now }
     ensures made { IfOk result (λ devices. AreNew S.Dev.means lines.now devices.items) }
     ensures counts { OnOk result (SameCounts (S.seen store.old) (S.seen store.new)) }
+    ensures none { NoneCounted (S.seen store.old) (S.seen store.new) }
     ensures stop { IfErr result (λ stop. StopSays stop
         (ThreadFails kinds.Device logs.now (length lines.now) (S.seen store.old) (S.seen store.new))) }
     ensures files { AreBlank logs.now 0 (length lines.now) (S.seen store.old) (S.seen store.new) }
@@ -104,7 +108,8 @@ pub(crate) fn make_devices<S: Store>(
     Ok(devices)
 }
 
-/// Keeps each device as its thread's file, in their order. Where one can't be kept, those after it are given up.
+/// Keeps each device as its thread's file, in their order. Where one can't be kept, those after it are given up, and their files are as
+/// they were.
 pub(crate) fn keep_devices<S: Store>(
     alloc: Global,
     logs: &str,
@@ -114,9 +119,8 @@ pub(crate) fn keep_devices<S: Store>(
     requires { length devices.items ≤ most_threads }
     ensures kept { OnOk result (AreKept logs.now 0 (map S.Dev.means devices.items) (S.seen store.new)) }
     ensures faults { OnOk result (SameFaults (S.seen store.old) (S.seen store.new)) }
-    ensures devices { OnOk result (HandsEach (map S.Dev.means devices.items) (S.seen store.old) (S.seen store.new)) }
-    ensures stop { IfErr result (λ stop. StopSays stop
-        (ThreadFails kinds.Keep logs.now (length devices.items) (S.seen store.old) (S.seen store.new))) }
+    ensures devices { HandsEach (map S.Dev.means devices.items) (S.seen store.old) (S.seen store.new) }
+    ensures stop { IfErr result (KeepFails logs.now (map S.Dev.means devices.items) (S.seen store.old) (S.seen store.new)) }
     ensures others { SameBut (image_names logs.now 0 (length devices.items)) (S.seen store.old) (S.seen store.new) }
 {
     devices.reverse();

@@ -8,10 +8,11 @@ ghost use Rattle.onll_pmem.specs.Pmem.{words_of};
 ghost use Rattle.onll_log.specs.Grammar.{content_of};
 ghost use Rattle.onll_log.specs.Decoded.{content_in};
 ghost use Rattle.onll_merge.specs.Merge.{contents_in};
-ghost use Rattle.onll_outside.specs.Views.{SameOthers, IsFresh, BeginsWith, MayWipe, with_zeros, image_bytes};
+ghost use Rattle.onll_outside.specs.Views.{SameDevices, SameOthers, IsFresh, BeginsWith, MayWipe, with_zeros, image_bytes};
 ghost use Rattle.onll_outside.specs.declared.store.FaultKind.TheVariants as kinds;
 ghost use Rattle.onll_task.specs.ImageNames.{image_name, image_names};
 ghost use Rattle.onll_task.specs.Images.{images_in, FilesBegin};
+ghost use Rattle.onll_task.specs.Running.{NoneCounted};
 ghost use Rattle.onll_task.specs.Stop.{StopSays};
 ghost use Rattle.onll_task.specs.Writing.{SameBut, SameCounts};
 ghost use Rattle.onll_runner.specs.Devices.{DeviceFails, ThreadFails, AreReopened, AreWiped, IsHeld, AreHeld, AreWithin, front_by, fronts_by};
@@ -107,6 +108,7 @@ fn reopen_device<S: Store>(
     requires begins { BeginsWith (S.seen store.old) (image_name logs.now thread) (image_bytes (words_of front.now)) }
     ensures made { IfOk result (λ device. IsFresh (with_zeros (words_of front.now) lines) (S.Dev.means device)) }
     ensures counts { OnOk result (SameCounts (S.seen store.old) (S.seen store.new)) }
+    ensures devices { SameDevices (S.seen store.old) (S.seen store.new) }
     ensures stop { IfErr result (λ stop. StopSays stop
         (DeviceFails kinds.Reopen (image_name logs.now thread) (S.seen store.old) (S.seen store.new))) }
     ensures file { MayWipe (image_name logs.now thread) (image_bytes (words_of front.now)) (S.seen store.old) (S.seen store.new) }
@@ -137,6 +139,7 @@ pub(crate) fn reopen_devices<S: Store>(
     requires begins { FilesBegin logs.now 0 (images_in images.now) (S.seen store.old) }
     ensures made { IfOk result (λ devices. AreReopened S.Dev.means (fronts_by held.now (images_in images.now)) lines.now devices.items) }
     ensures counts { OnOk result (SameCounts (S.seen store.old) (S.seen store.new)) }
+    ensures none { NoneCounted (S.seen store.old) (S.seen store.new) }
     ensures stop { IfErr result (λ stop. StopSays stop
         (ThreadFails kinds.Reopen logs.now (length images.now) (S.seen store.old) (S.seen store.new))) }
     ensures files { AreWiped logs.now 0 (fronts_by held.now (images_in images.now)) (S.seen store.old) (S.seen store.new) }

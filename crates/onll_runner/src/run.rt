@@ -173,7 +173,7 @@ pub(crate) fn run_over<
     ensures { let k = kind_by O.means O.wording O.CODE in
         let run = going_on object heads.now nodes.now (contents_in base.now) (map (λ script. script.items) scripts.items) in
         let plan : RunPlan k = record { logs = logs.now; reopens = reopens; run = run } in
-        HasGone plan (S.seen store.old) (S.seen store.new) result }
+        HasGone plan (map (λ device. length (S.Dev.means device).read) devices.items) (S.seen store.old) (S.seen store.new) result }
 {
     let initial = object.copy(alloc)?;
     match resume_scripts(rt, alloc, object, heads, base, scripts, devices, gate) {

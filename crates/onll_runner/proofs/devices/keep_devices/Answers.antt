@@ -1,7 +1,7 @@
 use Rattle.std.proofs.Common.{length, arith}
 use Rattle.onll_task.specs.ImageNames.{image_names}
 use Rattle.onll_task.proofs.Onwards.{others_on}
-use Rattle.onll_runner.proofs.Handing.{kept_start, kept_next, kept_low, same_after}
+use Rattle.onll_runner.proofs.Handing.{kept_start, kept_next, kept_low, keep_fails, hands_all, same_after}
 use Rattle.onll_runner.proofs.devices.keep_devices.Goals as goal
 
 pub loop-device-init : goal.loop-device-init
@@ -20,3 +20,14 @@ returns-in-Err-clause-others g c =
     (kept_low g.S.Dev.Pmem.means c.args.logs.now c.args.devices.items c.loop-device.devices.items c.pop.new.self.items c.in-Some.device c.loop-device.thread _ _ c.in-Some.ensures.items c.loop-device.invariant)
     c.loop-device.invariant.others c.in-Err.ensures.others)
     c.give_up_all.ensures.files
+
+pub returns-in-Err-clause-stop : goal.returns-in-Err-clause-stop
+returns-in-Err-clause-stop g c =
+    keep_fails g.S.Dev.Pmem.means c.args.logs.now c.args.devices.items c.loop-device.devices.items c.pop.new.self.items c.in-Some.device c.loop-device.thread
+    (g.S.Store.seen c.args.store.now) (g.S.Store.seen c.loop-device.store) (g.S.Store.seen c.keep_device.new.store) (g.S.Store.seen c.give_up_all.new.store) c.in-Err.stop c.in-Some.ensures.items (omega arith) c.loop-device.invariant
+    c.in-Err.ensures.file c.in-Err.ensures.others c.give_up_all.ensures.files c.give_up_all.ensures.faults c.in-Err.ensures.stop
+
+pub returns-in-Err-clause-devices : goal.returns-in-Err-clause-devices
+returns-in-Err-clause-devices g c =
+    hands_all g.S.Dev.Pmem.means c.args.logs.now c.args.devices.items c.loop-device.devices.items c.pop.new.self.items c.in-Some.device c.loop-device.thread
+    (g.S.Store.seen c.args.store.now) (g.S.Store.seen c.loop-device.store) (g.S.Store.seen c.keep_device.new.store) (g.S.Store.seen c.give_up_all.new.store) c.in-Some.ensures.items c.loop-device.invariant c.in-Err.ensures.devices c.give_up_all.ensures.devices

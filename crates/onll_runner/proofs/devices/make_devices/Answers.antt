@@ -3,11 +3,19 @@ use Rattle.std.proofs.lemmas.List.{drop_all}
 use Rattle.onll_outside.specs.declared.store.FaultKind.TheVariants as kinds
 use Rattle.onll_task.specs.ImageNames.{image_name, image_names}
 use Rattle.onll_task.proofs.Onwards.{others_on}
-use Rattle.onll_runner.proofs.Handing.{blank_none, blank_next, blank_same, made_start, made_next, made_end, made_fails, same_after}
+use Rattle.onll_runner.proofs.Handing.{blank_none, blank_next, blank_same, made_start, made_next, made_end, made_fails, none_counted, same_after}
 use Rattle.onll_runner.proofs.devices.make_devices.Goals as goal
 
 pub returns-in_err-devices-clause-files : goal.returns-in_err-devices-clause-files
 returns-in_err-devices-clause-files g c = blank_none c.args.logs.now 0 (length c.args.lines.now) (g.S.Store.seen c.args.store.now)
+
+pub returns-in_err-devices-clause-none : goal.returns-in_err-devices-clause-none
+returns-in_err-devices-clause-none g c = ((λ few. refl), (λ few. refl))
+
+pub returns-in-Err-clause-none : goal.returns-in-Err-clause-none
+returns-in-Err-clause-none g c =
+    none_counted g.S.Dev.Pmem.means c.loop-thread.devices.items (g.S.Store.seen c.args.store.now) (g.S.Store.seen c.loop-thread.store) (g.S.Store.seen c.make_device.new.store) (g.S.Store.seen c.give_up_all.new.store)
+    c.loop-thread.invariant.so.unused c.loop-thread.invariant.so.counts.1 c.in-Err.ensures.devices c.give_up_all.ensures.devices
 
 pub loop-thread-init : goal.loop-thread-init
 loop-thread-init g c = record {
@@ -38,6 +46,9 @@ loop-thread-preserved g c = record {
       (omega arith) refl c.push_reserved.ensures.items c.loop-thread.invariant.so c.in-Ok.ensures.made c.in-Ok.ensures.counts c.in-Ok.ensures.file c.in-Ok.ensures.others;
   room = let room = c.loop-thread.invariant.room in let same = c.push_reserved.ensures.capacity in omega (arith, room, same);
 }
+
+pub returns-clause-none : goal.returns-clause-none
+returns-clause-none g c = ((λ few. c.loop-thread.invariant.so.counts.1.0), (λ few. c.loop-thread.invariant.so.counts.1.1))
 
 pub returns-clause-made : goal.returns-clause-made
 returns-clause-made g c =

@@ -9,7 +9,7 @@ use Rattle.onll_task.specs.ImageNames.{image_name, image_names}
 use Rattle.onll_task.specs.Images.{images_in}
 use Rattle.onll_task.proofs.Onwards.{counts_more, others_on}
 use Rattle.onll_runner.specs.Devices.{front_by, fronts_by}
-use Rattle.onll_runner.proofs.Handing.{made_fails, same_after}
+use Rattle.onll_runner.proofs.Handing.{made_fails, none_counted, same_after}
 use Rattle.onll_runner.proofs.Reopening.{fronts_begin, wiped_none, wiped_next, wiped_same, front_at, fronts_many, within_many, within_at, begins_at, begins_next, reopened_start, reopened_next, reopened_end, front_here}
 use Rattle.onll_runner.proofs.reopen.reopen_devices.Goals as goal
 
@@ -18,6 +18,14 @@ returns-in_err-devices-clause-files g c =
     let store = g.S.Store.seen c.args.store.now in
     let images = images_in c.args.images.now in
     wiped_none c.args.logs.now 0 (fronts_by c.args.held.now images) store (fronts_begin c.args.logs.now 0 c.args.held.now images store c.requires.begins)
+
+pub returns-in_err-devices-clause-none : goal.returns-in_err-devices-clause-none
+returns-in_err-devices-clause-none g c = ((λ few. refl), (λ few. refl))
+
+pub returns-in-Err-clause-none : goal.returns-in-Err-clause-none
+returns-in-Err-clause-none g c =
+    none_counted g.S.Dev.Pmem.means c.loop-thread.devices.items (g.S.Store.seen c.args.store.now) (g.S.Store.seen c.loop-thread.store) (g.S.Store.seen c.reopen_device.new.store) (g.S.Store.seen c.give_up_all.new.store)
+    c.loop-thread.invariant.so.unused c.loop-thread.invariant.counts.1 c.in-Err.ensures.devices c.give_up_all.ensures.devices
 
 pub loop-thread-init : goal.loop-thread-init
 loop-thread-init g c =
@@ -129,6 +137,9 @@ loop-thread-preserved g c =
       others = others_on old mid new c.args.logs.now (length c.args.images.now) t (omega arith) c.loop-thread.invariant.others c.in-Ok.ensures.others;
       room = let room = c.loop-thread.invariant.room in let same = c.push_reserved.ensures.capacity in omega (arith, room, same);
     }
+
+pub returns-clause-none : goal.returns-clause-none
+returns-clause-none g c = ((λ few. c.loop-thread.invariant.counts.1.0), (λ few. c.loop-thread.invariant.counts.1.1))
 
 pub returns-clause-made : goal.returns-clause-made
 returns-clause-made g c =

@@ -219,9 +219,15 @@ returns-in-Ok g c =
     (subst (λ (ls : List LogCounts). AreWiped name 0 (fronts_by ls (images_in c.deref-6.result.now)) old mid) c.deref-5.ensures.value c.reopen_devices.ensures.files) in
     let new = g.S.Store.seen c.run_over.new.store in
     let calls = map (λ script. script.items) scripts in
-    let gone = subst (λ (ns : List Node). HasGone {k = k} (record { logs = name; reopens = true; run = going_on c.args.object heads ns logs calls }) mid new c.run_over.result) c.deref-in-Ok-2.ensures.value
-    (subst (λ (ls : List Decoded). HasGone {k = k} (record { logs = name; reopens = true; run = going_on c.args.object heads c.deref-in-Ok-2.result.now (contents_in ls) calls }) mid new c.run_over.result) c.deref-in-Ok.ensures.value c.run_over.ensures) in
-    goes_on k (λ script. script.items) heads scripts images counts name store r c.requires.found c.requires.images c.requires.many c.requires.heads logs held c.args.object threads stands all is old mid files wiped new c.run_over.result c.in-Ok.ensures.counts gone
+    let means = g.S.Dev.Pmem.means in
+    let devices = c.in-Ok.devices.items in
+    let sizes : List ℕ = map (λ device. length (means device).read) devices in
+    let reopened = subst (λ (ls : List (Vec Line Global)). AreReopened means (fronts_by r.logs (images_in ls)) lines devices) c.deref-6.ensures.value
+    (subst (λ (ls : List LogCounts). AreReopened means (fronts_by ls (images_in c.deref-6.result.now)) lines devices) c.deref-5.ensures.value c.in-Ok.ensures.made) in
+    let gone = subst (λ (ns : List Node). HasGone {k = k} (record { logs = name; reopens = true; run = going_on c.args.object heads ns logs calls }) sizes mid new c.run_over.result) c.deref-in-Ok-2.ensures.value
+    (subst (λ (ls : List Decoded). HasGone {k = k} (record { logs = name; reopens = true; run = going_on c.args.object heads c.deref-in-Ok-2.result.now (contents_in ls) calls }) sizes mid new c.run_over.result) c.deref-in-Ok.ensures.value c.run_over.ensures) in
+    goes_on k (λ script. script.items) heads scripts images counts name store r c.requires.found c.requires.images c.requires.many c.requires.heads logs held c.args.object threads stands all is old mid files wiped
+    means devices lines lines_are reopened c.requires.images.long new c.run_over.result c.in-Ok.ensures.counts gone
 
 pub returns-in-Err : goal.returns-in-Err
 returns-in-Err g c =
@@ -248,4 +254,4 @@ returns-in-Err g c =
     let wiped = subst (λ (ls : List (Vec Line Global)). AreWiped name 0 (fronts_by r.logs (images_in ls)) old mid) c.deref-6.ensures.value
     (subst (λ (ls : List LogCounts). AreWiped name 0 (fronts_by ls (images_in c.deref-6.result.now)) old mid) c.deref-5.ensures.value c.reopen_devices.ensures.files) in
     let stops = subst (λ n. StopSays c.in-Err.stop (ThreadFails kinds.Reopen name n old mid)) long c.in-Err.ensures.stop in
-    not_reopened k (λ script. script.items) heads scripts images counts name store r c.requires.found c.requires.images c.requires.many c.requires.heads logs held c.args.object threads stands all is old mid files wiped c.in-Err.stop stops
+    not_reopened k (λ script. script.items) heads scripts images counts name store r c.requires.found c.requires.images c.requires.many c.requires.heads logs held c.args.object threads stands all is old mid files wiped c.in-Err.stop stops c.in-Err.ensures.none

@@ -8,18 +8,21 @@ use Rattle.onll_task.specs.ImageNames.{image_names}
 use Rattle.onll_task.specs.Doing.{Does}
 use Rattle.onll_task.proofs.Stages.{read_does, unread_does, none_does, by_given, by_begins, by_stops}
 use Rattle.onll_runner.specs.ResumeJob.{AreRead, based_task}
-use Rattle.onll_runner.proofs.Based.{used_all, base_stands}
+use Rattle.onll_runner.proofs.Based.{used_all, long_all, base_stands}
 use Rattle.onll_runner.proofs.resume.read_on.Goals as goal
 
 pub based_on-requires-clause-images : goal.based_on-requires-clause-images
 based_on-requires-clause-images g c κs within =
     let count : c.len.result ≡ length c.args.scripts.items = search rules in
     let given = by_given c.in-Ok.ensures.begins in
+    let new = g.S.Store.seen c.read_images.new.store in
     let read : AreRead c.args.logs.now (length c.args.scripts.items) c.in-Ok.read.images.items c.in-Ok.read.counts.items (g.S.Store.seen c.read_images.new.store) = record {
       many = c.in-Ok.ensures.count ∙ count;
       counted = c.in-Ok.ensures.many ∙ count;
       used = used_all c.in-Ok.read.images.items given.value given.fits.stand;
       few = c.in-Ok.ensures.few;
+      long = long_all c.args.logs.now 0 c.len.result given.value c.in-Ok.read.counts.items new given.fits.many
+          (given.gives new (record { tells = sym c.in-Ok.ensures.begins.files.tells; file = λ on name. sym (c.in-Ok.ensures.begins.files.file name tt) }));
       begins = c.in-Ok.ensures.fronts;
     } in
     subst (λ ls. AreRead c.args.logs.now (length c.args.scripts.items) ls c.in-Ok.read.counts.items (g.S.Store.seen c.read_images.new.store)) (sym c.in_ok-lines-in-Ok.ensures) read

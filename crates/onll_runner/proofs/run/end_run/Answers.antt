@@ -6,7 +6,7 @@ use Rattle.onll_merge.specs.Merge.{contents_in}
 use Rattle.onll_run.specs.Making.{device_of}
 use Rattle.onll_run.specs.Ran.{script_in, ends_in}
 use Rattle.onll_runner.proofs.Keeping.{kept_many, none_broken, some_broken}
-use Rattle.onll_runner.proofs.Ending.{ended_whole, ended_broken, ended_unkept, kept_by, others_many, fails_many}
+use Rattle.onll_runner.proofs.Ending.{ended_whole, ended_broken, ended_unkept, stored_by, stored_to, others_many}
 use Rattle.onll_runner.proofs.run.end_run.Goals as goal
 
 pub run_report-requires-after_bounds : goal.run_report-requires-after_bounds
@@ -29,7 +29,7 @@ returns-in-Ok g c =
     let ends = length-map c.args.ran.threads.items ends_in in
     let some = c.requires.some in
     ended_broken _ _ (g.S.Store.seen c.args.store.now) (g.S.Store.seen c.keep_devices.new.store) c.in_ok-report.report
-    (kept_by c.image_laws.ensures.same means _ _ c.requires.kept.0 c.args.ran.logs.items (g.S.Store.seen c.args.store.now) (g.S.Store.seen c.keep_devices.new.store) refl (omega (arith, scripts, some)) (ends ∙ sym scripts) c.requires.kept.1
+    (stored_by c.image_laws.ensures.same means _ _ c.requires.kept.0 c.args.ran.logs.items (g.S.Store.seen c.args.store.now) (g.S.Store.seen c.keep_devices.new.store) refl (omega (arith, scripts, some)) (ends ∙ sym scripts) c.requires.kept.1
     c.in_ok-report.ensures.whole c.requires.small c.in_ok-devices.devices.items c.in_ok-devices.ensures (λ on d. c.told_law.ensures d ∙ g.met.S.Store.devices_tell c.keep_devices.new.store on) c.in-Ok.ensures.kept c.in-Ok.ensures.faults c.in-Ok.ensures.devices c.keep_devices.ensures.others)
     (some_broken means (contents_in c.args.base.now) (map ends_in c.args.ran.threads.items) c.requires.kept.0 c.args.ran.logs.items c.requires.kept.1 (ap (list_any (λ (log : LogState _). log.broken)) (sym c.deref.ensures.value) ∙ sym c.is_broken-broken.ensures ∙ c.if-broken.true))
     (rw c.resumed_by-resumed.ensures at c.in_ok-report.ensures.report)
@@ -43,7 +43,7 @@ returns-in-Ok-2 g c =
     let ends = length-map c.args.ran.threads.items ends_in in
     let some = c.requires.some in
     ended_whole _ _ (g.S.Store.seen c.args.store.now) (g.S.Store.seen c.keep_devices.new.store) c.in_ok-report.report
-    (kept_by c.image_laws.ensures.same means _ _ c.requires.kept.0 c.args.ran.logs.items (g.S.Store.seen c.args.store.now) (g.S.Store.seen c.keep_devices.new.store) refl (omega (arith, scripts, some)) (ends ∙ sym scripts) c.requires.kept.1
+    (stored_by c.image_laws.ensures.same means _ _ c.requires.kept.0 c.args.ran.logs.items (g.S.Store.seen c.args.store.now) (g.S.Store.seen c.keep_devices.new.store) refl (omega (arith, scripts, some)) (ends ∙ sym scripts) c.requires.kept.1
     c.in_ok-report.ensures.whole c.requires.small c.in_ok-devices.devices.items c.in_ok-devices.ensures (λ on d. c.told_law.ensures d ∙ g.met.S.Store.devices_tell c.keep_devices.new.store on) c.in-Ok.ensures.kept c.in-Ok.ensures.faults c.in-Ok.ensures.devices c.keep_devices.ensures.others)
     (none_broken means (contents_in c.args.base.now) (map ends_in c.args.ran.threads.items) c.requires.kept.0 c.args.ran.logs.items c.requires.kept.1 (ap (list_any (λ (log : LogState _). log.broken)) (sym c.deref.ensures.value) ∙ sym c.is_broken-broken.ensures ∙ c.if-broken.false))
     (rw c.resumed_by-resumed.ensures at c.in_ok-report.ensures.report) (rw c.resumed_by-resumed.ensures at c.in_ok-report.ensures.reads)
@@ -53,9 +53,12 @@ returns-in-Ok-2 g c =
 pub returns : goal.returns
 returns g c =
     let means = g.S.Dev.Pmem.means in
-    let devices = c.in_ok-devices.devices.items in
+    let scripts = length-map c.args.ran.threads.items script_in in
+    let ends = length-map c.args.ran.threads.items ends_in in
+    let some = c.requires.some in
     ended_unkept _ _ (g.S.Store.seen c.args.store.now) (g.S.Store.seen c.keep_devices.new.store) c.in-Err.stop
-    (fails_many means (contents_in c.args.base.now) (map ends_in c.args.ran.threads.items) c.requires.kept.0 c.args.ran.logs.items c.args.ran.threads.items devices c.args.logs.now (g.S.Store.seen c.args.store.now) (g.S.Store.seen c.keep_devices.new.store) script_in c.in-Err.stop
-    (length-map c.args.ran.threads.items ends_in) c.in_ok-devices.ensures c.requires.kept.1 c.in-Err.ensures.stop)
-    (others_many means (contents_in c.args.base.now) (map ends_in c.args.ran.threads.items) c.requires.kept.0 c.args.ran.logs.items c.args.ran.threads.items devices c.args.logs.now (g.S.Store.seen c.args.store.now) (g.S.Store.seen c.keep_devices.new.store)
-    script_in (length-map c.args.ran.threads.items ends_in) c.in_ok-devices.ensures c.requires.kept.1 c.in-Err.ensures.others)
+    (stored_to c.image_laws.ensures.same means _ _ c.requires.kept.0 c.args.ran.logs.items (g.S.Store.seen c.args.store.now) (g.S.Store.seen c.keep_devices.new.store) refl (omega (arith, scripts, some)) (ends ∙ sym scripts) c.requires.kept.1
+    c.in_ok-report.ensures.whole c.requires.small c.in_ok-devices.devices.items c.in_ok-devices.ensures (λ on d. c.told_law.ensures d ∙ g.met.S.Store.devices_tell c.keep_devices.new.store on)
+    c.in-Err.stop c.in-Err.ensures.stop c.in-Err.ensures.devices c.in-Err.ensures.others)
+    (others_many means (contents_in c.args.base.now) (map ends_in c.args.ran.threads.items) c.requires.kept.0 c.args.ran.logs.items c.args.ran.threads.items c.in_ok-devices.devices.items c.args.logs.now (g.S.Store.seen c.args.store.now) (g.S.Store.seen c.keep_devices.new.store)
+    script_in ends c.in_ok-devices.ensures c.requires.kept.1 c.in-Err.ensures.others)

@@ -47,8 +47,8 @@ returns-in-Ok g c = λ threads stands.
     let logs : c.len-2.result ≡ length c.args.scripts.items = search rules in
     let begun = ap contents_in c.deref-in-Ok-2.ensures.value ∙ c.in_ok-base.ensures ∙ ap (λ n. (no_base n).logs) logs in
     let heads = made_heads (λ script. script.items) c.args.scripts.items c.args.init.now c.len.result c.CODE.result g.O.Object.CODE c.deref-in-Ok.result.now count (c.deref-in-Ok.ensures.value ∙ c.in_ok-heads.ensures.heads) c.CODE.ensures in
-    run_goes {k = k} (λ script. script.items) c.args.init.now c.args.logs.now c.args.object c.args.scripts.items threads stands old mid (g.S.Store.seen c.run_over.new.store) c.run_over.result
-    c.deref-in-Ok.result.now (contents_in c.deref-in-Ok-2.result.now) c.deref-in-Ok-3.result.now heads begun (c.deref-in-Ok-3.ensures.value ∙ c.new-nodes.ensures.items)
+    run_goes {k = k} (λ script. script.items) c.args.init.now c.args.logs.now c.args.object c.args.scripts.items threads stands g.S.Dev.Pmem.means old mid (g.S.Store.seen c.run_over.new.store) c.run_over.result
+    c.deref-in-Ok.result.now (contents_in c.deref-in-Ok-2.result.now) c.deref-in-Ok-3.result.now c.deref-2.result.now c.in-Ok.devices.items heads begun (c.deref-in-Ok-3.ensures.value ∙ c.new-nodes.ensures.items) lines c.in-Ok.ensures.made
     c.in-Ok.ensures.counts (subst (λ n. SameBut (image_names c.args.logs.now 0 n) old mid) many c.make_devices.ensures.others)
     (subst (λ n. AreBlank c.args.logs.now 0 n old mid) many c.make_devices.ensures.files) c.run_over.ensures
 
@@ -62,4 +62,4 @@ returns-in-Err g c = λ threads stands.
     not_made {k = k} (λ script. script.items) c.args.init.now c.args.logs.now c.args.object c.args.scripts.items threads stands old new c.in-Err.stop
     (subst (λ n. StopSays c.in-Err.stop (ThreadFails kinds.Device c.args.logs.now n old new)) many c.in-Err.ensures.stop)
     (subst (λ n. SameBut (image_names c.args.logs.now 0 n) old new) many c.in-Err.ensures.others)
-    (subst (λ n. AreBlank c.args.logs.now 0 n old new) many c.make_devices.ensures.files)
+    (subst (λ n. AreBlank c.args.logs.now 0 n old new) many c.make_devices.ensures.files) c.in-Err.ensures.none

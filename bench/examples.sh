@@ -1,6 +1,6 @@
 #!/bin/sh
 # Runs the commands of examples/ on a copy of that folder, and compares what each prints and writes with what stands there.
-# Ends with 0, or names what differs and ends with 1.
+# It searches the sources too for functions that take memory without saying so. Ends with 0, or names what differs and ends with 1.
 # Usage: bench/examples.sh
 # It compares what the proved program does; `ONLL= bench/examples.sh` takes a trial build where none is proved.
 set -u
@@ -173,6 +173,12 @@ done < "$folder/commands"
 
 # The page of claims lists the files that the promise reaches.
 "$top/bench/sceptic.py" --check || failed=1
+
+# No function takes memory without saying so.
+if ! "$top/bench/no_growth.py" >&2; then
+    echo 'these functions may take memory, and have neither an allocator nor an answer for want of it' >&2
+    failed=1
+fi
 
 if [ $failed = 0 ]; then
     echo 'all examples print and write what stands there'

@@ -30,8 +30,19 @@ def take_proofs(rt, kept, crates):
         kept.is_built(crate)
 
 
+def telling(call):
+    """The same task, which says what came of its edit as soon as that is known."""
+
+    def told(given, jobs):
+        found = call(given, jobs)
+        print(re.sub(r"^must-fail ", "", found[1]), flush=True)
+        return found
+
+    return told
+
+
 def try_edits(rt, room, names):
-    """What the try of each edit of these crates comes to, with what is said of it, by crate."""
+    """What the try of each edit of these crates comes to; each is told when it is known."""
     rt.copy_crates(TOP, f"{room}/repo")
     os.mkdir(f"{room}/repo/.git")
     os.chdir(f"{room}/repo")
@@ -39,14 +50,18 @@ def try_edits(rt, room, names):
     rt.Crate.allowed = rt.handles_of(os.getcwd())
     every = rt.crates_of(os.getcwd())
     wanted = [crate for crate in every if crate.name in names]
+    if len(wanted) < len(set(names)):
+        sys.exit(f"wrong.py: no crates are {', '.join(sorted(set(names) - {it.name for it in wanted}))}")
     below = {it.name for crate in wanted for it in crate.below()}
     kept = rt.Kept(every)
     take_proofs(rt, kept, [crate for crate in every if crate.name in below])
     tasks, results = {}, {}
     for crate in wanted:
         results[crate.name], _ = rt.add_edits(tasks, crate, edits_of(crate.name), [], [], lambda given, new=0: True, kept)
+    for key in [key for key in tasks if key[1] == "again" or key[1] == "edits" and (key[0], "again", key[2]) not in tasks]:
+        tasks[key] = (*tasks[key][:3], telling(tasks[key][3]))
     given = rt.in_lanes(tasks)
-    return {name: result(given) for name, result in results.items()}
+    return [kind for result in results.values() for kind, _ in result(given)]
 
 
 def main():
@@ -56,14 +71,9 @@ def main():
     with tempfile.TemporaryDirectory(prefix=f"rt-copy-{os.getpid()}-") as room:
         tried = try_edits(rt, room, names)
         os.chdir(TOP)
-    refused = whole = 0
-    for name, found in tried.items():
-        for kind, text in found:
-            print(re.sub(r"^must-fail ", "", text))
-            whole += 1
-            refused += kind in (rt.REFUSED, rt.AT_LIMIT)
-    print(f"{refused} refused, {whole - refused} not")
-    return refused != whole
+    refused = sum(kind in (rt.REFUSED, rt.AT_LIMIT) for kind in tried)
+    print(f"{refused} refused, {len(tried) - refused} not")
+    return refused != len(tried)
 
 
 if __name__ == "__main__":

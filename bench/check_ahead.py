@@ -1,7 +1,9 @@
 #!/usr/bin/env python3
-"""Checks functions of a crate before the libraries below it are proved: these are read as sources, and of them only what the functions stand on is looked at.
+"""Checks functions of a crate before the libraries below it are proved: these are read as sources, and of them only what
+the functions stand on is looked at.
 Usage: bench/check_ahead.py CRATE --only PATH --allow-holes
-The flags are those of `rattle check`. PATH is a function, as `onll_runner::report::images_of`. The last line says how many holes are left; it proves nothing for the gate."""
+The flags are those of `rattle check`. PATH is a function, as `onll_runner::report::images_of`. The last line says how
+many holes are left; it proves nothing for the gate."""
 import os
 import sys
 

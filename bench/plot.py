@@ -4,9 +4,12 @@
     bench/plot.py docs/durable.json > docs/durable.svg
     bench/plot.py --rows ROWS MACHINE > docs/durable.json
 
-The second takes the rows of one run of the bench of peers on an idle machine (`bench.py --only files,mixed --json ROWS`), and MACHINE in words.
-The file has the machine, and for each part (updates alone, and updates with reads after each) what it is (`title`), the numbers of threads, and
-for each program (`name`) its median milliseconds at each number of threads (`ms`) and its ratio to bare syncs in the same repetition (`ratio`).
+The second takes the rows of one run of the bench of peers on an idle machine (`bench.py --only files,mixed --json
+ROWS`), and MACHINE in words.
+The file has the machine, and for each part (updates alone, and updates with reads after each) what it is (`title`),
+the numbers of threads, and
+for each program (`name`) its median milliseconds at each number of threads (`ms`) and its ratio to bare syncs in the
+same repetition (`ratio`).
 """
 
 import json

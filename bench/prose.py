@@ -1,5 +1,6 @@
 #!/usr/bin/env python3
-"""Measures the prose of the documents: words of the median and the longest sentence and of the longest table cell, the widest line, and how many
+"""Measures the prose of the documents: words of the median and the longest sentence and of the longest table cell, the
+widest line, and how many
 lines are over 120 columns.
 Usage: bench/prose.py [FILE..]
 Code blocks, headings and pictures have no sentences, and what stands in backquotes is one word."""

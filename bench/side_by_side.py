@@ -1,7 +1,9 @@
 #!/usr/bin/env python3
-"""Proves the libraries that the program stands on, side by side where they don't stand on each other, and says how far it is.
+"""Proves the libraries that the program stands on, side by side where they don't stand on each other, and says how far
+it is.
 Usage: bench/side_by_side.py
-`./prove` calls it, and then builds the program. Each library is proved over what earlier checks kept, as by `rt lib` in its folder, with as many
+`./prove` calls it, and then builds the program. Each library is proved over what earlier checks kept, as by `rt lib`
+in its folder, with as many
 processors as no other library waits for. One that fails is named with what its check said, and the status is 1."""
 import os
 import sys

@@ -1,8 +1,11 @@
 #!/usr/bin/env python3
-"""Tries the wrong bodies of bench/wrong/CRATE/*.edit: the prover must refuse each, as those of crates/CRATE/must-fail, which the gate tries.
+"""Tries the wrong bodies of bench/wrong/CRATE/*.edit: the prover must refuse each, as those of crates/CRATE/must-fail,
+which the gate tries.
 Usage: bench/wrong.py [CRATE..]
-Run `rt ci` first, on this machine and with these very files, since the crates below are taken as it proved them. It works on a copy.
-An edit has the form of a must-fail edit. Each gets a line: refused, NOT REFUSED, BAD EDIT or NOT TRIED. The last line is `N refused, M not`."""
+Run `rt ci` first, on this machine and with these very files, since the crates below are taken as it proved them. It
+works on a copy.
+An edit has the form of a must-fail edit. Each gets a line: refused, NOT REFUSED, BAD EDIT or NOT TRIED. The last line
+is `N refused, M not`."""
 import os
 import re
 import sys

@@ -123,7 +123,7 @@ module _ (kind : Kind) (init : List ℕ) (s : (kind_at kind).State) (store after
       by (inr read) = inr (calls_cut None kind init s store after logs names read.scripts read.read tt read.cut)
 
   module _ (scripts : List (List (Call (kind_at kind).State (kind_at kind).Op (kind_at kind).Query (kind_at kind).Reply))) (read : ReadScripts (kind_at kind).wording store names scripts) where
-    base : List (List (List ℕ)) → Result Found ResumeFault
+    abbrev base : List (List (List ℕ)) → Result Found ResumeFault
     base images = base_in (kind_at kind).means (created_heads (kind_at kind).code init scripts) scripts images
 
     based_cut : (images : List (List (List ℕ))) → AreKnown lines_stage (image_names logs 0 (length scripts)) store images → (r : Result Found ResumeFault) → base images ≡ r

@@ -11,7 +11,7 @@ use Rattle.onll_pmem.specs.Laws.{SameLaw}
 use Rattle.onll_pmem.specs.Pmem.{DeviceView}
 use Rattle.onll_log.specs.ImageFile.{longest_image}
 use Rattle.onll_log.specs.Log.{LogState}
-use Rattle.onll_outside.specs.Views.{StoreView, SameFiles, SameFaults, counted}
+use Rattle.onll_outside.specs.Views.{StoreView, SameFaults, counted}
 use Rattle.onll_log.specs.Grammar.{Content}
 use Rattle.onll_run.specs.Left.{LogLeft, begun_logs}
 use Rattle.onll_run.specs.Ended.{log_left}
@@ -149,4 +149,3 @@ module _ {State Op Query Reply Device A : Type 0} (means : Device → DeviceView
   pub others_many : {B : Type 0} (f : A → B) → length ends ≡ length threads → devices ≡ map device_of logs → ran.AreKept means befores ends olds logs → SameBut (image_names name 0 (length devices)) store after
       → SameBut (image_names name 0 (length (map f threads))) store after
   others_many f few is all = subst (λ n. SameBut (image_names name 0 n) store after) (run_many few is all ∙ sym (length-map threads f))
-

@@ -19,7 +19,7 @@ use Rattle.onll_log.specs.ImageFile.{longest_image}
 use Rattle.onll_log.specs.Log.{LogState}
 use Rattle.onll_core.specs.Created.{created_heads, heads_from}
 use Rattle.onll_outside.specs.Views.{StoreView, SameFiles, SameFaults, Rose, AreZeros, counted}
-use Rattle.onll_log.specs.Grammar.{Content, used_by}
+use Rattle.onll_log.specs.Grammar.{Content}
 use Rattle.onll_merge.specs.Merge.{merge}
 use Rattle.onll_model.specs.declared.node.Node.{Node}
 use Rattle.onll_outside.specs.declared.store.FaultKind.TheVariants as kinds
@@ -31,10 +31,10 @@ use Rattle.onll_run.proofs.Anew.{new_base, new_merge, new_roomy}
 use Rattle.onll_text.specs.Kinds.{ObjectKind}
 use Rattle.onll_words.specs.Texts.{line_text}
 use Rattle.onll_task.specs.declared.ending.Ending.{Ending}
-use Rattle.onll_task.specs.declared.ending.Ending.TheVariants.{Done, Usage, Refused, BadLog, ReadFault, WriteFault, Faulty}
+use Rattle.onll_task.specs.declared.ending.Ending.TheVariants.{Done, Faulty}
 use Rattle.onll_task.specs.declared.answer.Stop.{Stop}
 use Rattle.onll_task.specs.declared.answer.Stop.TheVariants.{Says, NoMemory}
-use Rattle.onll_task.specs.ImageNames.{image_name, image_names}
+use Rattle.onll_task.specs.ImageNames.{image_names}
 use Rattle.onll_task.specs.Printed.{fault_line}
 use Rattle.onll_task.specs.Job.{Job, JobEnds}
 use Rattle.onll_task.specs.Doing.{Does}
@@ -44,7 +44,7 @@ use Rattle.onll_task.specs.Stop.{StopSays}
 use Rattle.onll_task.specs.Writing.{SameBut, SameCounts}
 use Rattle.onll_task.proofs.Stages.{stay_same}
 use Rattle.onll_task.proofs.Runs.{run_does, broken_does, stopped_does}
-use Rattle.onll_runner.specs.Devices.{AreNew, AreBlank, HandsEach, DeviceFails, ThreadFails, risen, fault_of, fences_in}
+use Rattle.onll_runner.specs.Devices.{AreNew, AreBlank, HandsEach, ThreadFails, risen, fault_of, fences_in}
 use Rattle.onll_runner.specs.RunReport.{plan_resumed, plan_report}
 use Rattle.onll_runner.specs.RunEnds.{IsStored, IsStoredTo, IsBroken, IsLost, IsAsBefore, HasEnded, GaveUp, HasFailed, HasGone, lines_left}
 use Rattle.onll_runner.specs.RunJob.{run_plan, lines_for, said_task, calls_task}
@@ -236,6 +236,7 @@ module _ {State Op Query Reply Device : Type 0} (means : Device → DeviceView) 
   lines_kept (before ∷ befores) (es ∷ ends) (d ∷ devices) [] kept = absurd kept
 
 module _ {Device : Type 0} (means : Device → DeviceView) where
+  -- new devices have the lines that they were asked for
   lines_new : (lines : List ℕ) (devices : List Device) → AreNew means lines devices → map (λ (d : Device). length (means d).read) devices ≡ lines
   lines_new [] [] new = refl
   lines_new [] (d ∷ ds) new = absurd new

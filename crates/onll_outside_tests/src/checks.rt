@@ -1,43 +1,17 @@
-//! What these tests share: what a test finds, its files, and lines as the bytes of a file.
+//! What these tests share: files, lines as the bytes of a file, and devices with a line.
 
+pub(crate) use onll_found::Found;
+use onll_outside::Store;
+use onll_pmem::Pmem;
 use onll_words::{Line, line_bytes};
 use std::alloc::{AllocError, Global};
 use std::fs;
-use std::test::Fail;
 
 pub(crate) const EMPTY: Line = Line { w: [0; 8] };
 
 pub(crate) const FULL: Line = Line {
     w: [1, 2, 3, 4, 5, 6, 7, u64::MAX],
 };
-
-/// What a test finds: the first thing that is not so. A test that notes each assertion here goes straight on, and has one
-/// exit, so its proof is short.
-#[derive(Clone, Copy)]
-pub(crate) struct Found {
-    wrong: Option<&'static str>,
-}
-
-impl Found {
-    pub(crate) const fn new() -> Found {
-        Found { wrong: None }
-    }
-
-    /// Notes a text where something is not so, and nothing was wrong before.
-    pub(crate) fn must(&mut self, is_so: bool, text: &'static str) {
-        if !is_so && self.wrong.is_none() {
-            self.wrong = Some(text);
-        }
-    }
-
-    /// Refuses with what was found wrong.
-    pub(crate) fn ended(self) -> Result<(), Fail> {
-        match self.wrong {
-            Some(text) => Err(text.into()),
-            None => Ok(()),
-        }
-    }
-}
 
 /// The bytes of lines.
 pub(crate) fn bytes_of(alloc: Global, lines: &[Line]) -> Result<Vec<u8>, AllocError> {
@@ -77,4 +51,29 @@ pub(crate) fn remove(rt: &HostRuntime, found: &mut Found, name: &str) {
 /// Removes a folder.
 pub(crate) fn remove_folder(rt: &HostRuntime, found: &mut Found, name: &str) {
     found.must(fs::remove_dir(rt, name).is_ok(), "no folder to remove");
+}
+
+/// Writes a line that reads as empty, and hands it over.
+pub(crate) fn write_line<P: Pmem>(device: &mut P, line: u64) -> bool {
+    if line >= device.lines() || device.read(line) != EMPTY {
+        return false;
+    }
+    device.write(line, FULL);
+    device.write_back(line);
+    true
+}
+
+/// Fences, and tells whether it succeeded.
+pub(crate) fn fence<P: Pmem>(device: &mut P) -> bool {
+    device.fences() < 1000 && device.fence().is_ok()
+}
+
+/// A device of two lines over a file, of which the first is durable.
+pub(crate) fn one_line<S: Store>(alloc: Global, store: &mut S, name: &str) -> Option<S::Dev> {
+    let mut device = store.device(alloc, name, 2).ok()?;
+    if write_line(&mut device, 0) && fence(&mut device) {
+        return Some(device);
+    }
+    store.give_up(device);
+    None
 }

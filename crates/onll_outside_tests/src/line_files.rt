@@ -1,6 +1,7 @@
 //! Files of lines: what is read of them, and what writing them makes.
 
 use crate::checks::{EMPTY, Found, bytes_of, is_file, remove};
+use crate::plain_store::PlainStore;
 use onll_outside::{FileStore, MemStore, Named, OutsideFault, Store};
 use onll_words::Line;
 use std::alloc::{AllocError, Global};
@@ -187,6 +188,26 @@ fn lines_in_memory(rt: HostRuntime) -> Result<(), Fail> {
     let mut found = Found::new();
     for case in CASES {
         in_memory(rt.alloc(), &mut found, case);
+    }
+    found.ended()
+}
+
+/// Reads the file by the calls of lines that the trait has, and writes it anew.
+fn in_a_plain_store(alloc: Global, found: &mut Found, case: &Case) {
+    let Ok(files) = store_of(alloc, case) else {
+        return found.must(false, "no memory");
+    };
+    let mut store = PlainStore { files };
+    found.must(is_read(alloc, &mut store, case), "read otherwise");
+    found.must(is_taken(alloc, &mut store, case), "not written");
+    found.must(is_kept(alloc, &store.files, case), "written otherwise");
+}
+
+#[test]
+fn lines_in_a_plain_store(rt: HostRuntime) -> Result<(), Fail> {
+    let mut found = Found::new();
+    for case in CASES {
+        in_a_plain_store(rt.alloc(), &mut found, case);
     }
     found.ended()
 }

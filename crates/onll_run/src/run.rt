@@ -213,7 +213,14 @@ fn do_scripts<
     let rooms = rooms_for(alloc, &scripts)?;
     let logs = open_logs(alloc, heads, base, devices)?;
     let held = base_of(alloc, &logs)?;
-    let (onll, passes) = Onll::resume(alloc, object, &held.nodes, &held.marks, logs, &rooms)?;
+    let (onll, passes) = Onll::resume_marked(
+        alloc,
+        object,
+        &held.nodes,
+        &held.marks,
+        logs,
+        &rooms,
+    )?;
     let all = run_passes(rt, alloc, &onll, gate, scripts, passes)?;
     Ok(Done {
         base: held.nodes,

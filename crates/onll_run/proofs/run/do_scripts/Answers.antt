@@ -32,18 +32,18 @@ base_of-requires-clause-merged g c fault e =
     no_fault g.P.Pmem.means c.args.heads.now (contents_in c.args.base.now) _ c.args.devices.items c.in_ok-logs.logs.items c.requires c.in_ok-logs.ensures.open fault
     (rw c.deref-2.ensures.value at e)
 
-pub resume-requires-clause-resume : goal.resume-requires-clause-resume
-resume-requires-clause-resume g c κs within =
+pub resume_marked-requires-clause-resume : goal.resume_marked-requires-clause-resume
+resume_marked-requires-clause-resume g c κs within =
     subst (λ (z : (List _ × List _) × List ℕ). CanResume z.0.0 z.0.1 z.1)
     (λ i. ((sym c.deref-3.ensures.value i, sym c.deref-4.ensures.value i), sym (c.deref-5.ensures.value ∙ (c.in_ok-rooms.ensures ∙ ap (λ ss. map updates_in (map (λ script. script.items) ss)) c.deref.ensures.value)) i))
     (can_resume g.P.Pmem.means c.args.heads.now (contents_in c.args.base.now) (map (λ script. script.items) c.args.scripts.items) c.args.devices.items c.in_ok-logs.logs.items c.requires c.in_ok-logs.ensures.open
     c.in_ok-held.held.nodes.items c.in_ok-held.held.marks.items (rw c.deref-2.ensures.value at c.in_ok-held.ensures))
 
-pub resume-requires-clause-logs : goal.resume-requires-clause-logs
-resume-requires-clause-logs g c κs within = logs_are g.P.Pmem.means c.args.heads.now (contents_in c.args.base.now) _ c.args.devices.items c.in_ok-logs.logs.items c.requires c.in_ok-logs.ensures.open
+pub resume_marked-requires-clause-logs : goal.resume_marked-requires-clause-logs
+resume_marked-requires-clause-logs g c κs within = logs_are g.P.Pmem.means c.args.heads.now (contents_in c.args.base.now) _ c.args.devices.items c.in_ok-logs.logs.items c.requires c.in_ok-logs.ensures.open
 
-pub resume-requires-clause-entries : goal.resume-requires-clause-entries
-resume-requires-clause-entries g c κs within =
+pub resume_marked-requires-clause-entries : goal.resume_marked-requires-clause-entries
+resume_marked-requires-clause-entries g c κs within =
     entries_marked g.P.Pmem.means c.args.heads.now (contents_in c.args.base.now) (map (λ script. script.items) c.args.scripts.items) c.args.devices.items c.in_ok-logs.logs.items c.requires c.in_ok-logs.ensures.open
     c.in_ok-held.held.nodes.items c.in_ok-held.held.marks.items (rw c.deref-2.ensures.value at c.in_ok-held.ensures)
     ∙ (λ i. marked (length (sym (c.deref-5.ensures.value ∙ (c.in_ok-rooms.ensures ∙ ap (λ ss. map updates_in (map (λ script. script.items) ss)) c.deref.ensures.value)) i)) (sym c.deref-3.ensures.value i) (sym c.deref-4.ensures.value i))

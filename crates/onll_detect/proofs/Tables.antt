@@ -11,7 +11,7 @@ use Rattle.onll_model.specs.Object.{Behaviour}
 use Rattle.onll_model.specs.Trace.{is_of_thread, node_at, state_after, after_row, IsNumbered, NumberedAbove}
 use Rattle.onll_model.specs.Recovered.{operations_front, where_some}
 use Rattle.onll_model.proofs.Traces.{count_own, count_other}
-use Rattle.onll_detect.specs.Outcomes.{places_of, all_places, replies_of, reply_to, own_place, at_place, at_reply, find_in, table_of, AreWithin, IsNowhere, IsOutcome, OutcomeLaw}
+use Rattle.onll_detect.specs.Outcomes.{places_of, all_places, replies_of, reply_to, numbered_in, at_place, at_reply, find_in, table_of, AreWithin, IsNowhere, IsOutcome, OutcomeLaw}
 
 -- ---- tables
 -- one thread more, of those that are left
@@ -232,7 +232,7 @@ module _ {State Op Query Reply : Type 0} (b : Behaviour State Op Query Reply) wh
         let own = own_at t [] nodes num number q e in
         by_reply t (suc number) q (subst (λ (k : ℕ). IsOwn t [] nodes k q) index own) (omega arith)
 
-    by_number : (t number : ℕ) (ps : List ℕ) → ps ≡ places_of t 0 nodes → IsOutcome b s nodes t number (at_place (replies_of b s nodes) (own_place (Some ps) number))
+    by_number : (t number : ℕ) (ps : List ℕ) → ps ≡ places_of t 0 nodes → IsOutcome b s nodes t number (at_place (replies_of b s nodes) (numbered_in (Some ps) number))
     by_number t zero ps e = never_zero t
     by_number t (suc k) ps e = by_place' (slice_get ps k) (ap (λ (p : List ℕ). slice_get p k) (sym e))
       where
@@ -242,11 +242,11 @@ module _ {State Op Query Reply : Type 0} (b : Behaviour State Op Query Reply) wh
     by_thread : (t number : ℕ) → IsOutcome b s nodes t number (find_in (table_of b s nodes) t number)
     by_thread t number = elim (cases_lt t 16) [
       | inl less ↦
-          let P : _ = λ (o : Option (List ℕ)). IsOutcome b s nodes t number (at_place (replies_of b s nodes) (own_place o number)) in
+          let P : _ = λ (o : Option (List ℕ)). IsOutcome b s nodes t number (at_place (replies_of b s nodes) (numbered_in o number)) in
           let own : 0 + t ≡ t = omega arith in
           subst P (sym (all_within 0 16 nodes t less)) (by_number t number (places_of (0 + t) 0 nodes) (ap (λ (k : ℕ). places_of k 0 nodes) own))
       | inr more ↦
-          let P : _ = λ (o : Option (List ℕ)). IsOutcome b s nodes t number (at_place (replies_of b s nodes) (own_place o number)) in
+          let P : _ = λ (o : Option (List ℕ)). IsOutcome b s nodes t number (at_place (replies_of b s nodes) (numbered_in o number)) in
           subst P (sym (beyond 0 16 nodes t more)) (nowhere more)
     ]
       where

@@ -39,11 +39,11 @@ abbrev pub at_place : {Reply : Type 0} → List Reply → Option ℕ → Outcome
 at_place replies None = Lost
 at_place replies (Some place) = at_reply place (slice_get replies (place - 1))
 
--- the place of a thread's node of this number, from 1
-abbrev pub own_place : Option (List ℕ) → ℕ → Option ℕ
-own_place None number = None
-own_place (Some places) zero = None
-own_place (Some places) (suc n) = slice_get places n
+-- the one of this number, from 1, of a list, where there is a list
+abbrev pub numbered_in : {A : Type 0} → Option (List A) → ℕ → Option A
+numbered_in None number = None
+numbered_in (Some xs) zero = None
+numbered_in (Some xs) (suc n) = slice_get xs n
 
 -- the replies of a trace's nodes, and the places of each thread's
 pub record Table (Reply : Type 0) : Type 0 where
@@ -58,7 +58,7 @@ abbrev pub table_of : {State Op Query Reply : Type 0} → Behaviour State Op Que
 table_of b s nodes = record { replies = replies_of b s nodes; places = all_places 0 most_threads nodes }
 
 abbrev pub find_in : {Reply : Type 0} → Table Reply → ℕ → ℕ → Outcome Reply
-find_in table t number = at_place table.replies (own_place (slice_get table.places t) number)
+find_in table t number = at_place table.replies (numbered_in (slice_get table.places t) number)
 
 -- ---- in the trace's own words
 -- no node has this thread and number

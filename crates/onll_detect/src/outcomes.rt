@@ -6,7 +6,7 @@ ghost use Rattle.onll_model.specs.declared.node.Node.{Node};
 ghost use Rattle.onll_model.specs.Limits.{most_threads};
 ghost use Rattle.onll_model.specs.Trace.{IsNumbered};
 ghost use Rattle.onll_model.specs.Recovered.{operations_front};
-ghost use Rattle.onll_detect.specs.Outcomes.{replies_of, places_of, all_places, own_place, table_of, find_in, AreWithin, IsOutcome, IsTraceOf, OutcomeLaw};
+ghost use Rattle.onll_detect.specs.Outcomes.{replies_of, places_of, all_places, numbered_in, table_of, find_in, AreWithin, IsOutcome, IsTraceOf, OutcomeLaw};
 ghost use Rattle.onll_detect.specs.Faults.{FaultOf};
 
 use crate::outcome::{DetectFault, Outcome};
@@ -105,7 +105,7 @@ impl<O: Object + Drop> Outcomes<O> {
 
     /// The place of a thread's node of this number.
     fn own_place(&self, thread: u64, number: u64) -> Option<u64>
-        ensures { result ≡ own_place (slice_get self.now.places thread) number }
+        ensures { result ≡ numbered_in (slice_get self.now.places thread) number }
     {
         let places = self.places.get(thread as usize)?;
         if number == 0 {

@@ -7,3 +7,4 @@ pub mod RecoverSteps
 pub mod ReplaySteps
 pub mod Replays
 pub mod Standing
+pub mod Detects

@@ -1,3 +1,4 @@
 pub mod RecoverJob
 pub mod ReplayJob
 pub mod AgainJob
+pub mod DetectJob

@@ -4,12 +4,14 @@
 mod again;
 mod bad_logs;
 mod crashed;
+mod detect;
 mod nodes;
 mod recover;
 mod replay;
 
 pub use again::{again_on, not_resumed};
 pub use crashed::put_resumed;
+pub use detect::detect_on;
 pub use nodes::put_nodes;
 pub use recover::{put_count, recover_logs};
 pub use replay::{replay_on, script_files};

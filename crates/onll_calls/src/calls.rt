@@ -18,7 +18,8 @@ pub const USAGE: &str = "usage: onll fold INIT SCRIPT\n       \
      onll run INIT LOGS SCRIPT..\n       \
      onll make T N SEED\n       \
      onll again INIT SCHEDULE LOGS SCRIPT..\n       \
-     onll resume INIT LOGS SCRIPT..\n";
+     onll resume INIT LOGS SCRIPT..\n       \
+     onll detect INIT LOGS SCRIPT..\n";
 
 /// One call of the program: its words, the files that are there, and the numbers of the store's calls
 /// and of the sink's puts that fail.

@@ -67,7 +67,7 @@ module _ (ending : Ending) (text : List ℕ) where
   decides_value {A} store name grammar next value told d =
       (told.bytes, (told.told, subst (λ (r : Result A Refusal). Decides store (on_value name (next told.bytes) r) ending text) (sym told.accepted) d))
 
-  decides_scripts : {State Op Query Reply : Type 0} (w : Wording State Op Query Reply) (store : StoreView) (names : List (List ℕ)) (scripts : List (List (Call State Op Query Reply))) (next : List (List (Call State Op Query Reply)) → Job)
+  pub decides_scripts : {State Op Query Reply : Type 0} (w : Wording State Op Query Reply) (store : StoreView) (names : List (List ℕ)) (scripts : List (List (Call State Op Query Reply))) (next : List (List (Call State Op Query Reply)) → Job)
       → TellScripts w store names scripts → Decides store (next scripts) ending text → Decides store ((scripts_stage w names).job next) ending text
   decides_scripts w store [] [] next told d = d
   decides_scripts w store [] (script ∷ scripts) next told d = absurd told

@@ -77,6 +77,7 @@ module _ (k : ObjectKind) (init : List ℕ) (s : k.State) (store : StoreView) (l
     pub leaves : LeavesAll k init s store logs threads left
     pub recovered : state_recovered k.means (expected_heads k.code init left.images) left.images
         ≡ Ok (recovered_with leaves.all.recovers.logs leaves.all.recovers.nodes)
+    pub operations : AllOperations k.means leaves.all.recovers.nodes
 
   pub left_images : LeftImages
   left_images = record {
@@ -87,4 +88,5 @@ module _ (k : ObjectKind) (init : List ℕ) (s : k.State) (store : StoreView) (l
           ∙ found_is k.means heads left.images all.recovers.logs all.recovers.nodes all.recovers.contents formats all.recovers.recovered operations;
     };
     recovered = recovered;
+    operations = operations;
   }

@@ -28,12 +28,13 @@ use Rattle.onll_jobs.specs.FoldJob.{script_task}
 use Rattle.onll_jobs.specs.Exits.{PutExits}
 use Rattle.onll_jobs.specs.Says.{job_of, Allows, PutWhole, OutOfMemory, SinkFailed, ExitSays, NothingFailed, NoneRose, SaysThis}
 use Rattle.onll_task.specs.Doing.{Task, lines_stage, each_job}
-use Rattle.onll_jobs.specs.Over.{OverForm, FoldOver, RecoverOver, ReplayOver, AgainOver, ResumeOver, RunOver, over_task, object_task, over_work}
+use Rattle.onll_jobs.specs.Over.{OverForm, FoldOver, RecoverOver, ReplayOver, AgainOver, ResumeOver, RunOver, DetectOver, over_task, object_task, over_work}
 use Rattle.onll_task.proofs.Onwards.{ends_cut}
 use Rattle.onll_task.proofs.Jobs.{TellsFault, nothing_failed, decided, never_says, reading_never, reading_whole_never}
 use Rattle.onll_task.proofs.ImageFiles.{reading_images_never}
 use Rattle.onll_text.proofs.EachKind.{each_kind}
 use Rattle.onll_jobs.proofs.AgainEnds.{again_not_usage, again_not_faulty}
+use Rattle.onll_jobs.proofs.DetectEnds.{detect_not_usage, detect_not_faulty}
 use Rattle.onll_jobs.proofs.ReplayEnds.{replay_not_usage, replay_not_faulty}
 use Rattle.onll_jobs.proofs.ResumeEnds.{resume_not_usage}
 use Rattle.onll_jobs.proofs.RunEnds.{run_not_usage}
@@ -137,6 +138,7 @@ form_not_usage w (OverInit init (ReplayOver schedule logs scripts)) e h = replay
 form_not_usage w (OverInit init (AgainOver schedule logs scripts)) e h = again_not_usage w init schedule logs scripts e h
 form_not_usage w (OverInit init (ResumeOver logs scripts)) e h = resume_not_usage w init logs scripts e h
 form_not_usage w (OverInit init (RunOver logs scripts)) e h = run_not_usage w init logs scripts e h
+form_not_usage w (OverInit init (DetectOver logs scripts)) e h = detect_not_usage w init logs scripts e h
 form_not_usage w (Make workload) e h = not_usage w (Make workload) e (λ d. cc d) h
 
 usage_put : (w : Seen) (form : Option Form) → form_of w.words ≡ form → PutWhole w Usage → (form ≡ None) × Puts w.sink w.sink_after usage_text
@@ -240,6 +242,7 @@ module _ (seen : Seen) (h : PutWhole seen Faulty) where
   of_run (Some (OverInit init (AgainOver schedule logs scripts))) e = absurd (again_not_faulty seen init schedule logs scripts e h)
   of_run (Some (OverInit init (ResumeOver logs names))) e = record { init = init; logs = logs; names = names; form = inr e }
   of_run (Some (OverInit init (RunOver logs names))) e = record { init = init; logs = logs; names = names; form = inl e }
+  of_run (Some (OverInit init (DetectOver logs names))) e = absurd (detect_not_faulty seen init logs names e h)
   of_run (Some (Make workload)) e = absurd (let same = (ends_so (Some (Make workload)) e).0 in cc)
 
   pub faulty_run : IsOfRun seen

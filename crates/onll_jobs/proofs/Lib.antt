@@ -21,3 +21,7 @@ mod Kept
 mod RunCuts
 mod Dispatched
 pub mod MakeEnds
+pub mod DetectEnds
+pub mod DetectedNodes
+pub mod DetectedCrash
+pub mod DetectCrashes

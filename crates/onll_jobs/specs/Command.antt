@@ -9,7 +9,7 @@ use Rattle.onll_workload.specs.declared.workload.Workload.{Workload}
 use Rattle.onll_workload.specs.Workload.{IsWorkload}
 use Rattle.onll_jobs.specs.declared.command.Command.{Command}
 use Rattle.onll_jobs.specs.declared.command.Command.TheVariants as commands
-use Rattle.onll_jobs.specs.Over.{OverForm, FoldOver, RecoverOver, ReplayOver, AgainOver, ResumeOver, RunOver, over_in, is_over, IsOver}
+use Rattle.onll_jobs.specs.Over.{OverForm, FoldOver, RecoverOver, ReplayOver, AgainOver, ResumeOver, RunOver, DetectOver, over_in, is_over, IsOver}
 
 -- A form of the program's words: a command over the object whose initial state a file holds, or one of an image, or a workload.
 pub data Form : Type 0 where
@@ -35,6 +35,9 @@ Resume init logs scripts = OverInit init (ResumeOver logs scripts)
 
 abbrev pub Run : (init logs : List ℕ) → (scripts : List (List ℕ)) → Form
 Run init logs scripts = OverInit init (RunOver logs scripts)
+
+abbrev pub Detect : (init logs : List ℕ) → (scripts : List (List ℕ)) → Form
+Detect init logs scripts = OverInit init (DetectOver logs scripts)
 
 -- ---- what the names after a command's word say
 abbrev pub fold_of : List (List ℕ) → Option Form
@@ -66,6 +69,10 @@ abbrev pub run_of : List (List ℕ) → Option Form
 run_of (init ∷ logs ∷ scripts) = Some (Run init logs scripts)
 run_of names = None
 
+abbrev pub detect_of : List (List ℕ) → Option Form
+detect_of (init ∷ logs ∷ scripts) = Some (Detect init logs scripts)
+detect_of names = None
+
 -- all three names are numbers
 abbrev pub numbers_of : Option ℕ → Option ℕ → Option ℕ → Option Form
 numbers_of (Some threads) (Some updates) (Some seed) = Some (Make (record { threads = threads; updates = updates; seed = seed }))
@@ -86,6 +93,7 @@ named_form command names =
     else if bytes_eq command (codes "resume") then resume_of names
     else if bytes_eq command (codes "run") then run_of names
     else if bytes_eq command (codes "make") then make_of names
+    else if bytes_eq command (codes "detect") then detect_of names
     else None
 
 -- ---- the form of words
@@ -127,3 +135,4 @@ usage_text =
     ++ codes "       onll make T N SEED\n"
     ++ codes "       onll again INIT SCHEDULE LOGS SCRIPT..\n"
     ++ codes "       onll resume INIT LOGS SCRIPT..\n"
+    ++ codes "       onll detect INIT LOGS SCRIPT..\n"

@@ -14,3 +14,4 @@ pub mod RunPromises
 pub mod RunRecovers
 pub mod MakeJob
 pub mod MakePromises
+pub mod DetectPromises

@@ -19,11 +19,12 @@ use Rattle.onll_task.specs.ImageNames.{image_names}
 use Rattle.onll_recovery.specs.RecoverJob.{logs_task}
 use Rattle.onll_recovery.specs.ReplayJob.{scripts_task}
 use Rattle.onll_recovery.specs.AgainJob.{again_task}
+use Rattle.onll_recovery.specs.DetectJob.{detect_task}
 use Rattle.onll_runner.specs.ResumeJob.{resume_task}
 use Rattle.onll_runner.specs.RunJob.{run_task}
 
 -- What is done over an object: a script is folded, the logs of so many threads are recovered, scripts are replayed, anew or going on
--- from the logs of an earlier generation, or scripts are run on threads, going on or anew.
+-- from the logs of an earlier generation, scripts are run on threads, going on or anew, or it is said what became of their updates.
 pub data OverForm : Type 0 where
   FoldOver : (script : List ℕ) → OverForm
   RecoverOver : (logs : List ℕ) (threads : ℕ) → OverForm
@@ -31,6 +32,7 @@ pub data OverForm : Type 0 where
   AgainOver : (schedule logs : List ℕ) (names : List (List ℕ)) → OverForm
   ResumeOver : (logs : List ℕ) (names : List (List ℕ)) → OverForm
   RunOver : (logs : List ℕ) (names : List (List ℕ)) → OverForm
+  DetectOver : (logs : List ℕ) (names : List (List ℕ)) → OverForm
 
 -- what the code's words for it stand for
 abbrev pub over_in : Over → OverForm
@@ -40,8 +42,9 @@ over_in (overs.Replay schedule logs scripts) = ReplayOver schedule.now logs.now 
 over_in (overs.Again schedule logs scripts) = AgainOver schedule.now logs.now (map string_bytes scripts.now)
 over_in (overs.Resume logs scripts) = ResumeOver logs.now (map string_bytes scripts.now)
 over_in (overs.Run logs scripts) = RunOver logs.now (map string_bytes scripts.now)
+over_in (overs.Detect logs scripts) = DetectOver logs.now (map string_bytes scripts.now)
 
--- a recovery is from the logs of 1 to 16 threads, and 1 to 16 scripts are replayed or run
+-- a recovery is from the logs of 1 to 16 threads, and 1 to 16 scripts are replayed, run or asked about
 abbrev pub is_over : OverForm → Bool
 is_over (FoldOver script) = true
 is_over (RecoverOver logs threads) = nat_le 1 threads && nat_le threads most_threads
@@ -49,6 +52,7 @@ is_over (ReplayOver schedule logs names) = nat_le 1 (length names) && nat_le (le
 is_over (AgainOver schedule logs names) = nat_le 1 (length names) && nat_le (length names) most_threads
 is_over (ResumeOver logs names) = nat_le 1 (length names) && nat_le (length names) most_threads
 is_over (RunOver logs names) = nat_le 1 (length names) && nat_le (length names) most_threads
+is_over (DetectOver logs names) = nat_le 1 (length names) && nat_le (length names) most_threads
 
 -- the same of the code's words
 abbrev pub IsOver : Over → Type 0
@@ -58,6 +62,7 @@ IsOver (overs.Replay schedule logs scripts) = (1 ≤ length scripts.now) × (len
 IsOver (overs.Again schedule logs scripts) = (1 ≤ length scripts.now) × (length scripts.now ≤ most_threads)
 IsOver (overs.Resume logs scripts) = (1 ≤ length scripts.now) × (length scripts.now ≤ most_threads)
 IsOver (overs.Run logs scripts) = (1 ≤ length scripts.now) × (length scripts.now ≤ most_threads)
+IsOver (overs.Detect logs scripts) = (1 ≤ length scripts.now) × (length scripts.now ≤ most_threads)
 
 -- the task over a state of this kind, which these bytes say; a part of its job that runs scripts on threads is made so
 abbrev pub over_task : OverForm → (k : ObjectKind) → (RunPlan k → (RunLeft k → Job) → Job) → List ℕ → k.State → Task
@@ -67,6 +72,7 @@ over_task (ReplayOver schedule logs names) k threads init s = scripts_task k ini
 over_task (AgainOver schedule logs names) k threads init s = again_task k init schedule logs names s
 over_task (ResumeOver logs names) k threads init s = resume_task k threads init logs names s
 over_task (RunOver logs names) k threads init s = run_task k threads init logs names s
+over_task (DetectOver logs names) k threads init s = detect_task k init logs names s
 
 -- the task over an object, whose initial state these bytes say
 abbrev pub object_task : OverForm → List ℕ → AnyObject → Task
@@ -80,6 +86,7 @@ over_writes (ReplayOver schedule logs names) = image_names logs 0 (length names)
 over_writes (AgainOver schedule logs names) = image_names logs 0 (length names)
 over_writes (ResumeOver logs names) = image_names logs 0 (length names)
 over_writes (RunOver logs names) = image_names logs 0 (length names)
+over_writes (DetectOver logs names) = []
 
 -- What a function does over a state of a kind, which these bytes say: the task, whatever stands for the runs of that kind in it.
 pub record DoesOver {A : Type 0} (over : OverForm) (k : ObjectKind) (store after : StoreView) (init : List ℕ) (s : k.State)

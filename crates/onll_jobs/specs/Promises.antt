@@ -6,6 +6,7 @@ use Rattle.onll_task.specs.declared.ending.Ending.{Ending}
 use Rattle.onll_task.specs.declared.ending.Ending.TheVariants.{Done, Refused, BadLog, ReadFault, WriteFault, Faulty}
 use Rattle.onll_jobs.specs.AgainPromises.{AgainPromises}
 use Rattle.onll_jobs.specs.Command.{form_of, usage_text}
+use Rattle.onll_jobs.specs.DetectPromises.{DetectPromises}
 use Rattle.onll_jobs.specs.Durable.{RecoverPromises, ReplayPromises}
 use Rattle.onll_task.specs.Job.{Decides}
 use Rattle.onll_jobs.specs.Says.{job_of, writes_of, Ended, IsDetermined, NoneRose, NothingFailed, OutOfMemory, PutWhole, SaysThis, SinkFailed}
@@ -49,3 +50,4 @@ pub record Promises (seen : Seen) (status : ℕ) : Type 0 where
   -- and `recover` of what `run` and `resume` keep
   pub recover_run : RecoversRuns seen status
   pub make : MakePromises seen status
+  pub detect : DetectPromises seen status

@@ -1,7 +1,7 @@
 //! The words of the program, read as a command.
 
 ghost use Rattle.std.specs.Prelude.{◌≡◌, true, map, string_bytes, Some, None, MatchOption, IfSome};
-ghost use Rattle.onll_jobs.specs.Command.{fold_of, show_of, recover_of, replay_of, again_of, resume_of, run_of, make_of, named_form, form_of, form_in, is_within, usage_text, IsCommand};
+ghost use Rattle.onll_jobs.specs.Command.{fold_of, show_of, recover_of, replay_of, again_of, resume_of, run_of, make_of, detect_of, named_form, form_of, form_in, is_within, usage_text, IsCommand};
 ghost use Rattle.onll_task.specs.Stop.{StopSays};
 
 use crate::objects::Over;
@@ -19,7 +19,8 @@ const USAGE: &[u8] = b"usage: onll fold INIT SCRIPT\n       \
       onll run INIT LOGS SCRIPT..\n       \
       onll make T N SEED\n       \
       onll again INIT SCHEDULE LOGS SCRIPT..\n       \
-      onll resume INIT LOGS SCRIPT..\n";
+      onll resume INIT LOGS SCRIPT..\n       \
+      onll detect INIT LOGS SCRIPT..\n";
 
 /// What is said where words are of no form.
 pub(crate) fn usage(alloc: Global) -> Stop
@@ -142,6 +143,20 @@ fn run<'a>(names: &'a [String]) -> Option<Command<'a>>
     }
 }
 
+/// What became of the updates of scripts, by the logs of their run.
+fn detect<'a>(names: &'a [String]) -> Option<Command<'a>>
+    ensures { let form = detect_of (map string_bytes names.now) in
+        MatchOption result (form ≡ None) (λ command. form ≡ Some (form_in command)) }
+{
+    match names {
+        [init, logs, scripts @ ..] => Some(Command::OverInit {
+            init,
+            over: Over::Detect { logs, scripts },
+        }),
+        _ => None,
+    }
+}
+
 /// A workload of so many threads and updates, and of this seed.
 fn make<'a>(names: &'a [String]) -> Option<Command<'a>>
     ensures { let form = make_of (map string_bytes names.now) in
@@ -180,6 +195,8 @@ fn named<'a>(command: &str, names: &'a [String]) -> Option<Command<'a>>
         run(names)
     } else if command == "make" {
         make(names)
+    } else if command == "detect" {
+        detect(names)
     } else {
         None
     }

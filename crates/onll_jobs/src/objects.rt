@@ -8,7 +8,7 @@ ghost use Rattle.onll_jobs.specs.Over.{over_in, is_over, IsOver, DoesOver, over_
 use crate::fold;
 use onll_model::MOST_THREADS;
 use onll_outside::{Gate, Store};
-use onll_recovery::{again_on, recover_logs, replay_on};
+use onll_recovery::{again_on, detect_on, recover_logs, replay_on};
 use onll_runner::{resume_on, run_on};
 use onll_task::{Stop, init_file};
 use onll_text::{AnyObject, Texted};
@@ -44,6 +44,10 @@ pub(crate) enum Over<'a> {
         logs: &'a str,
         scripts: &'a [String],
     },
+    Detect {
+        logs: &'a str,
+        scripts: &'a [String],
+    },
 }
 
 impl Over<'_> {
@@ -58,7 +62,8 @@ impl Over<'_> {
             Over::Replay { scripts, .. }
             | Over::Again { scripts, .. }
             | Over::Resume { scripts, .. }
-            | Over::Run { scripts, .. } => {
+            | Over::Run { scripts, .. }
+            | Over::Detect { scripts, .. } => {
                 !scripts.is_empty() && scripts.len() as u64 <= MOST_THREADS
             }
         }
@@ -100,6 +105,7 @@ fn over_one<R: Threads + Wait + Sync, O: Texted + Drop + Send + Sync, S: Store, 
         Over::Run { logs, scripts } => {
             run_on(rt, alloc, object, init, logs, scripts, gate, store)
         }
+        Over::Detect { logs, scripts } => detect_on(alloc, object, init, logs, scripts, store),
     }
 }
 

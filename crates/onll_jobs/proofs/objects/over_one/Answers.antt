@@ -23,3 +23,6 @@ returns-in-Resume g c =
 pub returns-in-Run : goal.returns-in-Run
 returns-in-Run g c =
     record { by = λ threads stands. rw (c.in-Run.is, length-map c.in-Run.scripts.now string_bytes) (c.run_on.ensures threads stands) }
+
+pub returns-in-Detect : goal.returns-in-Detect
+returns-in-Detect g c = record { by = λ threads stands. rw c.in-Detect.is c.detect_on.ensures }

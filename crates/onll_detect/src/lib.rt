@@ -7,7 +7,9 @@
 //!     number: 1,
 //!     row,
 //! };
-//! let outcomes = Outcomes::of(alloc, Bank::make(alloc, 1)?, &[node])?;
+//! let Ok(outcomes) = Outcomes::of(alloc, Bank::make(alloc, 1)?, &[node]) else {
+//!     return Err("the row is an operation".into());
+//! };
 //! let took = Outcome::Took {
 //!     place: 1,
 //!     reply: BankReply::Done,

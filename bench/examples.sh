@@ -93,6 +93,7 @@ compare crash/out.1
 prints crash/shown.0 show examples/crash/out.0
 prints crash/shown.1 show examples/crash/out.1
 prints crash/report recover examples/crash/bank examples/crash/out 2
+prints crash/detected detect examples/crash/bank examples/crash/out examples/crash/first examples/crash/second
 prints crash/resumed again examples/crash/bank examples/crash/next examples/crash/out \
     examples/crash/third examples/crash/fourth
 
@@ -145,6 +146,7 @@ ends 3 'refused examples/payroll/accounts 2 unknown word' \
 echo 'no log' > "$folder/examples/crash/bad.0"
 ends 4 'log 0 not a log' recover examples/crash/bank examples/crash/bad 1
 ends 4 'not a log' show examples/crash/plan
+ends 4 'place 1 not in the script' detect examples/crash/bank examples/crash/out examples/crash/third examples/crash/second
 ends 5 'read fault examples/none' fold examples/transfer/bank examples/none
 ends 6 'write fault examples/none/out.0' replay examples/crash/bank examples/crash/plan \
     examples/none/out examples/crash/first examples/crash/second

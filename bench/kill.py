@@ -6,7 +6,8 @@ Build the program first, by `./prove`; or name another one of the same words.
 Each run has four threads of 1,000 updates, each update another one, and is killed by signal 9 at a moment between its start and
 the time that a whole run takes; a run that ends before that is done again. Where every log has its first line, `recover` must answer 0,
 and of each thread its nodes must be the first updates of the thread's script in their order: as many as its log has entries, or
-one more, which another thread has logged. A run that is killed before every log has a line is counted apart: a log may then be
+one more, which another thread has logged; and `detect` must print each of these with its reply and its place, all others as lost.
+A run that is killed before every log has a line is counted apart: a log may then be
 missing, or be no log yet, but nothing else is recovered of it than nothing. `bench/chains.py` goes on from what a kill leaves."""
 import os
 import random
@@ -82,6 +83,25 @@ def has_first_line(name):
 def recover(program):
     done = subprocess.run([program, "recover", "bank", "log", str(THREADS)], capture_output=True)
     return done.returncode, done.stdout.decode()
+
+
+def detect(program, scripts):
+    """What is said of each update of these scripts."""
+    done = subprocess.run([program, "detect", "bank", "log", *scripts], capture_output=True)
+    return done.returncode, done.stdout.decode()
+
+
+def expect_detected(program, scripts, report):
+    """Asserts that each update that is recovered is told with its reply and its place, and each other one as lost."""
+    nodes = nodes_of(report)
+    places = {(thread, call): place for place, (thread, call) in enumerate(nodes, 1)}
+    lines = []
+    for thread, script in enumerate(SCRIPTS):
+        for number, call in enumerate(script, 1):
+            place = places.get((thread, call))
+            lines.append(f"call {thread} {number} {call} -> " + (f"ok at {place}" if place else "lost"))
+    status, told = detect(program, scripts)
+    assert status == 0 and told.splitlines() == [*lines, f"recovered {len(nodes)}"], told
 
 
 def nodes_of(report):
@@ -173,6 +193,7 @@ def main():
             if begun:
                 assert status == 0, report
                 recovered.append(expect_recovered(report))
+                expect_detected(program, scripts, report)
             else:
                 found = expect_early(status, report)
                 early[found] = early.get(found, 0) + 1

@@ -2,6 +2,7 @@
 
 use onll_bank::{Bank, BankOp, BankQuery, BankReply};
 use onll_core::Core;
+use onll_detect::{Outcome, Outcomes};
 use onll_lease::{Lease, LeaseOp, LeaseQuery, LeaseReply};
 use onll_log::{LogHead, ThreadLog, decode};
 use onll_map::{Map, MapOp, MapQuery, MapReply};
@@ -39,6 +40,27 @@ fn model(rt: HostRuntime) -> Result<(), Fail> {
     let mut bank = Bank::make(alloc, 1)?;
     assert!(rt; fold_nodes(&mut bank, &[node]).is_ok());
     assert!(rt; bank.ask(BankQuery::Balance { a: 0 }) == BankReply::Amount(5));
+    Ok(())
+}
+
+#[test]
+fn detect(rt: HostRuntime) -> Result<(), Fail> {
+    let alloc = rt.alloc();
+    let row = Bank::op_row(BankOp::Deposit { a: 0, x: 5 });
+    let node = Node {
+        thread: 0,
+        number: 1,
+        row,
+    };
+    let Ok(outcomes) = Outcomes::of(alloc, Bank::make(alloc, 1)?, &[node]) else {
+        return Err("the row is an operation".into());
+    };
+    let took = Outcome::Took {
+        place: 1,
+        reply: BankReply::Done,
+    };
+    assert!(rt; outcomes.find(0, 1) == took);
+    assert!(rt; outcomes.find(0, 2) == Outcome::Lost);
     Ok(())
 }
 

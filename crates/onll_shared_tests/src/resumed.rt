@@ -5,9 +5,9 @@ ghost use Rattle.onll_shared.specs.Passes.{IsTied};
 ghost use Rattle.onll_shared.specs.Starts.{IsLogOf};
 
 use onll_log::{LogHead, ThreadLog};
-use onll_model::{Mark, Node, Object};
+use onll_model::{Node, Object};
 use onll_pmem::MemPmem;
-use onll_shared::{Onll, Pass};
+use onll_shared::{Onll, Pass, find_base};
 use onll_shared_calls::INIT;
 use std::alloc::Global;
 
@@ -28,6 +28,7 @@ pub fn log_with<O: Object>(alloc: Global, place: u64, node: Node) -> Option<Thre
     Some(log)
 }
 
+#[tactic(auto, using(crate::proofs::Rooms::one_room))]
 /// An object that goes on from one update of its one thread, and the pass of that, which may order so many more.
 pub fn resume_one<O: Object + Drop>(
     alloc: Global,
@@ -43,16 +44,17 @@ pub fn resume_one<O: Object + Drop>(
         number: 1,
         row: O::op_row(op),
     };
-    let mark = Mark {
-        thread: 0,
-        place: 1,
-        count: 1,
-    };
     let log = log_with::<O>(alloc, 1, node)?;
     let Ok(logs) = vec![in alloc; log] else {
         return None;
     };
-    let Ok((onll, mut passes)) = Onll::resume(alloc, object, &[node], &[mark], logs, &[room]) else {
+    let Ok(base) = find_base(alloc, &logs) else {
+        return None;
+    };
+    if base.nodes.len() != 1 {
+        return None;
+    }
+    let Ok((onll, mut passes)) = Onll::resume(alloc, object, &base.nodes, logs, &[room]) else {
         return None;
     };
     let pass = passes.pop()?;

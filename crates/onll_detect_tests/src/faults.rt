@@ -43,13 +43,15 @@ fn faults(rt: HostRuntime) -> Result<(), Fail> {
 /// A word of a log's lines that is another: the line, the word and its value; and how the call ends.
 type Change<'a> = (usize, usize, u64, u8, &'a str);
 
-/// Changes of the head and of the entry of a deposit.
+/// Changes of the head and of the entry of a deposit. A mask tells a word that is zero from one that isn't, and no more: so another amount
+/// is one of another script.
 const CHANGES: &[Change<'static>] = &[
     (0, 0, 1, 4, "log 0 not a log\n"),
     (0, 3, 17, 4, "log 0 not a log\n"),
     (0, 5, 1, 4, "log 0 not of this run\n"),
     (1, 2, 2, 0, "call 0 1 deposit 0 5 -> lost\nrecovered 0\n"),
-    (2, 3, 6, 0, "call 0 1 deposit 0 5 -> lost\nrecovered 0\n"),
+    (2, 3, 0, 0, "call 0 1 deposit 0 5 -> lost\nrecovered 0\n"),
+    (2, 3, 6, 4, "place 1 not in the script\n"),
 ];
 
 /// The lines of the log with this word changed.

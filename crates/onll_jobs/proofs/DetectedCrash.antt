@@ -1,12 +1,12 @@
 -- What a crash of a core that began anew leaves tells of each update that returned.
 
-use Rattle.std.proofs.Common.{ℕ, zero, suc, true, List, [], ◌++◌, ◌∷◌, ◌≡◌, ◌+◌, ◌-◌, ◌<◌, ◌≤◌, length, map, take, drop, slice_get, Option, Some, None, IsSome, refl, sym, ap, ◌∙◌, subst, arith}
+use Rattle.std.proofs.Common.{ℕ, zero, suc, true, List, [], ◌≡◌, ◌+◌, ◌-◌, ◌<◌, ◌≤◌, length, map, take, slice_get, Some, None, refl, sym, ap, ◌∙◌, subst, arith}
 use Rattle.std.proofs.lemmas.List.{length-map}
-use Rattle.std.specs.List.{AllByRecursion, Contains}
+use Rattle.std.specs.List.{Contains}
 use Rattle.onll_words.specs.declared.line.OpRow.{OpRow}
 use Rattle.onll_model.specs.declared.node.Node.{Node}
 use Rattle.onll_model.specs.declared.call.Call.{Call}
-use Rattle.onll_model.specs.declared.call.Call.TheVariants.{Update, Ask}
+use Rattle.onll_model.specs.declared.call.Call.TheVariants.{Update}
 use Rattle.onll_model.specs.declared.call.CallEnd.TheVariants.{Answered}
 use Rattle.onll_model.specs.Calls.{updates_in}
 use Rattle.onll_model.specs.Legal.{IsLegal, placed_updates, placed_rows}
@@ -20,7 +20,7 @@ use Rattle.onll_core.specs.Crash.{HoldsUpdate, HoldsCall, HoldAllReturned}
 use Rattle.onll_core.specs.Outcomes.{ends_of, script_of, current_of}
 use Rattle.onll_detect.specs.declared.outcome.Outcome.{Outcome}
 use Rattle.onll_detect.specs.declared.outcome.Outcome.TheVariants.{Took, Lost}
-use Rattle.onll_detect.specs.Outcomes.{table_of, find_in, HasTaken, IsOutcome, IsTraceOf}
+use Rattle.onll_detect.specs.Outcomes.{table_of, find_in, IsOutcome, IsTraceOf}
 use Rattle.onll_detect.proofs.Tables.{found}
 use Rattle.onll_text.specs.Lines.{call_line}
 use Rattle.onll_text.specs.Wording.{Wording}

@@ -1,7 +1,6 @@
 -- A legal history's nodes are the updates of its scripts, and what is printed of each that returned.
 
-use Rattle.std.proofs.Common.{ℕ, zero, suc, Bool, true, false, List, [], ◌∷◌, ◌++◌, ◌≡◌, ◌≢◌, ◌+◌, ◌<◌, ◌≤◌, length, map, take, cond, count_by, slice_get, Option, Some, None, IsSome, refl, sym, ap, ◌∙◌, subst, arith, length-append, eqb-true, eq-eqb}
-use Rattle.std.proofs.lemmas.Bool.{ne_eqb}
+use Rattle.std.proofs.Common.{ℕ, zero, suc, Bool, true, false, List, [], ◌∷◌, ◌++◌, ◌≡◌, ◌≢◌, ◌+◌, ◌<◌, length, map, take, cond, count_by, slice_get, Option, Some, None, IsSome, refl, sym, ap, ◌∙◌, subst, arith, length-append, eqb-true, eq-eqb}
 use Rattle.std.proofs.lemmas.Bool.Decides.{nat_tests}
 use Rattle.std.proofs.lemmas.List.Elements.{Contains-append_left, Contains-append_right}
 use Rattle.std.specs.List.{AllByRecursion, Contains}

@@ -1,6 +1,6 @@
 -- What became of the updates of scripts, part after part.
 
-use Rattle.std.proofs.Common.{ℕ, zero, suc, Bool, true, false, List, [], ◌∷◌, ◌++◌, ◌≡◌, ◌+◌, ◌<◌, ◌≤◌, length, map, drop, get_or, slice_get, Option, Some, None, Result, Ok, Err, refl, sym, ap, ◌∙◌, subst, arith, codes, decimal, append_assoc, if◌then◌else◌, Vec, Global, cond}
+use Rattle.std.proofs.Common.{ℕ, zero, suc, Bool, true, false, List, [], ◌∷◌, ◌++◌, ◌≡◌, ◌+◌, ◌<◌, ◌≤◌, length, map, drop, get_or, slice_get, Option, Some, None, Result, Ok, Err, refl, sym, ap, ◌∙◌, subst, arith, codes, decimal, Vec, cond}
 use Rattle.std.proofs.lemmas.List.{drop_more, append-nil, length-map}
 use Rattle.std.proofs.lemmas.List.Concat.{flat_map-append}
 use Rattle.std.specs.List.{AllByRecursion, flat_map}
@@ -11,9 +11,7 @@ use Rattle.onll_model.specs.declared.node.Node.{Node}
 use Rattle.onll_model.specs.declared.call.Call.{Call}
 use Rattle.onll_model.specs.declared.call.Call.TheVariants.{Update, Ask}
 use Rattle.onll_model.specs.Calls.{updates_in}
-use Rattle.onll_model.specs.Limits.{most_threads}
 use Rattle.onll_model.specs.Object.{Behaviour}
-use Rattle.onll_model.specs.Recovered.{operations_front}
 use Rattle.onll_model.specs.Trace.{IsNumbered}
 use Rattle.onll_log.specs.declared.head.LogHead.{LogHead}
 use Rattle.onll_log.specs.Grammar.{Content}
@@ -27,7 +25,7 @@ use Rattle.onll_detect.specs.declared.outcome.Outcome.TheVariants.{Lost}
 use Rattle.onll_detect.specs.Outcomes.{Table, numbered_in}
 use Rattle.onll_text.specs.Bytes.{begins_line, with_words, with_lines}
 use Rattle.onll_text.specs.Wording.{Wording}
-use Rattle.onll_text.proofs.Appending.{with_words-append, with_words-line, with_lines-append, begins_line-lines}
+use Rattle.onll_text.proofs.Appending.{with_words-append, with_words-line, with_lines-append}
 use Rattle.onll_text.proofs.LineWords.{AreWords-append}
 use Rattle.onll_recovery.specs.RecoverJob.{recovered_line}
 use Rattle.onll_recovery.specs.DetectJob.{outcome_line, update_lines, scripts_lines, detect_lines, update_rows, is_row, is_in_script, stranger, stranger_line}

@@ -1,4 +1,4 @@
-use Rattle.std.proofs.Common.{[], ◌≡◌, ◌≤◌, length, map, sym, subst, ◌∙◌, rules, arith}
+use Rattle.std.proofs.Common.{[], ◌≤◌, map, sym, subst, ◌∙◌}
 use Rattle.std.proofs.lemmas.List.{length-map}
 use Rattle.onll_task.specs.Doing.{Does}
 use Rattle.onll_recovery.specs.DetectJob.{nodes_task}

@@ -1,4 +1,3 @@
-use Rattle.std.proofs.Common.{map}
 use Rattle.onll_text.specs.Kinds.{kind_by}
 use Rattle.onll_task.proofs.Stages.{read_does, stop_does}
 use Rattle.onll_recovery.specs.DetectJob.{detect_images_task}

@@ -1,7 +1,6 @@
-use Rattle.std.proofs.Common.{[], sym, subst}
+use Rattle.std.proofs.Common.{sym, subst}
 use Rattle.onll_model.specs.Trace.{IsNumbered}
 use Rattle.onll_merge.specs.Recovered.{recovered_in}
-use Rattle.onll_task.proofs.Stages.{none_does}
 use Rattle.onll_recovery.proofs.Detects.{recovered_numbered}
 use Rattle.onll_recovery.proofs.detect.detect_with.Goals as goal
 

@@ -1,5 +1,4 @@
-use Rattle.std.proofs.Common.{◌+◌, drop, ap, ◌∙◌, sym, arith}
-use Rattle.onll_text.proofs.Appending.{begins_line-lines}
+use Rattle.std.proofs.Common.{◌∙◌, arith}
 use Rattle.onll_recovery.proofs.Detects.{lines_more, count_most}
 use Rattle.onll_recovery.proofs.detect.put_updates.Goals as goal
 

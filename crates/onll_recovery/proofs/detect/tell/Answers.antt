@@ -10,7 +10,7 @@ returns-in_ok-report-in-Ok g c store =
     let calls = map (λ script. script.items) c.args.scripts.now in
     let text = c.in_ok-report-in-Ok.field-0 in
     let e = c.in_ok-report-in-Ok.ensures
-        ∙ ap (λ table. flat_map line_text (detect_lines g.O.Texted.wording table calls (length c.args.nodes.now))) c.in-Ok.ensures.0 in
+    ∙ ap (λ table. flat_map line_text (detect_lines g.O.Texted.wording table calls (length c.args.nodes.now))) c.in-Ok.ensures.0 in
     report_does store text e e
 
 pub returns-in_err-report-in-Ok : goal.returns-in_err-report-in-Ok

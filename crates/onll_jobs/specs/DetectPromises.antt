@@ -44,10 +44,12 @@ module _ (k : ObjectKind) (init : List ℕ) (s : k.State) (seen : Seen) (logs : 
 
   -- Nothing is refused, and what is printed are the outcomes by the nodes that the images recover to: of each returned update its reply
   -- and its place; or memory could not be had.
-  pub record TellsLeft (status : ℕ) (scripts : List (List (Call k.State k.Op k.Query k.Reply))) (first : IsLeftByFirst scripts) : Type 0 where
+  pub record TellsLeft (status : ℕ) (scripts : List (List (Call k.State k.Op k.Query k.Reply)))
+      (first : IsLeftByFirst scripts) : Type 0 where
     pub leaves : LeavesAll k init s seen.store logs (length names) first.left
     pub lines : List (List (List ℕ))
-    pub lines_are : lines ≡ detect_lines k.wording (table_of k.means s leaves.all.recovers.nodes) scripts (length leaves.all.recovers.nodes)
+    pub lines_are : lines
+        ≡ detect_lines k.wording (table_of k.means s leaves.all.recovers.nodes) scripts (length leaves.all.recovers.nodes)
     pub returned : HaveReturned k.wording (steps_of k.means first.left.first first.left.steps) lines
     pub says : SaysThis seen status Done (flat_map line_text lines)
 
@@ -56,7 +58,8 @@ abbrev pub TellsCrashes : Seen → ℕ → Type 0
 TellsCrashes seen status = (init logs bytes : List ℕ) (names : List (List ℕ)) (object : AnyObject)
     → form_of seen.words ≡ Some (Detect init logs names)
     → IsTold seen.store init bytes → init_of bytes ≡ Ok object → NoneRose seen
-    → on_object (λ k s. (scripts : List (List (Call k.State k.Op k.Query k.Reply))) (first : IsLeftByFirst k bytes s seen logs names scripts)
+    → on_object (λ k s. (scripts : List (List (Call k.State k.Op k.Query k.Reply)))
+    (first : IsLeftByFirst k bytes s seen logs names scripts)
     → TellsLeft k bytes s seen logs names status scripts first) object
 
 -- What `detect` promises beside.

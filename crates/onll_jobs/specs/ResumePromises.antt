@@ -1,6 +1,6 @@
 -- What `resume` says of the run that goes on.
 
-use Rattle.std.specs.Prelude.{ℕ, ◌≡◌, ◌⊎◌, List, [], ◌∷◌, length, map, Some, Result, Ok, Err}
+use Rattle.std.specs.Prelude.{ℕ, ◌≡◌, ◌⊎◌, List, [], ◌∷◌, length, Some, Result, Ok, Err}
 use Rattle.onll_model.specs.declared.call.Call.{Call}
 use Rattle.onll_core.specs.declared.fault.ResumeFault.{ResumeFault}
 use Rattle.onll_core.specs.declared.fault.ResumeFault.TheVariants.{TooMany}

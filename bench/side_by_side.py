@@ -3,8 +3,8 @@
 it is.
 Usage: bench/side_by_side.py
 `./prove` calls it, and then builds the program. Each library is proved over what earlier checks kept, as by `rt lib`
-in its folder, with as many
-processors as no other library waits for. One that fails is named with what its check said, and the status is 1."""
+in its folder, with as many processors as no other library waits for. One that fails is named with what its check said,
+and the status is 1."""
 import os
 import sys
 import tempfile

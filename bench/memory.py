@@ -67,6 +67,8 @@ ROWS = {
     "replay": (["replay", "bank", "plan", "log", "first", "second"],
                {name: f"crash/{name}" for name in ("bank", "plan", "first", "second")}),
     "recover": (["recover", "bank", "out", "2"], {name: f"crash/{name}" for name in ("bank", "out.0", "out.1")}),
+    "detect": (["detect", "bank", "out", "first", "second"],
+               {name: f"crash/{name}" for name in ("bank", "out.0", "out.1", "first", "second")}),
     "again": (["again", "bank", "next", "out", "third", "fourth"],
               {name: f"crash/{name}" for name in ("bank", "next", "out.0", "out.1", "third", "fourth")}),
     "run": (["run", "bank", "log", "script"], {"bank": "transfer/bank", "script": "transfer/script"}),

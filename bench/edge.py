@@ -66,6 +66,10 @@ def folders_and_pipes(program):
     feeder.start()
     expect("an initial state that comes through a pipe", Case(program, ["fold", "pipe", "s"]), 0)
     feeder.join(SECONDS)
+    os.mkdir("k.1")
+    expect("an area that is a folder", Case(program, ["areas", "k"]), 6, "write fault k.1\n")
+    expect("an area that is read as a folder", Case(program, ["restore", "i", "none", "k", "1"]), 5, "read fault k.1\n")
+    os.rmdir("k.1")
     os.mkdir("log.0")
     expect("a log that is a folder", Case(program, ["run", "i", "log", "s"]), 6, "write fault log.0\n")
     os.rmdir("log.0")
@@ -105,6 +109,10 @@ def limited(program):
 def outputs(program):
     with open("/dev/full", "wb") as full:
         expect("an output on a full device", Case(program, ["fold", "i", "s"], stdout=full), 6)
+        expect("areas", Case(program, ["areas", "k"]), 0, "areas k\n")
+        expect("a checkpoint that can't be said", Case(program, ["checkpoint", "i", "zeros", "k", "1"], stdout=full), 6)
+    restored = "checkpoint 1 place 0\nlog 0 entries 0 lines 1\nrecovered 0\nplace 0\nstate\nbank 2\naccount 0 9\naccount 1 0\n"
+    expect("it has begun", Case(program, ["restore", "i", "zeros", "k", "1"]), 0, restored)
     expect("a closed output", Case(program, ["fold", "i", "s"], stdout=None, preexec_fn=lambda: os.close(1)), 6)
     reader, writer = os.pipe()
     os.close(reader)
@@ -140,6 +148,15 @@ def full_disk(program):
     try:
         write("long", b"deposit 0 1\n" * 2000)
         expect("a log on a full disk", Case(program, ["run", "i", "small/log", "long"]), 6, "write fault small/log.0\n")
+        os.remove("small/log.0")
+        write("items", b"queue 4096\n" + b"item 18446744073709551615\n" * 4096)
+        expect("areas", Case(program, ["areas", "small/k"]), 0, "areas small/k\n")
+        expect("a checkpoint on a full disk", Case(program, ["checkpoint", "items", "zeros", "small/k", "1"]), 6,
+               "write fault small/k.1.init\n")
+        case = Case(program, ["restore", "items", "zeros", "small/k", "1"])
+        if case.status != 0 or not case.out.startswith(b"no checkpoint\n"):
+            failures.append("after a full disk")
+            print(f"after a full disk: status {case.status}, printed {case.out[:80]!r}")
     finally:
         subprocess.run(["umount", "small"], check=True)
 
@@ -165,6 +182,7 @@ def main():
         os.chdir(folder)
         write("i", INIT)
         write("s", SCRIPT)
+        write("zeros.0", bytes(64))
         for part in (folders_and_pipes, growing, limited, outputs, of_somebody_else, full_disk, words):
             part(program)
         for name, data in (("i", INIT), ("s", SCRIPT), ("twice.0", INIT)):

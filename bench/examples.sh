@@ -135,6 +135,17 @@ same 'it goes on from' "$(nodes "$folder/resumed" | head -n "$(nodes "$folder/fo
 same 'its recovery finds' "$(nodes "$folder/more")" "$(nodes "$folder/resumed")"
 same 'its report and its logs tell' "$(nodes "$top/examples/tickets/recovered")" "$(nodes "$top/examples/tickets/report")"
 
+# An office over three eras, and what each leaves to the next.
+take office hall monday tuesday wednesday
+prints office/made areas evening
+prints office/monday.report run examples/office/hall office examples/office/monday
+prints office/monday.closed checkpoint examples/office/hall office evening 1
+prints office/tuesday.report resume evening.1.init evening.1 examples/office/tuesday
+prints office/tuesday.closed checkpoint examples/office/hall office evening 1
+prints office/wednesday.report resume evening.0.init evening.0 examples/office/wednesday
+prints office/report restore examples/office/hall office evening 1
+same 'the text of an era is another' "$(cat "$folder/evening.0.init")" "$(cat "$top/examples/office/wednesday.init")"
+
 usage=$(sed -n '/^usage: /,/^```$/p' "$top/docs/FORMATS.md" | sed '$d')
 ends 2 "$usage"
 ends 2 "$usage" fold examples/transfer/bank examples/transfer/script examples/transfer/script
@@ -147,6 +158,8 @@ echo 'no log' > "$folder/examples/crash/bad.0"
 ends 4 'log 0 not a log' recover examples/crash/bank examples/crash/bad 1
 ends 4 'not a log' show examples/crash/plan
 ends 4 'place 1 not in the script' detect examples/crash/bank examples/crash/out examples/crash/third examples/crash/second
+ends 5 'read fault none.0' restore examples/office/hall office none 1
+ends 6 'write fault examples/none/k.0' areas examples/none/k
 ends 5 'read fault examples/none' fold examples/transfer/bank examples/none
 ends 6 'write fault examples/none/out.0' replay examples/crash/bank examples/crash/plan \
     examples/none/out examples/crash/first examples/crash/second

@@ -6,7 +6,8 @@ Build the program first, by `./prove`; or name another one of the same words. It
 A small library stands before the C library's `malloc` and `realloc`, counts the calls, and answers none to one of them. Each run is of
 one thread, or plays a schedule, so that its report is one text. It must end with that report and the same files, or with status 9 and
 some of the first bytes of the report; no file changes that the words don't write, and what `recover` finds then begins with what it
-found before. With status 9 the log files of a `run` and of a `resume` are compared one by one: each begins with the lines that its log
+found before. After each `checkpoint`, in whichever era, `restore` gives the place and the state that it gives after a whole one, which
+are those before it. With status 9 the log files of a `run` and of a `resume` are compared one by one: each begins with the lines that its log
 used before, and every word after them is as it was, zero, or the word that the whole run leaves there, since a device over a file writes
 at each fence.
 Ends with 0, or names each run that does otherwise and ends with 1."""
@@ -57,7 +58,9 @@ void _exit(int status) {
 }
 """
 
-# The words of each row, and the examples' files that it is handed, by the names that they get.
+# A bank with its logs, and areas that hold nothing.
+AREAS = {"k.0": None, "k.1": None, **{name: f"crash/{name}" for name in ("bank", "out.0", "out.1")}}
+# The words of each row, and the examples' files that it is handed, by the names that they get; None is an empty file.
 ROWS = {
     "fold": (["fold", "bank", "script"], {"bank": "transfer/bank", "script": "transfer/script"}),
     "fold of a map": (["fold", "names", "changes"], {"names": "directory/names", "changes": "directory/changes"}),
@@ -73,11 +76,16 @@ ROWS = {
               {name: f"crash/{name}" for name in ("bank", "next", "out.0", "out.1", "third", "fourth")}),
     "run": (["run", "bank", "log", "script"], {"bank": "transfer/bank", "script": "transfer/script"}),
     "resume": (["resume", "bank", "out", "third", "empty"],
-               {name: f"crash/{name}" for name in ("bank", "out.0", "out.1", "third")}),
+               {"empty": None, **{name: f"crash/{name}" for name in ("bank", "out.0", "out.1", "third")}}),
     "make": (["make", "1", "4", "7"], {}),
+    "areas": (["areas", "k"], {}),
+    "restore": (["restore", "bank", "out", "k", "2"], AREAS),
+    "checkpoint": (["checkpoint", "bank", "out", "k", "2"], AREAS),
 }
-# The files that the words of a row may write, by how their names begin, and how many logs there are then.
-WRITES = {"replay": ("log.", 2), "again": ("out.", 2), "run": ("log.", 1), "resume": ("out.", 2)}
+# What is done before a row, with ample memory.
+BEFORE = {"restore": ["checkpoint", "bank", "out", "k", "2"], "checkpoint": ["checkpoint", "bank", "out", "k", "2"],
+      # The files that the words of a row may write, by how their names begin, and how many logs there are then.
+WRITES = {"replay": ("log.", 2), "again": ("out.", 2), "run": ("log.", 1), "resume": ("out.", 2), "checkpoint": ("k.0", 2)}
 
 
 def make_refuser(folder):
@@ -111,9 +119,9 @@ class Runs:
         shutil.rmtree(folder, ignore_errors=True)
         os.mkdir(folder)
         for name, source in names.items():
-            shutil.copyfile(os.path.join(EXAMPLES, source), os.path.join(folder, name))
-        if "empty" in words:
-            open(os.path.join(folder, "empty"), "w").close()
+            shutil.copyfile(os.path.join(EXAMPLES, source) if source else os.devnull, os.path.join(folder, name))
+        if row in BEFORE:
+            subprocess.run([self.program, *BEFORE[row]], cwd=folder, stdout=subprocess.DEVNULL, check=True, timeout=60)
         environment = {"LD_PRELOAD": self.library, "REFUSE": str(number), "COUNTED": self.counted}
         if os.path.exists(self.counted):
             os.remove(self.counted)
@@ -132,6 +140,11 @@ class Runs:
         lines = done.stdout.decode().splitlines()
         return [line for line in lines if line.startswith("node ")] if done.returncode == 0 else None
 
+    def restored(self):
+        """The place over all eras, and the state, that are restored in the folder of the last run."""
+        done = subprocess.run([self.program, "restore", "bank", "out", "k", "2"], cwd=os.path.join(self.work, "files"),
+                              capture_output=True, timeout=60)
+        return done.stdout.decode().partition("\nplace ")[2] if done.returncode == 0 else None
 
     def used(self, name):
         """How many lines the log in this file of the last run uses, by what `show` says of it."""
@@ -179,7 +192,9 @@ def faults_of(runs, row, number, whole, before, old, lines):
     if status == 9 and row in ("run", "resume"):
         for name in lost_logs(row, files, whole, old, lines):
             yield f"{name} lost what it held"
-    if before is not None and status == 9:
+    if row == "checkpoint" and runs.restored() != before:
+        yield f"restored {runs.restored()} for {before}"
+    if row in ("again", "resume") and status == 9:
         nodes = runs.recovered(row)
         if nodes is None or nodes[:len(before)] != before:
             yield f"recovered {nodes} for {before}"
@@ -195,10 +210,12 @@ def main():
             if row in ("again", "resume"):
                 for name, source in names.items():
                     os.makedirs(os.path.join(work, "files"), exist_ok=True)
-                    shutil.copyfile(os.path.join(EXAMPLES, source), os.path.join(work, "files", name))
+                    shutil.copyfile(os.path.join(EXAMPLES, source) if source else os.devnull, os.path.join(work, "files", name))
                 before, old = runs.recovered(row), files_of(os.path.join(work, "files"))
                 lines = {name: runs.used(name) for name in old if name.startswith(WRITES[row][0])}
             whole = runs.once(row, 0)
+            if row == "checkpoint":
+                before = runs.restored()
             if whole[0] != 0 or whole[4] == 0:
                 print(f"{row}: status {whole[0]} with ample memory, {whole[4]} calls counted")
                 wrong += 1

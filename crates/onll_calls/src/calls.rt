@@ -19,7 +19,10 @@ pub const USAGE: &str = "usage: onll fold INIT SCRIPT\n       \
      onll make T N SEED\n       \
      onll again INIT SCHEDULE LOGS SCRIPT..\n       \
      onll resume INIT LOGS SCRIPT..\n       \
-     onll detect INIT LOGS SCRIPT..\n";
+     onll detect INIT LOGS SCRIPT..\n       \
+     onll areas CKPT\n       \
+     onll restore INIT LOGS CKPT T\n       \
+     onll checkpoint INIT LOGS CKPT T\n";
 
 /// One call of the program: its words, the files that are there, and the numbers of the store's calls
 /// and of the sink's puts that fail.

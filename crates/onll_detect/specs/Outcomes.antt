@@ -66,7 +66,8 @@ abbrev pub IsNowhere : List Node → ℕ → ℕ → Type 0
 IsNowhere nodes t number = (place : ℕ) (n : Node) → node_at nodes place ≡ Some n → n.thread ≡ t → n.number ≡ number → ⊥
 
 -- the node at this place has this thread and number, and its operation this reply
-pub record HasTaken {State Op Query Reply : Type 0} (b : Behaviour State Op Query Reply) (s : State) (nodes : List Node) (t number place : ℕ)
+pub record HasTaken {State Op Query Reply : Type 0}
+    (b : Behaviour State Op Query Reply) (s : State) (nodes : List Node) (t number place : ℕ)
     (reply : Reply) : Type 0 where
   pub node : Node
   pub here : node_at nodes place ≡ Some node
@@ -77,7 +78,8 @@ pub record HasTaken {State Op Query Reply : Type 0} (b : Behaviour State Op Quer
   pub reply_is : reply ≡ reply_after b s (take (place - 1) nodes) op
 
 -- an update took effect at a place, with a reply, or it is lost
-abbrev pub IsOutcome : {State Op Query Reply : Type 0} → Behaviour State Op Query Reply → State → List Node → ℕ → ℕ → Outcome Reply → Type 0
+abbrev pub IsOutcome : {State Op Query Reply : Type 0}
+    → Behaviour State Op Query Reply → State → List Node → ℕ → ℕ → Outcome Reply → Type 0
 IsOutcome b s nodes t number Lost = IsNowhere nodes t number
 IsOutcome b s nodes t number (Took place reply) = HasTaken b s nodes t number place reply
 

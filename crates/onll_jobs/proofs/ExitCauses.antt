@@ -1,4 +1,5 @@
--- What an exit says by its status, and how calls never end: only words of no form get the usage text, only a run, anew or going on, a fault line.
+-- What an exit says by its status, and how calls never end: only words of no form get the usage text, only a run, anew or
+-- going on, and a checkpoint a fault line.
 
 use Rattle.std.proofs.Common.{ℕ, zero, suc, List, ◌≡◌, ◌⊎◌, inl, inr, Option, Some, None, Result, Ok, Err, refl, sym, ap, ◌∙◌, subst, arith, [], ◌∷◌}
 use Rattle.onll_outside.specs.Views.{Puts, StoreView}
@@ -15,7 +16,7 @@ use Rattle.onll_task.specs.declared.ending.Ending.TheVariants.{Done, Usage, Refu
 use Rattle.onll_task.specs.declared.ending.Exit.{Exit}
 use Rattle.onll_task.specs.declared.ending.Exit.TheVariants.{Said, SinkFault, NoMemory}
 use Rattle.onll_jobs.specs.Seen.{Seen}
-use Rattle.onll_jobs.specs.Command.{Form, OverInit, Show, Make, form_of, usage_text}
+use Rattle.onll_jobs.specs.Command.{Form, OverInit, Show, Make, Areas, Restore, Checkpoint, form_of, usage_text}
 use Rattle.onll_task.specs.Printed.{status_of, exit_status}
 use Rattle.onll_task.specs.Job.{Say, Threads, JobEnds, Never, Decides, Job}
 use Rattle.onll_log.specs.Grammar.{Content, content_of}
@@ -39,7 +40,8 @@ use Rattle.onll_jobs.proofs.ReplayEnds.{replay_not_usage, replay_not_faulty}
 use Rattle.onll_jobs.proofs.ResumeEnds.{resume_not_usage}
 use Rattle.onll_jobs.proofs.RunEnds.{run_not_usage}
 use Rattle.onll_task.specs.ImageNames.{image_names}
-use Rattle.onll_jobs.specs.RunPromises.{IsOfRun}
+use Rattle.onll_eras.proofs.EraEndings.{areas_never, restore_never, checkpoint_never, areas_not_faulty, restore_not_faulty}
+use Rattle.onll_jobs.specs.RunPromises.{IsOfRun, IsOfCheckpoint}
 use Rattle.onll_jobs.proofs.SaidEnds.{said_read, whole_ends}
 
 ending_at : ℕ → Ending
@@ -140,6 +142,9 @@ form_not_usage w (OverInit init (ResumeOver logs scripts)) e h = resume_not_usag
 form_not_usage w (OverInit init (RunOver logs scripts)) e h = run_not_usage w init logs scripts e h
 form_not_usage w (OverInit init (DetectOver logs scripts)) e h = detect_not_usage w init logs scripts e h
 form_not_usage w (Make workload) e h = not_usage w (Make workload) e (λ d. cc d) h
+form_not_usage w (Areas ckpt) e h = not_usage w (Areas ckpt) e (areas_never ckpt) h
+form_not_usage w (Restore names threads) e h = not_usage w (Restore names threads) e (restore_never names threads) h
+form_not_usage w (Checkpoint names threads) e h = not_usage w (Checkpoint names threads) e (checkpoint_never names threads) h
 
 usage_put : (w : Seen) (form : Option Form) → form_of w.words ≡ form → PutWhole w Usage → (form ≡ None) × Puts w.sink w.sink_after usage_text
 usage_put w None e h = (refl, subst (Puts w.sink w.sink_after) (subst (λ f. JobEnds w.store w.store_after (job_of f) Usage h.text) e h.allowed).1 h.put)
@@ -189,7 +194,7 @@ decided_exactly w (Said e) ending text d none h =
 decided_exactly w SinkFault ending text d none h = absurd (none.sink h.rose)
 decided_exactly w NoMemory ending text d none h = inr refl
 
--- ---- only a run, anew or going on, ends with a fault line
+-- ---- only a run, anew or going on, and a checkpoint end with a fault line
 module _ (store after : StoreView) (text : List ℕ) where
   content_not_faulty : (content : Option Content) → JobEnds store after (shown_task content).job Faulty text → ⊥
   content_not_faulty None h = let e = h.0 in cc
@@ -222,12 +227,12 @@ module _ (store after : StoreView) (text : List ℕ) where
       let read = whole_ends after Faulty text (said_read Faulty tt) store init init_of (λ bytes object. (object_task over bytes object).job) h in
       each_kind {A = Task} (λ kind s. over_task over (kind_at kind) (Threads kind) read.bytes s) (λ task. JobEnds store after task.job Faulty text → ⊥) (λ kind s. never kind read.bytes s) read.value read.ends
 
--- the words of a call that ends so are those of a run
+-- the words of a call that ends so are those of a run, or of a checkpoint
 module _ (seen : Seen) (h : PutWhole seen Faulty) where
   ends_so : (form : Option Form) → form_of seen.words ≡ form → JobEnds seen.store seen.store_after (job_of form) Faulty h.text
   ends_so form e = subst (λ f. JobEnds seen.store seen.store_after (job_of f) Faulty h.text) e h.allowed
 
-  of_run : (form : Option Form) → form_of seen.words ≡ form → IsOfRun seen
+  of_run : (form : Option Form) → form_of seen.words ≡ form → IsOfRun seen ⊎ IsOfCheckpoint seen
   of_run None e = absurd (let same = (ends_so None e).0 in cc)
   of_run (Some (OverInit init (FoldOver script))) e =
       absurd (over_not_faulty seen.store seen.store_after h.text init (FoldOver script)
@@ -240,10 +245,14 @@ module _ (seen : Seen) (h : PutWhole seen Faulty) where
       (λ images. recovered_not_faulty seen.store seen.store_after h.text k.means k.wording s (state_recovered k.means (expected_heads k.code bytes images) images))) (ends_so (Some (OverInit init (RecoverOver logs threads))) e))
   of_run (Some (OverInit init (ReplayOver schedule logs scripts))) e = absurd (replay_not_faulty seen init schedule logs scripts e h)
   of_run (Some (OverInit init (AgainOver schedule logs scripts))) e = absurd (again_not_faulty seen init schedule logs scripts e h)
-  of_run (Some (OverInit init (ResumeOver logs names))) e = record { init = init; logs = logs; names = names; form = inr e }
-  of_run (Some (OverInit init (RunOver logs names))) e = record { init = init; logs = logs; names = names; form = inl e }
+  of_run (Some (OverInit init (ResumeOver logs names))) e = inl (record { init = init; logs = logs; names = names; form = inr e })
+  of_run (Some (OverInit init (RunOver logs names))) e = inl (record { init = init; logs = logs; names = names; form = inl e })
   of_run (Some (OverInit init (DetectOver logs names))) e = absurd (detect_not_faulty seen init logs names e h)
   of_run (Some (Make workload)) e = absurd (let same = (ends_so (Some (Make workload)) e).0 in cc)
+  of_run (Some (Areas ckpt)) e = absurd (areas_not_faulty seen.store seen.store_after ckpt h.text (ends_so (Some (Areas ckpt)) e))
+  of_run (Some (Restore names threads)) e =
+      absurd (restore_not_faulty seen.store seen.store_after names threads h.text (ends_so (Some (Restore names threads)) e))
+  of_run (Some (Checkpoint names threads)) e = inr (record { names = names; threads = threads; form = e })
 
-  pub faulty_run : IsOfRun seen
+  pub faulty_run : IsOfRun seen ⊎ IsOfCheckpoint seen
   faulty_run = of_run (form_of seen.words) refl

@@ -25,3 +25,4 @@ pub mod DetectEnds
 pub mod DetectedNodes
 pub mod DetectedCrash
 pub mod DetectCrashes
+mod EraEnds

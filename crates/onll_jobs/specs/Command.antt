@@ -1,21 +1,26 @@
 -- The forms of the program's words, and the commands that they are read as.
 
-use Rattle.std.specs.Prelude.{ℕ, Bool, true, List, [], ◌∷◌, ◌++◌, Option, Some, None, if◌then◌else◌, codes, nat_le, ◌&&◌}
+use Rattle.std.specs.Prelude.{ℕ, ◌≤◌, Bool, true, List, [], ◌∷◌, ◌++◌, Option, Some, None, if◌then◌else◌, codes, nat_le, ◌&&◌}
 use Rattle.std.specs.Option.{option_map}
 use Rattle.std.specs.Str.{bytes_eq}
 use Rattle.onll_model.specs.Limits.{most_threads, most_updates}
 use Rattle.onll_words.specs.Numbers.{number_of}
 use Rattle.onll_workload.specs.declared.workload.Workload.{Workload}
 use Rattle.onll_workload.specs.Workload.{IsWorkload}
+use Rattle.onll_eras.specs.Names.{EraNames, names_of}
 use Rattle.onll_jobs.specs.declared.command.Command.{Command}
 use Rattle.onll_jobs.specs.declared.command.Command.TheVariants as commands
 use Rattle.onll_jobs.specs.Over.{OverForm, FoldOver, RecoverOver, ReplayOver, AgainOver, ResumeOver, RunOver, DetectOver, over_in, is_over, IsOver}
 
--- A form of the program's words: a command over the object whose initial state a file holds, or one of an image, or a workload.
+-- A form of the program's words: a command over the object whose initial state a file holds, or one of an image, or a workload, or a
+-- command over the areas of checkpoints, or over eras of so many threads.
 pub data Form : Type 0 where
   OverInit : (init : List ℕ) (over : OverForm) → Form
   Show : (image : List ℕ) → Form
   Make : (workload : Workload) → Form
+  Areas : (ckpt : List ℕ) → Form
+  Restore : (names : EraNames) (threads : ℕ) → Form
+  Checkpoint : (names : EraNames) (threads : ℕ) → Form
 
 -- ---- the commands over an object
 abbrev pub Fold : (init script : List ℕ) → Form
@@ -82,6 +87,20 @@ abbrev pub make_of : List (List ℕ) → Option Form
 make_of (threads ∷ updates ∷ seed ∷ []) = numbers_of (number_of threads) (number_of updates) (number_of seed)
 make_of names = None
 
+abbrev pub areas_of : List (List ℕ) → Option Form
+areas_of (ckpt ∷ []) = Some (Areas ckpt)
+areas_of names = None
+
+abbrev pub restore_of : List (List ℕ) → Option Form
+restore_of (init ∷ logs ∷ ckpt ∷ threads ∷ []) =
+    option_map (Restore (record { init = init; logs = logs; ckpt = ckpt })) (number_of threads)
+restore_of names = None
+
+abbrev pub checkpoint_of : List (List ℕ) → Option Form
+checkpoint_of (init ∷ logs ∷ ckpt ∷ threads ∷ []) =
+    option_map (Checkpoint (record { init = init; logs = logs; ckpt = ckpt })) (number_of threads)
+checkpoint_of names = None
+
 -- the form of a command's word with these names
 abbrev pub named_form : List ℕ → List (List ℕ) → Option Form
 named_form command names =
@@ -94,6 +113,9 @@ named_form command names =
     else if bytes_eq command (codes "run") then run_of names
     else if bytes_eq command (codes "make") then make_of names
     else if bytes_eq command (codes "detect") then detect_of names
+    else if bytes_eq command (codes "areas") then areas_of names
+    else if bytes_eq command (codes "restore") then restore_of names
+    else if bytes_eq command (codes "checkpoint") then checkpoint_of names
     else None
 
 -- ---- the form of words
@@ -101,6 +123,9 @@ named_form command names =
 abbrev pub is_within : Form → Bool
 is_within (OverInit init over) = is_over over
 is_within (Show image) = true
+is_within (Areas ckpt) = true
+is_within (Restore names threads) = nat_le 1 threads && nat_le threads most_threads
+is_within (Checkpoint names threads) = nat_le 1 threads && nat_le threads most_threads
 is_within (Make w) = nat_le 1 w.threads && (nat_le w.threads most_threads && (nat_le 1 w.updates && nat_le w.updates most_updates))
 
 abbrev pub within_limits : Option Form → Option Form
@@ -117,12 +142,18 @@ abbrev pub form_in : Command → Form
 form_in (commands.OverInit init over) = OverInit init.now (over_in over)
 form_in (commands.Show image) = Show image.now
 form_in (commands.Make workload) = Make workload
+form_in (commands.Areas ckpt) = Areas ckpt.now
+form_in (commands.Restore files threads) = Restore (names_of files) threads
+form_in (commands.Checkpoint files threads) = Checkpoint (names_of files) threads
 
 -- it is within the limits
 abbrev pub IsCommand : Command → Type 0
 IsCommand (commands.OverInit init over) = IsOver over
 IsCommand (commands.Show image) = Unit {0}
 IsCommand (commands.Make workload) = IsWorkload workload
+IsCommand (commands.Areas ckpt) = Unit {0}
+IsCommand (commands.Restore files threads) = (1 ≤ threads) × (threads ≤ most_threads)
+IsCommand (commands.Checkpoint files threads) = (1 ≤ threads) × (threads ≤ most_threads)
 
 -- the text that is put where words have no form
 abbrev pub usage_text : List ℕ
@@ -136,3 +167,6 @@ usage_text =
     ++ codes "       onll again INIT SCHEDULE LOGS SCRIPT..\n"
     ++ codes "       onll resume INIT LOGS SCRIPT..\n"
     ++ codes "       onll detect INIT LOGS SCRIPT..\n"
+    ++ codes "       onll areas CKPT\n"
+    ++ codes "       onll restore INIT LOGS CKPT T\n"
+    ++ codes "       onll checkpoint INIT LOGS CKPT T\n"

@@ -15,3 +15,4 @@ pub mod RunRecovers
 pub mod MakeJob
 pub mod MakePromises
 pub mod DetectPromises
+pub mod EraPromises

@@ -7,6 +7,7 @@ use Rattle.onll_task.specs.declared.ending.Ending.TheVariants.{Done, Refused, Ba
 use Rattle.onll_jobs.specs.AgainPromises.{AgainPromises}
 use Rattle.onll_jobs.specs.Command.{form_of, usage_text}
 use Rattle.onll_jobs.specs.DetectPromises.{DetectPromises}
+use Rattle.onll_jobs.specs.EraPromises.{RestorePromises, CheckpointPromises}
 use Rattle.onll_jobs.specs.Durable.{RecoverPromises, ReplayPromises}
 use Rattle.onll_task.specs.Job.{Decides}
 use Rattle.onll_jobs.specs.Says.{job_of, writes_of, Ended, IsDetermined, NoneRose, NothingFailed, OutOfMemory, PutWhole, SaysThis, SinkFailed}
@@ -51,3 +52,5 @@ pub record Promises (seen : Seen) (status : ℕ) : Type 0 where
   pub recover_run : RecoversRuns seen status
   pub make : MakePromises seen status
   pub detect : DetectPromises seen status
+  pub restore : RestorePromises seen status
+  pub checkpoint : CheckpointPromises seen status

@@ -21,7 +21,8 @@ use Rattle.onll_recovery.specs.ReplayJob.{ReadScripts}
 use Rattle.onll_runner.specs.ResumeJob.{resume_plan}
 use Rattle.onll_runner.specs.RunJob.{run_plan}
 use Rattle.onll_runner.specs.RunReport.{fault_lines, plan_report}
-use Rattle.onll_jobs.specs.Command.{Run, Resume, form_of}
+use Rattle.onll_eras.specs.Names.{EraNames}
+use Rattle.onll_jobs.specs.Command.{Run, Resume, Checkpoint, form_of}
 use Rattle.onll_jobs.specs.Says.{NoneRose, PutOverInit, SinkFailed}
 use Rattle.onll_jobs.specs.Seen.{Seen}
 
@@ -166,16 +167,22 @@ pub record IsOfRun (seen : Seen) : Type 0 where
   pub names : List (List ℕ)
   pub form : (form_of seen.words ≡ Some (Run init logs names)) ⊎ (form_of seen.words ≡ Some (Resume init logs names))
 
+-- the words are those of a checkpoint
+pub record IsOfCheckpoint (seen : Seen) : Type 0 where
+  pub names : EraNames
+  pub threads : ℕ
+  pub form : form_of seen.words ≡ Some (Checkpoint names threads)
+
 -- What a run promises beside, for any store: what is printed is what its threads did, which the store keeps. Where a fence failed the
--- status says so, and that of no other call does but of a run that goes on. Where a device failed that is said, or the sink failed. Its
--- logs never fail to recover. Where memory could not be had, its files are as they were or hold zeros, or the run's logs. Where its texts
--- are accepted and no call of the store or of the sink failed, it is run to its end.
+-- status says so, and that of no other call does but of a run that goes on and of a checkpoint. Where a device failed that is said, or the
+-- sink failed. Its logs never fail to recover. Where memory could not be had, its files are as they were or hold zeros, or the run's
+-- logs. Where its texts are accepted and no call of the store or of the sink failed, it is run to its end.
 pub record RunPromises (seen : Seen) (status : ℕ) : Type 0 where
   pub whole : (init logs : List ℕ) (names : List (List ℕ)) → form_of seen.words ≡ Some (Run init logs names)
       → status ≡ 0 → RunPut seen init logs names (RanWhole None)
   pub broken : (init logs : List ℕ) (names : List (List ℕ)) → form_of seen.words ≡ Some (Run init logs names)
       → status ≡ 7 → RunPut seen init logs names (RanBroken None)
-  pub only : status ≡ 7 → IsOfRun seen
+  pub only : status ≡ 7 → IsOfRun seen ⊎ IsOfCheckpoint seen
   pub device : (init logs : List ℕ) (names : List (List ℕ)) → form_of seen.words ≡ Some (Run init logs names)
       → status ≡ 6 → SinkFailed seen ⊎ RunPut seen init logs names (HasNoDevice None)
   pub recovers : (init logs : List ℕ) (names : List (List ℕ)) → form_of seen.words ≡ Some (Run init logs names)

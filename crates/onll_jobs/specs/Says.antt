@@ -10,11 +10,12 @@ use Rattle.onll_task.specs.declared.ending.Ending.TheVariants.{Done, Usage}
 use Rattle.onll_task.specs.declared.ending.Exit.{Exit}
 use Rattle.onll_task.specs.declared.ending.Exit.TheVariants.{Said, SinkFault, NoMemory}
 use Rattle.onll_jobs.specs.Seen.{Seen}
-use Rattle.onll_jobs.specs.Command.{Form, OverInit, Show, Make, form_of, usage_text}
+use Rattle.onll_jobs.specs.Command.{Form, OverInit, Show, Make, Areas, Restore, Checkpoint, form_of, usage_text}
 use Rattle.onll_task.specs.Printed.{status_of, exit_status}
 use Rattle.onll_task.specs.Reading.{ReadsWhole}
 use Rattle.onll_task.specs.Job.{Job, JobEnds, JobCut}
 use Rattle.onll_task.specs.Doing.{Work, say_task}
+use Rattle.onll_eras.specs.EraJob.{areas_work, restore_work, checkpoint_work}
 use Rattle.onll_jobs.specs.Over.{over_work}
 use Rattle.onll_jobs.specs.ShowJob.{show_work}
 use Rattle.onll_jobs.specs.MakeJob.{make_work}
@@ -25,6 +26,9 @@ work_of None = record { task = say_task Usage usage_text; writes = [] }
 work_of (Some (OverInit init over)) = over_work init over
 work_of (Some (Show image)) = show_work image
 work_of (Some (Make workload)) = make_work workload
+work_of (Some (Areas ckpt)) = areas_work ckpt
+work_of (Some (Restore names threads)) = restore_work names threads
+work_of (Some (Checkpoint names threads)) = checkpoint_work names threads
 
 -- its job, with all its endings
 abbrev pub job_of : Option Form → Job

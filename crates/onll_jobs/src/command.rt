@@ -1,10 +1,11 @@
 //! The words of the program, read as a command.
 
 ghost use Rattle.std.specs.Prelude.{◌≡◌, true, map, string_bytes, Some, None, MatchOption, IfSome};
-ghost use Rattle.onll_jobs.specs.Command.{fold_of, show_of, recover_of, replay_of, again_of, resume_of, run_of, make_of, detect_of, named_form, form_of, form_in, is_within, usage_text, IsCommand};
+ghost use Rattle.onll_jobs.specs.Command.{fold_of, show_of, recover_of, replay_of, again_of, resume_of, run_of, make_of, detect_of, areas_of, restore_of, checkpoint_of, named_form, form_of, form_in, is_within, usage_text, IsCommand};
 ghost use Rattle.onll_task.specs.Stop.{StopSays};
 
 use crate::objects::Over;
+use onll_eras::EraFiles;
 use onll_model::{MOST_THREADS, MOST_UPDATES};
 use onll_task::{Ending, Stop};
 use onll_words::whole_number;
@@ -20,7 +21,10 @@ const USAGE: &[u8] = b"usage: onll fold INIT SCRIPT\n       \
       onll make T N SEED\n       \
       onll again INIT SCHEDULE LOGS SCRIPT..\n       \
       onll resume INIT LOGS SCRIPT..\n       \
-      onll detect INIT LOGS SCRIPT..\n";
+      onll detect INIT LOGS SCRIPT..\n       \
+      onll areas CKPT\n       \
+      onll restore INIT LOGS CKPT T\n       \
+      onll checkpoint INIT LOGS CKPT T\n";
 
 /// What is said where words are of no form.
 pub(crate) fn usage(alloc: Global) -> Stop
@@ -35,6 +39,9 @@ pub(crate) enum Command<'a> {
     OverInit { init: &'a str, over: Over<'a> },
     Show { image: &'a str },
     Make { workload: Workload },
+    Areas { ckpt: &'a str },
+    Restore { files: EraFiles<'a>, threads: u64 },
+    Checkpoint { files: EraFiles<'a>, threads: u64 },
 }
 
 /// The fold of a script.
@@ -174,6 +181,45 @@ fn make<'a>(names: &'a [String]) -> Option<Command<'a>>
     }
 }
 
+/// The areas of checkpoints.
+fn areas<'a>(names: &'a [String]) -> Option<Command<'a>>
+    ensures { let form = areas_of (map string_bytes names.now) in
+        MatchOption result (form ≡ None) (λ command. form ≡ Some (form_in command)) }
+{
+    match names {
+        [ckpt] => Some(Command::Areas { ckpt }),
+        _ => None,
+    }
+}
+
+/// The restoration of the newest era, of so many threads.
+fn restore<'a>(names: &'a [String]) -> Option<Command<'a>>
+    ensures { let form = restore_of (map string_bytes names.now) in
+        MatchOption result (form ≡ None) (λ command. form ≡ Some (form_in command)) }
+{
+    match names {
+        [init, logs, ckpt, threads] => Some(Command::Restore {
+            files: EraFiles { init, logs, ckpt },
+            threads: whole_number(threads.as_bytes())?,
+        }),
+        _ => None,
+    }
+}
+
+/// The checkpoint after the newest era, of so many threads.
+fn checkpoint<'a>(names: &'a [String]) -> Option<Command<'a>>
+    ensures { let form = checkpoint_of (map string_bytes names.now) in
+        MatchOption result (form ≡ None) (λ command. form ≡ Some (form_in command)) }
+{
+    match names {
+        [init, logs, ckpt, threads] => Some(Command::Checkpoint {
+            files: EraFiles { init, logs, ckpt },
+            threads: whole_number(threads.as_bytes())?,
+        }),
+        _ => None,
+    }
+}
+
 /// The command of a word with these names.
 fn named<'a>(command: &str, names: &'a [String]) -> Option<Command<'a>>
     ensures { let form = named_form command.now (map string_bytes names.now) in
@@ -197,6 +243,12 @@ fn named<'a>(command: &str, names: &'a [String]) -> Option<Command<'a>>
         make(names)
     } else if command == "detect" {
         detect(names)
+    } else if command == "areas" {
+        areas(names)
+    } else if command == "restore" {
+        restore(names)
+    } else if command == "checkpoint" {
+        checkpoint(names)
     } else {
         None
     }
@@ -225,7 +277,10 @@ impl<'a> Command<'a> {
     {
         match self {
             Command::OverInit { over, .. } => over.is_within(),
-            Command::Show { .. } => true,
+            Command::Show { .. } | Command::Areas { .. } => true,
+            Command::Restore { threads, .. } | Command::Checkpoint { threads, .. } => {
+                1 <= *threads && *threads <= MOST_THREADS
+            }
             Command::Make { workload } => {
                 1 <= workload.threads
                     && workload.threads <= MOST_THREADS

@@ -11,6 +11,7 @@ ghost use Rattle.onll_task.specs.Doing.{Does};
 
 use crate::command::{Command, usage};
 use crate::{make, objects, show};
+use onll_eras::{checkpoint, make_areas, restore};
 use onll_outside::{Gate, OutsideFault, Sink, Store};
 use onll_task::{Ending, Exit, Stop};
 use std::alloc::Global;
@@ -33,6 +34,9 @@ fn command_answer<R: Threads + Wait + Sync, S: Store, G: Gate + Sync>(
         Command::OverInit { init, over } => objects::answer(rt, alloc, init, over, gate, store),
         Command::Show { image } => show::answer(alloc, image, store),
         Command::Make { workload } => make::answer(rt, alloc, workload, gate),
+        Command::Areas { ckpt } => make_areas(alloc, ckpt, store),
+        Command::Restore { files, threads } => restore(alloc, files, threads, store),
+        Command::Checkpoint { files, threads } => checkpoint(alloc, files, threads, store),
     }
 }
 

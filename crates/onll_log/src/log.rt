@@ -41,7 +41,7 @@ fn lines_to_test<P: Pmem>(device: &P) -> u64
 }
 
 /// The first line of a device that isn't zero.
-fn first_dirty<P: Pmem>(device: &P) -> Option<u64>
+pub fn first_dirty<P: Pmem>(device: &P) -> Option<u64>
     ensures clean { IfNone result ((P.means device.now).read ≡ zero_lines (length (P.means device.now).read)) }
     ensures dirty { IfSome result (λ line. IsDirty (P.means device.now).read line) }
 {
@@ -83,7 +83,7 @@ fn front_of<P: Pmem>(
 }
 
 /// Writes a line that reads as zero, and hands it over to the next fence.
-fn put<P: Pmem>(device: &mut P, line: u64, value: Line)
+pub fn put<P: Pmem>(device: &mut P, line: u64, value: Line)
     requires within { line < length (P.means device.old).read }
     requires zero { line_at (P.means device.old).read line ≡ zero_line }
     ensures { Puts (P.means device.old) (P.means device.new) line (value.w ∷ []) }

@@ -38,7 +38,7 @@ log_same a b e₁ e₂ e₃ =
     ap (λ (n : ℕ). record { entries = n; lines = a.lines; fences = a.fences }) e₁ ∙ ap (λ (n : ℕ). record { entries = b.entries; lines = n; fences = a.fences }) e₂
     ∙ ap (λ (n : ℕ). record { entries = b.entries; lines = b.lines; fences = n }) e₃
 
-first_number : (m n : ℕ) (ws vs : List (List ℕ)) → m < 2 ^ 64 → n < 2 ^ 64 → decimal m ∷ ws ≡ decimal n ∷ vs → m ≡ n
+pub first_number : (m n : ℕ) (ws vs : List (List ℕ)) → m < 2 ^ 64 → n < 2 ^ 64 → decimal m ∷ ws ≡ decimal n ∷ vs → m ≡ n
 first_number m n ws vs g h e = decimal_injective m n g h (line_same (decimal m) (decimal n) ws vs e).0
 
 abbrev counted_line : ℕ → LogData → List (List ℕ)
@@ -94,7 +94,7 @@ no_held_next : (t : ℕ) (log : Option HeldData) (lines more : List (List (List 
 no_held_next t log lines [] h e = line_none (held_line t log) lines e
 no_held_next t log lines (ws ∷ more) h e = h (drop 1 (held_line t log)) (sym (line_same (held_line t log) ws lines more e).0 ∙ held_begins t log)
 
-helds_determined : (t : ℕ) (logs others : List (Option HeldData)) (lines more : List (List (List ℕ))) → All HeldReads logs → All HeldReads others → NoLogNext lines → NoLogNext more
+pub helds_determined : (t : ℕ) (logs others : List (Option HeldData)) (lines more : List (List (List ℕ))) → All HeldReads logs → All HeldReads others → NoLogNext lines → NoLogNext more
     → held_lines t logs ++ lines ≡ held_lines t others ++ more → (logs ≡ others) × (lines ≡ more)
 helds_determined t [] [] lines more g h u v e = (refl, e)
 helds_determined t [] (m ∷ others) lines more g h u v e = absurd (no_held_next t m (held_lines (t + 1) others ++ more) lines u (sym e))
@@ -112,7 +112,7 @@ held_says : (t : ℕ) (log : Option HeldData) → says_something (held_line t lo
 held_says t None = refl
 held_says t (Some l) = refl
 
-helds_meaningful : (t : ℕ) (logs : List (Option HeldData)) → AreMeaningful (held_lines t logs)
+pub helds_meaningful : (t : ℕ) (logs : List (Option HeldData)) → AreMeaningful (held_lines t logs)
 helds_meaningful t [] = tt
 helds_meaningful t (l ∷ logs) = (held_in_words t l, held_says t l, helds_meaningful (t + 1) logs)
 
@@ -120,12 +120,12 @@ content-data : (t : ℕ) (head : Bool) (entries lines : ℕ) → content_line t 
 content-data t false entries lines = refl
 content-data t true entries lines = refl
 
-logs-data : (t : ℕ) (logs : List LogCounts) → log_lines t logs ≡ held_lines t (map held_of logs)
+pub logs-data : (t : ℕ) (logs : List LogCounts) → log_lines t logs ≡ held_lines t (map held_of logs)
 logs-data t [] = refl
 logs-data t (log ∷ logs) =
     ap (λ ws. ws ∷ log_lines (t + 1) logs) (content-data t log.head log.entries log.lines) ∙ ap (λ ls. held_line t (held_of log) ∷ ls) (logs-data (t + 1) logs)
 
-recover_same : {State : Type 0} (a b : RecoverData State) → a.logs ≡ b.logs → a.nodes ≡ b.nodes → a.state ≡ b.state → a ≡ b
+pub recover_same : {State : Type 0} (a b : RecoverData State) → a.logs ≡ b.logs → a.nodes ≡ b.nodes → a.state ≡ b.state → a ≡ b
 recover_same {State} a b e₁ e₂ e₃ =
     ap (λ (v : List (Option HeldData)). record { logs = v; nodes = a.nodes; state = a.state }) e₁ ∙ ap (λ (v : List Node). record { logs = b.logs; nodes = v; state = a.state }) e₂
     ∙ ap (λ (v : State). record { logs = b.logs; nodes = b.nodes; state = v }) e₃

@@ -21,8 +21,8 @@ ghost use Rattle.onll_task.specs.Images.{images_in};
 ghost use Rattle.onll_task.specs.Stop.{StopSays};
 ghost use Rattle.onll_recovery.specs.AgainJob.{resume_ending, resume_text, resumed_task, goes_on_task, planned_task, again_task};
 
-use crate::bad_logs::bad_logs;
 use crate::crashed::crash;
+use crate::faults::bad_logs;
 use crate::replay::script_files;
 use onll_core::{Core, ResumeFault};
 use onll_merge::StateFault;

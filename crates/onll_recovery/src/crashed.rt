@@ -21,7 +21,7 @@ ghost use Rattle.onll_recovery.specs.ReplayJob.{begun_lines, flagged_lines, resu
 ghost use Rattle.onll_task.specs.Doing.{Does, Begins};
 ghost use Rattle.onll_outside.specs.Views.{StoreView, SameOthers, with_zeros};
 
-use crate::bad_logs::bad_logs;
+use crate::faults::bad_logs;
 use crate::recover::{put_count, recover_tested};
 use onll_core::{Core, Current, Returned, report_law};
 use onll_log::{LogHead, TestedImage};

@@ -16,7 +16,7 @@ ghost use Rattle.onll_task.specs.Doing.{Does};
 ghost use Rattle.onll_task.specs.Stop.{StopSays};
 ghost use Rattle.onll_recovery.specs.DetectJob.{outcome_line, update_lines, scripts_lines, detect_lines, update_rows, is_in_script, stranger, stranger_to, stranger_line, lines_task, nodes_task, detected_task, outcomes_task, detect_images_task, detect_task};
 
-use crate::bad_logs::bad_logs;
+use crate::faults::bad_logs;
 use crate::recover::{put_count, recover_tested};
 use crate::replay::script_files;
 use onll_detect::{DetectFault, Outcome, Outcomes};
@@ -168,7 +168,8 @@ fn put_outcome<O: Texted>(
     }
 }
 
-/// The line of a call of a thread, where it is an update; and how many updates there are with it, where there were so many among so many calls.
+/// The line of a call of a thread, where it is an update; and how many updates there are with it, where there were so
+/// many among so many calls.
 fn put_call<O: Texted + Drop>(
     thread: u64,
     calls: u64,

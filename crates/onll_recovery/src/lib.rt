@@ -2,9 +2,9 @@
 #![tactic(auto)]
 
 mod again;
-mod bad_logs;
 mod crashed;
 mod detect;
+mod faults;
 mod nodes;
 mod recover;
 mod replay;
@@ -12,6 +12,7 @@ mod replay;
 pub use again::{again_on, not_resumed};
 pub use crashed::put_resumed;
 pub use detect::detect_on;
+pub use faults::bad_logs;
 pub use nodes::put_nodes;
-pub use recover::{put_count, recover_logs};
+pub use recover::{put_count, put_logs, recover_logs, recover_tested};
 pub use replay::{replay_on, script_files};

@@ -16,7 +16,7 @@ ghost use Rattle.onll_outside.specs.Views.{StoreView};
 ghost use Rattle.onll_text.specs.Kinds.{kind_by};
 ghost use Rattle.onll_recovery.specs.RecoverJob.{HeldReads, RecoverReads, held_of, data_with, content_line, log_lines, recovered_line, lines_with, recovered_task, images_task, logs_task};
 
-use crate::bad_logs::bad_logs;
+use crate::faults::bad_logs;
 use crate::nodes::put_nodes;
 use onll_log::{LogHead, TestedImage};
 use onll_merge::{LogCounts, Recovery, StateFault, expected_heads, recover_state};
@@ -45,7 +45,7 @@ fn put_log(thread: u64, log: LogCounts, out: &mut Report) -> Result<(), NoMemory
 }
 
 /// The line of each log.
-fn put_logs(logs: &[LogCounts], out: &mut Report) -> Result<(), NoMemory>
+pub fn put_logs(logs: &[LogCounts], out: &mut Report) -> Result<(), NoMemory>
     requires { begins_line out.old ≡ true }
     ensures lines { OnOk result (out.new ≡ with_lines out.old (log_lines 0 logs.now)) }
     ensures begins { OnOk result (begins_line out.new ≡ true) }
@@ -96,7 +96,7 @@ fn report<O: Texted>(alloc: Global, object: &O, recovery: &Recovery) -> Result<V
 }
 
 /// What images give over an object as the logs of one run with these heads: each row is applied to the object.
-pub(crate) fn recover_tested<O: Object>(
+pub fn recover_tested<O: Object>(
     alloc: Global,
     object: &mut O,
     heads: &[LogHead],

@@ -1,5 +1,9 @@
-use Rattle.std.proofs.Common.{ℕ, List, ◌≡◌, inl, inr, Result, Ok, Err, sym, ◌∙◌, subst}
-use Rattle.onll_outside.specs.Views.{StoreView, SameFiles, SameFaults, Rose, Holds}
+use Rattle.std.proofs.Common.{ℕ, Bool, true, false, List, ◌≡◌, ◌⊎◌, inl, inr, Result, Ok, Err, sym, ap, ◌∙◌, subst, arith, true≢false, ⊎_elim, cond, Option, Some}
+use Rattle.std.proofs.lemmas.Bool.{cases_Bool}
+use Rattle.std.proofs.lemmas.Slice.Eq.{bytes_eq-Decides}
+use Rattle.std.specs.Str.{bytes_eq}
+use Rattle.onll_outside.specs.Views.{StoreView, SameFiles, SameFaults, Rose, Holds, counted, image_bytes}
+use Rattle.onll_areas.specs.Keeping.{OthersStay, DeviceNotMade, DeviceNotKept, HasKeptLines}
 use Rattle.onll_text.specs.Refusal.{Refusal}
 use Rattle.onll_task.specs.declared.ending.Ending.{Ending}
 use Rattle.onll_task.specs.declared.ending.Ending.TheVariants.{Done, Usage, Refused, BadLog, ReadFault, WriteFault, Faulty}
@@ -7,7 +11,8 @@ use Rattle.onll_task.specs.Reading.{IsTold, CannotRead}
 use Rattle.onll_text.specs.Kinds.{ObjectKind}
 use Rattle.onll_task.specs.Running.{RunPlan, RunStops}
 use Rattle.onll_task.specs.Writing.{FilesStay, SameCounts, CannotWrite, written}
-use Rattle.onll_task.specs.Job.{Job, Say, Read, Write, Threads, JobEnds, Decides, Never, on_value, reading, reading_whole}
+use Rattle.onll_task.specs.Keeps.{KeepStops}
+use Rattle.onll_task.specs.Job.{Job, Say, Read, Write, Keep, Assured, Threads, JobEnds, DecidesWhere, Decides, Never, on_value, reading, reading_whole}
 
 -- a told file holds its bytes alone
 pub held_bytes : (store : StoreView) (name bytes found : List ℕ) → IsTold store name bytes → Holds store name found → found ≡ bytes
@@ -31,16 +36,75 @@ cannot_write store after name ReadFault text h = absurd h
 cannot_write store after name WriteFault text h = h.failed.rose
 cannot_write store after name Faulty text h = absurd h
 
+-- a device can't be kept only where a call of the store failed, or a fence
+not_kept_rose : (store after : StoreView) (name : List ℕ) (lines : List (List ℕ)) (fences : ℕ) → DeviceNotMade store after name ⊎ DeviceNotKept store after name lines fences → Rose store.faults after.faults
+not_kept_rose store after name lines fences (inl h) = h.rose
+not_kept_rose store after name lines fences (inr h) = h.rose
+
+keep_stops_rose : (store after : StoreView) (name : List ℕ) (lines : List (List ℕ)) (fences : ℕ) (said : List ℕ) (ending : Ending) (text : List ℕ) → KeepStops store after name lines fences said ending text
+    → Rose store.faults after.faults ⊎ (after.device_faults ≡ counted store.device_faults 1)
+keep_stops_rose store after name lines fences said Done text h = absurd h
+keep_stops_rose store after name lines fences said Usage text h = absurd h
+keep_stops_rose store after name lines fences said Refused text h = absurd h
+keep_stops_rose store after name lines fences said BadLog text h = absurd h
+keep_stops_rose store after name lines fences said ReadFault text h = absurd h
+keep_stops_rose store after name lines fences said WriteFault text h = inl (not_kept_rose store after name lines fences h.1)
+keep_stops_rose store after name lines fences said Faulty text h = inr h.1.faults
+
+-- files that stay stay where the same bytes are made one of them
+pub written_stays : (store mid : StoreView) (name bytes : List ℕ) → FilesStay store mid → FilesStay (written store name bytes) (written mid name bytes)
+written_stays store mid name bytes h = record { tells = h.tells; file = λ tells other. ap (λ o. cond {A = Option (List ℕ)} (bytes_eq other name) (Some bytes) o) (h.file tells other) }
+
+-- a file that has these bytes, where no other changed, is as if they were written
+pub leaves_written : (old new : StoreView) (name bytes : List ℕ) → (old.tells ≡ true → new.file name ≡ Some bytes) → OthersStay name old new → FilesStay (written old name bytes) new
+leaves_written old new name bytes held others = record { tells = others.tells; file = each }
+  where
+    each : old.tells ≡ true → (other : List ℕ) → new.file other ≡ cond {A = Option (List ℕ)} (bytes_eq other name) (Some bytes) (old.file other)
+    each tells other = ⊎_elim
+        (λ (t : bytes_eq other name ≡ true). ap new.file ((bytes_eq-Decides other name).0 t) ∙ held tells ∙ sym (ap (λ b. cond {A = Option (List ℕ)} b (Some bytes) (old.file other)) t))
+        (λ (t : bytes_eq other name ≡ false). others.file tells other (λ e. true≢false (sym ((bytes_eq-Decides other name).1 e) ∙ t)) ∙ sym (ap (λ b. cond {A = Option (List ℕ)} b (Some bytes) (old.file other)) t))
+        (cases_Bool (bytes_eq other name))
+
+kept_writes : (store kept : StoreView) (name : List ℕ) (lines : List (List ℕ)) (fences : ℕ) → HasKeptLines store kept name lines fences → FilesStay (written store name (image_bytes lines)) kept
+kept_writes store kept name lines fences h = leaves_written store kept name (image_bytes lines) h.file h.others
+
+counted_once : (n : ℕ) → counted (counted n 0) 1 ≡ counted n 1
+counted_once n = omega arith
+
+-- what the told files of a store decide, those of one with the same files do
+decides_from : (hold : Bool) (store mid : StoreView) (job : Job) (ending : Ending) (text : List ℕ) → FilesStay store mid → DecidesWhere hold store job ending text → DecidesWhere hold mid job ending text
+decides_from hold store mid (Say e t) ending text files d = d
+decides_from hold store mid (Read name next) ending text files d = (
+  d.0,
+  (record { tells = files.tells ∙ d.1.0.tells; file = files.file d.1.0.tells name ∙ d.1.0.file }, decides_from hold store mid (next d.0) ending text files d.1.1),
+)
+decides_from hold store mid (Write name bytes next) ending text files d = decides_from hold (written store name bytes) (written mid name bytes) next ending text (written_stays store mid name bytes files) d
+decides_from hold store mid (Keep name lines fences said next) ending text files d =
+    (d.0, decides_from hold (written store name (image_bytes lines)) (written mid name (image_bytes lines)) next ending text (written_stays store mid name (image_bytes lines) files) d.1)
+decides_from hold store mid (Assured b next) ending text files d = decides_from hold store mid next ending text files d
+decides_from hold store mid (Threads kind plan next) ending text files d = absurd d
+
 -- where no count rose, the told files decide how the job ends
-pub decided : (store after : StoreView) (job : Job) (ending e : Ending) (text t : List ℕ) → (Rose store.faults after.faults → ⊥) → Decides store job ending text → JobEnds store after job e t → (e ≡ ending) × (t ≡ text)
-decided store after (Say a b) ending e text t none d h = (h.0 ∙ d.0, h.1 ∙ d.1)
-decided store after (Read name next) ending e text t none d (inl h) = absurd (none (cannot store after name e t h.0))
-decided store after (Read name next) ending e text t none d (inr h) =
+pub decided_where : (hold : Bool) (store after : StoreView) (job : Job) (ending e : Ending) (text t : List ℕ) → (Rose store.faults after.faults → ⊥) → (hold ≡ true → after.device_faults ≡ counted store.device_faults 1 → ⊥)
+    → DecidesWhere hold store job ending text → JobEnds store after job e t → (e ≡ ending) × (t ≡ text)
+decided_where hold store after (Say a b) ending e text t none fenced d h = (h.0 ∙ d.0, h.1 ∙ d.1)
+decided_where hold store after (Read name next) ending e text t none fenced d (inl h) = absurd (none (cannot store after name e t h.0))
+decided_where hold store after (Read name next) ending e text t none fenced d (inr h) =
     let same = held_bytes store name d.0 h.0 d.1.0 h.1.0 in
-    decided store after (next d.0) ending e text t none d.1.1 (subst (λ bytes. JobEnds store after (next bytes) e t) same h.1.1)
-decided store after (Write name bytes next) ending e text t none d (inl h) = absurd (none (cannot_write store after name e t h))
-decided store after (Write name bytes next) ending e text t none d (inr h) = decided (written store name bytes) after next ending e text t none d h
-decided store after (Threads kind plan next) ending e text t none d h = absurd d
+    decided_where hold store after (next d.0) ending e text t none fenced d.1.1 (subst (λ bytes. JobEnds store after (next bytes) e t) same h.1.1)
+decided_where hold store after (Write name bytes next) ending e text t none fenced d (inl h) = absurd (none (cannot_write store after name e t h))
+decided_where hold store after (Write name bytes next) ending e text t none fenced d (inr h) = decided_where hold (written store name bytes) after next ending e text t none fenced d h
+decided_where hold store after (Keep name lines fences said next) ending e text t none fenced d (inl h) =
+    absurd (⊎_elim none (fenced d.0) (keep_stops_rose store after name lines fences said e t h))
+decided_where hold store after (Keep name lines fences said next) ending e text t none fenced d (inr h) =
+    decided_where hold h.0 after next ending e text t (λ rose. none (subst (λ n. Rose n after.faults) h.1.calls.0 rose))
+    (λ on is. fenced on (is ∙ ap (λ n. counted n 1) h.1.faults ∙ counted_once store.device_faults))
+    (decides_from hold (written store name (image_bytes lines)) h.0 next ending text (kept_writes store h.0 name lines fences h.1) d.1) h.2
+decided_where hold store after (Assured b next) ending e text t none fenced d h = decided_where hold store after next ending e text t none fenced d h.1
+decided_where hold store after (Threads kind plan next) ending e text t none fenced d h = absurd d
+
+pub decided : (store after : StoreView) (job : Job) (ending e : Ending) (text t : List ℕ) → (Rose store.faults after.faults → ⊥) → Decides store job ending text → JobEnds store after job e t → (e ≡ ending) × (t ≡ text)
+decided store after job ending e text t none d h = decided_where false store after job ending e text t none (λ on. absurd (true≢false (sym on))) d h
 
 -- ---- endings that tell of a fault
 abbrev pub TellsFault : Ending → Type 0
@@ -75,6 +139,16 @@ run_stops_sound plan store after ReadFault text sound h = absurd h
 run_stops_sound plan store after WriteFault text sound h = absurd (sound tt)
 run_stops_sound plan store after Faulty text sound h = h.calls
 
+keep_stops_sound : (store after : StoreView) (name : List ℕ) (lines : List (List ℕ)) (fences : ℕ) (said : List ℕ) (ending : Ending) (text : List ℕ) → (TellsFault ending → ⊥) → KeepStops store after name lines fences said ending text
+    → SameFaults store after
+keep_stops_sound store after name lines fences said Done text sound h = absurd h
+keep_stops_sound store after name lines fences said Usage text sound h = absurd h
+keep_stops_sound store after name lines fences said Refused text sound h = absurd h
+keep_stops_sound store after name lines fences said BadLog text sound h = absurd h
+keep_stops_sound store after name lines fences said ReadFault text sound h = absurd h
+keep_stops_sound store after name lines fences said WriteFault text sound h = absurd (sound tt)
+keep_stops_sound store after name lines fences said Faulty text sound h = h.1.calls
+
 -- a job that ends otherwise ends where nothing failed
 pub nothing_failed : (store after : StoreView) (job : Job) (ending : Ending) (text : List ℕ) → (TellsFault ending → ⊥) → JobEnds store after job ending text → SameFaults store after
 nothing_failed store after (Say e t) ending text sound h = h.3.0
@@ -82,6 +156,11 @@ nothing_failed store after (Read name next) ending text sound (inl h) = absurd (
 nothing_failed store after (Read name next) ending text sound (inr h) = nothing_failed store after (next h.0) ending text sound h.1.1
 nothing_failed store after (Write name bytes next) ending text sound (inl h) = absurd (sound (cannot_write_tells store after name ending text h))
 nothing_failed store after (Write name bytes next) ending text sound (inr h) = nothing_failed (written store name bytes) after next ending text sound h
+nothing_failed store after (Keep name lines fences said next) ending text sound (inl h) = keep_stops_sound store after name lines fences said ending text sound h
+nothing_failed store after (Keep name lines fences said next) ending text sound (inr h) =
+    let rest = nothing_failed h.0 after next ending text sound h.2 in
+    (rest.0 ∙ h.1.calls.0, rest.1 ∙ h.1.calls.1)
+nothing_failed store after (Assured b next) ending text sound h = nothing_failed store after next ending text sound h.1
 nothing_failed store after (Threads kind plan next) ending text sound (inl h) = run_stops_sound plan store after ending text sound h
 nothing_failed store after (Threads kind plan next) ending text sound (inr h) =
     let rest = nothing_failed h.1 after (next h.0) ending text sound h.4 in
@@ -97,6 +176,9 @@ never_says store after (Read name next) text never (inl h) = h.0
 never_says store after (Read name next) text never (inr h) = never_says store after (next h.0) text (never h.0) h.1.1
 never_says store after (Write name bytes next) text never (inl h) = h
 never_says store after (Write name bytes next) text never (inr h) = never_says (written store name bytes) after next text never h
+never_says store after (Keep name lines fences said next) text never (inl h) = h
+never_says store after (Keep name lines fences said next) text never (inr h) = never_says h.0 after next text never h.2
+never_says store after (Assured b next) text never h = never_says store after next text never h.1
 never_says store after (Threads kind plan next) text never (inl h) = h
 never_says store after (Threads kind plan next) text never (inr h) = never_says h.1 after (next h.0) text (never h.0) h.4
 

@@ -5,6 +5,7 @@ pub mod ImageFiles
 pub mod Jobs
 pub mod Onwards
 pub mod Runs
+pub mod Sequences
 pub mod Stages
 pub mod Staying
 pub mod Stops

@@ -1,13 +1,11 @@
 -- How jobs that read and write go on.
 
-use Rattle.std.proofs.Common.{ℕ, zero, suc, true, false, List, [], ◌∷◌, ◌≡◌, ◌⊎◌, inl, inr, ⊎_elim, Option, Some, cond, ◌+◌, ◌^◌, ◌<◌, length, take, drop, get_or, Bool, true≢false, Result, refl, sym, ap, ◌∙◌, subst, arith}
+use Rattle.std.proofs.Common.{ℕ, zero, suc, true, false, List, [], ◌∷◌, ◌≡◌, ◌⊎◌, inl, inr, ⊎_elim, ◌+◌, ◌^◌, ◌<◌, length, take, drop, get_or, Bool, Result, refl, sym, ap, ◌∙◌, subst, arith}
 use Rattle.std.proofs.lemmas.List.{drop_more}
-use Rattle.std.proofs.lemmas.Bool.{cases_Bool}
-use Rattle.std.proofs.lemmas.Slice.Eq.{bytes_eq-Decides}
 use Rattle.std.specs.List.{AllByRecursion}
-use Rattle.std.specs.Str.{bytes_eq}
 use Rattle.onll_log.specs.ImageFile.{image_lines}
 use Rattle.onll_outside.specs.Views.{StoreView, SameFiles, SameOthers, SameFaults, Rose, Holds, MayWipe, counted}
+use Rattle.onll_areas.specs.Keeping.{OthersStay, StaysOrZeros, MayKeepLines, HasKeptLines, DeviceNotMade, DeviceNotKept, FenceNotMade}
 use Rattle.onll_text.specs.Refusal.{Refusal}
 use Rattle.onll_task.specs.declared.ending.Ending.{Ending}
 use Rattle.onll_task.specs.declared.ending.Ending.TheVariants.{Done, Usage, Refused, BadLog, ReadFault, WriteFault, Faulty}
@@ -20,10 +18,11 @@ use Rattle.onll_model.specs.declared.call.Call.{Call}
 use Rattle.onll_model.specs.declared.call.CallEnd.{CallEnd}
 use Rattle.onll_model.specs.Calls.{updates_in}
 use Rattle.onll_run.specs.Left.{LogLeft, begun_logs}
-use Rattle.onll_task.specs.Running.{RunPlan, RunLeft, HasKept, HasSize, HaveSizes, IsNoLonger, StaysOrZeros, FileStands, AllStand, FilesStand, HoldTo, KeptTo, NoneCounted, NotMade, NotKept, IsCutShort, RunStops, broken_threads, fences_of, log_files}
-use Rattle.onll_task.specs.Writing.{FilesStay, SameCounts, AllButStay, OthersStay, SameBut, HasWritten, CannotWrite, WriteFailed, written}
-use Rattle.onll_task.specs.Job.{Job, Say, Read, Write, Threads, JobEnds, JobCut, GoesOn, on_value, reading, reading_whole}
-use Rattle.onll_task.proofs.Jobs.{files_stay, cannot_from}
+use Rattle.onll_task.specs.Running.{RunPlan, RunLeft, HasKept, HasSize, HaveSizes, IsNoLonger, FileStands, AllStand, FilesStand, HoldTo, KeptTo, NoneCounted, NotMade, NotKept, IsCutShort, RunStops, broken_threads, fences_of, log_files}
+use Rattle.onll_task.specs.Writing.{FilesStay, SameCounts, AllButStay, SameBut, HasWritten, CannotWrite, WriteFailed, written}
+use Rattle.onll_task.specs.Keeps.{KeepStops}
+use Rattle.onll_task.specs.Job.{Job, Say, Read, Write, Keep, Assured, Threads, JobEnds, JobCut, GoesOn, on_value, reading, reading_whole}
+use Rattle.onll_task.proofs.Jobs.{files_stay, written_stays, leaves_written, cannot_from}
 
 pub stay_more : (store mid after : StoreView) → FilesStay store mid → FilesStay mid after → FilesStay store after
 stay_more store mid after first then_ = record { tells = then_.tells ∙ first.tells; file = λ tells name. then_.file (first.tells ∙ tells) name ∙ first.file tells name }
@@ -37,9 +36,6 @@ counts_more store mid after first then_ =
 
 others_more : (store mid after : StoreView) (name : List ℕ) → FilesStay store mid → OthersStay name mid after → OthersStay name store after
 others_more store mid after name first then_ = record { tells = then_.tells ∙ first.tells; file = λ tells other differs. then_.file (first.tells ∙ tells) other differs ∙ first.file tells other }
-
-written_stays : (store mid : StoreView) (name bytes : List ℕ) → FilesStay store mid → FilesStay (written store name bytes) (written mid name bytes)
-written_stays store mid name bytes h = record { tells = h.tells; file = λ tells other. ap (λ o. cond {A = Option (List ℕ)} (bytes_eq other name) (Some bytes) o) (h.file tells other) }
 
 write_failed_from : (store mid after : StoreView) (name : List ℕ) → FilesStay store mid → SameCounts store mid → WriteFailed mid after name → WriteFailed store after name
 write_failed_from store mid after name files same h = record { rose = subst (λ n. Rose n after.faults) same.0.0 h.rose; last = h.last; others = others_more store mid after name files h.others }
@@ -165,6 +161,61 @@ run_stops_from plan store mid after Faulty text files counts h = record {
   others = but_more (log_files plan) store mid after files h.others;
 }
 
+-- ---- devices that are kept, from the store before
+lines_kept_from : (store mid kept : StoreView) (name : List ℕ) (lines : List (List ℕ)) (fences : ℕ) → FilesStay store mid → SameCounts store mid → HasKeptLines mid kept name lines fences → HasKeptLines store kept name lines fences
+lines_kept_from store mid kept name lines fences files counts h = record {
+  calls = faults_more store mid kept counts.0 h.calls;
+  faults = h.faults ∙ ap (λ n. counted n 0) counts.1.0;
+  fences_are = h.fences_are ∙ ap (λ n. counted n fences) counts.1.1;
+  file = λ tells. h.file (files.tells ∙ tells);
+  others = others_more store mid kept name files h.others;
+}
+
+may_keep_from : (store mid after : StoreView) (name : List ℕ) (lines : List (List ℕ)) → FilesStay store mid → MayKeepLines mid after name lines → MayKeepLines store after name lines
+may_keep_from store mid after name lines files h = record {
+  file = λ tells. ⊎_elim (λ (e : after.file name ≡ mid.file name). inl (e ∙ files.file tells name)) (λ z. inr z) (h.file (files.tells ∙ tells));
+  others = others_more store mid after name files h.others;
+}
+
+not_kept_from : (store mid after : StoreView) (name : List ℕ) (lines : List (List ℕ)) (fences : ℕ) → FilesStay store mid → SameCounts store mid → DeviceNotMade mid after name ⊎ DeviceNotKept mid after name lines fences
+    → DeviceNotMade store after name ⊎ DeviceNotKept store after name lines fences
+not_kept_from store mid after name lines fences files counts (inl h) = inl (record {
+  rose = subst (λ n. Rose n after.faults) counts.0.0 h.rose;
+  last = h.last;
+  devices = (h.devices.0 ∙ counts.1.0, h.devices.1 ∙ counts.1.1);
+  file = zeros_from store mid after name files h.file;
+  others = others_more store mid after name files h.others;
+})
+not_kept_from store mid after name lines fences files counts (inr h) = inr (record {
+  rose = subst (λ n. Rose n after.faults) counts.0.0 h.rose;
+  last = h.last;
+  faults = h.faults ∙ ap (λ n. counted n 0) counts.1.0;
+  fences_are = h.fences_are ∙ ap (λ n. counted n fences) counts.1.1;
+  leaves = may_keep_from store mid after name lines files h.leaves;
+})
+
+fence_from : (store mid after : StoreView) (name : List ℕ) (fences : ℕ) → FilesStay store mid → SameCounts store mid → FenceNotMade mid after name fences → FenceNotMade store after name fences
+fence_from store mid after name fences files counts h = record {
+  calls = faults_more store mid after counts.0 h.calls;
+  faults = h.faults ∙ ap (λ n. counted n 1) counts.1.0;
+  made = h.made;
+  some = h.some;
+  within = h.within;
+  fences_are = h.fences_are ∙ ap (λ n. counted n h.made) counts.1.1;
+  file = zeros_from store mid after name files h.file;
+  others = others_more store mid after name files h.others;
+}
+
+keep_stops_from : (store mid after : StoreView) (name : List ℕ) (lines : List (List ℕ)) (fences : ℕ) (said : List ℕ) (ending : Ending) (text : List ℕ) → FilesStay store mid → SameCounts store mid → KeepStops mid after name lines fences said ending text
+    → KeepStops store after name lines fences said ending text
+keep_stops_from store mid after name lines fences said Done text files counts h = absurd h
+keep_stops_from store mid after name lines fences said Usage text files counts h = absurd h
+keep_stops_from store mid after name lines fences said Refused text files counts h = absurd h
+keep_stops_from store mid after name lines fences said BadLog text files counts h = absurd h
+keep_stops_from store mid after name lines fences said ReadFault text files counts h = absurd h
+keep_stops_from store mid after name lines fences said WriteFault text files counts h = (h.0, not_kept_from store mid after name lines fences files counts h.1)
+keep_stops_from store mid after name lines fences said Faulty text files counts h = (h.0, fence_from store mid after name fences files counts h.1)
+
 -- what a job does from a store it does from the store before, where neither files nor counts changed
 pub ends_from : (store mid after : StoreView) (job : Job) (ending : Ending) (text : List ℕ) → FilesStay store mid → SameCounts store mid → JobEnds mid after job ending text → JobEnds store after job ending text
 ends_from store mid after (Say e t) ending text files counts h = (h.0, h.1, stay_more store mid after files h.2, counts_more store mid after counts h.3)
@@ -174,15 +225,24 @@ ends_from store mid after (Read name next) ending text files counts (inr h) =
 ends_from store mid after (Write name bytes next) ending text files counts (inl h) = inl (cannot_write_from store mid after name ending text files counts h)
 ends_from store mid after (Write name bytes next) ending text files counts (inr h) =
     inr (ends_from (written store name bytes) (written mid name bytes) after next ending text (written_stays store mid name bytes files) counts h)
+ends_from store mid after (Keep name lines fences said next) ending text files counts (inl h) = inl (keep_stops_from store mid after name lines fences said ending text files counts h)
+ends_from store mid after (Keep name lines fences said next) ending text files counts (inr h) = inr (h.0, lines_kept_from store mid h.0 name lines fences files counts h.1, h.2)
+ends_from store mid after (Assured b next) ending text files counts h = (h.0, ends_from store mid after next ending text files counts h.1)
 ends_from store mid after (Threads kind plan next) ending text files counts (inl h) = inl (run_stops_from plan store mid after ending text files counts h)
 ends_from store mid after (Threads kind plan next) ending text files counts (inr h) =
     inr (h.0, h.1, h.2, kept_from plan h.0 store mid h.1 files counts h.3, h.4)
 
 -- ---- jobs that stop early
+stay_may_keep : (store after : StoreView) (name : List ℕ) (lines : List (List ℕ)) → FilesStay store after → MayKeepLines store after name lines
+stay_may_keep store after name lines h =
+    record { file = λ tells. inl (h.file tells name); others = record { tells = h.tells; file = λ tells other differs. h.file tells other } }
+
 pub stay_cut : (store after : StoreView) (job : Job) → FilesStay store after → JobCut store after job
 stay_cut store after (Say e t) h = h
 stay_cut store after (Read name next) h = inl h
 stay_cut store after (Write name bytes next) h = inl (inl h)
+stay_cut store after (Keep name lines fences said next) h = inl (stay_may_keep store after name lines h)
+stay_cut store after (Assured b next) h = inl h
 stay_cut store after (Threads kind plan next) h = inl (inl h)
 
 short_from : {k : ObjectKind} (plan : RunPlan k) (store mid after : StoreView) → FilesStay store mid → SameCounts store mid → IsCutShort plan mid after → IsCutShort plan store after
@@ -206,6 +266,10 @@ cut_from store mid after (Write name bytes next) files counts (inl (inl h)) = in
 cut_from store mid after (Write name bytes next) files counts (inl (inr h)) = inl (inr (write_failed_from store mid after name files counts h))
 cut_from store mid after (Write name bytes next) files counts (inr h) =
     inr (cut_from (written store name bytes) (written mid name bytes) after next (written_stays store mid name bytes files) counts h)
+cut_from store mid after (Keep name lines fences said next) files counts (inl h) = inl (may_keep_from store mid after name lines files h)
+cut_from store mid after (Keep name lines fences said next) files counts (inr h) = inr (h.0, lines_kept_from store mid h.0 name lines fences files counts h.1, h.2)
+cut_from store mid after (Assured b next) files counts (inl h) = inl (stay_more store mid after files h)
+cut_from store mid after (Assured b next) files counts (inr h) = inr (h.0, cut_from store mid after next files counts h.1)
 cut_from store mid after (Threads kind plan next) files counts (inl h) = inl (short_from plan store mid after files counts h)
 cut_from store mid after (Threads kind plan next) files counts (inr h) =
     inr (h.0, h.1, h.2, kept_from plan h.0 store mid h.1 files counts h.3, h.4)
@@ -233,6 +297,23 @@ run_stops_cut plan store after ReadFault text h = absurd h
 run_stops_cut plan store after WriteFault text h = device_fault_cut plan store after h.thread h.others h.cause
 run_stops_cut plan store after Faulty text h = inr (inl (record { files = h.files; others = h.others }))
 
+-- the named file is as it was or of zeros, or what is kept may hold the lines
+zeros_may_keep : (store after : StoreView) (name : List ℕ) (lines : List (List ℕ)) → StaysOrZeros store after name → OthersStay name store after → MayKeepLines store after name lines
+zeros_may_keep store after name lines file others = record { file = λ tells. ⊎_elim (λ (e : after.file name ≡ store.file name). inl e) (λ z. inr (inl z)) (file tells); others = others }
+
+not_kept_cut : (store after : StoreView) (name : List ℕ) (lines : List (List ℕ)) (fences : ℕ) → DeviceNotMade store after name ⊎ DeviceNotKept store after name lines fences → MayKeepLines store after name lines
+not_kept_cut store after name lines fences (inl h) = zeros_may_keep store after name lines h.file h.others
+not_kept_cut store after name lines fences (inr h) = h.leaves
+
+keep_stops_cut : (store after : StoreView) (name : List ℕ) (lines : List (List ℕ)) (fences : ℕ) (said : List ℕ) (ending : Ending) (text : List ℕ) → KeepStops store after name lines fences said ending text → MayKeepLines store after name lines
+keep_stops_cut store after name lines fences said Done text h = absurd h
+keep_stops_cut store after name lines fences said Usage text h = absurd h
+keep_stops_cut store after name lines fences said Refused text h = absurd h
+keep_stops_cut store after name lines fences said BadLog text h = absurd h
+keep_stops_cut store after name lines fences said ReadFault text h = absurd h
+keep_stops_cut store after name lines fences said WriteFault text h = not_kept_cut store after name lines fences h.1
+keep_stops_cut store after name lines fences said Faulty text h = zeros_may_keep store after name lines h.1.file h.1.others
+
 -- a job that ended may have stopped there
 pub ends_cut : (store after : StoreView) (job : Job) (ending : Ending) (text : List ℕ) → JobEnds store after job ending text → JobCut store after job
 ends_cut store after (Say e t) ending text h = h.2
@@ -240,6 +321,9 @@ ends_cut store after (Read name next) ending text (inl h) = inl h.1
 ends_cut store after (Read name next) ending text (inr h) = inr (h.0, (h.1.0, ends_cut store after (next h.0) ending text h.1.1))
 ends_cut store after (Write name bytes next) ending text (inl h) = inl (inr (cannot_write_failed store after name ending text h))
 ends_cut store after (Write name bytes next) ending text (inr h) = inr (ends_cut (written store name bytes) after next ending text h)
+ends_cut store after (Keep name lines fences said next) ending text (inl h) = inl (keep_stops_cut store after name lines fences said ending text h)
+ends_cut store after (Keep name lines fences said next) ending text (inr h) = inr (h.0, h.1, ends_cut h.0 after next ending text h.2)
+ends_cut store after (Assured b next) ending text h = inr (h.0, ends_cut store after next ending text h.1)
 ends_cut store after (Threads kind plan next) ending text (inl h) = inl (run_stops_cut plan store after ending text h)
 ends_cut store after (Threads kind plan next) ending text (inr h) = inr (h.0, h.1, h.2, h.3, ends_cut h.1 after (next h.0) ending text h.4)
 
@@ -291,13 +375,8 @@ stopped_ends store after name grammar next Faulty text same h = absurd h
 -- ---- writing
 -- what a store's write leaves
 pub write_leaves : (old new : StoreView) (name bytes : List ℕ) → Holds new name bytes → SameOthers name old new → FilesStay (written old name bytes) new
-write_leaves old new name bytes held others = record { tells = others.tells; file = each }
-  where
-    each : old.tells ≡ true → (other : List ℕ) → new.file other ≡ cond {A = Option (List ℕ)} (bytes_eq other name) (Some bytes) (old.file other)
-    each tells other = ⊎_elim
-        (λ (t : bytes_eq other name ≡ true). ap new.file ((bytes_eq-Decides other name).0 t) ∙ held (others.tells ∙ tells) ∙ sym (ap (λ b. cond {A = Option (List ℕ)} b (Some bytes) (old.file other)) t))
-        (λ (t : bytes_eq other name ≡ false). others.file other (λ e. true≢false (sym ((bytes_eq-Decides other name).1 e) ∙ t)) ∙ sym (ap (λ b. cond {A = Option (List ℕ)} b (Some bytes) (old.file other)) t))
-        (cases_Bool (bytes_eq other name))
+write_leaves old new name bytes held others =
+    leaves_written old new name bytes (λ tells. held (others.tells ∙ tells)) (record { tells = others.tells; file = λ tells. others.file })
 
 pub on_write : (store mid : StoreView) (name bytes : List ℕ) (next : Job) → HasWritten store mid name bytes → GoesOn store mid (Write name bytes next) next
 on_write store mid name bytes next h = record {

@@ -30,10 +30,10 @@ none_stays same = record { tells = same.tells; file = λ tells name. same.file n
 pub none_changed : (store : StoreView) → SameBut [] store store
 none_changed store = record { tells = refl; file = λ other differs. refl }
 
-none_changes : (names : List (List ℕ)) (store : StoreView) → SameBut names store store
+pub none_changes : (names : List (List ℕ)) (store : StoreView) → SameBut names store store
 none_changes names store = record { tells = refl; file = λ other differs. refl }
 
-then_changes : (names : List (List ℕ)) (store mid after : StoreView) → SameBut names store mid → SameBut names mid after → SameBut names store after
+pub then_changes : (names : List (List ℕ)) (store mid after : StoreView) → SameBut names store mid → SameBut names mid after → SameBut names store after
 then_changes names store mid after first then_ =
     record { tells = then_.tells ∙ first.tells; file = λ other differs. then_.file other differs ∙ first.file other differs }
 
@@ -60,7 +60,7 @@ pub image_before : {store mid : StoreView} {name : List ℕ} {lines : List (List
 image_before same h = record { bytes = h.bytes; held = λ tells. sym (same.file tells _) ∙ h.held (same.tells ∙ tells); image = h.image }
 
 -- ---- where a call stops
-StopsSo-on : (store mid after : StoreView) (job next : Job) (s : Stop) → GoesOn store mid job next → StopsSo mid after next s → StopsSo store after job s
+pub StopsSo-on : (store mid after : StoreView) (job next : Job) (s : Stop) → GoesOn store mid job next → StopsSo mid after next s → StopsSo store after job s
 StopsSo-on store mid after job next (Says ending text) on h = (h.0, on.ends after ending text.items h.1)
 StopsSo-on store mid after job next NoMemory on h = on.cut after h
 

@@ -1,6 +1,6 @@
 -- What the functions of a command do, each in one relation of the store before, the store after and the result.
 
-use Rattle.std.specs.Prelude.{ℕ, List, [], ◌∷◌, ◌≡◌, Result}
+use Rattle.std.specs.Prelude.{ℕ, Bool, true, List, [], ◌∷◌, ◌≡◌, Result}
 use Rattle.std.specs.Result.{IfOk, IfErr}
 use Rattle.std.specs.declared.vec.Vec.{Vec}
 use Rattle.onll_text.specs.Refusal.{Refusal}
@@ -12,7 +12,7 @@ use Rattle.onll_task.specs.declared.answer.Stop.{Stop}
 use Rattle.onll_task.specs.declared.answer.Stop.TheVariants.{Says, NoMemory}
 use Rattle.onll_task.specs.Reading.{Reads, ReadsWhole, HoldsImage}
 use Rattle.onll_task.specs.Writing.{FilesStay, SameBut}
-use Rattle.onll_task.specs.Job.{Job, Say, Read, JobEnds, JobCut, GoesOn, reading, reading_whole}
+use Rattle.onll_task.specs.Job.{Job, Say, Read, Write, Keep, Assured, JobEnds, JobCut, GoesOn, reading, reading_whole}
 
 -- ---- what is to be done
 -- A task: a job with all its endings, and what its report says of the files, where it is done.
@@ -66,6 +66,24 @@ lines_stage name = record {
   job = λ (next : List (List ℕ) → Job). Read name (λ bytes. next (image_lines bytes));
   known = λ store lines. HoldsImage store name lines;
 }
+
+-- ---- the stages that give nothing
+-- these bytes are made the file of this name
+abbrev pub write_stage : (name bytes : List ℕ) → Stage (Unit {0})
+write_stage name bytes = record { job = λ (next : Unit {0} → Job). Write name bytes (next tt); known = λ _ _. Unit {0} }
+
+-- a device with these lines, durable after so many fences, is kept as the file of this name; where a fence fails, this is said
+abbrev pub keep_stage : (name : List ℕ) (lines : List (List ℕ)) (fences : ℕ) (said : List ℕ) → Stage (Unit {0})
+keep_stage name lines fences said =
+    record { job = λ (next : Unit {0} → Job). Keep name lines fences said (next tt); known = λ _ _. Unit {0} }
+
+-- what follows is done where this is so, which the types of the program's values assure
+abbrev pub assured_stage : Bool → Stage (Unit {0})
+assured_stage b = record { job = λ (next : Unit {0} → Job). Assured b (next tt); known = λ _ _. b ≡ true }
+
+-- the one, and then the other
+abbrev pub then_stage : Stage (Unit {0}) → Stage (Unit {0}) → Stage (Unit {0})
+then_stage first last = record { job = λ (next : Unit {0} → Job). first.job (λ _. last.job next); known = λ _ _. Unit {0} }
 
 -- ---- one stage after the other
 abbrev pub each_job : {A X : Type 0} → (A → Stage X) → List A → (List X → Job) → Job

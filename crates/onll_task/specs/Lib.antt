@@ -3,6 +3,7 @@ pub mod FileLines
 pub mod ImageNames
 pub mod Images
 pub mod Job
+pub mod Keeps
 pub mod Printed
 pub mod Reading
 pub mod Running

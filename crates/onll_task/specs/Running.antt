@@ -10,9 +10,10 @@ use Rattle.onll_pmem.specs.Device.{Mixed}
 use Rattle.onll_log.specs.declared.head.LogHead.{LogHead}
 use Rattle.onll_log.specs.Grammar.{Content, content_of, used_by}
 use Rattle.onll_log.specs.ImageFile.{image_lines}
-use Rattle.onll_outside.specs.Views.{StoreView, SameFaults, Rose, MayWipe, counted, image_bytes, AreZeros}
+use Rattle.onll_outside.specs.Views.{StoreView, SameFaults, Rose, MayWipe, counted, image_bytes}
 use Rattle.onll_outside.specs.declared.store.FaultKind.{FaultKind}
 use Rattle.onll_outside.specs.declared.store.FaultKind.TheVariants as kinds
+use Rattle.onll_areas.specs.Keeping.{StaysOrZeros}
 use Rattle.onll_run.specs.Outcomes.{failed_in, fault_in}
 use Rattle.onll_run.specs.Left.{Plan, Left, LogLeft, begun_logs, fenced_in, HasRun}
 use Rattle.onll_text.specs.Kinds.{ObjectKind}
@@ -101,11 +102,6 @@ pub record HasKept {k : ObjectKind} (plan : RunPlan k) (left : RunLeft k) (store
   pub others : AllButStay (log_files plan) store kept
 
 -- ---- files over which no device was kept
--- where the store tells its files, the named one is as it was, or holds zeros alone
-abbrev pub StaysOrZeros : StoreView → StoreView → List ℕ → Type 0
-StaysOrZeros store after name = store.tells ≡ true
-    → (after.file name ≡ store.file name) ⊎ ((bytes : List ℕ) × (after.file name ≡ Some bytes) × AreZeros bytes)
-
 -- lines that hold what a log holds, and as many as it uses; none where it has no head
 abbrev pub IsFrontFor : Option LogHead → Content → List (List ℕ) → Type 0
 IsFrontFor None log front = front ≡ []

@@ -5,6 +5,7 @@ use Rattle.std.specs.List.{AllByRecursion}
 use Rattle.std.specs.Str.{bytes_eq}
 use Rattle.onll_outside.specs.Views.{StoreView, SameFaults, SameDevices, Rose}
 use Rattle.onll_outside.specs.declared.store.FaultKind.TheVariants as kinds
+use Rattle.onll_areas.specs.Keeping.{OthersStay}
 use Rattle.onll_task.specs.declared.ending.Ending.{Ending}
 use Rattle.onll_task.specs.declared.ending.Ending.TheVariants.{WriteFault}
 use Rattle.onll_task.specs.Printed.{write_fault_text}
@@ -17,11 +18,6 @@ written store name bytes = record store { file = λ other. (if bytes_eq other na
 pub record FilesStay (old new : StoreView) : Type 0 where
   pub tells : new.tells ≡ old.tells
   pub file : old.tells ≡ true → (name : List ℕ) → new.file name ≡ old.file name
-
--- where the store tells its files, none changed but perhaps that of this name
-pub record OthersStay (name : List ℕ) (old new : StoreView) : Type 0 where
-  pub tells : new.tells ≡ old.tells
-  pub file : old.tells ≡ true → (other : List ℕ) → (other ≡ name → ⊥) → new.file other ≡ old.file other
 
 -- where the store tells its files, none changed but perhaps those of these names
 pub record AllButStay (names : List (List ℕ)) (old new : StoreView) : Type 0 where

@@ -1,15 +1,16 @@
 //! What is said in place of a report, and why.
 
-ghost use Rattle.std.specs.Prelude.{◌≡◌, IfOk};
+ghost use Rattle.std.specs.Prelude.{◌≡◌, ◌≤◌, length, map, IfOk};
 ghost use Rattle.onll_text.specs.Refusal.{refused};
-ghost use Rattle.onll_words.specs.Texts.{line_text};
+ghost use Rattle.onll_text.specs.Pieces.{piece_word};
+ghost use Rattle.onll_words.specs.Texts.{AreWords, line_text};
 ghost use Rattle.onll_task.specs.Printed.{fault_line, refusal_text, read_fault_text, write_fault_text};
 ghost use Rattle.onll_task.specs.Stop.{StopSays};
 ghost use Rattle.onll_task.specs.declared.answer.Stop.TheVariants.{NoMemory};
 
 use crate::ending::Ending;
 use itoa::Buffer;
-use onll_text::Reason;
+use onll_text::{Piece, Reason, Report};
 use onll_words::NoMemory;
 use std::alloc::{AllocError, AllocFailed, Global};
 
@@ -52,6 +53,22 @@ impl Stop {
     {
         match Vec::from_slice(alloc, text) {
             Ok(text) => Stop::Says { ending, text },
+            Err(_) => Stop::NoMemory,
+        }
+    }
+
+    /// One line, with its ending: these words, one at least, each of which is one word.
+    pub fn says_line(alloc: Global, ending: Ending, pieces: &[Piece<'_>]) -> Stop
+        requires some { 1 ≤ length pieces.now }
+        requires words { AreWords (map piece_word pieces.now) }
+        ensures { StopSays result (λ end said. (end ≡ ending) × (said ≡ line_text (map piece_word pieces.now))) }
+    {
+        let mut out = Report::new(alloc);
+        match out.line(pieces) {
+            Ok(()) => Stop::Says {
+                ending,
+                text: out.into_bytes(),
+            },
             Err(_) => Stop::NoMemory,
         }
     }
@@ -99,26 +116,15 @@ impl Stop {
     pub fn fence_failed(alloc: Global, thread: u64, place: u64) -> Stop
         ensures { StopSays result (λ end said. (end ≡ Ending.Faulty) × (said ≡ line_text (fault_line thread place))) }
     {
-        match fault_text(alloc, thread, place) {
-            Ok(text) => Stop::Says {
-                ending: Ending::Faulty,
-                text,
-            },
-            Err(_) => Stop::NoMemory,
-        }
+        let line = [
+            Piece::Text(b"fault"),
+            Piece::Text(b"thread"),
+            Piece::Number(thread),
+            Piece::Text(b"place"),
+            Piece::Number(place),
+        ];
+        Stop::says_line(alloc, Ending::Faulty, &line)
     }
-}
-
-fn fault_text(alloc: Global, thread: u64, place: u64) -> Result<Vec<u8>, AllocError>
-    ensures { IfOk result (λ v. v.items ≡ line_text (fault_line thread place)) }
-{
-    let mut buffer = Buffer::new();
-    let mut text = Vec::from_slice(alloc, b"fault thread ")?;
-    text.extend_from_slice(buffer.format(thread).as_bytes())?;
-    text.extend_from_slice(b" place ")?;
-    text.extend_from_slice(buffer.format(place).as_bytes())?;
-    text.extend_from_slice(b"\n")?;
-    Ok(text)
 }
 
 fn refusal_text(alloc: Global, name: &str, line: u64, reason: Reason) -> Result<Vec<u8>, AllocError>

@@ -1,6 +1,6 @@
-//! Files read as texts, each by its grammar, and images as lines; and lines written as files.
+//! Files read as texts, each by its grammar, and images as lines; and bytes and lines written as files.
 
-ghost use Rattle.std.specs.Prelude.{◌≡◌, [], ◌≤◌, ◌*◌, length, IfOk, IfErr, OnOk};
+ghost use Rattle.std.specs.Prelude.{◌≡◌, [], ◌∷◌, ◌≤◌, ◌*◌, length, IfOk, IfErr, OnOk};
 ghost use Rattle.onll_model.specs.Limits.{most_updates};
 ghost use Rattle.onll_outside.specs.Views.{Gives, SameFiles, SameOthers, BeginsWith, with_zeros};
 ghost use Rattle.onll_outside.specs.LineFiles.{IsFileFront, GivesLines};
@@ -12,7 +12,7 @@ ghost use Rattle.onll_task.specs.Reading.{IsCut, CannotRead};
 ghost use Rattle.onll_task.specs.Stop.{StopSays};
 ghost use Rattle.onll_task.specs.Writing.{SameCounts, HasWritten, CannotWrite, WriteStops};
 ghost use Rattle.onll_text.specs.Schedule.{schedule_of, IsPlayable};
-ghost use Rattle.onll_task.specs.Doing.{Begins, BeginsBy, text_stage, whole_stage, lines_stage};
+ghost use Rattle.onll_task.specs.Doing.{Begins, BeginsBy, text_stage, whole_stage, lines_stage, write_stage};
 ghost use Rattle.onll_task.specs.Images.{StandsFor, KeepsOf, image_bytes};
 ghost use Rattle.onll_log.specs.ImageFile.{longest_image};
 
@@ -46,8 +46,8 @@ fn read_bytes<S: Store>(
     }
 }
 
-/// The whole lines of the first bytes of a file, or what is said in their place.
-fn read_lines<S: Store>(
+/// The whole lines of the first `limit` bytes of a file, or what is said in their place.
+pub fn read_lines<S: Store>(
     alloc: Global,
     name: &str,
     limit: u64,
@@ -180,6 +180,23 @@ pub fn schedule_file<S: Store>(
         Ok(schedule) => Ok(schedule),
         Err(TextFault::Refused { line, reason }) => Err(Stop::refused(alloc, name, line, reason)),
         Err(TextFault::NoMemory) => Err(Stop::NoMemory),
+    }
+}
+
+/// Makes these bytes the file of a name, or gives what is said in place of that.
+pub fn write_bytes<S: Store>(
+    alloc: Global,
+    name: &str,
+    bytes: &[u8],
+    store: &mut S,
+) -> Result<(), Stop>
+    ensures { let stage = write_stage name.now bytes.now in
+        Begins (name.now ∷ []) (S.seen store.old) (S.seen store.new) stage (λ done. done) result }
+{
+    match store.write(alloc, name, bytes) {
+        Ok(()) => Ok(()),
+        Err(OutsideFault::Failed) => Err(Stop::unwritten(alloc, name)),
+        Err(OutsideFault::NoMemory) => Err(Stop::NoMemory),
     }
 }
 

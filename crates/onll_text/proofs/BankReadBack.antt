@@ -13,10 +13,11 @@ use Rattle.onll_text.specs.declared.any_object.Kind.TheVariants as kinds
 use Rattle.onll_text.specs.Refusal.{Refusal, ◌>>=◌, only_if, at_line}
 use Rattle.onll_text.specs.BankText.{Accounts, is_marked, is_named, account_line, account_lines, bank_state_lines, with_account, with_account_line}
 use Rattle.onll_text.specs.BankWording.{bank_wording, state_in_lines}
+use Rattle.onll_text.specs.Script.{longest_state}
 use Rattle.onll_text.specs.Init.{head_of}
 use Rattle.onll_text.specs.Making.{after_lines}
 use Rattle.onll_text.specs.ReadBack.{ReadsBack}
-use Rattle.onll_text.proofs.ReadBack.{capacity_of-decimal, two_numbers-decimal, length-decimal, after_lines-joined, init_of-flat_map}
+use Rattle.onll_text.proofs.ReadBack.{capacity_of-decimal, two_numbers-decimal, length-decimal, after_lines-joined, init_of-flat_map, within_text}
 use Rattle.std.proofs.lemmas.List.{drop_more}
 use Rattle.onll_words.proofs.Decimals.{IsWord-decimal}
 use Rattle.onll_text.specs.Bytes.{with_lines}
@@ -52,8 +53,9 @@ within_word n h = omega arith
 from_zero : (n : ℕ) → n ≤ 4096 → 0 + n ≤ 4096
 from_zero n h = omega arith
 
-length-state : (s : List ℕ) → IsBank s → length (flat_map line_text (bank_state_lines s)) ≤ 1048576
-length-state s h =
+-- so is all that is printed of a bank
+pub bank_is_short : (s : List ℕ) → IsBank s → length (flat_map line_text (bank_state_lines s)) ≤ longest_state
+bank_is_short s h =
     omega (
       arith,
       length-append (line_text (codes "bank" ∷ decimal (length s) ∷ [])) (flat_map line_text (account_lines 0 s)),
@@ -148,5 +150,5 @@ after_lines-accounts k done marks (x ∷ xs) e few fits =
 -- what is printed of a bank reads as that bank
 pub bank_reads_back : (s : List ℕ) → IsBank s → ReadsBack bank_wording objects.Bank s
 bank_reads_back s h =
-    init_of-flat_map (codes "bank" ∷ decimal (length s) ∷ []) (account_lines 0 s) (record { kind = kinds.Bank; capacity = length s }) (state_in_lines s) (length-state s h) (head_of-bank (length s) h.least h.greatest)
+    init_of-flat_map (codes "bank" ∷ decimal (length s) ∷ []) (account_lines 0 s) (record { kind = kinds.Bank; capacity = length s }) (state_in_lines s) (within_text (bank_is_short s h)) (head_of-bank (length s) h.least h.greatest)
     ∙ ap (λ (v : Result (List ℕ) Refusal). v >>= λ balances. Ok (objects.Bank balances)) (after_lines-accounts 2 [] [] s refl (from_zero (length s) h.greatest) (omega (arith, h.total)))

@@ -15,10 +15,11 @@ use Rattle.onll_text.specs.declared.any_object.Kind.TheVariants as kinds
 use Rattle.onll_text.specs.Refusal.{Refusal, ◌>>=◌, only_if, at_line}
 use Rattle.onll_text.specs.LeaseText.{held_line, entry_lines, held_lines, lease_state_lines, entry_of, with_held, with_held_line}
 use Rattle.onll_text.specs.LeaseWording.{lease_wording, state_in_lines}
+use Rattle.onll_text.specs.Script.{longest_state}
 use Rattle.onll_text.specs.Init.{head_of}
 use Rattle.onll_text.specs.Making.{after_lines}
 use Rattle.onll_text.specs.ReadBack.{ReadsBack}
-use Rattle.onll_text.proofs.ReadBack.{capacity_of-decimal, four_numbers-decimal, length-decimal, after_lines-joined, init_of-flat_map}
+use Rattle.onll_text.proofs.ReadBack.{capacity_of-decimal, four_numbers-decimal, length-decimal, after_lines-joined, init_of-flat_map, within_text}
 use Rattle.std.proofs.lemmas.List.{drop_more}
 use Rattle.onll_words.proofs.Decimals.{IsWord-decimal}
 use Rattle.onll_text.specs.Bytes.{with_lines}
@@ -71,8 +72,9 @@ within_word n h = omega arith
 from_zero : (n : ℕ) → n ≤ 4096 → 0 + n ≤ 4096
 from_zero n h = omega arith
 
-length-state : (s : List LeaseEntry) → IsLease s → length (flat_map line_text (lease_state_lines s)) ≤ 1048576
-length-state s h =
+-- so is all that is printed of a lease table
+pub lease_is_short : (s : List LeaseEntry) → IsLease s → length (flat_map line_text (lease_state_lines s)) ≤ longest_state
+lease_is_short s h =
     omega (
       arith,
       length-append (line_text (codes "lease" ∷ decimal (length s) ∷ [])) (flat_map line_text (held_lines 0 s)),
@@ -165,5 +167,5 @@ after_lines-held k done (e ∷ es) few valid h =
 -- what is printed of a lease table reads as that table
 pub lease_reads_back : (s : List LeaseEntry) → IsLease s → ReadsBack lease_wording objects.Lease s
 lease_reads_back s h =
-    init_of-flat_map (codes "lease" ∷ decimal (length s) ∷ []) (held_lines 0 s) (record { kind = kinds.Lease; capacity = length s }) (state_in_lines s) (length-state s h) (head_of-lease (length s) h.least h.greatest)
+    init_of-flat_map (codes "lease" ∷ decimal (length s) ∷ []) (held_lines 0 s) (record { kind = kinds.Lease; capacity = length s }) (state_in_lines s) (within_text (lease_is_short s h)) (head_of-lease (length s) h.least h.greatest)
     ∙ ap (λ (v : Result (List LeaseEntry) Refusal). v >>= λ entries. Ok (objects.Lease entries)) (after_lines-held 2 [] s (from_zero (length s) h.greatest) h.valid h.numbers)

@@ -10,6 +10,8 @@ pub mod MapReadBack
 pub mod QueueReadBack
 pub mod LeaseReadBack
 pub mod EachKind
+pub mod PrintedStates
+pub mod EraTexts
 mod KindList
 pub mod Keeping
 mod LineFronts

@@ -25,10 +25,11 @@ use Rattle.onll_text.specs.Refusal.{Refusal, ◌>>=◌, only_if, or_reason, at_l
 use Rattle.onll_text.specs.Words.{word_as_short, two_shorts}
 use Rattle.onll_text.specs.MapText.{pair_line, pair_lines, map_state_lines, with_pair, with_pair_line}
 use Rattle.onll_text.specs.MapWording.{map_wording, state_in_lines}
+use Rattle.onll_text.specs.Script.{longest_state}
 use Rattle.onll_text.specs.Init.{head_of}
 use Rattle.onll_text.specs.Making.{after_lines}
 use Rattle.onll_text.specs.ReadBack.{ReadsBack}
-use Rattle.onll_text.proofs.ReadBack.{capacity_of-decimal, length-decimal, after_lines-joined, init_of-flat_map}
+use Rattle.onll_text.proofs.ReadBack.{capacity_of-decimal, length-decimal, after_lines-joined, init_of-flat_map, within_text}
 use Rattle.std.proofs.lemmas.Option.{slice_get_within, get_or_from_slice_get}
 use Rattle.onll_words.proofs.ShortWord.{IsWord-short}
 use Rattle.onll_text.specs.Bytes.{with_lines}
@@ -57,8 +58,9 @@ length-pair_lines [] = omega arith
 length-pair_lines (pair ∷ pairs) =
     omega (arith, length-append (line_text (pair_line pair)) (flat_map line_text (pair_lines pairs)), length-pair_line pair, length-pair_lines pairs)
 
-length-state : (s : Entries) → IsMap s → length (flat_map line_text (map_state_lines s)) ≤ 1048576
-length-state s h =
+-- so is all that is printed of a map
+pub map_is_short : (s : Entries) → IsMap s → length (flat_map line_text (map_state_lines s)) ≤ longest_state
+map_is_short s h =
     let word : s.room < 2 ^ 64 = omega (arith, h.greatest_room) in
     omega (
       arith,
@@ -134,5 +136,5 @@ after_lines-pairs k done (pair ∷ rest) n s h =
 -- what is printed of a map reads as that map
 pub map_reads_back : (s : Entries) → IsMap s → ReadsBack map_wording objects.Map s
 map_reads_back s h =
-    init_of-flat_map (codes "map" ∷ decimal s.room ∷ []) (pair_lines s.pairs) (record { kind = kinds.Map; capacity = s.room }) (state_in_lines s) (length-state s h) (head_of-map s.room h.least_room h.greatest_room)
+    init_of-flat_map (codes "map" ∷ decimal s.room ∷ []) (pair_lines s.pairs) (record { kind = kinds.Map; capacity = s.room }) (state_in_lines s) (within_text (map_is_short s h)) (head_of-map s.room h.least_room h.greatest_room)
     ∙ ap (λ (v : Result Entries Refusal). v >>= λ entries. Ok (objects.Map entries)) (after_lines-pairs 2 [] s.pairs s.room h.rising (omega (arith, h.fits)))

@@ -13,10 +13,11 @@ use Rattle.onll_text.specs.declared.any_object.Kind.TheVariants as kinds
 use Rattle.onll_text.specs.Refusal.{Refusal, ◌>>=◌, only_if, at_line}
 use Rattle.onll_text.specs.QueueText.{item_line, item_lines, queue_state_lines, with_item, with_item_line}
 use Rattle.onll_text.specs.QueueWording.{queue_wording, state_in_lines}
+use Rattle.onll_text.specs.Script.{longest_state}
 use Rattle.onll_text.specs.Init.{head_of}
 use Rattle.onll_text.specs.Making.{after_lines}
 use Rattle.onll_text.specs.ReadBack.{ReadsBack}
-use Rattle.onll_text.proofs.ReadBack.{capacity_of-decimal, one_number-decimal, length-decimal, after_lines-joined, init_of-flat_map}
+use Rattle.onll_text.proofs.ReadBack.{capacity_of-decimal, one_number-decimal, length-decimal, after_lines-joined, init_of-flat_map, within_text}
 use Rattle.onll_words.proofs.Decimals.{IsWord-decimal}
 use Rattle.onll_text.specs.Bytes.{with_lines}
 
@@ -46,8 +47,9 @@ length-item_lines (x ∷ items) h =
       length-item_lines items (All-tail (λ (n : ℕ). n < 2 ^ 64) x items h),
     )
 
-length-state : (s : Items) → IsQueue s → length (flat_map line_text (queue_state_lines s)) ≤ 1048576
-length-state s h =
+-- so is all that is printed of a queue
+pub queue_is_short : (s : Items) → IsQueue s → length (flat_map line_text (queue_state_lines s)) ≤ longest_state
+queue_is_short s h =
     let word : s.room < 2 ^ 64 = omega (arith, h.greatest_room) in
     omega (
       arith,
@@ -89,5 +91,5 @@ after_lines-items k done (x ∷ rest) n words h =
 -- what is printed of a queue reads as that queue
 pub queue_reads_back : (s : Items) → IsQueue s → ReadsBack queue_wording objects.Queue s
 queue_reads_back s h =
-    init_of-flat_map (codes "queue" ∷ decimal s.room ∷ []) (item_lines s.items) (record { kind = kinds.Queue; capacity = s.room }) (state_in_lines s) (length-state s h) (head_of-queue s.room h.least_room h.greatest_room)
+    init_of-flat_map (codes "queue" ∷ decimal s.room ∷ []) (item_lines s.items) (record { kind = kinds.Queue; capacity = s.room }) (state_in_lines s) (within_text (queue_is_short s h)) (head_of-queue s.room h.least_room h.greatest_room)
     ∙ ap (λ (v : Result Items Refusal). v >>= λ items. Ok (objects.Queue items)) (after_lines-items 2 [] s.items s.room h.numbers (omega (arith, h.fits)))

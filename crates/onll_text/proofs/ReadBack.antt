@@ -11,7 +11,7 @@ use Rattle.onll_text.specs.declared.reason.Reason.TheVariants.{BadNumber, BadWor
 use Rattle.onll_text.specs.declared.init.Head.{Head}
 use Rattle.onll_text.specs.Refusal.{refused, ◌>>=◌, only_if, or_reason, at_line}
 use Rattle.onll_text.specs.Words.{word_as_number, word_as_short, one_number, two_numbers, four_numbers}
-use Rattle.onll_text.specs.Script.{longest_text, is_too_long}
+use Rattle.onll_text.specs.Script.{longest_text, longest_state, is_too_long}
 use Rattle.onll_text.specs.Making.{after_lines}
 use Rattle.onll_text.specs.Init.{capacity_of, head_of, object_of, init_of_lines, init_of}
 
@@ -53,8 +53,12 @@ pub after_lines-joined : {Making : Type 0} (with_line : Making → List (List �
     → AreWords ws → after_lines with_line made (record { number = k; line = joined ws } ∷ lines) ≡ (at_line k (with_line made ws) >>= λ more. after_lines with_line more lines)
 after_lines-joined with_line made k ws lines h = ap (λ v. at_line k (with_line made v) >>= λ more. after_lines with_line more lines) (words_of-joined ws h)
 
-not_too_long : (text : List ℕ) → length text ≤ longest_text → is_too_long text ≡ false
+pub not_too_long : (text : List ℕ) → length text ≤ longest_text → is_too_long text ≡ false
 not_too_long text h = grind (arith, nat_tests)
+
+-- what is as short as what is printed of a state is short enough for a text
+pub within_text : {n : ℕ} → n ≤ longest_state → n ≤ longest_text
+within_text {n} h = omega arith
 
 -- a text of printed lines reads as the object that its first line begins and the further ones fill
 pub init_of-flat_map : (ws : List (List ℕ)) (lines : List (List (List ℕ))) (head : Head) → AreMeaningful (ws ∷ lines) → length (flat_map line_text (ws ∷ lines)) ≤ longest_text

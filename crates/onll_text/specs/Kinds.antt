@@ -58,6 +58,13 @@ kind_at kinds.Map = kind_by map_object map_wording 2
 kind_at kinds.Queue = kind_by queue queue_wording 3
 kind_at kinds.Lease = kind_by lease lease_wording 4
 
+-- the object of this kind with this state
+abbrev pub object_at : (kind : Kind) → (kind_at kind).State → AnyObject
+object_at kinds.Bank s = objects.Bank s
+object_at kinds.Map s = objects.Map s
+object_at kinds.Queue s = objects.Queue s
+object_at kinds.Lease s = objects.Lease s
+
 -- what is said of a kind by its name and of a state of it, of an object of any kind
 abbrev pub on_kind {ℓ} : {A : Type ℓ} → ((kind : Kind) → (kind_at kind).State → A) → AnyObject → A
 on_kind say (objects.Bank s) = say kinds.Bank s

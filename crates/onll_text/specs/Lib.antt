@@ -18,4 +18,6 @@ pub mod LeaseWording
 pub mod Init
 pub mod Kinds
 pub mod ReadBack
+pub mod PrintsBack
+pub mod EraText
 pub mod Reports

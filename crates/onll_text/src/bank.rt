@@ -193,4 +193,8 @@ impl Texted for Bank {
     fn state_reads_back(&self) {
         bank_reads_back(self);
     }
+
+    fn state_is_short(&self) {
+        self.consistent();
+    }
 }

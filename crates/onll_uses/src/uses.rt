@@ -1,6 +1,8 @@
 //! The uses that the roots of the crates show, each run as a test.
 
+use onll_areas::{keep_checkpoint, newest, read_area};
 use onll_bank::{Bank, BankOp, BankQuery, BankReply};
+use onll_checkpoint::{Checkpoint, lines_for, load, save};
 use onll_core::Core;
 use onll_detect::{Outcome, Outcomes};
 use onll_lease::{Lease, LeaseOp, LeaseQuery, LeaseReply};
@@ -8,7 +10,7 @@ use onll_log::{LogHead, ThreadLog, decode};
 use onll_map::{Map, MapOp, MapQuery, MapReply};
 use onll_merge::recover_state;
 use onll_model::{Call, Node, Object, fold_nodes};
-use onll_outside::{FreeGate, MemSink, Sink};
+use onll_outside::{FreeGate, MemSink, MemStore, Sink};
 use onll_pmem::{MemPmem, Pmem};
 use onll_queue::{Queue, QueueOp, QueueQuery, QueueReply};
 use onll_run::run_scripts;
@@ -270,5 +272,43 @@ fn outside(rt: HostRuntime) -> Result<(), Fail> {
     assert!(rt; sink.put(b"second").is_err());
     assert!(rt; sink.taken() == b"first".as_slice());
     assert!(rt; sink.faults() == 1);
+    Ok(())
+}
+
+#[test]
+fn checkpoint(rt: HostRuntime) -> Result<(), Fail> {
+    let alloc = rt.alloc();
+    let mut text = Vec::new(alloc);
+    text.extend_from_slice(b"bank 1\naccount 0 5\n")?;
+    let checkpoint = Checkpoint::of(1, 2, text);
+    let lines = lines_for(checkpoint.text().len() as u64);
+    let device = MemPmem::new(alloc, lines, Vec::new(alloc))?;
+    let Ok(device) = save(device, &checkpoint) else {
+        return Err("not saved".into());
+    };
+    let image = device.image(alloc, 0)?;
+    let Some(found) = load(alloc, image.as_slice())? else {
+        return Err("no checkpoint".into());
+    };
+    assert!(rt; found.place() == 2);
+    assert!(rt; found.text() == checkpoint.text());
+    Ok(())
+}
+
+#[test]
+fn areas(rt: HostRuntime) -> Result<(), Fail> {
+    let alloc = rt.alloc();
+    let mut store = MemStore::new(Vec::new(alloc), Vec::new(alloc), Vec::new(alloc));
+    let mut text = Vec::new(alloc);
+    text.extend_from_slice(b"bank 1\naccount 0 5\n")?;
+    let checkpoint = Checkpoint::of(1, 2, text);
+    assert!(rt; keep_checkpoint(alloc, "k.1", &checkpoint, &mut store).is_ok());
+    let Ok(odd) = read_area(alloc, "k.1", &mut store) else {
+        return Err("no area".into());
+    };
+    let Some(found) = newest(None, odd) else {
+        return Err("no checkpoint".into());
+    };
+    assert!(rt; found.number() == 1);
     Ok(())
 }

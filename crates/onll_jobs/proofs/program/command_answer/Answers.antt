@@ -8,3 +8,12 @@ returns-in-Show g c = rw c.in-Show.is c.answer-in-Show.ensures
 
 pub returns-in-Make : goal.returns-in-Make
 returns-in-Make g c = rw c.in-Make.is (c.answer-in-Make.ensures (g.S.Store.seen c.args.store.now))
+
+pub returns-in-Areas : goal.returns-in-Areas
+returns-in-Areas g c = rw c.in-Areas.is c.make_areas.ensures
+
+pub returns-in-Restore : goal.returns-in-Restore
+returns-in-Restore g c = rw c.in-Restore.is c.restore.ensures
+
+pub returns-in-Checkpoint : goal.returns-in-Checkpoint
+returns-in-Checkpoint g c = rw c.in-Checkpoint.is c.checkpoint.ensures

@@ -1,0 +1,423 @@
+#!/usr/bin/env python3
+"""Kills checkpoints and the runs before and after them over the files of the system, and checks what `restore` gives each time.
+Usage: bench/eras.py [--chains CHAINS] [--seed SEED] [PROGRAM]
+Build the program first, by `./prove`; or name another one of the same words.
+
+A chain is of one object, a bank, a map, a queue and a lease table by turns, and has six eras. In each era four threads are given 150
+updates each, by `run` at the first time and by `resume` from then on, and after that a `checkpoint` begins the next era; both are tried
+until it has begun. Each command is killed by signal 9 at a moment between its start and twice the time that a whole one takes. After
+each, `restore` must answer 0, and hold every update that was acknowledged: those that the report of a run which ended has told, with the
+replies and the places told there, and those that `restore` gave before. Its place never goes back. Of each thread what a run added are
+the first updates of its script in their order, as many as its log has gained entries, or one more, which another thread has logged; and
+the state is that of all updates, by the models below, which share no code with the program. A checkpoint changes neither the place nor
+the state: after it `restore` gives what it gave before, or the next era with logs of no entry, and the next era's text is then its
+initial state. Where the first run is killed before every log has a line, `restore` may find no file or no log, which is counted apart,
+and the logs are begun anew.
+
+At the first failure it says what is wrong, keeps the folder with the files, and ends with 1."""
+import argparse
+import os
+import random
+import shutil
+import subprocess
+import sys
+import tempfile
+import time
+
+from kill import has_first_line, killed
+from proved import proved_program
+
+THREADS, UPDATES, ERAS = 4, 150, 6
+# A checkpoint is killed at most so many times in one era.
+TRIES = 12
+# Beyond the time of a whole command, so that some of them end.
+LATEST = 2.0
+GREATEST = 2**64 - 1
+
+
+class Bank:
+    """Accounts with balances, whose sum stays far below its bound."""
+
+    def __init__(self):
+        self.balances = [0] * THREADS
+
+    @staticmethod
+    def update(rng):
+        a, b, x = rng.randrange(THREADS + 1), rng.randrange(THREADS), rng.randint(1, 10**6)
+        return rng.choice([f"deposit {a} {x}", f"deposit {b} {x}", f"withdraw {a} {x}", f"transfer {a} {b} {x}"])
+
+    def apply(self, word, *numbers):
+        *accounts, x = map(int, numbers)
+        if any(a >= THREADS for a in accounts):
+            return "no-account"
+        if word != "deposit" and self.balances[accounts[0]] < x:
+            return "short"
+        if word != "deposit":
+            self.balances[accounts[0]] -= x
+        if word != "withdraw":
+            self.balances[accounts[-1]] += x
+        return "ok"
+
+    def lines(self):
+        return [f"bank {THREADS}", *(f"account {a} {x}" for a, x in enumerate(self.balances))]
+
+
+class Map:
+    """Short texts by keys, with room for eight."""
+
+    def __init__(self):
+        self.pairs = {}
+
+    @staticmethod
+    def update(rng):
+        key = f"k{rng.randrange(12)}"
+        return rng.choice([f"put {key} v{rng.randrange(10**6)}", f"put {key} v{rng.randrange(10**6)}", f"del {key}"])
+
+    def apply(self, word, key, *value):
+        old = self.pairs.get(key)
+        if word == "del":
+            self.pairs.pop(key, None)
+            return "none" if old is None else f"old {old}"
+        if old is None and len(self.pairs) == 8:
+            return "full"
+        self.pairs[key] = value[0]
+        return "new" if old is None else f"old {old}"
+
+    def lines(self):
+        return ["map 8", *(f"pair {key} {value}" for key, value in sorted(self.pairs.items()))]
+
+
+class Queue:
+    """Numbers in the order in which they came, with room for eight."""
+
+    def __init__(self):
+        self.items = []
+
+    @staticmethod
+    def update(rng):
+        return rng.choice([f"push {rng.randrange(10**6)}", "pop"])
+
+    def apply(self, word, *item):
+        if word == "pop":
+            return f"item {self.items.pop(0)}" if self.items else "empty"
+        if len(self.items) == 8:
+            return "full"
+        self.items.append(int(item[0]))
+        return "ok"
+
+    def lines(self):
+        return ["queue 8", *(f"item {x}" for x in self.items)]
+
+
+class Lease:
+    """Resources with the last token, its holder, and the moment at which its lease ends."""
+
+    def __init__(self):
+        self.held = {}
+
+    @staticmethod
+    def update(rng):
+        r, now, ttl = rng.randrange(THREADS + 1), rng.randrange(1000), rng.randrange(300)
+        token = rng.randint(1, 200)
+        return rng.choice([f"grant {r} {rng.randrange(9)} {now} {ttl}", f"grant {r} {rng.randrange(9)} {now} {GREATEST}",
+                           f"renew {r} {token} {now} {ttl}", f"release {r} {token}"])
+
+    def apply(self, word, *numbers):
+        r, *rest = map(int, numbers)
+        if r >= THREADS:
+            return "no-resource"
+        token, holder, until = self.held.get(r, (0, 0, 0))
+        if word == "release":
+            if rest[0] != token or until == 0:
+                return "stale"
+            self.held[r] = (token, holder, 0)
+            return "released"
+        who, now, ttl = rest
+        if word == "grant" and now < until:
+            return f"held until {until}"
+        if word == "renew" and (who != token or now >= until):
+            return "stale"
+        if now + ttl > GREATEST:
+            return "late"
+        if word == "renew":
+            self.held[r] = (token, holder, now + ttl)
+            return f"renewed {now + ttl}"
+        self.held[r] = (token + 1, who, now + ttl)
+        return f"granted {token + 1}"
+
+    def lines(self):
+        return [f"lease {THREADS}", *(f"held {r} {a} {b} {c}" for r, (a, b, c) in sorted(self.held.items()))]
+
+
+OBJECTS = [Bank, Map, Queue, Lease]
+# What is restored of logs that have no line.
+NOTHING = ["no checkpoint", *(f"log {thread} empty" for thread in range(THREADS)), "recovered 0", "place 0", "state"]
+
+
+def text_of(lines):
+    return "".join(line + "\n" for line in lines)
+
+
+def write_text(name, lines):
+    with open(name, "w") as file:
+        file.write(text_of(lines))
+
+
+class Restored:
+    """What `restore` says: the era and the place after which it began, the entries of each log, the era's nodes, the place, the state."""
+
+    def __init__(self, report):
+        lines = report.splitlines()
+        assert report == text_of(lines), report
+        if lines[0] == "no checkpoint":
+            self.era, self.begun = 0, 0
+        else:
+            words = lines[0].split()
+            self.era, self.begun = int(words[1]), int(words[3])
+            assert lines[0] == f"checkpoint {self.era} place {self.begun}" and self.era >= 1, report
+        self.entries = [self.entries_in(thread, line, report) for thread, line in enumerate(lines[1:1 + THREADS])]
+        word, count = lines[1 + THREADS].split()
+        assert word == "recovered", report
+        end = 2 + THREADS + int(count)
+        self.nodes = self.nodes_in(lines[2 + THREADS:end], report)
+        self.place = self.begun + len(self.nodes)
+        assert len(self.nodes) == int(count) and lines[end:end + 2] == [f"place {self.place}", "state"], report
+        self.state = lines[end + 2:]
+
+    @staticmethod
+    def entries_in(thread, line, report):
+        words = line.split()
+        if words == ["log", str(thread), "empty"]:
+            return 0
+        assert words[:3] == ["log", str(thread), "entries"] and words[4] == "lines" and len(words) == 6, report
+        assert words[3] != "0" or words[5] == "1", report
+        return int(words[3])
+
+    @staticmethod
+    def nodes_in(lines, report):
+        """The thread and the call of each node, by place. Each has its place in the era, and the next number of its thread."""
+        counts, nodes = [0] * THREADS, []
+        for line in lines:
+            word, place, thread, number, call = line.split(maxsplit=4)
+            thread = int(thread)
+            counts[thread] += 1
+            nodes.append((thread, call))
+            assert (word, int(place), int(number)) == ("node", len(nodes), counts[thread]), report
+        return nodes
+
+    def same_as(self, other):
+        return vars(self) == vars(other)
+
+
+class Times:
+    """How many seconds a command takes that isn't killed: the least so far. And how many of each were killed, and how many ended."""
+
+    def __init__(self):
+        self.least, self.kills, self.ends = {}, {}, {}
+
+    def command(self, program, kind, words, rng):
+        """Whether this command, whose report goes into the file `report`, ends before it is killed; with no random choices it isn't."""
+        key = (kind, words[0])
+        begin = time.monotonic()
+        with open("report", "w") as report:
+            run = subprocess.Popen([program, *words], stdout=report)
+        if rng and killed(run, rng.uniform(0, LATEST * self.least[key])):
+            self.kills[words[0]] = self.kills.get(words[0], 0) + 1
+            return False
+        assert run.wait() == 0, (words, run.returncode)
+        if not rng:
+            self.least[key] = min(self.least.get(key, GREATEST), time.monotonic() - begin)
+        self.ends[words[0]] = self.ends.get(words[0], 0) + 1
+        return True
+
+
+def report_lines():
+    with open("report") as file:
+        return file.read().splitlines()
+
+
+class Chain:
+    """Six eras over the files of this folder: what was restored last, and the model of the object with all updates of it."""
+
+    def __init__(self, program, kind, times, rng, killing):
+        self.program, self.kind, self.times, self.rng = program, kind, times, rng
+        self.killing = rng if killing else None
+        self.model, self.replies, self.last = kind(), [], None
+        self.rounds, self.early, self.killed_late = 0, {}, 0
+
+    def init_and_logs(self):
+        """The initial state and the logs of the era that was restored last."""
+        if not self.last or self.last.era == 0:
+            return "init", "log"
+        area = f"ckpt.{self.last.era % 2}"
+        return f"{area}.init", area
+
+    def log_names(self):
+        return [f"{self.init_and_logs()[1]}.{thread}" for thread in range(THREADS)]
+
+    def restore(self):
+        done = subprocess.run([self.program, "restore", "init", "log", "ckpt", str(THREADS)], capture_output=True)
+        return done.returncode, done.stdout.decode()
+
+    def restored(self):
+        status, report = self.restore()
+        assert status == 0, (status, report)
+        found = Restored(report)
+        assert not self.last or (found.era, found.place) >= (self.last.era, self.last.place), report
+        return found
+
+    def begin(self):
+        """Both areas with no checkpoint, and no log."""
+        for name in os.listdir("."):
+            os.remove(name)
+        write_text("init", self.kind().lines())
+        done = subprocess.run([self.program, "areas", "ckpt"], capture_output=True)
+        assert (done.returncode, done.stdout) == (0, b"areas ckpt\n"), done
+
+    def scripts(self):
+        scripts = [[self.kind.update(self.rng) for _ in range(UPDATES)] for _ in range(THREADS)]
+        for thread, script in enumerate(scripts):
+            write_text(f"script{thread}", script)
+        return scripts
+
+    def run(self):
+        """One run more in the era, and what is restored then."""
+        scripts = self.scripts()
+        init, logs = self.init_and_logs()
+        words = ["resume" if self.last else "run", init, logs, *(f"script{thread}" for thread in range(THREADS))]
+        ended = self.times.command(self.program, self.kind, words, self.killing)
+        if not ended and not self.last and not all(has_first_line(log) for log in self.log_names()):
+            if self.restore()[0] != 0:
+                return self.expect_early()
+        found = self.restored()
+        self.expect_added(found, scripts)
+        if ended:
+            self.expect_told(found, scripts)
+        self.last = found
+        return None
+
+    def expect_early(self):
+        """Where a log has no line yet nothing was acknowledged. The logs are removed."""
+        status, report = self.restore()
+        is_log = status == 4 and report.startswith("log ") and report.endswith(" not a log\n")
+        assert is_log or (status == 5 and report.startswith("read fault log.")), (status, report)
+        said = "not a log" if is_log else "no file"
+        self.early[said] = self.early.get(said, 0) + 1
+        for log in self.log_names():
+            if os.path.exists(log):
+                os.remove(log)
+
+    def expect_added(self, found, scripts):
+        """What was restored before is there, and then the first updates of each script."""
+        before = self.last or Restored(text_of(NOTHING))
+        assert (found.era, found.begun) == (before.era, before.begun), (found.era, found.begun)
+        assert found.nodes[:len(before.nodes)] == before.nodes, found.nodes
+        counts = [0] * THREADS
+        for thread, call in found.nodes[len(before.nodes):]:
+            assert counts[thread] < UPDATES and call == scripts[thread][counts[thread]], (thread, counts[thread] + 1, call)
+            counts[thread] += 1
+            self.replies.append(self.model.apply(*call.split()))
+        for count, now, then in zip(counts, found.entries, before.entries):
+            assert 0 <= count - (now - then) <= 1, (counts, found.entries, before.entries)
+        assert found.state == self.model.lines(), (found.state, self.model.lines())
+
+    def expect_told(self, found, scripts):
+        """A run that ended has told a reply and a place for each of its updates, and each is there with them."""
+        told = [line for line in report_lines() if line.startswith("call ")]
+        calls = [(thread, number, call) for thread, script in enumerate(scripts) for number, call in enumerate(script, 1)]
+        assert len(told) == len(calls), told[-1:]
+        for line, (thread, number, call) in zip(told, calls):
+            said, answer = line.split(" -> ")
+            reply, place = answer.rsplit(" at ", 1)
+            assert said == f"call {thread} {number} {call}", line
+            assert found.nodes[int(place) - 1] == (thread, call) and self.replies[int(place) - 1] == reply, line
+
+    def checkpoint(self, killing):
+        """A checkpoint, and whether the next era has begun by it."""
+        words = ["checkpoint", "init", "log", "ckpt", str(THREADS)]
+        ended = self.times.command(self.program, self.kind, words, killing)
+        found, last = self.restored(), self.last
+        assert (found.place, found.state) == (last.place, last.state), (found.place, last.place)
+        if ended:
+            assert report_lines() == [f"checkpoint {last.era + 1} place {last.place}", "state", *last.state], report_lines()
+        if found.era == last.era:
+            assert not ended and found.same_as(last), vars(found)
+            return False
+        assert (found.era, found.begun, found.nodes, found.entries) == (last.era + 1, last.place, [], [0] * THREADS), vars(found)
+        self.killed_late += not ended
+        self.last, self.replies = found, []
+        self.expect_begun()
+        return True
+
+    def expect_begun(self):
+        """The text of an era that has begun, and its logs, which have their first lines."""
+        with open(self.init_and_logs()[0]) as file:
+            text = file.read()
+        assert text == text_of([f"# checkpoint {self.last.era} {self.last.begun}", *self.last.state]), text
+        assert all(has_first_line(log) for log in self.log_names()), self.log_names()
+
+    def go(self):
+        """All eras, the last one with its run."""
+        self.begin()
+        for era in range(ERAS):
+            tries = 0
+            while True:
+                self.rounds += 1
+                self.run()
+                if not self.last:
+                    continue
+                tries += 1
+                if era == ERAS - 1 or self.checkpoint(self.killing if tries < TRIES else None):
+                    break
+
+
+def asked():
+    words = argparse.ArgumentParser(description=__doc__.splitlines()[0])
+    words.add_argument("--chains", type=int, default=100)
+    words.add_argument("--seed", type=int, default=1)
+    words.add_argument("program", nargs="?")
+    return words.parse_args()
+
+
+def tell(chains, times):
+    """What was done, by counts."""
+    early = {}
+    for chain in chains:
+        for said, count in chain.early.items():
+            early[said] = early.get(said, 0) + count
+    print(f"{len(chains)} chains of {ERAS} eras, {sum(chain.rounds for chain in chains)} runs, none failing")
+    for command in ["run", "resume", "checkpoint"]:
+        print(f"{command}: {times.kills.get(command, 0)} killed, {times.ends.get(command, 0)} ended")
+    print(f"{sum(chain.killed_late for chain in chains)} checkpoints killed once the next era had begun")
+    places = sorted(chain.last.place for chain in chains)
+    print(f"places at the end: {places[0]} to {places[-1]}, {places[len(places) // 2]} in the middle")
+    for said, count in sorted(early.items()):
+        print(f"{count} before every log had a line: {said}")
+
+
+def main():
+    wanted = asked()
+    program = os.path.abspath(wanted.program) if wanted.program else proved_program()
+    rng, times, chains = random.Random(wanted.seed), Times(), []
+    folder = tempfile.mkdtemp(prefix="eras.")
+    os.chdir(folder)
+    try:
+        for kind in OBJECTS:
+            for _ in range(3):
+                Chain(program, kind, times, rng, False).go()
+        times.ends.clear()
+        for number in range(wanted.chains):
+            chain = Chain(program, OBJECTS[number % len(OBJECTS)], times, rng, True)
+            chains.append(chain)
+            chain.go()
+    except (AssertionError, IndexError, OSError, ValueError) as wrong:
+        print(f"chain {len(chains)} of seed {wanted.seed}, its files are in {folder}: {type(wrong).__name__} {wrong}")
+        sys.exit(1)
+    if chains:
+        tell(chains, times)
+    os.chdir("/")
+    shutil.rmtree(folder)
+
+
+if __name__ == "__main__":
+    main()

@@ -1,0 +1,5 @@
+pub mod LinesBack
+pub mod AreaReads
+pub mod KeptDevices
+pub mod Zeros
+pub mod WholeAreas

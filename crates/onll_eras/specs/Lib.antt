@@ -1,0 +1,9 @@
+pub mod Names
+pub mod Eras
+pub mod EraReports
+pub mod EraJob
+pub mod Restored
+pub mod Begun
+pub mod Laws
+pub mod EndingLaws
+pub mod EraCall

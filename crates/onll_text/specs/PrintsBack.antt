@@ -1,0 +1,24 @@
+-- What is printed of a state, and whether a text is that.
+
+use Rattle.std.specs.Prelude.{ℕ, Bool, false, List, Option, Some, None, length, nat_lt, nat_le, ◌&&◌}
+use Rattle.std.specs.List.{flat_map, list_all}
+use Rattle.std.specs.Str.{bytes_eq}
+use Rattle.onll_words.specs.Texts.{line_text}
+use Rattle.onll_text.specs.Wording.{Wording}
+use Rattle.onll_text.specs.Script.{longest_state}
+
+-- what is printed of a state
+abbrev pub state_text : {State Op Query Reply : Type 0} → Wording State Op Query Reply → State → List ℕ
+state_text w s = flat_map line_text (w.state_lines s)
+
+-- the text is what is printed of this state
+abbrev pub is_state_text : {State Op Query Reply : Type 0} → Wording State Op Query Reply → Option State → List ℕ → Bool
+is_state_text w None text = false
+is_state_text w (Some s) text = bytes_eq (state_text w s) text
+
+abbrev pub is_byte : ℕ → Bool
+is_byte b = nat_lt b 256
+
+-- The text says a state and is what is printed of it; it is as short as what is printed of a state, and made of bytes.
+abbrev pub prints_back : {State Op Query Reply : Type 0} → Wording State Op Query Reply → List ℕ → Bool
+prints_back w text = is_state_text w (w.state_of text) text && (nat_le (length text) longest_state && list_all is_byte text)

@@ -83,8 +83,8 @@ ROWS = {
     "checkpoint": (["checkpoint", "bank", "out", "k", "2"], AREAS),
 }
 # What is done before a row, with ample memory.
-BEFORE = {"restore": ["checkpoint", "bank", "out", "k", "2"], "checkpoint": ["checkpoint", "bank", "out", "k", "2"],
-      # The files that the words of a row may write, by how their names begin, and how many logs there are then.
+BEFORE = {"restore": ["checkpoint", "bank", "out", "k", "2"], "checkpoint": ["checkpoint", "bank", "out", "k", "2"]}
+# The files that the words of a row may write, by how their names begin, and how many logs there are then.
 WRITES = {"replay": ("log.", 2), "again": ("out.", 2), "run": ("log.", 1), "resume": ("out.", 2), "checkpoint": ("k.0", 2)}
 
 

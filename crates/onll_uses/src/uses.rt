@@ -6,15 +6,16 @@ use onll_checkpoint::{Checkpoint, lines_for, load, save};
 use onll_core::Core;
 use onll_detect::{Outcome, Outcomes};
 use onll_lease::{Lease, LeaseOp, LeaseQuery, LeaseReply};
-use onll_log::{LogHead, ThreadLog, decode};
+use onll_log::{LogHead, ThreadLog, decode, entry_head};
 use onll_map::{Map, MapOp, MapQuery, MapReply};
 use onll_merge::recover_state;
-use onll_model::{Call, Node, Object, fold_nodes};
+use onll_model::{Call, Node, Object, fold_nodes, node_line};
 use onll_outside::{FreeGate, MemSink, MemStore, Sink};
 use onll_pmem::{MemPmem, Pmem};
 use onll_queue::{Queue, QueueOp, QueueQuery, QueueReply};
 use onll_run::run_scripts;
 use onll_shared::Onll;
+use onll_standby::Standby;
 use onll_words::{Line, Short, line_bytes, line_of_bytes, whole_number};
 use std::alloc::Global;
 use std::test::Fail;
@@ -310,5 +311,30 @@ fn areas(rt: HostRuntime) -> Result<(), Fail> {
         return Err("no checkpoint".into());
     };
     assert!(rt; found.number() == 1);
+    Ok(())
+}
+
+#[test]
+fn standby(rt: HostRuntime) -> Result<(), Fail> {
+    let alloc = rt.alloc();
+    let row = Bank::op_row(BankOp::Deposit { a: 0, x: 5 });
+    let node = Node {
+        thread: 0,
+        number: 1,
+        row,
+    };
+    let head = LogHead::new(0, 1, Bank::CODE, b"bank 1\n");
+    let heads = vec![in alloc; head]?;
+    let mut standby = Standby::begin(alloc, Bank::make(alloc, 1)?, heads)?;
+    assert!(rt; standby.feed(&line_bytes(head.line())).is_ok());
+    assert!(rt;
+        standby
+            .feed(&line_bytes(entry_head(head, 1, 1, &[node])))
+            .is_ok()
+    );
+    assert!(rt; standby.feed(&line_bytes(node_line(node))).is_ok());
+    assert!(rt; standby.taken() == 192);
+    assert!(rt; standby.followed() == 1);
+    assert!(rt; standby.state().ask(BankQuery::Balance { a: 0 }) == BankReply::Amount(5));
     Ok(())
 }

@@ -1,0 +1,5 @@
+pub mod Endings
+pub mod FirstBytes
+pub mod Pieces
+pub mod RunHeads
+pub mod Says

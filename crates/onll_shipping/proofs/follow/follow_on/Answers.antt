@@ -1,0 +1,24 @@
+use Rattle.std.proofs.Common.{ℕ, ◌≡◌, List, [], length, subst}
+use Rattle.onll_log.specs.declared.head.LogHead.{LogHead}
+use Rattle.onll_core.specs.Created.{heads_from}
+use Rattle.onll_standby.specs.Stream.{course}
+use Rattle.onll_task.specs.Doing.{Task, Does}
+use Rattle.onll_task.proofs.Stages.{read_does, stop_does}
+use Rattle.onll_shipping.specs.FollowJob.{followed_task}
+use Rattle.onll_shipping.proofs.follow.follow_on.Goals as goal
+
+pub returns-in-Err : goal.returns-in-Err
+returns-in-Err g c =
+    let heads = heads_from c.args.threads g.O.Object.CODE c.args.init.now 0 c.args.threads in
+    stop_does (λ (bytes : List ℕ). followed_task g.O.Object.means g.O.Texted.wording c.args.object (length bytes) (course g.O.Object.means heads bytes)) c.in-Err.ensures.begins
+
+pub returns : goal.returns
+returns g c =
+    let b = g.O.Object.means in let w = g.O.Texted.wording in let object = c.args.object in
+    let heads : List LogHead = heads_from c.args.threads g.O.Object.CODE c.args.init.now 0 c.args.threads in
+    let are : c.in_ok-heads.heads.items ≡ heads = rw c.CODE.ensures at c.in_ok-heads.ensures.heads in
+    let mid = g.S.Store.seen c.stream_file.new.store in
+    let next : List ℕ → Task = λ bytes. followed_task b w object (length bytes) (course b heads bytes) in
+    let one = subst (λ (z : List ℕ). Does [] mid mid (followed_task b w object (length z) (course b c.in_ok-heads.heads.items z)) c.follow_bytes.result) c.deref.ensures.value (c.follow_bytes.ensures mid) in
+    let two = subst (λ (hs : List LogHead). Does [] mid mid (followed_task b w object (length c.in-Ok.bytes.items) (course b hs c.in-Ok.bytes.items)) c.follow_bytes.result) are one in
+    read_does next c.in-Ok.ensures.begins two

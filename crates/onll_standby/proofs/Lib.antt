@@ -1,0 +1,17 @@
+pub mod Cut
+pub mod Advancing
+pub mod Counting
+pub mod Cutting
+pub mod Stepping
+pub mod Taking
+pub mod Lining
+pub mod OneMore
+pub mod Recovered
+pub mod Judging
+pub mod Named
+pub mod OnTrace
+pub mod Entries
+pub mod Feeding
+pub mod Followed
+pub mod Lasting
+pub mod Shows

@@ -1,0 +1,10 @@
+pub mod Held
+pub mod Stream
+pub mod Places
+pub mod Applied
+pub mod Holdings
+pub mod Entry
+pub mod Follower
+pub mod Standby
+pub mod Shipped
+pub mod Laws

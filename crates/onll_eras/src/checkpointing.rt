@@ -76,7 +76,8 @@ struct NextEra {
 /// The era after so many nodes of this one; nothing where its number or its place is past 64 bits.
 fn next_era(era: NewestEra<'_>, nodes: u64) -> Option<NextEra>
     ensures { MatchOption result (has_next (era_found era.entry) nodes ≡ false)
-        (λ n. (has_next (era_found era.entry) nodes ≡ true) × (n.number ≡ (era_found era.entry).number + 1) × (n.place ≡ (era_found era.entry).place + nodes)) }
+        (λ n. (has_next (era_found era.entry) nodes ≡ true) × (n.number ≡ (era_found era.entry).number + 1)
+        × (n.place ≡ (era_found era.entry).place + nodes)) }
 {
     let number = era.number().checked_add(1)?;
     let place = era.place().checked_add(nodes)?;

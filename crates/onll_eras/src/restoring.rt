@@ -117,7 +117,8 @@ pub(crate) fn restored<O: Texted>(
     era: NewestEra<'_>,
 ) -> Result<Vec<u8>, Stop>
     requires { operations_front O.means recovery.now.nodes.items ≡ recovery.now.nodes.items }
-    ensures { let task = restored_with era.entry.newest.now (era_found era.entry) (kind_by O.means O.wording O.CODE) object.now (recovered_in recovery.now) in
+    ensures { let task = restored_with era.entry.newest.now (era_found era.entry) (kind_by O.means O.wording O.CODE) object.now
+        (recovered_in recovery.now) in
         (store : StoreView) → Does [] store store task result }
 {
     match era.place().checked_add(recovery.nodes.len() as u64) {

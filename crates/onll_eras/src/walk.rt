@@ -140,7 +140,8 @@ fn over_newest<S: Store>(
     store: &mut S,
 ) -> Result<Vec<u8>, Stop>
     requires { (1 ≤ call.threads) × (call.threads ≤ most_threads) }
-    ensures { let task = era_task (names_of call.entry.files) first.text.items call.entry.threads first.object newest (call_next call.entry) in
+    ensures { let task = era_task (names_of call.entry.files) first.text.items call.entry.threads first.object newest
+        (call_next call.entry) in
         Does (call_work call.entry).writes (S.seen store.old) (S.seen store.new) task result }
 {
     let InitText { text, object } = first;

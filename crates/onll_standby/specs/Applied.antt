@@ -10,18 +10,21 @@ use Rattle.onll_standby.specs.Held.{number_follows, followed_above, node_fault_a
 use Rattle.onll_standby.specs.Places.{held_at}
 
 -- it is after these nodes, which are counted
-pub record StandsAfter {State Op Query Reply : Type 0} (b : Behaviour State Op Query Reply) (start : State) (nodes : List Node) (f : Applied State Op Query Reply) : Type 0 where
+pub record StandsAfter {State Op Query Reply : Type 0} (b : Behaviour State Op Query Reply) (start : State) (nodes : List Node)
+    (f : Applied State Op Query Reply) : Type 0 where
   pub object : f.object ≡ state_after b start nodes
   pub followed : f.followed ≡ length nodes
   pub counts : (t : ℕ) → t < most_threads → get_or f.counts t 0 ≡ count_by (is_of_thread t) nodes
 
 -- what comes of the node after these
-pub record IsFollowed {State Op Query Reply : Type 0} (b : Behaviour State Op Query Reply) (start : State) (nodes : List Node) (x : Node) (f : Applied State Op Query Reply) : Type 0 where
+pub record IsFollowed {State Op Query Reply : Type 0} (b : Behaviour State Op Query Reply) (start : State) (nodes : List Node)
+    (x : Node) (f : Applied State Op Query Reply) : Type 0 where
   pub number : number_follows nodes x ≡ true
   pub operation : IsSome (b.op_at x.row)
   pub stands : StandsAfter b start (nodes ++ x ∷ []) f
 
-pub record IsNotFollowed {State Op Query Reply : Type 0} (b : Behaviour State Op Query Reply) (start : State) (nodes : List Node) (x : Node) (e : FeedFault) (f : Applied State Op Query Reply) : Type 0 where
+pub record IsNotFollowed {State Op Query Reply : Type 0} (b : Behaviour State Op Query Reply) (start : State) (nodes : List Node)
+    (x : Node) (e : FeedFault) (f : Applied State Op Query Reply) : Type 0 where
   pub fault : node_fault_above b nodes (x ∷ []) ≡ Some e
   pub stands : StandsAfter b start nodes f
 

@@ -16,7 +16,8 @@ use Rattle.onll_standby.specs.Stream.{AreStreamHeads, Course, Shown, entries_cou
 use Rattle.onll_standby.specs.Shipped.{AreFronts, AreAllOf, IsUpdate, stream_lines}
 
 -- the course of lines, and of more lines after them where no fault is shown
-abbrev pub goes_on : {State Op Query Reply : Type 0} → Behaviour State Op Query Reply → List LogHead → Option Shown → Course → List (List ℕ) → ℕ → Course
+abbrev pub goes_on : {State Op Query Reply : Type 0} → Behaviour State Op Query Reply → List LogHead → Option Shown → Course
+    → List (List ℕ) → ℕ → Course
 goes_on b heads (Some shown) c more all = c
 goes_on b heads None c more all = entries_course b heads c.entries (all - length c.rest) 0 (c.rest ++ more)
 
@@ -41,7 +42,8 @@ module _ {State Op Query Reply : Type 0} (b : Behaviour State Op Query Reply) wh
   abbrev pub LineLaw : Type 0
   LineLaw = (heads : List LogHead) (ls : List (List ℕ)) (l : List ℕ) → (lines_course b heads ls).shown ≡ None → length heads ≤ length ls
       → lines_course b heads (ls ++ l ∷ [])
-      ≡ entries_course b heads (lines_course b heads ls).entries (length ls - length (lines_course b heads ls).rest) 0 ((lines_course b heads ls).rest ++ l ∷ [])
+      ≡ entries_course b heads (lines_course b heads ls).entries (length ls - length (lines_course b heads ls).rest) 0
+      ((lines_course b heads ls).rest ++ l ∷ [])
 
   -- A fault that is shown stays that of every longer stream, with all that was held and followed before it.
   abbrev pub LastingLaw : Type 0
@@ -50,7 +52,8 @@ module _ {State Op Query Reply : Type 0} (b : Behaviour State Op Query Reply) wh
 
   -- So where a stream shows none, no front of it does.
   abbrev pub CleanLaw : Type 0
-  CleanLaw = (heads : List LogHead) (bytes more : List ℕ) → (course b heads (bytes ++ more)).shown ≡ None → (course b heads bytes).shown ≡ None
+  CleanLaw = (heads : List LogHead) (bytes more : List ℕ) → (course b heads (bytes ++ more)).shown ≡ None
+      → (course b heads bytes).shown ≡ None
 
   -- Want of memory is no fault of a stream.
   abbrev pub FaultLaw : Type 0
@@ -71,7 +74,8 @@ module _ {State Op Query Reply : Type 0} (b : Behaviour State Op Query Reply) wh
 
   -- It has no fault, and what it follows is a front of the trace.
   abbrev pub SoundStreamLaw : Type 0
-  SoundStreamLaw = (count : ℕ) (f : Frame) (heads : List LogHead) (es : List HeldEntry) (bytes : List ℕ) → Sound count f → length heads ≡ count
+  SoundStreamLaw = (count : ℕ) (f : Frame) (heads : List LogHead) (es : List HeldEntry) (bytes : List ℕ) → Sound count f
+      → length heads ≡ count
       → AreStreamHeads heads → AllByRecursion (IsUpdate b count) f.trace → AreFronts count f es → whole_lines bytes ≡ stream_lines heads es
       → FollowsTrace f es (course b heads bytes)
 
@@ -83,7 +87,8 @@ module _ {State Op Query Reply : Type 0} (b : Behaviour State Op Query Reply) wh
 
   -- With all entries of what a crash leaves of a sound frame's threads it follows as far as recovery does.
   abbrev pub RecoveredStreamLaw : Type 0
-  RecoveredStreamLaw = (count : ℕ) (f : Frame) (heads : List LogHead) (logs : List Content) (es : List HeldEntry) (bytes : List ℕ) → Sound count f
+  RecoveredStreamLaw = (count : ℕ) (f : Frame) (heads : List LogHead) (logs : List Content) (es : List HeldEntry) (bytes : List ℕ)
+      → Sound count f
       → length heads ≡ count → AreStreamHeads heads → AllByRecursion (IsUpdate b count) f.trace → AreLogsOf f.threads heads logs
       → AreAllOf count logs es → whole_lines bytes ≡ stream_lines heads es
       → FollowsMerge heads logs (course b heads bytes)

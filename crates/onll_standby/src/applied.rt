@@ -36,7 +36,8 @@ impl<O: Object> Applied<O> {
         requires room { self.old.followed < 2 ^ 64 - 1 }
         ensures step { IfOk result (λ _. self.new.followed ≡ self.old.followed + 1) }
         ensures followed { (start : O) (nodes : List Node) → StandsAfter O.means start nodes self.old
-            → MatchResult result (λ _. IsFollowed O.means start nodes node self.new) (λ e. IsNotFollowed O.means start nodes node e self.new) }
+            → MatchResult result (λ _. IsFollowed O.means start nodes node self.new)
+            (λ e. IsNotFollowed O.means start nodes node e self.new) }
     {
         let place = self.followed + 1;
         let thread = node.thread as usize;
@@ -56,7 +57,8 @@ impl<O: Object> Applied<O> {
 
     /// Follows the nodes of the next places, as far as one is held.
     pub fn advance(&mut self, places: &Places) -> Result<(), FeedFault>
-        ensures { (start : O) (nodes : List Node) (room : ℕ) → StandsAfter O.means start nodes self.old → length places.now ≤ length nodes + room
+        ensures { (start : O) (nodes : List Node) (room : ℕ) → StandsAfter O.means start nodes self.old
+            → length places.now ≤ length nodes + room
             → HasAdvanced O.means start nodes room places.now result self.new }
     {
         while let Some(node) = places.above(self.followed) {

@@ -80,7 +80,8 @@ pub fn take_entry<O: Object>(
     requires few { holdings.old.held < 2 ^ 64 - 1 }
     ensures places { length holdings.new.places ≡ length holdings.old.places }
     ensures held { holdings.new.held ≤ holdings.old.held + 1 }
-    ensures taken { (start : O) (es : List HeldEntry) (at : ℕ) → byte_at at ≡ begins → Keeps O.means start (length heads.now) es holdings.old
+    ensures taken { (start : O) (es : List HeldEntry) (at : ℕ) → byte_at at ≡ begins
+        → Keeps O.means start (length heads.now) es holdings.old
         → TookEntry O.means start heads.now at (header.now.w ∷ words_of rest.now)
         (entries_course O.means heads.now es at 0 (header.now.w ∷ words_of rest.now)) result holdings.new }
 {

@@ -72,7 +72,8 @@ impl<O: Object> Follower<O> {
     /// Takes the header line of a log.
     fn take_head(&self, line: &Line) -> Result<(), FeedFault>
         requires { self.now.lines < length self.now.heads.items }
-        ensures head { (d : LogHead) → OnOk result (same_words line.now.w (head_line (get_or self.now.heads.items self.now.lines d)) ≡ true) }
+        ensures head { (d : LogHead) → OnOk result
+            (same_words line.now.w (head_line (get_or self.now.heads.items self.now.lines d)) ≡ true) }
         ensures foreign { (d : LogHead) → IfErr result (λ e. (e ≡ FeedFault.NotThisRun self.now.lines)
             × (same_words line.now.w (head_line (get_or self.now.heads.items self.now.lines d)) ≡ false)) }
     {
@@ -92,7 +93,8 @@ impl<O: Object> Follower<O> {
             (get_or self.old.holdings.logs (word line.now.w 1) d).entries line.now.w ≡ true) }
         ensures begun { OnOk result (self.new ≡ record self.old { entry = line.now.w ∷ []; begins = 64 * self.old.lines }) }
         ensures refused { (d : LogTail) → IfErr result (λ e. (e ≡ FeedFault.Refused (64 * self.old.lines))
-            × (opens (head_named self.old.heads.items line.now.w) (get_or self.old.holdings.logs (word line.now.w 1) d).entries line.now.w ≡ false)) }
+            × (opens (head_named self.old.heads.items line.now.w)
+            (get_or self.old.holdings.logs (word line.now.w 1) d).entries line.now.w ≡ false)) }
         ensures same { IfErr result (λ _. self.new ≡ self.old) }
     {
         let at = LINE as u64 * self.lines;
@@ -113,8 +115,10 @@ impl<O: Object> Follower<O> {
         ensures same { self.new ≡ record self.old { holdings = self.new.holdings } }
         ensures places { length self.new.holdings.places ≡ length self.old.holdings.places }
         ensures held { self.new.holdings.held ≤ self.old.holdings.held + 1 }
-        ensures taken { (start : O) (es : List HeldEntry) (at : ℕ) → byte_at at ≡ self.old.begins → Keeps O.means start (length self.old.heads.items) es self.old.holdings
-            → TookEntry O.means start self.old.heads.items at self.old.entry (entries_course O.means self.old.heads.items es at 0 self.old.entry) result self.new.holdings }
+        ensures taken { (start : O) (es : List HeldEntry) (at : ℕ) → byte_at at ≡ self.old.begins
+            → Keeps O.means start (length self.old.heads.items) es self.old.holdings
+            → TookEntry O.means start self.old.heads.items at self.old.entry
+            (entries_course O.means self.old.heads.items es at 0 self.old.entry) result self.new.holdings }
     {
         match self.entry.lines().split_first() {
             Some((header, rest)) => take_entry(
@@ -145,8 +149,8 @@ impl<O: Object> Follower<O> {
         requires few { (self.old.lines + 1) * 64 < 2 ^ 64 }
         ensures same { self.new ≡ record self.old { holdings = self.new.holdings; entry = self.new.entry } }
         ensures ready { IsReady (record self.new { lines = self.new.lines + 1 }) }
-        ensures took { (start : O) (heads : List LogHead) (ls : List (List ℕ)) → FollowsLines O.means start heads ls self.old → length heads ≤ length ls
-            → LineUncounted O.means start heads (ls ++ line.now.w ∷ []) result self.new }
+        ensures took { (start : O) (heads : List LogHead) (ls : List (List ℕ)) → FollowsLines O.means start heads ls self.old
+            → length heads ≤ length ls → LineUncounted O.means start heads (ls ++ line.now.w ∷ []) result self.new }
     {
         let last = self.is_last();
         self.entry.add(line);

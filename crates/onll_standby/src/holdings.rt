@@ -80,7 +80,8 @@ impl<O: Object> Holdings<O> {
         ensures held { self.new.held ≤ self.old.held + 1 }
         ensures admitted { (start : O) (threads : ℕ) (es : List HeldEntry) (at : ℕ) → Keeps O.means start threads es self.old
             → entry_fault es at (record { thread = thread; segment = record { place = place; nodes = nodes.now } }) ≡ None
-            → HasAdmitted O.means start threads es (record { thread = thread; segment = record { place = place; nodes = nodes.now } }) result self.new }
+            → HasAdmitted O.means start threads es
+            (record { thread = thread; segment = record { place = place; nodes = nodes.now } }) result self.new }
     {
         self.places.put(place - nodes.len() as u64, nodes);
         self.applied.advance(&self.places)?;

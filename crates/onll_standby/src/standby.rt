@@ -67,7 +67,8 @@ impl<O: Object> Standby<O> {
     /// How many bytes of the stream were taken.
     pub fn taken(&self) -> u64
         ensures count { result ≡ self.now.taken }
-        ensures so { (start : O) (heads : List LogHead) (bytes : List ℕ) → HasFollowed O.means start heads bytes self.now → result ≡ length bytes }
+        ensures so { (start : O) (heads : List LogHead) (bytes : List ℕ) → HasFollowed O.means start heads bytes self.now
+            → result ≡ length bytes }
     {
         self.taken
     }

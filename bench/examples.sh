@@ -146,6 +146,13 @@ prints office/wednesday.report resume evening.0.init evening.0 examples/office/w
 prints office/report restore examples/office/hall office evening 1
 same 'the text of an era is another' "$(cat "$folder/evening.0.init")" "$(cat "$top/examples/office/wednesday.init")"
 
+# A second office follows the sales by a pipe.
+take second_office
+prints second_office/shipped ship examples/tickets/out 2 sales
+mkfifo "$folder/line"
+cat "$folder/sales" > "$folder/line" &
+prints second_office/report follow examples/tickets/hall 2 line 100
+
 usage=$(sed -n '/^usage: /,/^```$/p' "$top/docs/FORMATS.md" | sed '$d')
 ends 2 "$usage"
 ends 2 "$usage" fold examples/transfer/bank examples/transfer/script examples/transfer/script
@@ -158,6 +165,10 @@ echo 'no log' > "$folder/examples/crash/bad.0"
 ends 4 'log 0 not a log' recover examples/crash/bank examples/crash/bad 1
 ends 4 'not a log' show examples/crash/plan
 ends 4 'place 1 not in the script' detect examples/crash/bank examples/crash/out examples/crash/third examples/crash/second
+head -c 100 "$folder/sales" > "$folder/part"
+ends 4 'stream log 0 not of this run' follow examples/crash/bank 2 part 1
+ends 4 'log 0 not a log' ship examples/crash/bad 1 sales
+ends 6 'write fault examples/none/sales' ship examples/tickets/out 2 examples/none/sales
 ends 5 'read fault none.0' restore examples/office/hall office none 1
 ends 6 'write fault examples/none/k.0' areas examples/none/k
 ends 5 'read fault examples/none' fold examples/transfer/bank examples/none

@@ -81,9 +81,12 @@ ROWS = {
     "areas": (["areas", "k"], {}),
     "restore": (["restore", "bank", "out", "k", "2"], AREAS),
     "checkpoint": (["checkpoint", "bank", "out", "k", "2"], AREAS),
+    "ship": (["ship", "out", "2", "stream"], {name: f"crash/{name}" for name in ("out.0", "out.1")}),
+    "follow": (["follow", "bank", "2", "stream", "100"], {name: f"crash/{name}" for name in ("bank", "out.0", "out.1")}),
 }
 # What is done before a row, with ample memory.
-BEFORE = {"restore": ["checkpoint", "bank", "out", "k", "2"], "checkpoint": ["checkpoint", "bank", "out", "k", "2"]}
+BEFORE = {"restore": ["checkpoint", "bank", "out", "k", "2"], "checkpoint": ["checkpoint", "bank", "out", "k", "2"],
+          "follow": ["ship", "out", "2", "stream"]}
 # The files that the words of a row may write, by how their names begin, and how many logs there are then.
 WRITES = {"replay": ("log.", 2), "again": ("out.", 2), "run": ("log.", 1), "resume": ("out.", 2), "checkpoint": ("k.0", 2)}
 

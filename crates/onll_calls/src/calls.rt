@@ -22,7 +22,9 @@ pub const USAGE: &str = "usage: onll fold INIT SCRIPT\n       \
      onll detect INIT LOGS SCRIPT..\n       \
      onll areas CKPT\n       \
      onll restore INIT LOGS CKPT T\n       \
-     onll checkpoint INIT LOGS CKPT T\n";
+     onll checkpoint INIT LOGS CKPT T\n       \
+     onll ship LOGS T OUT\n       \
+     onll follow INIT T STREAM PIECE\n";
 
 /// One call of the program: its words, the files that are there, and the numbers of the store's calls
 /// and of the sink's puts that fail.

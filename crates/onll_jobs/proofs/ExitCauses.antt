@@ -16,7 +16,7 @@ use Rattle.onll_task.specs.declared.ending.Ending.TheVariants.{Done, Usage, Refu
 use Rattle.onll_task.specs.declared.ending.Exit.{Exit}
 use Rattle.onll_task.specs.declared.ending.Exit.TheVariants.{Said, SinkFault, NoMemory}
 use Rattle.onll_jobs.specs.Seen.{Seen}
-use Rattle.onll_jobs.specs.Command.{Form, OverInit, Show, Make, Areas, Restore, Checkpoint, form_of, usage_text}
+use Rattle.onll_jobs.specs.Command.{Form, OverInit, Show, Make, Areas, Restore, Checkpoint, Ship, form_of, usage_text}
 use Rattle.onll_task.specs.Printed.{status_of, exit_status}
 use Rattle.onll_task.specs.Job.{Say, Threads, JobEnds, Never, Decides, Job}
 use Rattle.onll_log.specs.Grammar.{Content, content_of}
@@ -29,7 +29,7 @@ use Rattle.onll_jobs.specs.FoldJob.{script_task}
 use Rattle.onll_jobs.specs.Exits.{PutExits}
 use Rattle.onll_jobs.specs.Says.{job_of, Allows, PutWhole, OutOfMemory, SinkFailed, ExitSays, NothingFailed, NoneRose, SaysThis}
 use Rattle.onll_task.specs.Doing.{Task, lines_stage, each_job}
-use Rattle.onll_jobs.specs.Over.{OverForm, FoldOver, RecoverOver, ReplayOver, AgainOver, ResumeOver, RunOver, DetectOver, over_task, object_task, over_work}
+use Rattle.onll_jobs.specs.Over.{OverForm, FoldOver, RecoverOver, ReplayOver, AgainOver, ResumeOver, RunOver, DetectOver, FollowOver, over_task, object_task, over_work}
 use Rattle.onll_task.proofs.Onwards.{ends_cut}
 use Rattle.onll_task.proofs.Jobs.{TellsFault, nothing_failed, decided, never_says, reading_never, reading_whole_never}
 use Rattle.onll_task.proofs.ImageFiles.{reading_images_never}
@@ -41,6 +41,8 @@ use Rattle.onll_jobs.proofs.ResumeEnds.{resume_not_usage}
 use Rattle.onll_jobs.proofs.RunEnds.{run_not_usage}
 use Rattle.onll_task.specs.ImageNames.{image_names}
 use Rattle.onll_eras.proofs.EraEndings.{areas_never, restore_never, checkpoint_never, areas_not_faulty, restore_not_faulty}
+use Rattle.onll_shipping.proofs.Endings.{follow_never, follow_not_faulty}
+use Rattle.onll_shipping.proofs.Shipping.{ship_never, ship_not_faulty}
 use Rattle.onll_jobs.specs.RunPromises.{IsOfRun, IsOfCheckpoint}
 use Rattle.onll_jobs.proofs.SaidEnds.{said_read, whole_ends}
 
@@ -141,10 +143,14 @@ form_not_usage w (OverInit init (AgainOver schedule logs scripts)) e h = again_n
 form_not_usage w (OverInit init (ResumeOver logs scripts)) e h = resume_not_usage w init logs scripts e h
 form_not_usage w (OverInit init (RunOver logs scripts)) e h = run_not_usage w init logs scripts e h
 form_not_usage w (OverInit init (DetectOver logs scripts)) e h = detect_not_usage w init logs scripts e h
+form_not_usage w (OverInit init (FollowOver threads stream piece)) e h =
+    not_usage w (OverInit init (FollowOver threads stream piece)) e
+    (over_never init (FollowOver threads stream piece) (λ kind bytes s. follow_never (kind_at kind) bytes stream threads s)) h
 form_not_usage w (Make workload) e h = not_usage w (Make workload) e (λ d. cc d) h
 form_not_usage w (Areas ckpt) e h = not_usage w (Areas ckpt) e (areas_never ckpt) h
 form_not_usage w (Restore names threads) e h = not_usage w (Restore names threads) e (restore_never names threads) h
 form_not_usage w (Checkpoint names threads) e h = not_usage w (Checkpoint names threads) e (checkpoint_never names threads) h
+form_not_usage w (Ship logs threads out) e h = not_usage w (Ship logs threads out) e (ship_never logs threads out) h
 
 usage_put : (w : Seen) (form : Option Form) → form_of w.words ≡ form → PutWhole w Usage → (form ≡ None) × Puts w.sink w.sink_after usage_text
 usage_put w None e h = (refl, subst (Puts w.sink w.sink_after) (subst (λ f. JobEnds w.store w.store_after (job_of f) Usage h.text) e h.allowed).1 h.put)
@@ -248,11 +254,17 @@ module _ (seen : Seen) (h : PutWhole seen Faulty) where
   of_run (Some (OverInit init (ResumeOver logs names))) e = inl (record { init = init; logs = logs; names = names; form = inr e })
   of_run (Some (OverInit init (RunOver logs names))) e = inl (record { init = init; logs = logs; names = names; form = inl e })
   of_run (Some (OverInit init (DetectOver logs names))) e = absurd (detect_not_faulty seen init logs names e h)
+  of_run (Some (OverInit init (FollowOver threads stream piece))) e =
+      absurd (over_not_faulty seen.store seen.store_after h.text init (FollowOver threads stream piece)
+      (λ kind bytes s. follow_not_faulty seen.store seen.store_after (kind_at kind) bytes stream threads s h.text)
+      (ends_so (Some (OverInit init (FollowOver threads stream piece))) e))
   of_run (Some (Make workload)) e = absurd (let same = (ends_so (Some (Make workload)) e).0 in cc)
   of_run (Some (Areas ckpt)) e = absurd (areas_not_faulty seen.store seen.store_after ckpt h.text (ends_so (Some (Areas ckpt)) e))
   of_run (Some (Restore names threads)) e =
       absurd (restore_not_faulty seen.store seen.store_after names threads h.text (ends_so (Some (Restore names threads)) e))
   of_run (Some (Checkpoint names threads)) e = inr (record { names = names; threads = threads; form = e })
+  of_run (Some (Ship logs threads out)) e =
+      absurd (ship_not_faulty seen.store seen.store_after logs threads out h.text (ends_so (Some (Ship logs threads out)) e))
 
   pub faulty_run : IsOfRun seen ⊎ IsOfCheckpoint seen
   faulty_run = of_run (form_of seen.words) refl

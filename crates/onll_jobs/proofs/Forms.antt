@@ -1,9 +1,9 @@
-use Rattle.std.proofs.Common.{ℕ, List, [], ◌∷◌, ◌≡◌, ◌≤◌, Bool, true, false, nat_le, cond, Option, Some, None, length, refl, sym, subst}
+use Rattle.std.proofs.Common.{ℕ, List, [], ◌∷◌, ◌≡◌, ◌≤◌, Bool, true, false, nat_le, ◌&&◌, cond, Option, Some, None, length, refl, sym, subst}
 use Rattle.std.proofs.lemmas.Bool.{leb-true}
 use Rattle.onll_model.proofs.Lists.{same_some, some_not_none}
 use Rattle.onll_log.proofs.Accepted.{both_true}
 use Rattle.onll_eras.specs.Names.{EraNames}
-use Rattle.onll_jobs.specs.Command.{Form, Replay, Again, Restore, Checkpoint, named_form, form_of, is_within, within_limits}
+use Rattle.onll_jobs.specs.Command.{Form, Replay, Again, Restore, Checkpoint, Follow, named_form, form_of, is_within, within_limits}
 
 -- The scripts of a replay, anew or going on.
 
@@ -44,3 +44,11 @@ pub few-checkpointed : (words : List (List ℕ)) (names : EraNames) (threads : �
 few-checkpointed words names threads e =
     let both = both_true (nat_le 1 threads) (nat_le threads 16) (form_within words (Checkpoint names threads) e) in
     (leb-true 1 threads both.0, leb-true threads 16 both.1)
+
+-- so is a stream
+pub few-followed : (words : List (List ℕ)) (init stream : List ℕ) (threads piece : ℕ) → form_of words ≡ Some (Follow init threads stream piece)
+    → (1 ≤ threads) × (threads ≤ 16)
+few-followed words init stream threads piece e =
+    let pieces = nat_le 1 piece && nat_le piece 1048576 in
+    let both = both_true (nat_le 1 threads) (nat_le threads 16 && pieces) (form_within words (Follow init threads stream piece) e) in
+    (leb-true 1 threads both.0, leb-true threads 16 (both_true (nat_le threads 16) pieces both.1).0)

@@ -20,6 +20,7 @@ use Rattle.onll_jobs.proofs.AgainDurable.{again_durable, again_bad}
 use Rattle.onll_jobs.proofs.AgainDone.{goes_on_left, goes_on_run}
 use Rattle.onll_jobs.proofs.DetectCrashes.{tells_crashes}
 use Rattle.onll_jobs.proofs.EraEnds.{restore_kept, checkpoint_kept}
+use Rattle.onll_jobs.proofs.ShipEnds.{ship_kept, follow_kept}
 use Rattle.onll_jobs.proofs.ReplayEnds.{replay_not_bad, replay_durable}
 use Rattle.onll_jobs.proofs.ResumeDone.{resumes_left, resumes_run}
 use Rattle.onll_jobs.proofs.ResumeEnds.{resume_whole, resume_broken, resume_no_device, resume_refused, resume_bad}
@@ -107,6 +108,8 @@ kept_of seen x says determined files = record {
   detect = record { crashes = tells_crashes seen x says };
   restore = restore_kept seen x says;
   checkpoint = checkpoint_kept seen x says;
+  ship = ship_kept seen x says;
+  follow = follow_kept seen x says;
 }
 
 pub promises_kept : (seen : Seen) (x : Exit) (status : ℕ) → status ≡ exit_status x → ExitSays seen x → ExitDetermined seen x

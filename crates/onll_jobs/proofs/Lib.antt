@@ -26,3 +26,4 @@ pub mod DetectedNodes
 pub mod DetectedCrash
 pub mod DetectCrashes
 mod EraEnds
+mod ShipEnds

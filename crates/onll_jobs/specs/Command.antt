@@ -10,10 +10,10 @@ use Rattle.onll_workload.specs.Workload.{IsWorkload}
 use Rattle.onll_eras.specs.Names.{EraNames, names_of}
 use Rattle.onll_jobs.specs.declared.command.Command.{Command}
 use Rattle.onll_jobs.specs.declared.command.Command.TheVariants as commands
-use Rattle.onll_jobs.specs.Over.{OverForm, FoldOver, RecoverOver, ReplayOver, AgainOver, ResumeOver, RunOver, DetectOver, over_in, is_over, IsOver}
+use Rattle.onll_jobs.specs.Over.{OverForm, FoldOver, RecoverOver, ReplayOver, AgainOver, ResumeOver, RunOver, DetectOver, FollowOver, over_in, is_over, IsOver}
 
 -- A form of the program's words: a command over the object whose initial state a file holds, or one of an image, or a workload, or a
--- command over the areas of checkpoints, or over eras of so many threads.
+-- command over the areas of checkpoints, or over eras of so many threads, or the stream of so many threads' logs.
 pub data Form : Type 0 where
   OverInit : (init : List ℕ) (over : OverForm) → Form
   Show : (image : List ℕ) → Form
@@ -21,6 +21,7 @@ pub data Form : Type 0 where
   Areas : (ckpt : List ℕ) → Form
   Restore : (names : EraNames) (threads : ℕ) → Form
   Checkpoint : (names : EraNames) (threads : ℕ) → Form
+  Ship : (logs : List ℕ) (threads : ℕ) (out : List ℕ) → Form
 
 -- ---- the commands over an object
 abbrev pub Fold : (init script : List ℕ) → Form
@@ -43,6 +44,9 @@ Run init logs scripts = OverInit init (RunOver logs scripts)
 
 abbrev pub Detect : (init logs : List ℕ) → (scripts : List (List ℕ)) → Form
 Detect init logs scripts = OverInit init (DetectOver logs scripts)
+
+abbrev pub Follow : (init : List ℕ) (threads : ℕ) (stream : List ℕ) (piece : ℕ) → Form
+Follow init threads stream piece = OverInit init (FollowOver threads stream piece)
 
 -- ---- what the names after a command's word say
 abbrev pub fold_of : List (List ℕ) → Option Form
@@ -101,6 +105,19 @@ checkpoint_of (init ∷ logs ∷ ckpt ∷ threads ∷ []) =
     option_map (Checkpoint (record { init = init; logs = logs; ckpt = ckpt })) (number_of threads)
 checkpoint_of names = None
 
+abbrev pub ship_of : List (List ℕ) → Option Form
+ship_of (logs ∷ threads ∷ out ∷ []) = option_map (λ n. Ship logs n out) (number_of threads)
+ship_of names = None
+
+-- the second name is the number of threads, the last how many bytes a piece has
+abbrev pub followed_from : (init stream : List ℕ) → Option ℕ → Option ℕ → Option Form
+followed_from init stream (Some threads) (Some piece) = Some (Follow init threads stream piece)
+followed_from init stream threads piece = None
+
+abbrev pub follow_of : List (List ℕ) → Option Form
+follow_of (init ∷ threads ∷ stream ∷ piece ∷ []) = followed_from init stream (number_of threads) (number_of piece)
+follow_of names = None
+
 -- the form of a command's word with these names
 abbrev pub named_form : List ℕ → List (List ℕ) → Option Form
 named_form command names =
@@ -116,6 +133,8 @@ named_form command names =
     else if bytes_eq command (codes "areas") then areas_of names
     else if bytes_eq command (codes "restore") then restore_of names
     else if bytes_eq command (codes "checkpoint") then checkpoint_of names
+    else if bytes_eq command (codes "ship") then ship_of names
+    else if bytes_eq command (codes "follow") then follow_of names
     else None
 
 -- ---- the form of words
@@ -126,6 +145,7 @@ is_within (Show image) = true
 is_within (Areas ckpt) = true
 is_within (Restore names threads) = nat_le 1 threads && nat_le threads most_threads
 is_within (Checkpoint names threads) = nat_le 1 threads && nat_le threads most_threads
+is_within (Ship logs threads out) = nat_le 1 threads && nat_le threads most_threads
 is_within (Make w) = nat_le 1 w.threads && (nat_le w.threads most_threads && (nat_le 1 w.updates && nat_le w.updates most_updates))
 
 abbrev pub within_limits : Option Form → Option Form
@@ -145,6 +165,7 @@ form_in (commands.Make workload) = Make workload
 form_in (commands.Areas ckpt) = Areas ckpt.now
 form_in (commands.Restore files threads) = Restore (names_of files) threads
 form_in (commands.Checkpoint files threads) = Checkpoint (names_of files) threads
+form_in (commands.Ship logs threads out) = Ship logs.now threads out.now
 
 -- it is within the limits
 abbrev pub IsCommand : Command → Type 0
@@ -154,6 +175,7 @@ IsCommand (commands.Make workload) = IsWorkload workload
 IsCommand (commands.Areas ckpt) = Unit {0}
 IsCommand (commands.Restore files threads) = (1 ≤ threads) × (threads ≤ most_threads)
 IsCommand (commands.Checkpoint files threads) = (1 ≤ threads) × (threads ≤ most_threads)
+IsCommand (commands.Ship logs threads out) = (1 ≤ threads) × (threads ≤ most_threads)
 
 -- the text that is put where words have no form
 abbrev pub usage_text : List ℕ
@@ -170,3 +192,5 @@ usage_text =
     ++ codes "       onll areas CKPT\n"
     ++ codes "       onll restore INIT LOGS CKPT T\n"
     ++ codes "       onll checkpoint INIT LOGS CKPT T\n"
+    ++ codes "       onll ship LOGS T OUT\n"
+    ++ codes "       onll follow INIT T STREAM PIECE\n"

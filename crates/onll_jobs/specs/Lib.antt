@@ -16,3 +16,4 @@ pub mod MakeJob
 pub mod MakePromises
 pub mod DetectPromises
 pub mod EraPromises
+pub mod ShipPromises

@@ -15,6 +15,7 @@ use Rattle.onll_jobs.specs.ResumePromises.{ResumePromises}
 use Rattle.onll_jobs.specs.RunPromises.{RunPromises}
 use Rattle.onll_jobs.specs.RunRecovers.{RecoversRuns}
 use Rattle.onll_jobs.specs.MakePromises.{MakePromises}
+use Rattle.onll_jobs.specs.ShipPromises.{ShipPromises, FollowPromises}
 use Rattle.onll_jobs.specs.Seen.{Seen}
 use Rattle.onll_task.specs.Writing.{SameBut}
 
@@ -54,3 +55,5 @@ pub record Promises (seen : Seen) (status : ℕ) : Type 0 where
   pub detect : DetectPromises seen status
   pub restore : RestorePromises seen status
   pub checkpoint : CheckpointPromises seen status
+  pub ship : ShipPromises seen status
+  pub follow : FollowPromises seen status

@@ -1,6 +1,6 @@
 -- What a call does by its words, and what it says of that by its exit.
 
-use Rattle.std.specs.Prelude.{ℕ, List, [], ◌≡◌, ◌⊎◌, Option, Some, None}
+use Rattle.std.specs.Prelude.{ℕ, List, [], ◌∷◌, ◌≡◌, ◌⊎◌, Option, Some, None}
 use Rattle.onll_text.specs.declared.any_object.AnyObject.{AnyObject}
 use Rattle.onll_text.specs.Init.{init_of}
 use Rattle.onll_text.specs.Kinds.{ObjectKind, on_object}
@@ -10,7 +10,7 @@ use Rattle.onll_task.specs.declared.ending.Ending.TheVariants.{Done, Usage}
 use Rattle.onll_task.specs.declared.ending.Exit.{Exit}
 use Rattle.onll_task.specs.declared.ending.Exit.TheVariants.{Said, SinkFault, NoMemory}
 use Rattle.onll_jobs.specs.Seen.{Seen}
-use Rattle.onll_jobs.specs.Command.{Form, OverInit, Show, Make, Areas, Restore, Checkpoint, form_of, usage_text}
+use Rattle.onll_jobs.specs.Command.{Form, OverInit, Show, Make, Areas, Restore, Checkpoint, Ship, form_of, usage_text}
 use Rattle.onll_task.specs.Printed.{status_of, exit_status}
 use Rattle.onll_task.specs.Reading.{ReadsWhole}
 use Rattle.onll_task.specs.Job.{Job, JobEnds, JobCut}
@@ -19,6 +19,7 @@ use Rattle.onll_eras.specs.EraJob.{areas_work, restore_work, checkpoint_work}
 use Rattle.onll_jobs.specs.Over.{over_work}
 use Rattle.onll_jobs.specs.ShowJob.{show_work}
 use Rattle.onll_jobs.specs.MakeJob.{make_work}
+use Rattle.onll_shipping.specs.ShipJob.{ship_task}
 
 -- what a call does by its words: those of no form get the usage text
 abbrev pub work_of : Option Form → Work
@@ -29,6 +30,7 @@ work_of (Some (Make workload)) = make_work workload
 work_of (Some (Areas ckpt)) = areas_work ckpt
 work_of (Some (Restore names threads)) = restore_work names threads
 work_of (Some (Checkpoint names threads)) = checkpoint_work names threads
+work_of (Some (Ship logs threads out)) = record { task = ship_task logs threads out; writes = out ∷ [] }
 
 -- its job, with all its endings
 abbrev pub job_of : Option Form → Job

@@ -1,7 +1,7 @@
 //! The words of the program, read as a command.
 
 ghost use Rattle.std.specs.Prelude.{◌≡◌, true, map, string_bytes, Some, None, MatchOption, IfSome};
-ghost use Rattle.onll_jobs.specs.Command.{fold_of, show_of, recover_of, replay_of, again_of, resume_of, run_of, make_of, detect_of, areas_of, restore_of, checkpoint_of, named_form, form_of, form_in, is_within, usage_text, IsCommand};
+ghost use Rattle.onll_jobs.specs.Command.{fold_of, show_of, recover_of, replay_of, again_of, resume_of, run_of, make_of, detect_of, areas_of, restore_of, checkpoint_of, ship_of, follow_of, named_form, form_of, form_in, is_within, usage_text, IsCommand};
 ghost use Rattle.onll_task.specs.Stop.{StopSays};
 
 use crate::objects::Over;
@@ -24,7 +24,9 @@ const USAGE: &[u8] = b"usage: onll fold INIT SCRIPT\n       \
       onll detect INIT LOGS SCRIPT..\n       \
       onll areas CKPT\n       \
       onll restore INIT LOGS CKPT T\n       \
-      onll checkpoint INIT LOGS CKPT T\n";
+      onll checkpoint INIT LOGS CKPT T\n       \
+      onll ship LOGS T OUT\n       \
+      onll follow INIT T STREAM PIECE\n";
 
 /// What is said where words are of no form.
 pub(crate) fn usage(alloc: Global) -> Stop
@@ -36,12 +38,32 @@ pub(crate) fn usage(alloc: Global) -> Stop
 /// A command and its names, as the program's words say it.
 #[derive(Clone, Copy, Debug)]
 pub(crate) enum Command<'a> {
-    OverInit { init: &'a str, over: Over<'a> },
-    Show { image: &'a str },
-    Make { workload: Workload },
-    Areas { ckpt: &'a str },
-    Restore { files: EraFiles<'a>, threads: u64 },
-    Checkpoint { files: EraFiles<'a>, threads: u64 },
+    OverInit {
+        init: &'a str,
+        over: Over<'a>,
+    },
+    Show {
+        image: &'a str,
+    },
+    Make {
+        workload: Workload,
+    },
+    Areas {
+        ckpt: &'a str,
+    },
+    Restore {
+        files: EraFiles<'a>,
+        threads: u64,
+    },
+    Checkpoint {
+        files: EraFiles<'a>,
+        threads: u64,
+    },
+    Ship {
+        logs: &'a str,
+        threads: u64,
+        out: &'a str,
+    },
 }
 
 /// The fold of a script.
@@ -220,6 +242,43 @@ fn checkpoint<'a>(names: &'a [String]) -> Option<Command<'a>>
     }
 }
 
+/// The stream of the logs of so many threads.
+fn ship<'a>(names: &'a [String]) -> Option<Command<'a>>
+    ensures { let form = ship_of (map string_bytes names.now) in
+        MatchOption result (form ≡ None) (λ command. form ≡ Some (form_in command)) }
+{
+    match names {
+        [logs, threads, out] => Some(Command::Ship {
+            logs,
+            threads: whole_number(threads.as_bytes())?,
+            out,
+        }),
+        _ => None,
+    }
+}
+
+/// What follows such a stream, in pieces of so many bytes.
+fn follow<'a>(names: &'a [String]) -> Option<Command<'a>>
+    ensures { let form = follow_of (map string_bytes names.now) in
+        MatchOption result (form ≡ None) (λ command. form ≡ Some (form_in command)) }
+{
+    match names {
+        [init, threads, stream, piece] => {
+            let threads = whole_number(threads.as_bytes())?;
+            let piece = whole_number(piece.as_bytes())?;
+            Some(Command::OverInit {
+                init,
+                over: Over::Follow {
+                    threads,
+                    stream,
+                    piece,
+                },
+            })
+        }
+        _ => None,
+    }
+}
+
 /// The command of a word with these names.
 fn named<'a>(command: &str, names: &'a [String]) -> Option<Command<'a>>
     ensures { let form = named_form command.now (map string_bytes names.now) in
@@ -249,6 +308,10 @@ fn named<'a>(command: &str, names: &'a [String]) -> Option<Command<'a>>
         restore(names)
     } else if command == "checkpoint" {
         checkpoint(names)
+    } else if command == "ship" {
+        ship(names)
+    } else if command == "follow" {
+        follow(names)
     } else {
         None
     }
@@ -278,9 +341,9 @@ impl<'a> Command<'a> {
         match self {
             Command::OverInit { over, .. } => over.is_within(),
             Command::Show { .. } | Command::Areas { .. } => true,
-            Command::Restore { threads, .. } | Command::Checkpoint { threads, .. } => {
-                1 <= *threads && *threads <= MOST_THREADS
-            }
+            Command::Restore { threads, .. }
+            | Command::Checkpoint { threads, .. }
+            | Command::Ship { threads, .. } => 1 <= *threads && *threads <= MOST_THREADS,
             Command::Make { workload } => {
                 1 <= workload.threads
                     && workload.threads <= MOST_THREADS

@@ -10,6 +10,7 @@ use onll_model::MOST_THREADS;
 use onll_outside::{Gate, Store};
 use onll_recovery::{again_on, detect_on, recover_logs, replay_on};
 use onll_runner::{resume_on, run_on};
+use onll_shipping::{LONGEST_PIECE, follow_on};
 use onll_task::{Stop, init_file};
 use onll_text::{AnyObject, Texted};
 use std::alloc::Global;
@@ -48,6 +49,11 @@ pub(crate) enum Over<'a> {
         logs: &'a str,
         scripts: &'a [String],
     },
+    Follow {
+        threads: u64,
+        stream: &'a str,
+        piece: u64,
+    },
 }
 
 impl Over<'_> {
@@ -65,6 +71,9 @@ impl Over<'_> {
             | Over::Run { scripts, .. }
             | Over::Detect { scripts, .. } => {
                 !scripts.is_empty() && scripts.len() as u64 <= MOST_THREADS
+            }
+            Over::Follow { threads, piece, .. } => {
+                1 <= *threads && *threads <= MOST_THREADS && 1 <= *piece && *piece <= LONGEST_PIECE
             }
         }
     }
@@ -106,6 +115,11 @@ fn over_one<R: Threads + Wait + Sync, O: Texted + Drop + Send + Sync, S: Store, 
             run_on(rt, alloc, object, init, logs, scripts, gate, store)
         }
         Over::Detect { logs, scripts } => detect_on(alloc, object, init, logs, scripts, store),
+        Over::Follow {
+            threads,
+            stream,
+            piece,
+        } => follow_on(alloc, object, init, threads, stream, piece as usize, store),
     }
 }
 

@@ -13,6 +13,7 @@ use crate::command::{Command, usage};
 use crate::{make, objects, show};
 use onll_eras::{checkpoint, make_areas, restore};
 use onll_outside::{Gate, OutsideFault, Sink, Store};
+use onll_shipping::ship;
 use onll_task::{Ending, Exit, Stop};
 use std::alloc::Global;
 use std::sync::Wait;
@@ -37,6 +38,7 @@ fn command_answer<R: Threads + Wait + Sync, S: Store, G: Gate + Sync>(
         Command::Areas { ckpt } => make_areas(alloc, ckpt, store),
         Command::Restore { files, threads } => restore(alloc, files, threads, store),
         Command::Checkpoint { files, threads } => checkpoint(alloc, files, threads, store),
+        Command::Ship { logs, threads, out } => ship(alloc, logs, threads, out, store),
     }
 }
 

@@ -1,5 +1,13 @@
+pub mod EightWords
 pub mod Endings
 pub mod FirstBytes
+pub mod InTurns
 pub mod Pieces
+pub mod Putting
+pub mod ReadyLogs
+pub mod Recovering
 pub mod RunHeads
 pub mod Says
+pub mod Shipping
+pub mod StreamLines
+pub mod Written

@@ -23,6 +23,10 @@ use Rattle.onll_task.specs.Doing.{Task, Stage, after_stage, text_stage, report_t
 abbrev pub longest_stream : ℕ
 longest_stream = 71304192
 
+-- how many bytes of a stream are fed at once at most
+abbrev pub longest_piece : ℕ
+longest_piece = 1048576
+
 -- the first bytes of a file, as many as a stream has at most
 abbrev pub stream_in : List ℕ → Result (List ℕ) Refusal
 stream_in bytes = Ok (take longest_stream bytes)

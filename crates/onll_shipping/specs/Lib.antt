@@ -1,1 +1,4 @@
 pub mod FollowJob
+pub mod Laws
+pub mod ShipJob
+pub mod Turns

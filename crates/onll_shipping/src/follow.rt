@@ -26,6 +26,9 @@ use std::alloc::Global;
 /// How many bytes of a stream are read at most: as many as the images of sixteen threads have.
 const LONGEST_STREAM: usize = 71_304_192;
 
+/// How many bytes of a stream are fed at once at most.
+pub const LONGEST_PIECE: u64 = 1_048_576;
+
 /// The bytes of a stream, or what is said in their place.
 fn stream_file<S: Store>(alloc: Global, name: &str, store: &mut S) -> Result<Vec<u8>, Stop>
     ensures begins { let stage = stream_stage name.now in

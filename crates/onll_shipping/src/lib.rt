@@ -1,8 +1,14 @@
-//! The command of a standby: it follows a stream of the logs of one run.
+//! The commands of a standby: one ships the logs of a run as a stream, the other follows such a stream.
 #![tactic(auto)]
 
 mod bad_stream;
 mod follow;
 mod heads;
+mod laws;
+mod ship_fault;
+mod shipment;
+mod turns;
 
-pub use follow::follow_on;
+pub use follow::{LONGEST_PIECE, follow_on};
+pub use laws::shipped_law;
+pub use shipment::ship;

@@ -26,3 +26,6 @@ returns-in-Run g c =
 
 pub returns-in-Detect : goal.returns-in-Detect
 returns-in-Detect g c = record { by = λ threads stands. rw c.in-Detect.is c.detect_on.ensures }
+
+pub returns-in-Follow : goal.returns-in-Follow
+returns-in-Follow g c = record { by = λ threads stands. rw c.in-Follow.is c.follow_on.ensures }

@@ -17,3 +17,6 @@ returns-in-Restore g c = rw c.in-Restore.is c.restore.ensures
 
 pub returns-in-Checkpoint : goal.returns-in-Checkpoint
 returns-in-Checkpoint g c = rw c.in-Checkpoint.is c.checkpoint.ensures
+
+pub returns-in-Ship : goal.returns-in-Ship
+returns-in-Ship g c = rw c.in-Ship.is c.ship.ensures

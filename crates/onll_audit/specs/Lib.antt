@@ -1,0 +1,5 @@
+pub mod Fields
+pub mod Form
+pub mod Verdict
+pub mod Values
+pub mod Legality

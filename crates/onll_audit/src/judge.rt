@@ -1,0 +1,196 @@
+//! Whether the lines of a thread's calls are right.
+
+ghost use Rattle.std.specs.Prelude.{◌≡◌, ◌<◌, ◌≤◌, ◌+◌, ◌^◌, ◌++◌, ◌∷◌, None, Some, length, take, drop, map, IfOk, OnOk, MatchOption};
+ghost use Rattle.std.specs.Option.{option_map};
+ghost use Rattle.onll_words.specs.Texts.{joined};
+ghost use Rattle.onll_model.specs.Trace.{state_after};
+ghost use Rattle.onll_text.specs.Lines.{at_words};
+ghost use Rattle.onll_audit.specs.Values.{as_wrong};
+ghost use Rattle.onll_audit.specs.Verdict.{no_past, call_front, end_of_call, end_after, reply_right, judge, thread_wrong};
+
+use crate::fields::{after_text, is_text};
+use crate::form::put_call;
+use crate::past::{Past, outcome_right, place_right};
+use crate::replica::{Evidence, Replica};
+use crate::said::{Said, said_of};
+use crate::verdict::Why;
+use onll_model::Call;
+use onll_text::{Piece, Report, Texted};
+use onll_words::NoMemory;
+use std::alloc::Global;
+
+/// What the line of a call begins with, up to its arrow.
+fn call_front<O: Texted>(
+    alloc: Global,
+    thread: u64,
+    number: u64,
+    call: &Call<O>,
+) -> Result<Report, NoMemory>
+    ensures { IfOk result (λ text. text ≡ call_front O.wording thread number call.now) }
+{
+    let mut out = Report::new(alloc);
+    out.words(&[
+        Piece::Text(b"call"),
+        Piece::Number(thread),
+        Piece::Number(number),
+    ])?;
+    put_call(call, &mut out)?;
+    out.word(b"->")?;
+    Ok(out)
+}
+
+/// The text after the arrow of a call's line, and the outcome that it says.
+#[derive(Clone, Copy, Debug)]
+struct EndText<'a> {
+    text: &'a [u8],
+    said: Said,
+}
+
+/// What follows the front of a line and one space, and the outcome that it says.
+fn end_after<'a>(line: &'a [u8], front: &[u8]) -> Option<EndText<'a>>
+    ensures { MatchOption result (end_after front.now line.now ≡ None) (λ e. end_after front.now line.now ≡ Some (e.text.now, e.said)) }
+{
+    let rest = after_text(line, front)?;
+    let text = after_text(rest, b" ")?;
+    let said = said_of(text)?;
+    Some(EndText { text, said })
+}
+
+/// The outcome that the line of a call says, where it is that call's.
+pub(crate) fn end_of_call<O: Texted>(
+    alloc: Global,
+    thread: u64,
+    number: u64,
+    call: &Call<O>,
+    line: &[u8],
+) -> Result<Option<Said>, NoMemory>
+    ensures { IfOk result (λ said. said ≡ option_map (λ r. r.1) (end_of_call O.wording thread number call.now line.now)) }
+{
+    let front = call_front(alloc, thread, number, call)?;
+    match end_after(line, front.bytes()) {
+        Some(end) => Ok(Some(end.said)),
+        None => Ok(None),
+    }
+}
+
+/// A reply and its place, as they are printed.
+#[tactic(auto, using(crate::proofs::Printing::replies))]
+fn reply_text<O: Texted>(alloc: Global, reply: O::Reply, place: u64) -> Result<Report, NoMemory>
+    ensures { IfOk result (λ text. text ≡ joined (O.wording.reply_words reply ++ at_words place)) }
+{
+    let mut out = Report::new(alloc);
+    O::put_reply(reply, &mut out)?;
+    out.words(&[Piece::Text(b"at"), Piece::Number(place)])?;
+    Ok(out)
+}
+
+/// Whether the text after the arrow is that of the object's reply, where the call is answered.
+fn check_reply<O: Texted + Drop>(
+    alloc: Global,
+    evidence: &Evidence<'_, O>,
+    replica: &mut Replica<O>,
+    call: &Call<O>,
+    end: EndText<'_>,
+) -> Result<bool, NoMemory>
+    requires at { replica.old.at ≤ length evidence.now.nodes.now }
+    requires object { replica.old.object ≡ state_after O.means evidence.now.first.now (take replica.old.at evidence.now.nodes.now) }
+    ensures right { IfOk result (λ right. right
+        ≡ reply_right O.means O.wording evidence.now.first.now evidence.now.nodes.now call.now end.entry.said end.entry.text.now) }
+    ensures at { OnOk result (replica.new.at ≤ length evidence.now.nodes.now) }
+    ensures object { OnOk result (replica.new.object
+        ≡ state_after O.means evidence.now.first.now (take replica.new.at evidence.now.nodes.now)) }
+{
+    match end.said {
+        Said::Answered { place } => {
+            let reply = replica.ask(alloc, evidence, call, place)?;
+            let text = reply_text::<O>(alloc, reply, place)?;
+            Ok(is_text(text.bytes(), end.text))
+        }
+        _ => Ok(true),
+    }
+}
+
+/// What the line of a call says of it, or the first reason why it is wrong.
+fn judge<O: Texted + Drop>(
+    alloc: Global,
+    evidence: &Evidence<'_, O>,
+    replica: &mut Replica<O>,
+    past: Past,
+    call: &Call<O>,
+    line: &[u8],
+) -> Result<Result<Said, Why>, NoMemory>
+    requires calls { past.calls + 1 < 2 ^ 64 }
+    requires at { replica.old.at ≤ length evidence.now.nodes.now }
+    requires object { replica.old.object ≡ state_after O.means evidence.now.first.now (take replica.old.at evidence.now.nodes.now) }
+    ensures said { let e = evidence.now in IfOk result (λ said. said
+        ≡ judge O.means O.wording e.first.now e.nodes.now e.thread e.places.now past call.now line.now) }
+    ensures at { OnOk result (replica.new.at ≤ length evidence.now.nodes.now) }
+    ensures object { OnOk result (replica.new.object
+        ≡ state_after O.means evidence.now.first.now (take replica.new.at evidence.now.nodes.now)) }
+{
+    let front = call_front(alloc, evidence.thread, past.calls + 1, call)?;
+    let Some(end) = end_after(line, front.bytes()) else {
+        return Ok(Err(Why::Script));
+    };
+    if !outcome_right(past, call, end.said) {
+        return Ok(Err(Why::Outcome));
+    }
+    let count = evidence.nodes.len() as u64;
+    if !place_right(evidence.places, count, past, call, end.said) {
+        return Ok(Err(Why::Place));
+    }
+    if check_reply(alloc, evidence, replica, call, end)? {
+        Ok(Ok(end.said))
+    } else {
+        Ok(Err(Why::Reply))
+    }
+}
+
+/// A wrong line, and the first reason why it is wrong.
+#[derive(Clone, Copy, Debug, PartialEq, Eq)]
+pub(crate) struct Wrong {
+    pub line: u64,
+    pub why: Why,
+}
+
+/// The line at an index.
+pub(crate) fn line_at<'a>(lines: &[&'a [u8]], i: usize) -> &'a [u8]
+    requires { i < length lines.now }
+    ensures { drop i (map (λ l. l.now) lines.now) ≡ result.now ∷ drop (i + 1) (map (λ l. l.now) lines.now) }
+{
+    lines[i]
+}
+
+/// The least wrong line of a thread, whose first line is line `number` of the report.
+pub(crate) fn thread_wrong<O: Texted + Drop>(
+    alloc: Global,
+    evidence: &Evidence<'_, O>,
+    number: u64,
+    script: &[Call<O>],
+    lines: &[&[u8]],
+) -> Result<Option<Wrong>, NoMemory>
+    requires { number + length lines.now < 2 ^ 64 }
+    ensures { let e = evidence.now in IfOk result (λ wrong. as_wrong wrong
+        ≡ thread_wrong O.means O.wording e.first.now e.nodes.now e.thread e.places.now number no_past script.now
+        (map (λ l. l.now) lines.now)) }
+{
+    let mut past = Past::none();
+    let mut replica = Replica {
+        object: evidence.first.copy(alloc)?,
+        at: 0,
+    };
+    for i in 0..lines.len() {
+        let line = number + i as u64;
+        if i >= script.len() {
+            let why = Why::Script;
+            return Ok(Some(Wrong { line, why }));
+        }
+        let call = &script[i];
+        let text = line_at(lines, i);
+        match judge(alloc, evidence, &mut replica, past, call, text)? {
+            Ok(said) => past = past.with(call, said),
+            Err(why) => return Ok(Some(Wrong { line, why })),
+        }
+    }
+    Ok(None)
+}

@@ -1,0 +1,23 @@
+//! An auditor of the reports of `run`: it judges what a report says without running anything.
+//!
+//! ```rust
+//! let verdict = audit(alloc, bank, &scripts, report.as_bytes())?;
+//! assert!(rt; verdict == Verdict::Wrong { line: 2, why: Why::Place });
+//! ```
+#![tactic(auto)]
+
+mod auditor;
+mod fields;
+mod form;
+mod groups;
+mod judge;
+mod lines;
+mod past;
+mod read;
+mod replica;
+mod said;
+mod trace;
+mod verdict;
+
+pub use auditor::audit;
+pub use verdict::{AuditFault, Verdict, Why};

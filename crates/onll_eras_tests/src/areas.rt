@@ -1,10 +1,8 @@
 //! Areas that are made by hand: which of them hold a checkpoint, and which is the newest.
 
-use crate::area_files::{Area, GUARD, MAGIC};
-use onll_calls::images::{Image, ZERO};
-use onll_calls::{Program, named};
-use onll_outside::MemStore;
-use std::alloc::{AllocError, Global};
+use crate::area_files::{BANK_1, File, GUARD, MAGIC, NOT_BEGUN, Said, expect_calls, store_of};
+use onll_calls::images::ZERO;
+use std::alloc::Global;
 use std::sync::Wait;
 use std::test::Fail;
 use std::thread::Threads;
@@ -162,47 +160,49 @@ const OTHERS: &[Firsts<'static>] = &[
     ),
 ];
 
-/// A log of zeros, which is one of any era.
-const NOT_BEGUN: Image<'static> = Image {
-    name: "out.0",
-    lines: &[ZERO],
-    length: 64,
-};
-
-/// A store of an empty bank, these areas, and logs that are not begun.
-fn store_of(alloc: Global, even: Area<'_>, odd: Area<'_>) -> Result<MemStore, AllocError> {
-    let mut files = Vec::new(alloc);
-    files.push(named(alloc, "b", b"bank 1\n")?)?;
-    files.push(even.named(alloc, "k.0")?)?;
-    files.push(odd.named(alloc, "k.1")?)?;
-    let zeros = NOT_BEGUN.bytes(alloc)?;
-    for name in &["out.0", "k.0.0", "k.1.0"] {
-        files.push(named(alloc, name, &zeros)?)?;
+/// The area of these first lines, each with a line of its text behind it.
+fn area_of<'a>(name: &'a str, lines: &'a [[u64; 8]], text: &'a [u8]) -> File<'a> {
+    File {
+        name,
+        lines,
+        text,
+        length: lines.len().saturating_mul(128),
     }
-    Ok(MemStore::new(files, Vec::new(alloc), Vec::new(alloc)))
 }
 
-/// Each is restored as its row says.
+/// The areas of this row are restored as it says, beside logs that are not begun.
+fn expect_area<R: Threads + Wait + Sync>(
+    rt: &R,
+    alloc: Global,
+    row: &Firsts<'_>,
+) -> Result<(), Fail> {
+    let (case, even, odd, output) = *row;
+    let files = [
+        BANK_1,
+        area_of("k.0", even, b"bank 1\naccount 0 8\n"),
+        area_of("k.1", odd, b"bank 1\naccount 0 9\n"),
+        File {
+            name: "out.0",
+            ..NOT_BEGUN
+        },
+        File {
+            name: "k.0.0",
+            ..NOT_BEGUN
+        },
+        NOT_BEGUN,
+    ];
+    let mut store = store_of(alloc, &files, &[], &[])?;
+    let restored: Said<'_> = (&["restore", "b", "out", "k", "1"], 0, output);
+    expect_calls(rt, alloc, &mut store, case, &[restored])
+}
+
 fn expect_areas<R: Threads + Wait + Sync>(
     rt: &R,
     alloc: Global,
     rows: &[Firsts<'_>],
 ) -> Result<(), Fail> {
-    for (name, even, odd, output) in rows {
-        let even = Area {
-            first: even,
-            text: b"bank 1\naccount 0 8\n",
-            lines: even.len(),
-        };
-        let odd = Area {
-            first: odd,
-            text: b"bank 1\naccount 0 9\n",
-            lines: odd.len(),
-        };
-        let mut store = store_of(alloc, even, odd)?;
-        Program::new(&["restore", "b", "out", "k", "1"], &[]).expect_over(
-            rt, alloc, &mut store, name, 0, output,
-        )?;
+    for row in rows {
+        expect_area(rt, alloc, row)?;
     }
     Ok(())
 }

@@ -1,9 +1,9 @@
 //! Areas of which the text, the logs or the numbers stop a command, and texts that are at their limits.
 
-use crate::area_files::{Area, GUARD, MAGIC};
-use onll_calls::images::{DEPOSIT_5, Image, ONE_AT_1, ONES, ZERO};
-use onll_calls::{Program, named};
-use onll_outside::{MemStore, Named};
+use crate::area_files::{BANK_1, File, GUARD, MAGIC, Said, expect_calls, store_of};
+use onll_calls::Program;
+use onll_calls::images::{DEPOSIT_5, ONE_AT_1, ONES, ZERO};
+use onll_outside::MemStore;
 use std::alloc::{AllocError, Global};
 use std::sync::Wait;
 use std::test::Fail;
@@ -28,66 +28,75 @@ const NINE_HEAD: [u64; 8] = [
 const UPDATED: &[[u64; 8]] = &[NINE_HEAD, ONE_AT_1, DEPOSIT_5];
 
 /// An area of era 3 with that text.
-const FIRST: Area<'static> = Area {
-    first: &[[MAGIC, 3, 7, 19, 0, 0, 0, GUARD]],
+const FIRST: File<'static> = File {
+    name: "k.1",
+    lines: &[[MAGIC, 3, 7, 19, 0, 0, 0, GUARD]],
     text: NINE,
-    lines: 1,
+    length: 128,
 };
 
 /// One with the greatest number.
-const LAST_NUMBER: Area<'static> = Area {
-    first: &[[MAGIC, u64::MAX, 7, 19, 0, 0, 0, GUARD]],
+const LAST_NUMBER: File<'static> = File {
+    name: "k.1",
+    lines: &[[MAGIC, u64::MAX, 7, 19, 0, 0, 0, GUARD]],
     text: NINE,
-    lines: 1,
+    length: 128,
 };
 
 /// One with the greatest place.
-const LAST_PLACE: Area<'static> = Area {
-    first: &[[MAGIC, 3, u64::MAX, 19, 0, 0, 0, GUARD]],
+const LAST_PLACE: File<'static> = File {
+    name: "k.1",
+    lines: &[[MAGIC, 3, u64::MAX, 19, 0, 0, 0, GUARD]],
     text: NINE,
-    lines: 1,
+    length: 128,
 };
 
 /// One with the place before that.
-const PLACE_BEFORE: Area<'static> = Area {
-    first: &[[MAGIC, 3, u64::MAX - 1, 19, 0, 0, 0, GUARD]],
+const PLACE_BEFORE: File<'static> = File {
+    name: "k.1",
+    lines: &[[MAGIC, 3, u64::MAX - 1, 19, 0, 0, 0, GUARD]],
     text: NINE,
-    lines: 1,
+    length: 128,
 };
 
 /// One whose text is none of an initial state.
-const BAD_TEXT: Area<'static> = Area {
-    first: &[[MAGIC, 3, 7, 17, 0, 0, 0, GUARD]],
+const BAD_TEXT: File<'static> = File {
+    name: "k.1",
+    lines: &[[MAGIC, 3, 7, 17, 0, 0, 0, GUARD]],
     text: b"bank 1\naccount 0\n",
-    lines: 1,
+    length: 128,
 };
 
 /// One with no text.
-const NO_TEXT: Area<'static> = Area {
-    first: &[[MAGIC, 3, 7, 0, 0, 0, 0, 0x8000_0000_0000_0007]],
+const NO_TEXT: File<'static> = File {
+    name: "k.1",
+    lines: &[[MAGIC, 3, 7, 0, 0, 0, 0, 0x8000_0000_0000_0007]],
     text: b"",
-    lines: 0,
+    length: 64,
 };
 
 /// An older area, in whose place the same text stands: it is read as an area and not as an initial state.
-const OLDER: Area<'static> = Area {
-    first: &[[MAGIC, 2, 5, 17, 0, 0, 0, GUARD]],
+const OLDER: File<'static> = File {
+    name: "k.0",
+    lines: &[[MAGIC, 2, 5, 17, 0, 0, 0, GUARD]],
     text: b"bank 1\naccount 0\n",
-    lines: 1,
+    length: 128,
 };
 
 /// A text of two lines of which the second is zeros, in a comment.
-const ZEROS_AT_END: Area<'static> = Area {
-    first: &[[MAGIC, 3, 7, 128, 0, 0, 0, GUARD]],
+const ZEROS_AT_END: File<'static> = File {
+    name: "k.1",
+    lines: &[[MAGIC, 3, 7, 128, 0, 0, 0, GUARD]],
     text: b"bank 1\naccount 0 9\n#............................................",
-    lines: 2,
+    length: 192,
 };
 
 /// The same without its last line.
-const CUT: Area<'static> = Area {
-    first: &[[MAGIC, 3, 7, 128, 0, 0, 0, GUARD]],
+const CUT: File<'static> = File {
+    name: "k.1",
+    lines: &[[MAGIC, 3, 7, 128, 0, 0, 0, GUARD]],
     text: b"bank 1\naccount 0 9\n#............................................",
-    lines: 1,
+    length: 128,
 };
 
 /// A log of the era of the text that ends in zeros, with one update.
@@ -107,7 +116,7 @@ const ZEROS_LOG: &[[u64; 8]] = &[
 ];
 
 /// The odd area, its log's lines, if it is there, and how `restore` or `checkpoint` ends.
-type Ends<'a> = (&'a str, &'a Area<'a>, &'a [[u64; 8]], u8, &'a str);
+type Ends<'a> = (&'a str, &'a File<'a>, &'a [[u64; 8]], u8, &'a str);
 
 const RESTORES: &[Ends<'static>] = &[
     (
@@ -271,33 +280,34 @@ const CHECKPOINTS: &[Ends<'static>] = &[
     ),
 ];
 
-/// A file of these lines, if there are some.
-fn push_log(
+/// A store of this odd area beside the older one, and of a log of these lines, if there are some.
+fn store_beside<'a>(
     alloc: Global,
-    files: &mut Vec<Named>,
-    name: &str,
-    lines: &[[u64; 8]],
-) -> Result<(), AllocError> {
-    if lines.is_empty() {
-        return Ok(());
-    }
-    let log = Image {
-        name,
+    odd: &File<'a>,
+    lines: &'a [[u64; 8]],
+) -> Result<MemStore, AllocError> {
+    let log = File {
+        name: "k.1.0",
         lines,
-        length: usize::MAX,
+        text: b"",
+        length: lines.len().saturating_mul(64),
     };
-    files.push(named(alloc, name, &log.bytes(alloc)?)?)?;
-    Ok(())
+    let files = [BANK_1, OLDER, *odd, log];
+    let count = if lines.is_empty() { 3 } else { 4 };
+    store_of(alloc, files.get(..count).unwrap_or(&[]), &[], &[])
 }
 
-/// A store of an empty bank, this odd area beside the older one, and its log.
-fn store_of(alloc: Global, odd: &Area<'_>, lines: &[[u64; 8]]) -> Result<MemStore, AllocError> {
-    let mut files = Vec::new(alloc);
-    files.push(named(alloc, "b", b"bank 1\n")?)?;
-    files.push(OLDER.named(alloc, "k.0")?)?;
-    files.push(odd.named(alloc, "k.1")?)?;
-    push_log(alloc, &mut files, "k.1.0", lines)?;
-    Ok(MemStore::new(files, Vec::new(alloc), Vec::new(alloc)))
+/// A call of this name ends as the row says.
+fn expect_end<R: Threads + Wait + Sync>(
+    rt: &R,
+    alloc: Global,
+    command: &str,
+    row: &Ends<'_>,
+) -> Result<(), Fail> {
+    let (case, odd, lines, status, output) = *row;
+    let mut store = store_beside(alloc, odd, lines)?;
+    let said: Said<'_> = (&[command, "b", "out", "k", "1"], status, output);
+    expect_calls(rt, alloc, &mut store, case, &[said])
 }
 
 /// Each call of this name ends as its row says.
@@ -307,22 +317,15 @@ fn expect_ends<R: Threads + Wait + Sync>(
     command: &str,
     rows: &[Ends<'_>],
 ) -> Result<(), Fail> {
-    for (name, odd, lines, status, output) in rows {
-        let mut store = store_of(alloc, odd, lines)?;
-        Program::new(&[command, "b", "out", "k", "1"], &[]).expect_over(
-            rt, alloc, &mut store, name, *status, output,
-        )?;
+    for row in rows {
+        expect_end(rt, alloc, command, row)?;
     }
     Ok(())
 }
 
 #[test]
-fn restores(rt: HostRuntime) -> Result<(), Fail> {
-    expect_ends(&rt, rt.alloc(), "restore", RESTORES)
-}
-
-#[test]
-fn checkpoints(rt: HostRuntime) -> Result<(), Fail> {
+fn restores_and_checkpoints(rt: HostRuntime) -> Result<(), Fail> {
+    expect_ends(&rt, rt.alloc(), "restore", RESTORES)?;
     expect_ends(&rt, rt.alloc(), "checkpoint", CHECKPOINTS)
 }
 

@@ -1,26 +1,69 @@
 //! Three eras of a bank of two threads, one after the other over one store, and what stands in the files of an era that has begun.
 
-use crate::area_files::{Area, GUARD, MAGIC, Said, expect_calls};
-use onll_calls::images::{BOTH_AT_2, DEPOSIT_5, DEPOSIT_7, HEAD_0, HEAD_1, Image, ZERO};
-use onll_calls::named;
+use crate::area_files::{
+    File, GUARD, MAGIC, Said, expect_calls, expect_file, expect_files, store_of,
+};
+use onll_calls::images::{BOTH_AT_2, DEPOSIT_5, DEPOSIT_7, HEAD_0, HEAD_1};
 use onll_outside::{FenceAt, MemStore};
 use std::alloc::{AllocError, Global};
-use std::process::Abort;
+use std::sync::Wait;
 use std::test::Fail;
+use std::thread::Threads;
 
-/// The logs of era 0: a deposit of each of two threads, of which the second logged both.
-pub(crate) const LOGS: &[Image<'static>] = &[
-    Image {
-        name: "out.0",
-        lines: &[HEAD_0, ZERO, ZERO, ZERO],
-        length: 256,
+/// The initial state, scripts of one update and of none, the logs of era 0 and areas that hold nothing. In the logs is a deposit of each
+/// of two threads, of which the second logged both.
+const FIRST_FILES: &[File<'static>] = &[
+    File {
+        name: "b2",
+        lines: &[],
+        text: b"bank 2\n",
+        length: 7,
     },
-    Image {
-        name: "out.1",
-        lines: &[HEAD_1, BOTH_AT_2, DEPOSIT_5, DEPOSIT_7],
-        length: 256,
+    File {
+        name: "s",
+        lines: &[],
+        text: b"deposit 0 1\n",
+        length: 12,
     },
+    File {
+        name: "e",
+        lines: &[],
+        text: b"",
+        length: 0,
+    },
+    LOG_0,
+    LOG_1,
+    NO_EVEN_AREA,
+    NO_ODD_AREA,
 ];
+
+const LOG_0: File<'static> = File {
+    name: "out.0",
+    lines: &[HEAD_0],
+    text: b"",
+    length: 256,
+};
+
+const LOG_1: File<'static> = File {
+    name: "out.1",
+    lines: &[HEAD_1, BOTH_AT_2, DEPOSIT_5, DEPOSIT_7],
+    text: b"",
+    length: 256,
+};
+
+const NO_EVEN_AREA: File<'static> = File {
+    name: "k.0",
+    lines: &[],
+    text: b"",
+    length: 0,
+};
+
+const NO_ODD_AREA: File<'static> = File {
+    name: "k.1",
+    lines: &[],
+    text: b"",
+    length: 0,
+};
 
 /// A store of the initial state, scripts, the logs of era 0 and areas that hold nothing; of its calls these fail, and of the fences of
 /// its devices these.
@@ -29,19 +72,7 @@ pub(crate) fn first_era(
     failing_calls: &[u64],
     fences: &[FenceAt],
 ) -> Result<MemStore, AllocError> {
-    let mut files = Vec::new(alloc);
-    files.push(named(alloc, "b2", b"bank 2\n")?)?;
-    files.push(named(alloc, "s", b"deposit 0 1\n")?)?;
-    files.push(named(alloc, "e", b"")?)?;
-    for image in LOGS {
-        let bytes = image.bytes(alloc)?;
-        files.push(named(alloc, image.name, &bytes)?)?;
-    }
-    files.push(named(alloc, "k.0", b"")?)?;
-    files.push(named(alloc, "k.1", b"")?)?;
-    let failing_calls = Vec::from_slice(alloc, failing_calls)?;
-    let fences = Vec::from_slice(alloc, fences)?;
-    Ok(MemStore::new(files, failing_calls, fences))
+    store_of(alloc, FIRST_FILES, failing_calls, fences)
 }
 
 pub(crate) const RESTORE: &[&str] = &["restore", "b2", "out", "k", "2"];
@@ -224,28 +255,30 @@ const LATER: &[Said<'static>] = &[
     ERA_0,
 ];
 
+/// Makes the calls of all eras.
+fn expect_eras<R: Threads + Wait + Sync>(
+    rt: &R,
+    alloc: Global,
+    store: &mut MemStore,
+) -> Result<(), Fail> {
+    expect_calls(rt, alloc, store, "the second era", SECOND)?;
+    expect_calls(rt, alloc, store, "the third era", THIRD)?;
+    expect_calls(rt, alloc, store, "later eras", LATER)
+}
+
 #[test]
 fn three_eras(rt: HostRuntime) -> Result<(), Fail> {
     let alloc = rt.alloc();
     let mut store = first_era(alloc, &[], &[])?;
-    expect_calls(&rt, alloc, &mut store, "the second era", SECOND)?;
-    expect_calls(&rt, alloc, &mut store, "the third era", THIRD)?;
-    expect_calls(&rt, alloc, &mut store, "later eras", LATER)
+    expect_eras(&rt, alloc, &mut store)
 }
 
 /// The text of era 1.
-pub(crate) const TEXT: &[u8] = b"# checkpoint 1 2\nbank 2\naccount 0 5\naccount 1 7\n";
+const TEXT: &[u8] = b"# checkpoint 1 2\nbank 2\naccount 0 5\naccount 1 7\n";
 
-/// Its area.
-const AREA: Area<'static> = Area {
-    first: &[[MAGIC, 1, 2, 48, 0, 0, 0, GUARD]],
-    text: TEXT,
-    lines: 1,
-};
-
-/// Its logs: heads with the digest of its text, by another SHA-256.
-pub(crate) const ERA_LOGS: &[Image<'static>] = &[
-    Image {
+/// The files of era 1 in the order in which they are made. The heads of its logs have the digest of its text, by another SHA-256.
+const ERA_FILES: &[File<'static>] = &[
+    File {
         name: "k.1.0",
         lines: &[[
             0x3147_4f4c_4c4c_4e4f,
@@ -257,9 +290,10 @@ pub(crate) const ERA_LOGS: &[Image<'static>] = &[
             0xe886_ac82_2a5b_7c8b,
             0xae4c_863e_8ed2_d6f6,
         ]],
+        text: b"",
         length: 64,
     },
-    Image {
+    File {
         name: "k.1.1",
         lines: &[[
             0x3147_4f4c_4c4c_4e4f,
@@ -271,36 +305,54 @@ pub(crate) const ERA_LOGS: &[Image<'static>] = &[
             0x641c_b7d3_37d1_582c,
             0x9052_1416_0fae_9f28,
         ]],
+        text: b"",
         length: 64,
+    },
+    File {
+        name: "k.1.init",
+        lines: &[],
+        text: TEXT,
+        length: 48,
     },
 ];
 
-/// The store has a file of this name exactly where it is wanted, and then with these bytes.
-pub(crate) fn expect_file<R: Abort>(
-    rt: &R,
-    store: &MemStore,
-    name: &str,
-    bytes: &[u8],
-    wanted: bool,
-) -> Result<(), Fail> {
-    let wanted = if wanted { Some(bytes) } else { None };
-    assert!(rt; store.file(name) == wanted, "{name} holds other bytes");
+/// The files of era 0 that stay, and the area of era 1.
+const BEGUN_FILES: &[File<'static>] = &[
+    LOG_0,
+    LOG_1,
+    NO_EVEN_AREA,
+    File {
+        name: "k.1",
+        lines: &[[MAGIC, 1, 2, 48, 0, 0, 0, GUARD]],
+        text: TEXT,
+        length: 128,
+    },
+];
+
+/// Fails unless no area has changed, and of the files of era 1 the first ones stand, so many, and no other.
+pub(crate) fn expect_not_begun(alloc: Global, store: &MemStore, made: usize) -> Result<(), Fail> {
+    expect_file(alloc, store, &NO_EVEN_AREA, true)?;
+    expect_file(alloc, store, &NO_ODD_AREA, true)?;
+    for (i, file) in ERA_FILES.iter().enumerate() {
+        expect_file(alloc, store, file, i < made)?;
+    }
     Ok(())
+}
+
+/// Fails unless era 1 begins, with its files beside those of era 0.
+fn expect_begun<R: Threads + Wait + Sync>(
+    rt: &R,
+    alloc: Global,
+    store: &mut MemStore,
+) -> Result<(), Fail> {
+    expect_calls(rt, alloc, store, "an era begins", &[BEGUN])?;
+    expect_files(alloc, store, BEGUN_FILES)?;
+    expect_files(alloc, store, ERA_FILES)
 }
 
 #[test]
 fn what_an_era_begins_with(rt: HostRuntime) -> Result<(), Fail> {
     let alloc = rt.alloc();
     let mut store = first_era(alloc, &[], &[])?;
-    expect_calls(&rt, alloc, &mut store, "an era begins", &[BEGUN])?;
-    expect_file(&rt, &store, "k.0", b"", true)?;
-    expect_file(&rt, &store, "k.1", &AREA.bytes(alloc)?, true)?;
-    expect_file(&rt, &store, "k.1.init", TEXT, true)?;
-    for image in ERA_LOGS {
-        expect_file(&rt, &store, image.name, &image.bytes(alloc)?, true)?;
-    }
-    for image in LOGS {
-        expect_file(&rt, &store, image.name, &image.bytes(alloc)?, true)?;
-    }
-    Ok(())
+    expect_begun(&rt, alloc, &mut store)
 }

@@ -1,40 +1,38 @@
 //! Calls of the store and fences that fail while an era begins: what is said, what stands in the files, and what is restored then.
 
-use crate::area_files::{Area, GUARD, MAGIC, expect_calls};
-use crate::eras::{
-    BEGUN, CHECKPOINT, ERA_0, ERA_1, ERA_LOGS, RESTORE, TEXT, expect_file, first_era,
+use crate::area_files::{
+    BANK_1, File, GUARD, MAGIC, NOT_BEGUN, Said, expect_calls, expect_file, store_of,
 };
-use onll_calls::images::{Image, ZERO};
-use onll_calls::{Program, named};
+use crate::eras::{BEGUN, CHECKPOINT, ERA_0, ERA_1, RESTORE, expect_not_begun, first_era};
+use onll_calls::Program;
 use onll_outside::{FenceAt, MemStore};
-use std::alloc::{AllocError, Global};
-use std::process::Abort;
+use std::alloc::Global;
 use std::sync::Wait;
 use std::test::Fail;
 use std::thread::Threads;
 
-/// The number of the store's call that fails, how the call of the program ends, how many logs of era 1 stand then, and whether the file of
-/// its text does.
-type FailingCall<'a> = (u64, u8, &'a str, usize, bool);
+/// The number of the store's call that fails, how the call of the program ends, and how many files of era 1 stand then: its logs, and then
+/// its text.
+type FailingCall<'a> = (u64, u8, &'a str, usize);
 
 /// The calls in their order: five reads; for each thread a device and its keep; the text; the area's device and its keep.
 const CALLS: &[FailingCall<'static>] = &[
-    (1, 5, "read fault b2\n", 0, false),
-    (2, 5, "read fault k.0\n", 0, false),
-    (3, 5, "read fault k.1\n", 0, false),
-    (4, 5, "read fault out.0\n", 0, false),
-    (5, 5, "read fault out.1\n", 0, false),
-    (6, 6, "write fault k.1.0\n", 0, false),
-    (7, 6, "write fault k.1.0\n", 0, false),
-    (8, 6, "write fault k.1.1\n", 1, false),
-    (9, 6, "write fault k.1.1\n", 1, false),
-    (10, 6, "write fault k.1.init\n", 2, false),
-    (11, 6, "write fault k.1\n", 2, true),
-    (12, 6, "write fault k.1\n", 2, true),
+    (1, 5, "read fault b2\n", 0),
+    (2, 5, "read fault k.0\n", 0),
+    (3, 5, "read fault k.1\n", 0),
+    (4, 5, "read fault out.0\n", 0),
+    (5, 5, "read fault out.1\n", 0),
+    (6, 6, "write fault k.1.0\n", 0),
+    (7, 6, "write fault k.1.0\n", 0),
+    (8, 6, "write fault k.1.1\n", 1),
+    (9, 6, "write fault k.1.1\n", 1),
+    (10, 6, "write fault k.1.init\n", 2),
+    (11, 6, "write fault k.1\n", 3),
+    (12, 6, "write fault k.1\n", 3),
 ];
 
 /// The device and its fence that fails, the one line that is said, and what stands then, as above.
-type FailingFence<'a> = (FenceAt, &'a str, usize, bool);
+type FailingFence<'a> = (FenceAt, &'a str, usize);
 
 /// The fence of each header, that of the area's text, and that of its first line.
 const FENCES: &[FailingFence<'static>] = &[
@@ -45,7 +43,6 @@ const FENCES: &[FailingFence<'static>] = &[
         },
         "fault thread 0 place 0\n",
         0,
-        false,
     ),
     (
         FenceAt {
@@ -54,7 +51,6 @@ const FENCES: &[FailingFence<'static>] = &[
         },
         "fault thread 1 place 0\n",
         1,
-        false,
     ),
     (
         FenceAt {
@@ -62,8 +58,7 @@ const FENCES: &[FailingFence<'static>] = &[
             fence: 1,
         },
         "fault area 1\n",
-        2,
-        true,
+        3,
     ),
     (
         FenceAt {
@@ -71,54 +66,70 @@ const FENCES: &[FailingFence<'static>] = &[
             fence: 2,
         },
         "fault area 1\n",
-        2,
-        true,
+        3,
     ),
 ];
 
+/// What fails while era 1 begins, how the call of the program ends, and what stands then, as above.
+#[derive(Clone, Copy)]
+struct Failing<'a> {
+    calls: &'a [u64],
+    fences: &'a [FenceAt],
+    said: Said<'a>,
+    made: usize,
+}
+
 /// No area has changed, these files of era 1 stand, and era 0 is restored; what failed once is done then.
-fn expect_stopped<R: Abort + Threads + Wait + Sync>(
+fn expect_stopped<R: Threads + Wait + Sync>(
     rt: &R,
     alloc: Global,
     store: &mut MemStore,
-    logs: usize,
-    text: bool,
+    failing: &Failing<'_>,
 ) -> Result<(), Fail> {
-    expect_file(rt, store, "k.0", b"", true)?;
-    expect_file(rt, store, "k.1", b"", true)?;
-    expect_file(rt, store, "k.1.init", TEXT, text)?;
-    for (thread, image) in ERA_LOGS.iter().enumerate() {
-        expect_file(rt, store, image.name, &image.bytes(alloc)?, thread < logs)?;
-    }
+    expect_calls(rt, alloc, store, "what fails", &[failing.said])?;
+    expect_not_begun(alloc, store, failing.made)?;
     expect_calls(rt, alloc, store, "era 0 goes on", &[ERA_0, BEGUN, ERA_1])
+}
+
+impl Failing<'_> {
+    fn expect<R: Threads + Wait + Sync>(&self, rt: &R, alloc: Global) -> Result<(), Fail> {
+        let mut store = first_era(alloc, self.calls, self.fences)?;
+        expect_stopped(rt, alloc, &mut store, self)
+    }
 }
 
 #[test]
 fn calls_that_fail_in_turn(rt: HostRuntime) -> Result<(), Fail> {
-    let alloc = rt.alloc();
-    for (call, status, output, logs, text) in CALLS {
-        let mut store = first_era(alloc, &[*call], &[])?;
-        let said = (CHECKPOINT, *status, *output);
-        expect_calls(&rt, alloc, &mut store, "a call that fails", &[said])?;
-        expect_stopped(&rt, alloc, &mut store, *logs, *text)?;
+    for (call, status, output, made) in CALLS {
+        let failing = Failing {
+            calls: &[*call],
+            fences: &[],
+            said: (CHECKPOINT, *status, *output),
+            made: *made,
+        };
+        failing.expect(&rt, rt.alloc())?;
     }
     Ok(())
 }
 
 #[test]
 fn fences_that_fail(rt: HostRuntime) -> Result<(), Fail> {
-    let alloc = rt.alloc();
-    for (fence, output, logs, text) in FENCES {
-        let mut store = first_era(alloc, &[], &[*fence])?;
-        let said = (CHECKPOINT, 7, *output);
-        expect_calls(&rt, alloc, &mut store, "a fence that fails", &[said])?;
-        expect_stopped(&rt, alloc, &mut store, *logs, *text)?;
+    for (fence, output, made) in FENCES {
+        let failing = Failing {
+            calls: &[],
+            fences: &[*fence],
+            said: (CHECKPOINT, 7, *output),
+            made: *made,
+        };
+        failing.expect(&rt, rt.alloc())?;
     }
     Ok(())
 }
 
 /// Calls of the store and puts that fail in `restore`, and how it ends.
-const RESTORES: &[(&[u64], &[u64], u8, &str)] = &[
+type FailingRestore<'a> = (&'a [u64], &'a [u64], u8, &'a str);
+
+const RESTORES: &[FailingRestore<'static>] = &[
     (&[1, 2], &[], 5, "read fault b2\n"),
     (&[2, 3], &[], 5, "read fault k.0\n"),
     (&[3], &[], 5, "read fault k.1\n"),
@@ -128,73 +139,80 @@ const RESTORES: &[(&[u64], &[u64], u8, &str)] = &[
     (&[], &[1], 6, ""),
 ];
 
+/// The words over a store of which these calls fail, with a sink of which these puts do, end so.
+fn expect_over<R: Threads + Wait + Sync>(
+    rt: &R,
+    alloc: Global,
+    store: &mut MemStore,
+    failing_puts: &[u64],
+    said: Said<'_>,
+) -> Result<(), Fail> {
+    let (words, status, output) = said;
+    let program = Program {
+        words,
+        files: &[],
+        failing_calls: &[],
+        failing_puts,
+    };
+    program.expect_over(rt, alloc, store, "puts that fail", status, output)
+}
+
+fn expect_restore<R: Threads + Wait + Sync>(
+    rt: &R,
+    alloc: Global,
+    row: &FailingRestore<'_>,
+) -> Result<(), Fail> {
+    let (failing_calls, failing_puts, status, output) = *row;
+    let mut store = first_era(alloc, failing_calls, &[])?;
+    let said = (RESTORE, status, output);
+    expect_over(rt, alloc, &mut store, failing_puts, said)
+}
+
 #[test]
 fn restores_that_fail(rt: HostRuntime) -> Result<(), Fail> {
-    let alloc = rt.alloc();
-    for (failing_calls, failing_puts, status, output) in RESTORES {
-        let mut store = first_era(alloc, failing_calls, &[])?;
-        let program = Program {
-            words: RESTORE,
-            files: &[],
-            failing_calls: &[],
-            failing_puts,
-        };
-        program.expect_over(&rt, alloc, &mut store, "restores", *status, output)?;
+    for row in RESTORES {
+        expect_restore(&rt, rt.alloc(), row)?;
     }
     Ok(())
 }
 
 /// The era has begun where what is said of it can't be put.
+fn expect_not_said<R: Threads + Wait + Sync>(
+    rt: &R,
+    alloc: Global,
+    store: &mut MemStore,
+) -> Result<(), Fail> {
+    expect_over(rt, alloc, store, &[1], (CHECKPOINT, 6, ""))?;
+    expect_calls(rt, alloc, store, "era 1 goes on", &[ERA_1])
+}
+
 #[test]
 fn a_checkpoint_that_is_not_said(rt: HostRuntime) -> Result<(), Fail> {
     let alloc = rt.alloc();
     let mut store = first_era(alloc, &[], &[])?;
-    let program = Program {
-        words: CHECKPOINT,
-        files: &[],
-        failing_calls: &[],
-        failing_puts: &[1],
-    };
-    program.expect_over(&rt, alloc, &mut store, "a put that fails", 6, "")?;
-    expect_calls(&rt, alloc, &mut store, "era 1 goes on", &[ERA_1])
+    expect_not_said(&rt, alloc, &mut store)
 }
 
 /// The area of era 2, which is the next one's after era 3.
-const OLD: Area<'static> = Area {
-    first: &[[MAGIC, 2, 5, 19, 0, 0, 0, GUARD]],
+const OLD: File<'static> = File {
+    name: "k.0",
+    lines: &[[MAGIC, 2, 5, 19, 0, 0, 0, GUARD]],
     text: b"bank 1\naccount 0 8\n",
-    lines: 1,
+    length: 128,
 };
 
-/// That of era 3.
-const NEW: Area<'static> = Area {
-    first: &[[MAGIC, 3, 7, 19, 0, 0, 0, GUARD]],
-    text: b"bank 1\naccount 0 9\n",
-    lines: 1,
-};
-
-/// A log that is not begun.
-const NOT_BEGUN: Image<'static> = Image {
-    name: "k.1.0",
-    lines: &[ZERO],
-    length: 64,
-};
-
-/// A store in era 3, of whose calls these fail, and of the fences of its devices these.
-fn later_era(
-    alloc: Global,
-    failing_calls: &[u64],
-    fences: &[FenceAt],
-) -> Result<MemStore, AllocError> {
-    let mut files = Vec::new(alloc);
-    files.push(named(alloc, "b", b"bank 1\n")?)?;
-    files.push(OLD.named(alloc, "k.0")?)?;
-    files.push(NEW.named(alloc, "k.1")?)?;
-    files.push(named(alloc, NOT_BEGUN.name, &NOT_BEGUN.bytes(alloc)?)?)?;
-    let failing_calls = Vec::from_slice(alloc, failing_calls)?;
-    let fences = Vec::from_slice(alloc, fences)?;
-    Ok(MemStore::new(files, failing_calls, fences))
-}
+/// It stands beside that of era 3, whose log is not begun.
+const LATER_FILES: &[File<'static>] = &[
+    BANK_1,
+    OLD,
+    File {
+        name: "k.1",
+        lines: &[[MAGIC, 3, 7, 19, 0, 0, 0, GUARD]],
+        text: b"bank 1\naccount 0 9\n",
+        length: 128,
+    },
+    NOT_BEGUN,
+];
 
 /// A call or a fence that fails while era 4 begins, and how that ends.
 type Later<'a> = (&'a [u64], &'a [FenceAt], u8, &'a str);
@@ -223,28 +241,47 @@ const LATER: &[Later<'static>] = &[
     ),
 ];
 
-/// The area of an older era stays as it is, and the newest is restored.
+/// Era 3, which is still the newest.
+const ERA_3: Said<'static> = (
+    &["restore", "b", "out", "k", "1"],
+    0,
+    "checkpoint 3 place 7\n\
+     log 0 empty\n\
+     recovered 0\n\
+     place 7\n\
+     state\n\
+     bank 1\n\
+     account 0 9\n",
+);
+
+/// The area of an older era stays as it is where a checkpoint ends so, and the newest is restored.
+fn expect_kept<R: Threads + Wait + Sync>(
+    rt: &R,
+    alloc: Global,
+    store: &mut MemStore,
+    status: u8,
+    output: &str,
+) -> Result<(), Fail> {
+    let words: &[&str] = &["checkpoint", "b", "out", "k", "1"];
+    expect_calls(rt, alloc, store, "era 4", &[(words, status, output)])?;
+    expect_file(alloc, store, &OLD, true)?;
+    expect_calls(rt, alloc, store, "era 3", &[ERA_3])
+}
+
+fn expect_later<R: Threads + Wait + Sync>(
+    rt: &R,
+    alloc: Global,
+    row: &Later<'_>,
+) -> Result<(), Fail> {
+    let (calls, fences, status, output) = *row;
+    let mut store = store_of(alloc, LATER_FILES, calls, fences)?;
+    expect_kept(rt, alloc, &mut store, status, output)
+}
+
 #[test]
 fn an_older_area_that_is_not_replaced(rt: HostRuntime) -> Result<(), Fail> {
-    let alloc = rt.alloc();
-    let old = OLD.bytes(alloc)?;
-    for (calls, fences, status, output) in LATER {
-        let mut store = later_era(alloc, calls, fences)?;
-        let began = (&["checkpoint", "b", "out", "k", "1"][..], *status, *output);
-        expect_calls(&rt, alloc, &mut store, "era 4", &[began])?;
-        expect_file(&rt, &store, "k.0", &old, true)?;
-        let restored = (
-            &["restore", "b", "out", "k", "1"][..],
-            0,
-            "checkpoint 3 place 7\n\
-             log 0 empty\n\
-             recovered 0\n\
-             place 7\n\
-             state\n\
-             bank 1\n\
-             account 0 9\n",
-        );
-        expect_calls(&rt, alloc, &mut store, "era 3", &[restored])?;
+    for row in LATER {
+        expect_later(&rt, rt.alloc(), row)?;
     }
     Ok(())
 }

@@ -1,8 +1,9 @@
 //! Tests of a bank.
 
+use crate::rows::{expect_answers, expect_no_operation, expect_one_to_one, expect_replies};
 use onll_bank::{Bank, BankOp, BankQuery, BankReply};
-use onll_model::{Object, capacity_kept, op_of_its_row, row_of_its_op, undone};
-use onll_words::OpRow;
+use onll_found::Found;
+use onll_model::{Object, capacity_kept, undone};
 use std::test::Fail;
 
 #[test]
@@ -20,9 +21,7 @@ fn replies_in_order(rt: HostRuntime) -> Result<(), Fail> {
         (BankOp::Transfer { a: 1, b: 0, x: 8 }, BankReply::TooLittle),
         (BankOp::Transfer { a: 1, b: 2, x: 8 }, BankReply::NoAccount),
     ];
-    for (op, reply) in table {
-        assert_eq!(rt; bank.apply(op), reply, "{op:?}");
-    }
+    expect_replies(&mut bank, &table)?;
     let answers = [
         (
             BankQuery::Balance { a: 0 },
@@ -32,52 +31,60 @@ fn replies_in_order(rt: HostRuntime) -> Result<(), Fail> {
         (BankQuery::Balance { a: 2 }, BankReply::NoAccount),
         (BankQuery::Total, BankReply::Amount(u64::MAX - 5)),
     ];
-    for (query, answer) in answers {
-        assert_eq!(rt; bank.ask(query), answer, "{query:?}");
-    }
-    Ok(())
+    expect_answers(&bank, &answers)
 }
 
 #[test]
-fn rows_of_no_operation(rt: HostRuntime) {
-    let rows = [
+fn rows_of_no_operation() -> Result<(), Fail> {
+    expect_no_operation::<Bank>(&[
         [0, 0, 0, 0, 0, 0, 0],
         [4, 0, 0, 0, 0, 0, 0],
         [1, 0, 5, 1, 0, 0, 0],
         [2, 0, 5, 0, 0, 0, 1],
         [3, 0, 1, 5, 0, 1, 0],
-    ];
-    for w in rows {
-        assert_eq!(rt; Bank::op_of_row(OpRow { w }), None, "{w:?}");
-    }
+    ])
 }
 
 #[test]
-fn rows_and_operations_are_one_to_one(rt: HostRuntime) {
+fn rows_and_operations_are_one_to_one() -> Result<(), Fail> {
     let op = BankOp::Transfer { a: 3, b: 4, x: 5 };
-    let row = OpRow {
-        w: [3, 3, 4, 5, 0, 0, 0],
-    };
-    assert_eq!(rt; Bank::op_row(op), row);
-    assert_eq!(rt; op_of_its_row::<Bank>(op), Some(op));
-    assert_eq!(rt; row_of_its_op::<Bank>(row), Some(row));
+    expect_one_to_one::<Bank>(&[(op, [3, 3, 4, 5, 0, 0, 0])])
 }
 
 #[test]
 fn a_copy_restores(rt: HostRuntime) -> Result<(), Fail> {
     let alloc = rt.alloc();
+    let mut found = Found::new();
     let mut bank = Bank::make(alloc, 3)?;
     let _ = bank.apply(BankOp::Deposit { a: 1, x: 9 });
     let copy = bank.copy(alloc)?;
-    assert_eq!(rt; copy.capacity(), 3);
-    assert_eq!(rt; copy.ask(BankQuery::Balance { a: 1 }), BankReply::Amount(9));
-    assert_eq!(rt; copy.ask(BankQuery::Total), BankReply::Amount(9));
+    found.must(copy.capacity() == 3, "the capacity of the copy");
+    found.must(
+        copy.ask(BankQuery::Balance { a: 1 }) == BankReply::Amount(9),
+        "the balance in the copy",
+    );
+    found.must(
+        copy.ask(BankQuery::Total) == BankReply::Amount(9),
+        "the total in the copy",
+    );
     let _ = bank.apply(BankOp::Transfer { a: 1, b: 2, x: 4 });
     bank.restore(&copy);
-    assert_eq!(rt; bank.ask(BankQuery::Balance { a: 1 }), BankReply::Amount(9));
-    assert_eq!(rt; bank.ask(BankQuery::Balance { a: 2 }), BankReply::Amount(0));
+    found.must(
+        bank.ask(BankQuery::Balance { a: 1 }) == BankReply::Amount(9),
+        "what was taken is back",
+    );
+    found.must(
+        bank.ask(BankQuery::Balance { a: 2 }) == BankReply::Amount(0),
+        "what was given is gone",
+    );
     undone(alloc, &mut bank, BankOp::Withdraw { a: 1, x: 2 })?;
-    assert_eq!(rt; bank.ask(BankQuery::Balance { a: 1 }), BankReply::Amount(9));
-    assert!(rt; capacity_kept(&mut bank, BankOp::Withdraw { a: 1, x: 2 }));
-    Ok(())
+    found.must(
+        bank.ask(BankQuery::Balance { a: 1 }) == BankReply::Amount(9),
+        "the balance after what was undone",
+    );
+    found.must(
+        capacity_kept(&mut bank, BankOp::Withdraw { a: 1, x: 2 }),
+        "the capacity is kept",
+    );
+    found.ended()
 }

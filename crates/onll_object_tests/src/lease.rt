@@ -1,8 +1,9 @@
 //! Tests of a lease table.
 
+use crate::rows::{expect_answers, expect_no_operation, expect_one_to_one, expect_replies};
+use onll_found::Found;
 use onll_lease::{Lease, LeaseEntry, LeaseOp, LeaseQuery, LeaseReply};
-use onll_model::{Object, capacity_kept, op_of_its_row, row_of_its_op, undone};
-use onll_words::OpRow;
+use onll_model::{Object, capacity_kept, undone};
 use std::test::Fail;
 
 const LAST: u64 = u64::MAX;
@@ -21,6 +22,10 @@ fn release(r: u64, token: u64) -> LeaseOp {
 
 fn holder(r: u64, now: u64) -> LeaseQuery {
     LeaseQuery::Holder { r, now }
+}
+
+fn is_entry(lease: &Lease, r: u64, entry: LeaseEntry) -> bool {
+    r < lease.capacity() && lease.entry(r) == entry
 }
 
 #[test]
@@ -45,27 +50,22 @@ fn a_lease_from_grant_to_grant(rt: HostRuntime) -> Result<(), Fail> {
         (renew(2, 0, 0, 1), LeaseReply::NoResource),
         (release(LAST, 0), LeaseReply::NoResource),
     ];
-    for (op, reply) in table {
-        assert_eq!(rt; lease.apply(op), reply, "{op:?}");
-    }
-    assert_eq!(rt; lease.capacity(), 2);
-    assert_eq!(rt;
-        lease.entry(0),
-        LeaseEntry {
-            token: 3,
-            holder: 9,
-            until: 0
-        }
-    );
-    assert_eq!(rt;
-        lease.entry(1),
-        LeaseEntry {
-            token: 0,
-            holder: 0,
-            until: 0
-        }
-    );
-    Ok(())
+    expect_replies(&mut lease, &table)?;
+    let granted = LeaseEntry {
+        token: 3,
+        holder: 9,
+        until: 0,
+    };
+    let never = LeaseEntry {
+        token: 0,
+        holder: 0,
+        until: 0,
+    };
+    let mut found = Found::new();
+    found.must(lease.capacity() == 2, "the capacity");
+    found.must(is_entry(&lease, 0, granted), "the entry that was granted");
+    found.must(is_entry(&lease, 1, never), "the entry that never was");
+    found.ended()
 }
 
 #[test]
@@ -87,9 +87,7 @@ fn the_last_moment_and_the_last_token(rt: HostRuntime) -> Result<(), Fail> {
         (grant(2, 1, 10, 1), LeaseReply::Granted(LAST)),
         (grant(2, 1, 11, 1), LeaseReply::Spent),
     ];
-    for (op, reply) in table {
-        assert_eq!(rt; lease.apply(op), reply, "{op:?}");
-    }
+    expect_replies(&mut lease, &table)?;
     let held = LeaseReply::HeldBy {
         holder: 4,
         token: LAST,
@@ -100,14 +98,11 @@ fn the_last_moment_and_the_last_token(rt: HostRuntime) -> Result<(), Fail> {
         (holder(1, 10), LeaseReply::Free),
         (holder(3, 0), LeaseReply::NoResource),
     ];
-    for (query, answer) in answers {
-        assert_eq!(rt; lease.ask(query), answer, "{query:?}");
-    }
-    Ok(())
+    expect_answers(&lease, &answers)
 }
 
 #[test]
-fn rows_of_no_operation(rt: HostRuntime) {
+fn rows_of_no_operation() -> Result<(), Fail> {
     let rows = [
         [0, 0, 0, 0, 0, 0, 0],
         [4, 0, 0, 0, 0, 0, 0],
@@ -116,23 +111,17 @@ fn rows_of_no_operation(rt: HostRuntime) {
         [3, 0, 1, 1, 0, 0, 0],
         [3, 0, 1, 0, 1, 0, 0],
     ];
-    for w in rows {
-        assert_eq!(rt; Lease::op_of_row(OpRow { w }), None, "{w:?}");
-    }
+    expect_no_operation::<Lease>(&rows)
 }
 
 #[test]
-fn rows_and_operations_are_one_to_one(rt: HostRuntime) {
+fn rows_and_operations_are_one_to_one() -> Result<(), Fail> {
     let table = [
         (grant(3, 4, 5, 6), [1, 3, 4, 5, 6, 0, 0]),
         (renew(3, 4, 5, 6), [2, 3, 4, 5, 6, 0, 0]),
         (release(3, 4), [3, 3, 4, 0, 0, 0, 0]),
     ];
-    for (op, w) in table {
-        assert_eq!(rt; Lease::op_row(op), OpRow { w });
-        assert_eq!(rt; op_of_its_row::<Lease>(op), Some(op));
-        assert_eq!(rt; row_of_its_op::<Lease>(OpRow { w }), Some(OpRow { w }));
-    }
+    expect_one_to_one::<Lease>(&table)
 }
 
 #[test]
@@ -146,13 +135,20 @@ fn a_copy_restores(rt: HostRuntime) -> Result<(), Fail> {
         token: 1,
         until: 5,
     };
-    assert_eq!(rt; copy.capacity(), 3);
-    assert_eq!(rt; copy.ask(holder(1, 4)), held);
+    let mut found = Found::new();
+    found.must(copy.capacity() == 3, "the capacity of the copy");
+    found.must(copy.ask(holder(1, 4)) == held, "held in the copy");
     let _ = lease.apply(release(1, 1));
     lease.restore(&copy);
-    assert_eq!(rt; lease.ask(holder(1, 4)), held);
+    found.must(lease.ask(holder(1, 4)) == held, "held again");
     undone(alloc, &mut lease, release(1, 1))?;
-    assert_eq!(rt; lease.ask(holder(1, 4)), held);
-    assert!(rt; capacity_kept(&mut lease, release(1, 1)));
-    Ok(())
+    found.must(
+        lease.ask(holder(1, 4)) == held,
+        "held after what was undone",
+    );
+    found.must(
+        capacity_kept(&mut lease, release(1, 1)),
+        "the capacity is kept",
+    );
+    found.ended()
 }

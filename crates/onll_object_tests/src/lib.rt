@@ -9,3 +9,5 @@ mod lease;
 mod map;
 #[cfg(test)]
 mod queue;
+#[cfg(test)]
+mod rows;

@@ -1,8 +1,10 @@
 //! Tests of a map.
 
+use crate::rows::{expect_answers, expect_no_operation, expect_one_to_one, expect_replies};
+use onll_found::Found;
 use onll_map::{Map, MapOp, MapQuery, MapReply};
-use onll_model::{Object, capacity_kept, op_of_its_row, row_of_its_op, undone};
-use onll_words::{OpRow, Short};
+use onll_model::{Object, capacity_kept, undone};
+use onll_words::Short;
 use std::test::Fail;
 
 fn short(text: &[u8]) -> Result<Short, Fail> {
@@ -32,109 +34,121 @@ fn replies_in_order(rt: HostRuntime) -> Result<(), Fail> {
         (MapOp::Put { k: b, v: y }, MapReply::Full),
         (MapOp::Put { k: c, v: y }, MapReply::Old(x)),
     ];
-    for (op, reply) in table {
-        assert_eq!(rt; map.apply(op), reply, "{op:?}");
-    }
+    expect_replies(&mut map, &table)?;
     let answers = [
         (MapQuery::Get { k: a }, MapReply::Value(z)),
         (MapQuery::Get { k: b }, MapReply::Absent),
         (MapQuery::Get { k: c }, MapReply::Value(y)),
         (MapQuery::Count, MapReply::Count(2)),
     ];
-    for (query, answer) in answers {
-        assert_eq!(rt; map.ask(query), answer, "{query:?}");
+    expect_answers(&map, &answers)?;
+    let mut found = Found::new();
+    found.must(map.capacity() == 2, "the capacity");
+    found.ended()
+}
+
+/// A pair is put in whose key is new.
+fn put_new(map: &mut Map, key: &[u8], value: &[u8]) -> Result<(), Fail> {
+    let op = MapOp::Put {
+        k: short(key)?,
+        v: short(value)?,
+    };
+    expect_replies(map, &[(op, MapReply::New)])
+}
+
+/// The least key that isn't below this one is the one that is wanted.
+fn expect_next(map: &Map, from: &[u8], next: &[u8]) -> Result<(), Fail> {
+    let query = MapQuery::Next { k: short(from)? };
+    expect_answers(map, &[(query, MapReply::Key(short(next)?))])
+}
+
+/// No key is as great as this one.
+fn expect_past(map: &Map, from: &[u8]) -> Result<(), Fail> {
+    let query = MapQuery::Next { k: short(from)? };
+    expect_answers(map, &[(query, MapReply::Absent)])
+}
+
+/// Keys, and the next key from each on.
+const NEXT_KEYS: &[(&[u8], &[u8])] = &[
+    (b"!", b"abc"),
+    (b"abc", b"abc"),
+    (b"abca", b"b"),
+    (b"b", b"b"),
+    (b"c", b"d"),
+    (b"d!", b"dd"),
+    (b"e", b"f"),
+    (b"f", b"f"),
+];
+
+fn expect_next_keys(map: &mut Map) -> Result<(), Fail> {
+    expect_past(map, b"v")?;
+    for key in [b"d".as_slice(), b"b", b"abc", b"f", b"dd"] {
+        put_new(map, key, b"v")?;
     }
-    assert_eq!(rt; map.capacity(), 2);
-    Ok(())
+    for (from, next) in NEXT_KEYS {
+        expect_next(map, from, next)?;
+    }
+    expect_past(map, b"f!")
 }
 
 #[test]
 fn next_keys(rt: HostRuntime) -> Result<(), Fail> {
-    let v = short(b"v")?;
     let mut map = Map::make(rt.alloc(), 9)?;
-    assert_eq!(rt; map.ask(MapQuery::Next { k: v }), MapReply::Absent);
-    for key in [b"d".as_slice(), b"b", b"abc", b"f", b"dd"] {
-        let _ = map.apply(MapOp::Put { k: short(key)?, v });
+    expect_next_keys(&mut map)
+}
+
+/// The pair at a place has this key and this value.
+fn expect_pair(map: &Map, i: u64, key: &[u8], value: &[u8]) -> Result<(), Fail> {
+    let pair = (short(key)?, short(value)?);
+    if i < map.count() && map.pair(i) == pair {
+        Ok(())
+    } else {
+        Err(Fail::new(format_args!("another pair at {i}")))
     }
-    let table = [
-        (b"!".as_slice(), b"abc".as_slice()),
-        (b"abc", b"abc"),
-        (b"abca", b"b"),
-        (b"b", b"b"),
-        (b"c", b"d"),
-        (b"d!", b"dd"),
-        (b"e", b"f"),
-        (b"f", b"f"),
-    ];
-    for (from, next) in table {
-        let k = short(from)?;
-        assert_eq!(rt; map.ask(MapQuery::Next { k }), MapReply::Key(short(next)?));
-    }
-    let past = MapQuery::Next { k: short(b"f!")? };
-    assert_eq!(rt; map.ask(past), MapReply::Absent);
-    Ok(())
+}
+
+fn expect_pairs(map: &mut Map) -> Result<(), Fail> {
+    put_new(map, b"b", b"1")?;
+    put_new(map, b"aa", b"2")?;
+    put_new(map, b"a", b"3")?;
+    expect_pair(map, 0, b"a", b"3")?;
+    expect_pair(map, 1, b"aa", b"2")?;
+    expect_pair(map, 2, b"b", b"1")?;
+    let mut found = Found::new();
+    found.must(map.count() == 3, "the count");
+    found.ended()
 }
 
 #[test]
 fn pairs_in_the_order_of_bytes(rt: HostRuntime) -> Result<(), Fail> {
     let mut map = Map::make(rt.alloc(), 4)?;
-    for (key, value) in [
-        (b"b".as_slice(), b"1".as_slice()),
-        (b"aa", b"2"),
-        (b"a", b"3"),
-    ] {
-        let op = MapOp::Put {
-            k: short(key)?,
-            v: short(value)?,
-        };
-        assert_eq!(rt; map.apply(op), MapReply::New);
-    }
-    let wanted = [
-        (b"a".as_slice(), b"3".as_slice()),
-        (b"aa", b"2"),
-        (b"b", b"1"),
-    ];
-    assert_eq!(rt; map.count(), 3);
-    for (i, (key, value)) in wanted.into_iter().enumerate() {
-        assert!(rt; (i as u64) < map.count());
-        assert_eq!(rt; map.pair(i as u64), (short(key)?, short(value)?), "at {i}");
-    }
-    Ok(())
+    expect_pairs(&mut map)
 }
 
 #[test]
-fn rows_and_operations_are_one_to_one(rt: HostRuntime) -> Result<(), Fail> {
+fn rows_and_operations_are_one_to_one() -> Result<(), Fail> {
     let put = MapOp::Put {
         k: short(b"ab")?,
         v: short(b"!2345678901234567890123")?,
     };
-    let put_row = OpRow {
-        w: [
-            1,
-            0x6162_0000_0000_0000,
-            0,
-            2,
-            0x2132_3334_3536_3738,
-            0x3930_3132_3334_3536,
-            0x3738_3930_3132_3317,
-        ],
-    };
+    let put_row = [
+        1,
+        0x6162_0000_0000_0000,
+        0,
+        2,
+        0x2132_3334_3536_3738,
+        0x3930_3132_3334_3536,
+        0x3738_3930_3132_3317,
+    ];
     let del = MapOp::Del { k: short(b"ab")? };
-    let del_row = OpRow {
-        w: [2, 0x6162_0000_0000_0000, 0, 2, 0, 0, 0],
-    };
-    for (op, row) in [(put, put_row), (del, del_row)] {
-        assert_eq!(rt; Map::op_row(op), row);
-        assert_eq!(rt; op_of_its_row::<Map>(op), Some(op));
-        assert_eq!(rt; row_of_its_op::<Map>(row), Some(row));
-    }
-    Ok(())
+    let del_row = [2, 0x6162_0000_0000_0000, 0, 2, 0, 0, 0];
+    expect_one_to_one::<Map>(&[(put, put_row), (del, del_row)])
 }
 
 #[test]
-fn rows_of_no_operation(rt: HostRuntime) {
+fn rows_of_no_operation() -> Result<(), Fail> {
     let a = 0x61 << 56;
-    let rows = [
+    expect_no_operation::<Map>(&[
         [0, a, 0, 1, a, 0, 1],
         [3, a, 0, 1, a, 0, 1],
         [1, a, 0, 1, 0, 0, 0],
@@ -148,10 +162,7 @@ fn rows_of_no_operation(rt: HostRuntime) {
         [2, a, 0, 1, 0, 1, 0],
         [2, a, 0, 0, 0, 0, 0],
         [2, 0, 0, 0, 0, 0, 0],
-    ];
-    for w in rows {
-        assert_eq!(rt; Map::op_of_row(OpRow { w }), None, "{w:?}");
-    }
+    ])
 }
 
 #[test]
@@ -164,21 +175,46 @@ fn a_copy_restores(rt: HostRuntime) -> Result<(), Fail> {
         short(b"x")?,
         short(b"y")?,
     ];
+    let mut found = Found::new();
     let mut map = Map::make(alloc, 2)?;
     let _ = map.apply(MapOp::Put { k: b, v: x });
     let mut copy = map.copy(alloc)?;
-    assert_eq!(rt; copy.capacity(), 2);
-    assert_eq!(rt; copy.ask(MapQuery::Get { k: b }), MapReply::Value(x));
-    assert_eq!(rt; copy.apply(MapOp::Put { k: a, v: x }), MapReply::New);
-    assert_eq!(rt; copy.apply(MapOp::Put { k: c, v: x }), MapReply::Full);
+    found.must(copy.capacity() == 2, "the capacity of the copy");
+    found.must(
+        copy.ask(MapQuery::Get { k: b }) == MapReply::Value(x),
+        "the pair in the copy",
+    );
+    found.must(
+        copy.apply(MapOp::Put { k: a, v: x }) == MapReply::New,
+        "a pair more in the copy",
+    );
+    found.must(
+        copy.apply(MapOp::Put { k: c, v: x }) == MapReply::Full,
+        "the copy is full",
+    );
     let _ = map.apply(MapOp::Put { k: b, v: y });
     map.restore(&copy);
-    assert_eq!(rt; map.ask(MapQuery::Count), MapReply::Count(2));
-    assert_eq!(rt; map.ask(MapQuery::Get { k: b }), MapReply::Value(x));
+    let restored = [
+        (MapQuery::Count, MapReply::Count(2)),
+        (MapQuery::Get { k: b }, MapReply::Value(x)),
+    ];
+    expect_answers(&map, &restored)?;
     undone(alloc, &mut map, MapOp::Del { k: a })?;
-    assert_eq!(rt; map.ask(MapQuery::Get { k: a }), MapReply::Value(x));
-    assert!(rt; capacity_kept(&mut map, MapOp::Del { k: a }));
-    assert_eq!(rt; map.apply(MapOp::Del { k: b }), MapReply::Old(x));
-    assert_eq!(rt; map.ask(MapQuery::Next { k: a }), MapReply::Absent);
-    Ok(())
+    found.must(
+        map.ask(MapQuery::Get { k: a }) == MapReply::Value(x),
+        "the pair after what was undone",
+    );
+    found.must(
+        capacity_kept(&mut map, MapOp::Del { k: a }),
+        "the capacity is kept",
+    );
+    found.must(
+        map.apply(MapOp::Del { k: b }) == MapReply::Old(x),
+        "the pair goes",
+    );
+    found.must(
+        map.ask(MapQuery::Next { k: a }) == MapReply::Absent,
+        "no pair is left",
+    );
+    found.ended()
 }

@@ -22,6 +22,7 @@ import struct
 import subprocess
 import sys
 import tempfile
+from pathlib import Path
 
 from proved import TOP, proved_program
 
@@ -220,18 +221,18 @@ class Program:
         return done.returncode, done.stdout.decode()
 
     def follows(self, stream, piece, threads=THREADS):
-        write("stream", stream)
+        Path("stream").write_bytes(stream)
         said, wanted = self.run("follow", "init", threads, "stream", piece), Follower(threads).said(stream[:LONGEST])
         assert said == wanted, (said, wanted, piece)
 
     def ships(self, logs):
         for thread, log in enumerate(logs):
-            write(f"log.{thread}", head_line(thread, len(logs)) + b"".join(line for entry in log for line in entry))
+            Path(f"log.{thread}").write_bytes(head_line(thread, len(logs)) + b"".join(line for entry in log for line in entry))
         stream = in_turns(logs)
         wanted = 0, f"shipped entries {sum(map(len, logs))} bytes {len(stream)}\n"
         said = self.run("ship", "log", len(logs), "shipped")
         assert said == wanted, (said, wanted)
-        assert read("shipped") == stream, "another stream"
+        assert Path("shipped").read_bytes() == stream, "another stream"
 
     def timed(self, *words):
         """Seconds, and the most memory in MB."""
@@ -239,16 +240,6 @@ class Program:
         status, seconds, used = done.stdout.split()
         assert status == b"0", (words, status)
         return float(seconds), int(used) / 1024
-
-
-def write(name, data):
-    with open(name, "wb") as file:
-        file.write(data)
-
-
-def read(name):
-    with open(name, "rb") as file:
-        return file.read()
 
 
 # ---- what is done
@@ -323,7 +314,7 @@ def main():
     peer = wanted.peer and os.path.abspath(wanted.peer)
     rng, folder = random.Random(wanted.seed), tempfile.mkdtemp(prefix="standby.")
     os.chdir(folder)
-    write("init", INIT.encode())
+    Path("init").write_text(INIT)
     try:
         follow_streams(program, rng, wanted.streams)
         follow_hostile(program, rng)

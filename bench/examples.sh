@@ -153,6 +153,12 @@ mkfifo "$folder/line"
 cat "$folder/sales" > "$folder/line" &
 prints second_office/report follow examples/tickets/hall 2 line 100
 
+# An auditor finds the line that was forged, in a report that was printed.
+take forged report
+ends 0 legal audit examples/tickets/hall run examples/tickets/door examples/tickets/online
+ends 8 "$(cat "$top/examples/forged/found")" \
+    audit examples/tickets/hall examples/forged/report examples/tickets/door examples/tickets/online
+
 usage=$(sed -n '/^usage: /,/^```$/p' "$top/docs/FORMATS.md" | sed '$d')
 ends 2 "$usage"
 ends 2 "$usage" fold examples/transfer/bank examples/transfer/script examples/transfer/script
@@ -168,6 +174,8 @@ ends 4 'place 1 not in the script' detect examples/crash/bank examples/crash/out
 head -c 100 "$folder/sales" > "$folder/part"
 ends 4 'stream log 0 not of this run' follow examples/crash/bank 2 part 1
 ends 4 'log 0 not a log' ship examples/crash/bad 1 sales
+ends 3 'refused resumed 1 bad line' audit examples/tickets/hall resumed examples/tickets/door examples/tickets/online
+ends 3 'refused run 6 bad line' audit examples/tickets/hall run examples/tickets/door
 ends 6 'write fault examples/none/sales' ship examples/tickets/out 2 examples/none/sales
 ends 5 'read fault none.0' restore examples/office/hall office none 1
 ends 6 'write fault examples/none/k.0' areas examples/none/k

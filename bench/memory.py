@@ -83,6 +83,7 @@ ROWS = {
     "checkpoint": (["checkpoint", "bank", "out", "k", "2"], AREAS),
     "ship": (["ship", "out", "2", "stream"], {name: f"crash/{name}" for name in ("out.0", "out.1")}),
     "follow": (["follow", "bank", "2", "stream", "100"], {name: f"crash/{name}" for name in ("bank", "out.0", "out.1")}),
+    "audit": (["audit", "hall", "report", "door", "online"], {name: f"tickets/{name}" for name in ("hall", "report", "door", "online")}),
 }
 # What is done before a row, with ample memory.
 BEFORE = {"restore": ["checkpoint", "bank", "out", "k", "2"], "checkpoint": ["checkpoint", "bank", "out", "k", "2"],

@@ -44,10 +44,13 @@ module _ {State Op Query Reply : Type 0} (b : Behaviour State Op Query Reply) (w
         is_legal = (legal_law b w s scripts form.0 (form_many b w (length scripts) text form.0 form.1)).0 right;
       }
 
-  report_legal : (verdict : Verdict) → verdict_of b w s scripts text ≡ Ok verdict → IsLegalReport b w s scripts text → verdict ≡ Legal
-  report_legal verdict e h =
+  pub legal_verdict : IsLegalReport b w s scripts text → verdict_of b w s scripts text ≡ Ok Legal
+  legal_verdict h =
       let right = (legal_law b w s scripts h.form (form_many b w (length scripts) text h.form h.form_is)).1 h.is_legal in
-      same_ok verdict Legal (verdict_of b w s scripts text) e (judged_form (length scripts) h.form None refl h.form_is (sym right))
+      judged_form (length scripts) h.form None refl h.form_is (sym right)
+
+  report_legal : (verdict : Verdict) → verdict_of b w s scripts text ≡ Ok verdict → IsLegalReport b w s scripts text → verdict ≡ Legal
+  report_legal verdict e h = same_ok verdict Legal (verdict_of b w s scripts text) e (legal_verdict h)
 
   -- the verdict is legal exactly where the report is
   pub legal_exactly : (verdict : Verdict) → verdict_of b w s scripts text ≡ Ok verdict → (verdict ≡ Legal) ↔ IsLegalReport b w s scripts text

@@ -1,3 +1,7 @@
+mod FieldsStand
+mod CallsStand
+mod LinesStand
+pub mod LinesRead
 mod Indexed
 mod Splitting
 mod Printing
@@ -6,6 +10,11 @@ mod Counting
 mod Replicas
 mod Following
 mod Reading
+mod Fronts
+mod EndTexts
+mod PrintedLines
+pub mod Formed
+pub mod Lengths
 mod Threads
 mod Judging
 mod Rows

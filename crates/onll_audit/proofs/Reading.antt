@@ -111,6 +111,12 @@ answered_shape text = by_last (last_field text)
     by_last None = refl
     by_last (Some f) = by_place (number_word f.1) f.0
 
+-- the words of a line, in two parts
+pub joined-append : (x : List ℕ) (xs : List (List ℕ)) (y : List ℕ) (ys : List (List ℕ)) → joined (x ∷ xs ++ y ∷ ys) ≡ joined (x ∷ xs) ++ 32 ∷ joined (y ∷ ys)
+joined-append x [] y ys = refl
+joined-append x (v ∷ xs) y ys =
+    ap (λ (t : List ℕ). x ++ 32 ∷ t) (joined-append v xs y ys) ∙ sym (append_assoc x (32 ∷ joined (v ∷ xs)) (32 ∷ joined (y ∷ ys)))
+
 module _ {State Op Query Reply : Type 0} (w : Wording State Op Query Reply) where
   pub failed_text : (text : List ℕ) (p : ℕ) → said_of text ≡ Some (said.FenceFailed p) → text ≡ joined (end_words w (ends.FenceFailed p))
   failed_text text p e = by_failed (failed_said text) refl e
@@ -143,12 +149,7 @@ module _ {State Op Query Reply : Type 0} (w : Wording State Op Query Reply) wher
       by_failed (Some x) g h = let k = failed_shape text x g in cc (k.1, same_Some x (said.Broken p) h)
 
   -- ---- the line of a call
-  joined-append : (x : List ℕ) (xs : List (List ℕ)) (y : List ℕ) (ys : List (List ℕ)) → joined (x ∷ xs ++ y ∷ ys) ≡ joined (x ∷ xs) ++ 32 ∷ joined (y ∷ ys)
-  joined-append x [] y ys = refl
-  joined-append x (v ∷ xs) y ys =
-      ap (λ (t : List ℕ). x ++ 32 ∷ t) (joined-append v xs y ys) ∙ sym (append_assoc x (32 ∷ joined (v ∷ xs)) (32 ∷ joined (y ∷ ys)))
-
-  some_end : (e : CallEnd State Op Query Reply) → (y : List ℕ) × (ys : List (List ℕ)) × (end_words w e ≡ y ∷ ys)
+  pub some_end : (e : CallEnd State Op Query Reply) → (y : List ℕ) × (ys : List (List ℕ)) × (end_words w e ≡ y ∷ ys)
   some_end (ends.Answered reply p) = by_words (w.reply_words reply)
     where
       by_words : (ws : List (List ℕ)) → (y : List ℕ) × (ys : List (List ℕ)) × (ws ++ at_words p ≡ y ∷ ys)

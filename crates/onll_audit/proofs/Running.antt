@@ -33,7 +33,7 @@ while_none p n [] e = refl
 while_none p n (x ∷ []) e = refl
 while_none p n (x ∷ y ∷ more) e = cc
 
-while_yes : (p : List ℕ → Bool) (n : ℕ) (parts : List (List ℕ)) (line : List ℕ) (after : LinesLeft) → next_part n parts ≡ Some (line, after) → p line ≡ true
+pub while_yes : (p : List ℕ → Bool) (n : ℕ) (parts : List (List ℕ)) (line : List ℕ) (after : LinesLeft) → next_part n parts ≡ Some (line, after) → p line ≡ true
     → lines_while p n parts ≡ before_lines line (lines_while p after.number after.parts)
 while_yes p n [] line after e h = cc
 while_yes p n (x ∷ []) line after e h = cc
@@ -44,7 +44,7 @@ while_yes p n (x ∷ y ∷ more) line after e h =
     ∙ ap (λ (l : List ℕ). before_lines l (lines_while p (n + 1) (y ∷ more))) one
     ∙ ap (λ (left : LinesLeft). before_lines line (lines_while p left.number left.parts)) rest
 
-while_no : (p : List ℕ → Bool) (n : ℕ) (parts : List (List ℕ)) (line : List ℕ) (after : LinesLeft) → next_part n parts ≡ Some (line, after) → p line ≡ false
+pub while_no : (p : List ℕ → Bool) (n : ℕ) (parts : List (List ℕ)) (line : List ℕ) (after : LinesLeft) → next_part n parts ≡ Some (line, after) → p line ≡ false
     → lines_while p n parts ≡ ([], record { number = n; parts = parts })
 while_no p n [] line after e h = refl
 while_no p n (x ∷ []) line after e h = refl

@@ -1,4 +1,5 @@
 use Rattle.std.proofs.Common.{ℕ, zero, suc, Bool, true, false, List, [], ◌∷◌, ◌++◌, ◌≡◌, ◌+◌, ◌&&◌, nat_le, max, length, take, drop, slice_get, Option, Some, None, Result, Ok, Err, refl, ap, sym, ◌∙◌, subst, arith, codes}
+use Rattle.std.proofs.Math.Seq.{take-append_seam, drop-append_seam}
 use Rattle.std.proofs.lemmas.Slice.Eq.{bytes_eq-Decides}
 use Rattle.std.proofs.lemmas.Option.{same_Some}
 use Rattle.onll_words.specs.Texts.{joined}
@@ -176,7 +177,7 @@ is_place_of : (p : ℕ) (o : Option ℕ) → o ≡ Some p → is_that_place p o 
 is_place_of p None e = cc e
 is_place_of p (Some q) e = eq_test q p (same_Some q p e)
 
-and_true : (a b : Bool) → a ≡ true → b ≡ true → (a && b) ≡ true
+pub and_true : (a b : Bool) → a ≡ true → b ≡ true → (a && b) ≡ true
 and_true true b g h = h
 and_true false b g h = cc g
 
@@ -187,19 +188,12 @@ all_right true true false x g h k = cc k
 all_right true false r x g h k = cc h
 all_right false p r x g h k = cc g
 
-begins_with : (front rest : List ℕ) → after_text front (front ++ rest) ≡ Some rest
+-- what follows a front
+pub begins_with : (front rest : List ℕ) → after_text front (front ++ rest) ≡ Some rest
 begins_with front rest =
-    let e : front ≡ take (length front) (front ++ rest) = sym (take_front front rest) in
+    let e : front ≡ take (length front) (front ++ rest) = sym (take-append_seam front rest) in
     ap (λ (test : Bool). some_if test (drop (length front) (front ++ rest))) ((bytes_eq-Decides front (take (length front) (front ++ rest))).1 e)
-    ∙ ap Some (drop_front front rest)
-  where
-    take_front : (xs ys : List ℕ) → take (length xs) (xs ++ ys) ≡ xs
-    take_front [] ys = refl
-    take_front (x ∷ xs) ys = ap (λ (t : List ℕ). x ∷ t) (take_front xs ys)
-
-    drop_front : (xs ys : List ℕ) → drop (length xs) (xs ++ ys) ≡ ys
-    drop_front [] ys = refl
-    drop_front (x ∷ xs) ys = drop_front xs ys
+    ∙ ap Some (drop-append_seam front rest)
 
 module _ {State Op Query Reply : Type 0} (b : Behaviour State Op Query Reply) (w : Wording State Op Query Reply) (s : State) (nodes : List Node) where
   -- what a line says with this text after its arrow

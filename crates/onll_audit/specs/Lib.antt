@@ -3,3 +3,5 @@ pub mod Form
 pub mod Verdict
 pub mod Values
 pub mod Legality
+pub mod Printed
+pub mod ReportLines

@@ -60,12 +60,15 @@ fn is_arrow<O: Texted>(alloc: Global, text: &[u8], i: usize) -> Result<bool, NoM
     Ok(is_call::<O>(alloc, &text[..i])? && said_of(tail(text, i + 4)).is_some())
 }
 
-/// Whether it does anywhere.
-#[tactic(auto, using(crate::proofs::Printing::has_arrow_at))]
+/// The greatest place of an arrow: a call is printed in at most so many bytes.
+const LAST_ARROW: usize = 128;
+
+/// Whether it does anywhere. No arrow beyond the longest call stands after one.
+#[tactic(auto, using(crate::proofs::Printing::arrows))]
 fn has_arrow<O: Texted>(alloc: Global, text: &[u8]) -> Result<bool, NoMemory>
     ensures { IfOk result (λ yes. yes ≡ has_arrow O.wording text.now (length text.now)) }
 {
-    for i in 0..text.len() {
+    for i in 0..text.len().min(LAST_ARROW + 1) {
         if is_arrow::<O>(alloc, text, i)? {
             return Ok(true);
         }

@@ -9,10 +9,12 @@
 mod auditor;
 mod fields;
 mod form;
+mod form_laws;
 mod groups;
 mod judge;
 mod lines;
 mod past;
+mod printed_laws;
 mod read;
 mod replica;
 mod said;
@@ -20,4 +22,6 @@ mod trace;
 mod verdict;
 
 pub use auditor::audit;
+pub use form_laws::form_law;
+pub use printed_laws::{printed_law, report_short_law};
 pub use verdict::{AuditFault, Verdict, Why};

@@ -1,11 +1,17 @@
-//! Tests of the auditor of reports. There is nothing here to be called.
+//! Tests of the auditor of reports, through the program's top call, over files in memory. There is nothing here to be called.
 #![tactic(auto)]
 
 #[cfg(test)]
-mod form_tests;
+mod asked;
 #[cfg(test)]
-mod judged;
+mod files;
 #[cfg(test)]
-mod kind_tests;
+mod forms;
 #[cfg(test)]
-mod verdict_tests;
+mod kinds;
+#[cfg(test)]
+mod long_lines;
+#[cfg(test)]
+mod runs;
+#[cfg(test)]
+mod verdicts;

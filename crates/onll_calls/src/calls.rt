@@ -24,7 +24,8 @@ pub const USAGE: &str = "usage: onll fold INIT SCRIPT\n       \
      onll restore INIT LOGS CKPT T\n       \
      onll checkpoint INIT LOGS CKPT T\n       \
      onll ship LOGS T OUT\n       \
-     onll follow INIT T STREAM PIECE\n";
+     onll follow INIT T STREAM PIECE\n       \
+     onll audit INIT REPORT SCRIPT..\n";
 
 /// One call of the program: its words, the files that are there, and the numbers of the store's calls
 /// and of the sink's puts that fail.
@@ -174,6 +175,26 @@ impl<'a> Program<'a> {
     ) -> Result<(), Fail> {
         self.run_over(rt, alloc, store)?
             .expect_line(case, status, line)
+    }
+
+    /// Audits what this run printed, over the run's own files, and fails unless it is legal.
+    pub fn expect_legal<R: Threads + Wait + Sync>(
+        &self,
+        rt: &R,
+        alloc: Global,
+        printed: &str,
+    ) -> Result<(), Fail> {
+        let mut words = Vec::new(alloc);
+        for (place, word) in self.words.iter().enumerate() {
+            words.push(match place {
+                0 => "audit",
+                2 => "printed",
+                _ => *word,
+            })?;
+        }
+        let mut files = Vec::from_slice(alloc, self.files)?;
+        files.push(("printed", printed.as_bytes()))?;
+        Program::new(&words, &files).expect(rt, alloc, "what was printed", 0, "legal\n")
     }
 
     /// Runs the program over a store of its own, and fails unless the status and the whole text are these.

@@ -1,6 +1,6 @@
--- How jobs over eras end: never with the usage text, a restoration never with a fault, and a checkpoint with one as it says.
+-- How jobs over eras end: never with the usage text or a verdict, a restoration never with a fault, and a checkpoint with one as it says.
 
-use Rattle.std.proofs.Common.{ℕ, zero, suc, ◌≡◌, ◌≤◌, ◌+◌, inl, inr, Bool, true, false, List, [], ◌∷◌, Option, Result, Ok, Err, refl, ap, ◌∙◌, subst, length, arith}
+use Rattle.std.proofs.Common.{ℕ, zero, suc, ◌≡◌, ◌≤◌, ◌+◌, inl, inr, Bool, true, false, List, [], ◌∷◌, Option, Result, Ok, Err, refl, sym, ap, ◌∙◌, subst, length, arith}
 use Rattle.std.specs.Prelude.{◌^◌, nat_lt}
 use Rattle.std.specs.List.{flat_map}
 use Rattle.onll_words.specs.Texts.{line_text}
@@ -26,7 +26,7 @@ use Rattle.onll_task.specs.Writing.{written}
 use Rattle.onll_areas.specs.Newest.{newest}
 use Rattle.onll_checkpoint.specs.Checkpoint.{CheckpointState}
 use Rattle.onll_task.specs.declared.ending.Ending.{Ending}
-use Rattle.onll_task.specs.declared.ending.Ending.TheVariants.{Done, Usage, Refused, BadLog, WriteFault, Faulty}
+use Rattle.onll_task.specs.declared.ending.Ending.TheVariants.{Done, Refused, BadLog, WriteFault, Faulty}
 use Rattle.onll_task.specs.Doing.{Task, after_stage, report_task, say_task, assured_stage, lines_stage, each_job}
 use Rattle.onll_task.specs.ImageNames.{image_name, image_names}
 use Rattle.onll_task.specs.Images.{images_stage}
@@ -34,86 +34,87 @@ use Rattle.onll_task.specs.Job.{Job, Say, Read, Write, Keep, JobEnds, Never, on_
 use Rattle.onll_task.specs.Keeps.{KeepStops}
 use Rattle.onll_task.specs.Reading.{CannotRead}
 use Rattle.onll_task.proofs.ImageFiles.{reading_images_never}
-use Rattle.onll_task.proofs.Jobs.{reading_whole_never}
+use Rattle.onll_task.proofs.Jobs.{IsRare, reading_whole_never}
 use Rattle.onll_eras.specs.EraJob.{EraNext, areas_work, era_task, on_started, started, with_newest, either_task, restored_task, restore_work, checkpoint_task, checkpoint_work, keeping_headers, begun_stage, header_said, area_said, has_next, checkpoint_after, area_of}
 use Rattle.onll_eras.specs.EraReports.{at_end_text, RestoreData, RestoreReads, newest_in, restore_lines, CheckpointData, CheckpointReads, checkpoint_lines}
 use Rattle.onll_eras.specs.EndingLaws.{HasFenceFault, FenceFaultLaw, HasFileFault, FileFaultLaw}
 use Rattle.onll_eras.specs.Eras.{Era, era_of}
 use Rattle.onll_eras.specs.Names.{EraNames, area_name, text_name}
 
--- ---- the usage text
--- what goes on with what an era's logs give never says it
-abbrev NextNever : EraNext → Type 0
-NextNever next = (from : Option CheckpointState) (era : Era) (kind : Kind) (s : (kind_at kind).State)
-    (r : Result Recovered StateFault) → Never Usage (next from era (kind_at kind) s r).job
-
-logs_never : (next : EraNext) → NextNever next → (from : Option CheckpointState) (era : Era) (threads : ℕ) (object : AnyObject)
-    → Never Usage (on_kind (λ kind s. after_stage (images_stage era.logs threads)
-    (λ images. next from era (kind_at kind) s (state_recovered (kind_at kind).means (expected_heads (kind_at kind).code era.text images) images))) object).job
-logs_never next never from era threads object =
-    each_kind {A = Task} (λ kind s. after_stage (images_stage era.logs threads)
-    (λ images. next from era (kind_at kind) s (state_recovered (kind_at kind).means (expected_heads (kind_at kind).code era.text images) images)))
-    (λ task. Never Usage task.job)
-    (λ kind s. reading_images_never era.logs threads 0
-    (λ images. (next from era (kind_at kind) s (state_recovered (kind_at kind).means (expected_heads (kind_at kind).code era.text images) images)).job)
-    (λ images. never from era kind s (state_recovered (kind_at kind).means (expected_heads (kind_at kind).code era.text images) images))) object
-
-started_never : (next : EraNext) → NextNever next → (from : Option CheckpointState) (era : Era) (threads : ℕ) (r : Result AnyObject Refusal)
-    → Never Usage (on_started era r (λ k s. after_stage (images_stage era.logs threads)
-    (λ images. next from era k s (state_recovered k.means (expected_heads k.code era.text images) images)))).job
-started_never next never from era threads (Ok object) = logs_never next never from era threads object
-started_never next never from era threads (Err refusal) = λ e. cc
-
-newest_never : (names : EraNames) (threads : ℕ) (next : EraNext) → NextNever next → Never Usage (with_newest names threads next).job
-newest_never names threads next never =
-    reading_whole_never names.init init_of (λ bytes first. Read (area_name names.ckpt 0) (λ even. Read (area_name names.ckpt 1)
-    (λ odd. (era_task names bytes threads first (newest even odd) next).job)))
-    (λ bytes first even odd. let from = newest even odd in
-    started_never next never from (era_of names bytes from) threads (started first from))
-
+-- ---- endings that no file gives
 -- one task or the other
 either_says : (P : Task → Type 0) (b : Bool) (task other : Task) → P task → P other → P (either_task b task other)
 either_says P true task other p q = p
 either_says P false task other p q = q
 
-pub areas_never : (ckpt : List ℕ) → Never Usage (areas_work ckpt).task.job
-areas_never ckpt = λ e. cc
+module _ (ending : Ending) (rare : IsRare ending) where
+  -- what goes on with what an era's logs give never ends so
+  abbrev NextNever : EraNext → Type 0
+  NextNever next = (from : Option CheckpointState) (era : Era) (kind : Kind) (s : (kind_at kind).State)
+      (r : Result Recovered StateFault) → Never ending (next from era (kind_at kind) s r).job
 
-restored_never : NextNever restored_task
-restored_never from era kind s (Err fault) = λ e. cc
-restored_never from era kind s (Ok r) = let k = kind_at kind in
-    let said : RestoreData k.State = record { from = newest_in from; logs = data_with r (state_after k.means s r.nodes) } in
-    either_says (λ task. Never Usage task.job) (nat_lt (era.place + length r.nodes) (2 ^ 64))
-    (report_task (flat_map line_text (restore_lines k.means k.wording said))
-    (λ text. SaysOnly (restore_lines k.means k.wording) (RestoreReads k.means k.wording) text said))
-    (say_task BadLog at_end_text) (λ e. cc) (λ e. cc)
+  logs_never : (next : EraNext) → NextNever next → (from : Option CheckpointState) (era : Era) (threads : ℕ) (object : AnyObject)
+      → Never ending (on_kind (λ kind s. after_stage (images_stage era.logs threads)
+      (λ images. next from era (kind_at kind) s (state_recovered (kind_at kind).means (expected_heads (kind_at kind).code era.text images) images))) object).job
+  logs_never next never from era threads object =
+      each_kind {A = Task} (λ kind s. after_stage (images_stage era.logs threads)
+      (λ images. next from era (kind_at kind) s (state_recovered (kind_at kind).means (expected_heads (kind_at kind).code era.text images) images)))
+      (λ task. Never ending task.job)
+      (λ kind s. reading_images_never ending era.logs threads 0
+      (λ images. (next from era (kind_at kind) s (state_recovered (kind_at kind).means (expected_heads (kind_at kind).code era.text images) images)).job)
+      (λ images. never from era kind s (state_recovered (kind_at kind).means (expected_heads (kind_at kind).code era.text images) images))) object
 
-pub restore_never : (names : EraNames) (threads : ℕ) → Never Usage (restore_work names threads).task.job
-restore_never names threads = newest_never names threads restored_task restored_never
+  started_never : (next : EraNext) → NextNever next → (from : Option CheckpointState) (era : Era) (threads : ℕ) (r : Result AnyObject Refusal)
+      → Never ending (on_started era r (λ k s. after_stage (images_stage era.logs threads)
+      (λ images. next from era k s (state_recovered k.means (expected_heads k.code era.text images) images)))).job
+  started_never next never from era threads (Ok object) = logs_never next never from era threads object
+  started_never next never from era threads (Err refusal) = λ e. subst IsRare (sym e) rare
 
-headers_never : (logs : List ℕ) (code : ℕ) (text : List ℕ) (threads t n : ℕ) (next : Job) → Never Usage next
-    → Never Usage (keeping_headers logs code text threads t n next)
-headers_never logs code text threads t zero next never = never
-headers_never logs code text threads t (suc n) next never = headers_never logs code text threads (suc t) n next never
+  newest_never : (names : EraNames) (threads : ℕ) (next : EraNext) → NextNever next → Never ending (with_newest names threads next).job
+  newest_never names threads next never =
+      reading_whole_never ending rare names.init init_of (λ bytes first. Read (area_name names.ckpt 0) (λ even. Read (area_name names.ckpt 1)
+      (λ odd. (era_task names bytes threads first (newest even odd) next).job)))
+      (λ bytes first even odd. let from = newest even odd in
+      started_never next never from (era_of names bytes from) threads (started first from))
 
-checkpoint_next_never : (ckpt : List ℕ) (threads : ℕ) → NextNever (checkpoint_task ckpt threads)
-checkpoint_next_never ckpt threads from era kind s (Err fault) = λ e. cc
-checkpoint_next_never ckpt threads from era kind s (Ok r) = let k = kind_at kind in
-    let state = state_after k.means s r.nodes in
-    let lines = k.wording.state_lines state in
-    let c = checkpoint_after era (length r.nodes) lines in
-    let said : CheckpointData k.State = record { number = era.number + 1; place = era.place + length r.nodes; state = state } in
-    let last = report_task (flat_map line_text (checkpoint_lines k.wording said))
-    (λ text. SaysOnly (checkpoint_lines k.wording) (CheckpointReads k.wording) text said) in
-    either_says (λ task. Never Usage task.job) (has_next era (length r.nodes))
-    (after_stage (assured_stage (prints_back k.wording (flat_map line_text lines))) (λ _. after_stage (begun_stage ckpt k.code threads c) (λ _. last)))
-    (say_task BadLog at_end_text)
-    (headers_never (area_name ckpt (area_of c)) k.code c.text threads 0 threads
-    (Write (text_name ckpt (area_of c)) c.text (Keep (area_name ckpt (area_of c)) (checkpoint_image c (lines_for (length c.text))) 2 (area_said (area_of c)) last.job))
-    (λ e. cc)) (λ e. cc)
+  pub areas_never : (ckpt : List ℕ) → Never ending (areas_work ckpt).task.job
+  areas_never ckpt = λ e. subst IsRare (sym e) rare
 
-pub checkpoint_never : (names : EraNames) (threads : ℕ) → Never Usage (checkpoint_work names threads).task.job
-checkpoint_never names threads = newest_never names threads (checkpoint_task names.ckpt threads) (checkpoint_next_never names.ckpt threads)
+  restored_never : NextNever restored_task
+  restored_never from era kind s (Err fault) = λ e. subst IsRare (sym e) rare
+  restored_never from era kind s (Ok r) = let k = kind_at kind in
+      let said : RestoreData k.State = record { from = newest_in from; logs = data_with r (state_after k.means s r.nodes) } in
+      either_says (λ task. Never ending task.job) (nat_lt (era.place + length r.nodes) (2 ^ 64))
+      (report_task (flat_map line_text (restore_lines k.means k.wording said))
+      (λ text. SaysOnly (restore_lines k.means k.wording) (RestoreReads k.means k.wording) text said))
+      (say_task BadLog at_end_text) (λ e. subst IsRare (sym e) rare) (λ e. subst IsRare (sym e) rare)
+
+  pub restore_never : (names : EraNames) (threads : ℕ) → Never ending (restore_work names threads).task.job
+  restore_never names threads = newest_never names threads restored_task restored_never
+
+  headers_never : (logs : List ℕ) (code : ℕ) (text : List ℕ) (threads t n : ℕ) (next : Job) → Never ending next
+      → Never ending (keeping_headers logs code text threads t n next)
+  headers_never logs code text threads t zero next never = never
+  headers_never logs code text threads t (suc n) next never = headers_never logs code text threads (suc t) n next never
+
+  checkpoint_next_never : (ckpt : List ℕ) (threads : ℕ) → NextNever (checkpoint_task ckpt threads)
+  checkpoint_next_never ckpt threads from era kind s (Err fault) = λ e. subst IsRare (sym e) rare
+  checkpoint_next_never ckpt threads from era kind s (Ok r) = let k = kind_at kind in
+      let state = state_after k.means s r.nodes in
+      let lines = k.wording.state_lines state in
+      let c = checkpoint_after era (length r.nodes) lines in
+      let said : CheckpointData k.State = record { number = era.number + 1; place = era.place + length r.nodes; state = state } in
+      let last = report_task (flat_map line_text (checkpoint_lines k.wording said))
+      (λ text. SaysOnly (checkpoint_lines k.wording) (CheckpointReads k.wording) text said) in
+      either_says (λ task. Never ending task.job) (has_next era (length r.nodes))
+      (after_stage (assured_stage (prints_back k.wording (flat_map line_text lines))) (λ _. after_stage (begun_stage ckpt k.code threads c) (λ _. last)))
+      (say_task BadLog at_end_text)
+      (headers_never (area_name ckpt (area_of c)) k.code c.text threads 0 threads
+      (Write (text_name ckpt (area_of c)) c.text (Keep (area_name ckpt (area_of c)) (checkpoint_image c (lines_for (length c.text))) 2 (area_said (area_of c)) last.job))
+      (λ e. subst IsRare (sym e) rare)) (λ e. subst IsRare (sym e) rare)
+
+  pub checkpoint_never : (names : EraNames) (threads : ℕ) → Never ending (checkpoint_work names threads).task.job
+  checkpoint_never names threads = newest_never names threads (checkpoint_task names.ckpt threads) (checkpoint_next_never names.ckpt threads)
 
 -- ---- endings that no file which is read gives
 module _ (store after : StoreView) (ending : Ending) (text : List ℕ)

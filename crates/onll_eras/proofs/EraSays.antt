@@ -7,11 +7,11 @@ use Rattle.std.proofs.Common.{true}
 use Rattle.onll_words.proofs.Decimals.{IsWord-decimal}
 use Rattle.onll_model.specs.Object.{Behaviour}
 use Rattle.onll_merge.specs.Recovered.{Recovered}
-use Rattle.onll_text.specs.Lines.{node_lines, state_lines}
+use Rattle.onll_text.specs.Lines.{node_lines, state_lines, recovered_line}
 use Rattle.onll_text.specs.Reports.{SaysOnly}
 use Rattle.onll_text.specs.Wording.{Wording}
 use Rattle.onll_text.proofs.Determined.{text_determined, AreMeaningful-append, line_same, nodes_determined, nodes_meaningful, state_determined, state_meaningful, says_only}
-use Rattle.onll_recovery.specs.RecoverJob.{RecoverData, held_lines, recovered_line, data_with}
+use Rattle.onll_recovery.specs.RecoverJob.{RecoverData, held_lines, data_with}
 use Rattle.onll_recovery.proofs.Determined.{first_number, helds_determined, helds_meaningful, logs-data, recover_same}
 use Rattle.onll_recovery.proofs.RecoverSteps.{recovered_in_words}
 use Rattle.onll_eras.specs.EraReports.{Newest, RestoreData, RestoreReads, NewestReads, CheckpointData, CheckpointReads, era_line, place_line, place_in, newest_line, restore_lines, checkpoint_lines, logs_with_nodes}

@@ -16,7 +16,8 @@ use Rattle.onll_text.specs.PrintsBack.{prints_back}
 use Rattle.onll_text.specs.Reports.{SaysOnly}
 use Rattle.onll_outside.specs.Views.{Holds}
 use Rattle.onll_task.specs.declared.ending.Ending.TheVariants.{Refused, BadLog}
-use Rattle.onll_task.specs.Printed.{refusal_text, fault_line as fence_line}
+use Rattle.onll_text.specs.Lines.{fence_line}
+use Rattle.onll_task.specs.Printed.{refusal_text}
 use Rattle.onll_task.specs.ImageNames.{image_name, image_names}
 use Rattle.onll_task.specs.Images.{images_stage}
 use Rattle.onll_task.specs.Job.{Job, Read, Keep}

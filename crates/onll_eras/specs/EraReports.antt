@@ -5,11 +5,11 @@ use Rattle.std.specs.List.{flat_map}
 use Rattle.onll_words.specs.Texts.{line_text}
 use Rattle.onll_model.specs.Object.{Behaviour}
 use Rattle.onll_text.specs.Wording.{Wording}
-use Rattle.onll_text.specs.Lines.{node_lines, state_lines}
+use Rattle.onll_text.specs.Lines.{node_lines, state_lines, recovered_line}
 use Rattle.onll_text.specs.Reports.{StateReads}
 use Rattle.onll_checkpoint.specs.Checkpoint.{CheckpointState}
 use Rattle.onll_merge.specs.Recovered.{Recovered}
-use Rattle.onll_recovery.specs.RecoverJob.{RecoverData, RecoverReads, held_lines, log_lines, recovered_line}
+use Rattle.onll_recovery.specs.RecoverJob.{RecoverData, RecoverReads, held_lines, log_lines}
 
 -- areas that were made
 abbrev pub areas_text : List ℕ → List ℕ

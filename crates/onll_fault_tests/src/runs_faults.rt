@@ -113,7 +113,7 @@ fn has_kept(store: &MemStore) -> bool {
     store.file("out.0") != Some(b"first")
 }
 
-/// Makes a run, whose first log is kept unless a header's fence fails.
+/// Makes a run, whose first log is kept unless a header's fence fails, and whose report is legal.
 fn expect_fence<R: Abort + Threads + Wait + Sync>(
     rt: &R,
     alloc: Global,
@@ -127,6 +127,9 @@ fn expect_fence<R: Abort + Threads + Wait + Sync>(
     let mut store = program.store_with(alloc, &[fence])?;
     let run = program.run_over(rt, alloc, &mut store)?;
     run.expect(case.name, case.status, case.output)?;
+    if !case.output.starts_with("fault ") {
+        program.expect_legal(rt, alloc, case.output)?;
+    }
     assert_eq!(rt; has_kept(&store), case.fence != 1, "{}: kept", case.name);
     Ok(())
 }

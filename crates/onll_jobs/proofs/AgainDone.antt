@@ -1,9 +1,8 @@
 -- A run that goes on from images in told files, whose texts are told and accepted, is done, or a script has too many updates.
 
-use Rattle.std.proofs.Common.{ℕ, suc, List, [], ◌∷◌, ◌≡◌, ◌≤◌, inr, length, Option, Some, Result, Ok, Err, refl, sym, ap, ◌∙◌, subst}
+use Rattle.std.proofs.Common.{ℕ, suc, List, [], ◌∷◌, ◌≡◌, ◌≤◌, inr, length, Option, Some, Result, Ok, Err, refl, sym, ◌∙◌, subst}
 use Rattle.std.specs.List.{AllByRecursion}
 use Rattle.onll_model.specs.declared.call.Call.{Call}
-use Rattle.onll_model.specs.Calls.{updates_in}
 use Rattle.onll_model.specs.Object.{Behaviour}
 use Rattle.onll_core.specs.declared.fault.ResumeFault.{ResumeFault}
 use Rattle.onll_core.specs.declared.fault.ResumeFault.TheVariants.{Images, OldFormat, NotOp, TooMany, NoMemory}
@@ -39,7 +38,6 @@ use Rattle.onll_task.specs.Printed.{exit_status}
 use Rattle.onll_task.specs.Reading.{IsTold}
 use Rattle.onll_task.specs.Writing.{written}
 use Rattle.onll_log.specs.Torn.{AreLines}
-use Rattle.onll_log.specs.declared.head.LogHead.{LogHead}
 use Rattle.onll_merge.specs.declared.fault.StateFault.{StateFault}
 use Rattle.onll_merge.specs.Recovered.{Recovered, recovered_with, state_recovered}
 use Rattle.onll_recovery.specs.AgainJob.{resume_text, resumed_task, goes_on_task, planned_task, again_task}
@@ -47,7 +45,7 @@ use Rattle.onll_recovery.specs.ReplayJob.{scripts_stage, replay_report, run_task
 use Rattle.onll_recovery.proofs.Resumes.{GoesOrMany, goes_or_many, resumed_on, on_recovered}
 use Rattle.onll_jobs.specs.AgainPromises.{TellsValue, TellScripts, TellsPlan, SaysOn, GoesOnLeft, GoesOnRun, GoesOn}
 use Rattle.onll_jobs.specs.Command.{form_of, Again}
-use Rattle.onll_jobs.specs.Durable.{TellImages, IsLeft}
+use Rattle.onll_jobs.specs.Durable.{TellImages}
 use Rattle.onll_jobs.specs.Over.{AgainOver, over_task, object_task, over_work}
 use Rattle.onll_jobs.specs.Says.{job_of, ExitSays, NoneRose, SaysThis}
 use Rattle.onll_jobs.specs.Seen.{Seen}

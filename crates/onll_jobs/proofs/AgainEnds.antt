@@ -1,6 +1,6 @@
 -- How a run that goes on from images ends where each file is read and no text is refused.
 
-use Rattle.std.proofs.Common.{ℕ, zero, suc, List, [], ◌∷◌, ◌≡◌, ◌⊎◌, inl, inr, length, map, take, ◌/◌, Option, Some, Result, Ok, Err, refl, sym, ap, subst}
+use Rattle.std.proofs.Common.{ℕ, List, [], ◌∷◌, ◌≡◌, ◌⊎◌, inl, inr, length, map, take, ◌/◌, Option, Some, Result, Ok, Err, sym, subst}
 use Rattle.std.specs.List.{AllByRecursion}
 use Rattle.std.specs.Simd.{first_chunks}
 use Rattle.onll_model.specs.declared.call.Call.{Call}
@@ -26,11 +26,11 @@ use Rattle.onll_text.specs.Wording.{Wording}
 use Rattle.onll_text.proofs.EachKind.{IsKnown, kind_goes}
 use Rattle.onll_outside.specs.Views.{StoreView}
 use Rattle.onll_task.specs.declared.ending.Ending.{Ending}
-use Rattle.onll_task.specs.declared.ending.Ending.TheVariants.{Done, Usage, BadLog, Faulty}
+use Rattle.onll_task.specs.declared.ending.Ending.TheVariants.{Done, Usage, BadLog, Faulty, Judged}
 use Rattle.onll_task.specs.Reading.{ReadsWhole}
-use Rattle.onll_task.specs.Doing.{Task, lines_stage, each_job, AreKnown}
+use Rattle.onll_task.specs.Doing.{Task, lines_stage, AreKnown}
 use Rattle.onll_task.specs.ImageNames.{image_names}
-use Rattle.onll_task.specs.Job.{Job, Threads, JobEnds}
+use Rattle.onll_task.specs.Job.{Threads, JobEnds}
 use Rattle.onll_merge.specs.declared.fault.StateFault.{StateFault}
 use Rattle.onll_merge.specs.Recovered.{Recovered, state_recovered}
 use Rattle.onll_recovery.specs.ReplayJob.{run_task}
@@ -151,9 +151,12 @@ module _ (seen : Seen) (init schedule logs : List ℕ) (names : List (List ℕ))
       (again_put (λ k bytes s. Unit {0}) (λ says. ⊥) ending said h
       (λ k bytes s known read. done_or_bad ending f g (task_said seen.store_after ending h.text said k.means k.wording seen.store logs names read.scripts read.plan (resumed k.means k.code bytes s read.images read.scripts) read.ends))).ends
 
-  -- the usage is never said, nor that a fence failed
+  -- the usage is never said, nor that a fence failed, nor that a report is wrong
   pub again_not_usage : PutWhole seen Usage → ⊥
   again_not_usage h = never_put Usage tt (λ e. cc e) (λ e. cc e) h
 
   pub again_not_faulty : PutWhole seen Faulty → ⊥
   again_not_faulty h = never_put Faulty tt (λ e. cc e) (λ e. cc e) h
+
+  pub again_not_judged : PutWhole seen Judged → ⊥
+  again_not_judged h = never_put Judged tt (λ e. cc e) (λ e. cc e) h

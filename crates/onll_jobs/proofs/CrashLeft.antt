@@ -1,11 +1,11 @@
 -- What a crash left of a core, which began anew or went on from any images.
 
-use Rattle.std.proofs.Common.{ℕ, List, ◌≡◌, ⊎_elim, inl, inr, length, take, Ok, sym, refl, ap, ◌∙◌, subst}
+use Rattle.std.proofs.Common.{ℕ, List, ◌≡◌, ⊎_elim, length, take, Ok, sym, refl, ap, ◌∙◌, subst}
 use Rattle.std.proofs.lemmas.List.{length-map, take_at}
 use Rattle.onll_log.specs.declared.head.LogHead.{LogHead}
 use Rattle.onll_core.specs.Core.{CoreState}
 use Rattle.onll_core.specs.Created.{heads_from, created_heads, created_core}
-use Rattle.onll_core.specs.Crash.{heads_of, RecoversAll}
+use Rattle.onll_core.specs.Crash.{RecoversAll}
 use Rattle.onll_core.specs.Durable.{GoesOn}
 use Rattle.onll_core.specs.Outcomes.{script_of}
 use Rattle.onll_core.specs.Resume.{found_in}

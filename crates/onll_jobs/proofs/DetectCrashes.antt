@@ -26,7 +26,7 @@ use Rattle.onll_detect.specs.Outcomes.{Table, table_of}
 use Rattle.onll_text.specs.declared.any_object.AnyObject.{AnyObject}
 use Rattle.onll_text.specs.Init.{init_of}
 use Rattle.onll_text.specs.Kinds.{ObjectKind, kind_at}
-use Rattle.onll_text.specs.Lines.{call_line}
+use Rattle.onll_text.specs.Lines.{call_line, recovered_line}
 use Rattle.onll_text.specs.Refusal.{Refusal}
 use Rattle.onll_text.specs.Wording.{Wording}
 use Rattle.onll_text.proofs.EachKind.{kind_goes}
@@ -39,7 +39,6 @@ use Rattle.onll_task.specs.Job.{Job, Threads, Decides, on_value}
 use Rattle.onll_task.specs.Printed.{exit_status}
 use Rattle.onll_task.specs.Reading.{IsTold}
 use Rattle.onll_recovery.specs.DetectJob.{scripts_lines, detect_lines, stranger_to, nodes_task, detected_task, outcomes_task, detect_images_task, detect_task}
-use Rattle.onll_recovery.specs.RecoverJob.{recovered_line}
 use Rattle.onll_jobs.specs.Command.{Detect, form_of}
 use Rattle.onll_jobs.specs.DetectPromises.{IsLeftByFirst, TellsLeft, TellsCrashes}
 use Rattle.onll_jobs.specs.Over.{DetectOver, over_task, object_task, over_work}

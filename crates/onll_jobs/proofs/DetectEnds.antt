@@ -12,7 +12,7 @@ use Rattle.onll_text.specs.Wording.{Wording}
 use Rattle.onll_text.proofs.EachKind.{each_kind}
 use Rattle.onll_outside.specs.Views.{StoreView}
 use Rattle.onll_task.specs.declared.ending.Ending.{Ending}
-use Rattle.onll_task.specs.declared.ending.Ending.TheVariants.{Done, Usage, BadLog, Faulty}
+use Rattle.onll_task.specs.declared.ending.Ending.TheVariants.{Done, Usage, BadLog, Faulty, Judged}
 use Rattle.onll_task.specs.Doing.{Task}
 use Rattle.onll_task.specs.ImageNames.{image_names}
 use Rattle.onll_task.specs.Job.{JobEnds, Threads}
@@ -59,9 +59,12 @@ module _ (seen : Seen) (init logs : List ℕ) (names : List (List ℕ)) (form : 
       (λ task. JobEnds seen.store seen.store_after task.job ending h.text → ⊥)
       (λ kind s k. done_or_bad ending f g (detect_said seen.store_after ending h.text said (kind_at kind) seen.store read.bytes logs names s k)) read.value read.ends
 
-  -- the usage is never said, nor that a fence failed
+  -- the usage is never said, nor that a fence failed, nor that a report is wrong
   pub detect_not_usage : PutWhole seen Usage → ⊥
   detect_not_usage h = never_put Usage tt (λ e. cc e) (λ e. cc e) h
 
   pub detect_not_faulty : PutWhole seen Faulty → ⊥
   detect_not_faulty h = never_put Faulty tt (λ e. cc e) (λ e. cc e) h
+
+  pub detect_not_judged : PutWhole seen Judged → ⊥
+  detect_not_judged h = never_put Judged tt (λ e. cc e) (λ e. cc e) h

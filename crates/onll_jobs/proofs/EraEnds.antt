@@ -1,8 +1,8 @@
 -- What `restore` and `checkpoint` promise is kept, by the exit of the call.
 
-use Rattle.std.proofs.Common.{ℕ, ◌≡◌, ◌<◌, ◌≤◌, ◌+◌, ◌⊎◌, inl, inr, ⊎_elim, true, List, Some, refl, sym, ap, subst, arith}
+use Rattle.std.proofs.Common.{ℕ, ◌≡◌, ◌<◌, ◌≤◌, ◌+◌, inl, inr, ⊎_elim, true, List, Some, refl, sym, ap, subst, arith}
 use Rattle.std.specs.Prelude.{◌^◌}
-use Rattle.onll_outside.specs.Views.{Puts, counted}
+use Rattle.onll_outside.specs.Views.{Puts}
 use Rattle.onll_task.specs.declared.ending.Ending.{Ending}
 use Rattle.onll_task.specs.declared.ending.Ending.TheVariants.{Done, WriteFault, Faulty}
 use Rattle.onll_task.specs.declared.ending.Exit.{Exit}
@@ -10,11 +10,9 @@ use Rattle.onll_task.specs.declared.ending.Exit.TheVariants.{Said, SinkFault, No
 use Rattle.onll_task.specs.Job.{JobEnds, JobCut, Decides}
 use Rattle.onll_task.specs.Printed.{status_of, exit_status}
 use Rattle.onll_task.proofs.Onwards.{ends_cut}
-use Rattle.onll_eras.specs.Begun.{AreApart, BeginsNext}
+use Rattle.onll_eras.specs.Begun.{AreApart}
 use Rattle.onll_eras.specs.EraReports.{checkpoint_text}
 use Rattle.onll_eras.specs.Eras.{next_area}
-use Rattle.onll_eras.specs.EndingLaws.{HasFenceFault, HasFileFault}
-use Rattle.onll_eras.specs.Laws.{SaysPlace, PrintsWhatIs, HasBegunNext, DecidesRestore}
 use Rattle.onll_eras.specs.Names.{EraNames}
 use Rattle.onll_eras.specs.Restored.{Restores, era_in}
 use Rattle.onll_eras.proofs.EraEndings.{fence_fault, file_fault}
@@ -25,7 +23,7 @@ use Rattle.onll_jobs.specs.EraPromises.{HasRestored, RestoresThis, RestorePromis
 use Rattle.onll_jobs.specs.Says.{job_of, ExitSays, NoneRose, PutWhole, SaysThis, SinkFailed}
 use Rattle.onll_jobs.specs.Seen.{Seen}
 use Rattle.onll_jobs.proofs.ExitCauses.{said_of, failed_of, decided_exactly}
-use Rattle.onll_jobs.proofs.Forms.{few-restored, few-checkpointed}
+use Rattle.onll_jobs.proofs.Forms.{few-checkpointed}
 
 -- however a call ends, its job stopped somewhere
 stopped : (seen : Seen) (x : Exit) → ExitSays seen x → JobCut seen.store seen.store_after (job_of (form_of seen.words))

@@ -1,5 +1,5 @@
 -- What an exit says by its status, and how calls never end: only words of no form get the usage text, only a run, anew or
--- going on, and a checkpoint a fault line.
+-- going on, and a checkpoint a fault line, and only an audit a wrong line.
 
 use Rattle.std.proofs.Common.{ℕ, zero, suc, List, ◌≡◌, ◌⊎◌, inl, inr, Option, Some, None, Result, Ok, Err, refl, sym, ap, ◌∙◌, subst, arith, [], ◌∷◌}
 use Rattle.onll_outside.specs.Views.{Puts, StoreView}
@@ -12,7 +12,7 @@ use Rattle.onll_text.specs.declared.any_object.Kind.{Kind}
 use Rattle.onll_text.specs.Kinds.{kind_at}
 use Rattle.onll_jobs.specs.Fold.{fold_report}
 use Rattle.onll_task.specs.declared.ending.Ending.{Ending}
-use Rattle.onll_task.specs.declared.ending.Ending.TheVariants.{Done, Usage, Refused, BadLog, ReadFault, WriteFault, Faulty}
+use Rattle.onll_task.specs.declared.ending.Ending.TheVariants.{Done, Usage, Refused, BadLog, ReadFault, WriteFault, Faulty, Judged}
 use Rattle.onll_task.specs.declared.ending.Exit.{Exit}
 use Rattle.onll_task.specs.declared.ending.Exit.TheVariants.{Said, SinkFault, NoMemory}
 use Rattle.onll_jobs.specs.Seen.{Seen}
@@ -29,20 +29,22 @@ use Rattle.onll_jobs.specs.FoldJob.{script_task}
 use Rattle.onll_jobs.specs.Exits.{PutExits}
 use Rattle.onll_jobs.specs.Says.{job_of, Allows, PutWhole, OutOfMemory, SinkFailed, ExitSays, NothingFailed, NoneRose, SaysThis}
 use Rattle.onll_task.specs.Doing.{Task, lines_stage, each_job}
-use Rattle.onll_jobs.specs.Over.{OverForm, FoldOver, RecoverOver, ReplayOver, AgainOver, ResumeOver, RunOver, DetectOver, FollowOver, over_task, object_task, over_work}
+use Rattle.onll_jobs.specs.Over.{OverForm, FoldOver, RecoverOver, ReplayOver, AgainOver, ResumeOver, RunOver, DetectOver, FollowOver, AuditOver, over_task, object_task, over_work}
 use Rattle.onll_task.proofs.Onwards.{ends_cut}
-use Rattle.onll_task.proofs.Jobs.{TellsFault, nothing_failed, decided, never_says, reading_never, reading_whole_never}
+use Rattle.onll_task.proofs.Jobs.{TellsFault, nothing_failed, decided, IsRare, rare_none, never_says, reading_never, reading_whole_never}
 use Rattle.onll_task.proofs.ImageFiles.{reading_images_never}
 use Rattle.onll_text.proofs.EachKind.{each_kind}
-use Rattle.onll_jobs.proofs.AgainEnds.{again_not_usage, again_not_faulty}
-use Rattle.onll_jobs.proofs.DetectEnds.{detect_not_usage, detect_not_faulty}
-use Rattle.onll_jobs.proofs.ReplayEnds.{replay_not_usage, replay_not_faulty}
-use Rattle.onll_jobs.proofs.ResumeEnds.{resume_not_usage}
-use Rattle.onll_jobs.proofs.RunEnds.{run_not_usage}
+use Rattle.onll_jobs.proofs.AgainEnds.{again_not_usage, again_not_faulty, again_not_judged}
+use Rattle.onll_jobs.proofs.AuditEnds.{audit_not_usage, audit_not_faulty}
+use Rattle.onll_jobs.proofs.DetectEnds.{detect_not_usage, detect_not_faulty, detect_not_judged}
+use Rattle.onll_jobs.proofs.ReplayEnds.{replay_not_usage, replay_not_faulty, replay_not_judged}
+use Rattle.onll_jobs.proofs.ResumeEnds.{resume_not_usage, resume_not_judged}
+use Rattle.onll_jobs.proofs.RunEnds.{run_not_usage, run_not_judged}
 use Rattle.onll_task.specs.ImageNames.{image_names}
 use Rattle.onll_eras.proofs.EraEndings.{areas_never, restore_never, checkpoint_never, areas_not_faulty, restore_not_faulty}
 use Rattle.onll_shipping.proofs.Endings.{follow_never, follow_not_faulty}
 use Rattle.onll_shipping.proofs.Shipping.{ship_never, ship_not_faulty}
+use Rattle.onll_jobs.specs.AuditPromises.{IsOfAudit}
 use Rattle.onll_jobs.specs.RunPromises.{IsOfRun, IsOfCheckpoint}
 use Rattle.onll_jobs.proofs.SaidEnds.{said_read, whole_ends}
 
@@ -53,6 +55,7 @@ ending_at (suc (suc (suc zero))) = Refused
 ending_at (suc (suc (suc (suc zero)))) = BadLog
 ending_at (suc (suc (suc (suc (suc zero))))) = ReadFault
 ending_at (suc (suc (suc (suc (suc (suc (suc zero))))))) = Faulty
+ending_at (suc (suc (suc (suc (suc (suc (suc (suc zero)))))))) = Judged
 ending_at _ = WriteFault
 
 ending_at_status : (e : Ending) → ending_at (status_of e) ≡ e
@@ -64,6 +67,7 @@ ending_at_status BadLog = refl
 ending_at_status ReadFault = refl
 ending_at_status WriteFault = refl
 ending_at_status Faulty = refl
+ending_at_status Judged = refl
 
 same_ending : (d e : Ending) → status_of d ≡ status_of e → d ≡ e
 same_ending d e h = sym (ending_at_status d) ∙ (ap ending_at h ∙ ending_at_status e)
@@ -76,6 +80,7 @@ not_nine BadLog h = omega arith
 not_nine ReadFault h = omega arith
 not_nine WriteFault h = omega arith
 not_nine Faulty h = omega arith
+not_nine Judged h = omega arith
 
 -- what a put of a text that is allowed says by its exit
 pub put_says : (w : Seen) (ending : Ending) (text : List ℕ) (x : Exit) → Allows w ending text → PutExits w.sink w.sink_after ending text x → ExitSays w x
@@ -104,53 +109,66 @@ no_memory_of w (Said e) h s = absurd (not_nine e h)
 no_memory_of w SinkFault h s = absurd (omega arith)
 no_memory_of w NoMemory h s = s
 
-report_never : {State Op Query Reply : Type 0} (b : Behaviour State Op Query Reply) (w : Wording State Op Query Reply) (s : State) (script : List ℕ) → Never Usage (script_task b w s script).job
-report_never {State} {Op} {Query} {Reply} b w s script =
-    let never : (calls : List (Call State Op Query Reply)) → Done ≡ Usage → ⊥ = (λ calls e. cc) in
-    reading_never script (script_of w) (λ calls. Say Done (fold_report b w s calls)) never
+-- ---- endings that words of no form alone give, or an audit
+module _ (ending : Ending) (rare : IsRare ending) where
+  report_never : {State Op Query Reply : Type 0} (b : Behaviour State Op Query Reply) (w : Wording State Op Query Reply) (s : State) (script : List ℕ) → Never ending (script_task b w s script).job
+  report_never {State} {Op} {Query} {Reply} b w s script =
+      let never : (calls : List (Call State Op Query Reply)) → Done ≡ ending → ⊥ = (λ calls e. subst IsRare (sym e) rare) in
+      reading_never ending rare script (script_of w) (λ calls. Say Done (fold_report b w s calls)) never
 
-content_never : (content : Option Content) → Never Usage (shown_task content).job
-content_never None = λ e. cc
-content_never (Some content) = λ e. cc
+  content_never : (content : Option Content) → Never ending (shown_task content).job
+  content_never None = λ e. subst IsRare (sym e) rare
+  content_never (Some content) = λ e. subst IsRare (sym e) rare
 
-recovered_never : {State Op Query Reply : Type 0} (b : Behaviour State Op Query Reply) (w : Wording State Op Query Reply) (s : State) (r : Result Recovered StateFault) → Never Usage (recovered_task b w s r).job
-recovered_never b w s (Ok r) = λ e. cc
-recovered_never b w s (Err fault) = λ e. cc
+  recovered_never : {State Op Query Reply : Type 0} (b : Behaviour State Op Query Reply) (w : Wording State Op Query Reply) (s : State) (r : Result Recovered StateFault) → Never ending (recovered_task b w s r).job
+  recovered_never b w s (Ok r) = λ e. subst IsRare (sym e) rare
+  recovered_never b w s (Err fault) = λ e. subst IsRare (sym e) rare
 
--- what never says the usage over any object never says it
-over_never : (init : List ℕ) (over : OverForm) → ((kind : Kind) (bytes : List ℕ) (s : (kind_at kind).State) → Never Usage (over_task over (kind_at kind) (Threads kind) bytes s).job)
-    → Never Usage (over_work init over).task.job
-over_never init over never =
-    reading_whole_never init init_of (λ bytes object. (object_task over bytes object).job)
-    (λ bytes object. each_kind {A = Task} (λ kind s. over_task over (kind_at kind) (Threads kind) bytes s) (λ task. Never Usage task.job) (λ kind s. never kind bytes s) object)
+  -- what never ends so over any object never ends so
+  over_never : (init : List ℕ) (over : OverForm) → ((kind : Kind) (bytes : List ℕ) (s : (kind_at kind).State) → Never ending (over_task over (kind_at kind) (Threads kind) bytes s).job)
+      → Never ending (over_work init over).task.job
+  over_never init over never =
+      reading_whole_never ending rare init init_of (λ bytes object. (object_task over bytes object).job)
+      (λ bytes object. each_kind {A = Task} (λ kind s. over_task over (kind_at kind) (Threads kind) bytes s) (λ task. Never ending task.job) (λ kind s. never kind bytes s) object)
+
+  module _ (w : Seen) (h : PutWhole w ending) where
+    never_put : (form : Form) → form_of w.words ≡ Some form → Never ending (job_of (Some form)) → ⊥
+    never_put form e never =
+        never_says ending rare w.store w.store_after (job_of (Some form)) h.text never (subst (λ f. JobEnds w.store w.store_after (job_of f) ending h.text) e h.allowed)
+
+    -- the words of a form that end so are those of an audit
+    rare_form : (form : Form) → form_of w.words ≡ Some form → IsOfAudit w
+    rare_form (OverInit init (FoldOver script)) e =
+        absurd (never_put (OverInit init (FoldOver script)) e (over_never init (FoldOver script) (λ kind bytes s. report_never (kind_at kind).means (kind_at kind).wording s script)))
+    rare_form (Show image) e = absurd (never_put (Show image) e (λ bytes. content_never (content_of (image_lines bytes))))
+    rare_form (OverInit init (RecoverOver logs threads)) e =
+        absurd (never_put (OverInit init (RecoverOver logs threads)) e
+        (over_never init (RecoverOver logs threads)
+        (λ kind bytes s. let k = kind_at kind in
+        reading_images_never ending logs threads 0 (λ images. (images_task k bytes s images).job)
+        (λ images. recovered_never k.means k.wording s (state_recovered k.means (expected_heads k.code bytes images) images)))))
+    rare_form (OverInit init (ReplayOver schedule logs scripts)) e =
+        absurd (rare_none (PutWhole w) (replay_not_usage w init schedule logs scripts e) (replay_not_judged w init schedule logs scripts e) ending rare h)
+    rare_form (OverInit init (AgainOver schedule logs scripts)) e =
+        absurd (rare_none (PutWhole w) (again_not_usage w init schedule logs scripts e) (again_not_judged w init schedule logs scripts e) ending rare h)
+    rare_form (OverInit init (ResumeOver logs scripts)) e =
+        absurd (rare_none (PutWhole w) (resume_not_usage w init logs scripts e) (resume_not_judged w init logs scripts e) ending rare h)
+    rare_form (OverInit init (RunOver logs scripts)) e = absurd (rare_none (PutWhole w) (run_not_usage w init logs scripts e) (run_not_judged w init logs scripts e) ending rare h)
+    rare_form (OverInit init (DetectOver logs scripts)) e =
+        absurd (rare_none (PutWhole w) (detect_not_usage w init logs scripts e) (detect_not_judged w init logs scripts e) ending rare h)
+    rare_form (OverInit init (FollowOver threads stream piece)) e =
+        absurd (never_put (OverInit init (FollowOver threads stream piece)) e
+        (over_never init (FollowOver threads stream piece) (λ kind bytes s. follow_never ending rare (kind_at kind) bytes stream threads s)))
+    rare_form (OverInit init (AuditOver report names)) e = record { init = init; report = report; names = names; form = e }
+    rare_form (Make workload) e = absurd (never_put (Make workload) e (λ d. subst IsRare (sym d) rare))
+    rare_form (Areas ckpt) e = absurd (never_put (Areas ckpt) e (areas_never ending rare ckpt))
+    rare_form (Restore names threads) e = absurd (never_put (Restore names threads) e (restore_never ending rare names threads))
+    rare_form (Checkpoint names threads) e = absurd (never_put (Checkpoint names threads) e (checkpoint_never ending rare names threads))
+    rare_form (Ship logs threads out) e = absurd (never_put (Ship logs threads out) e (ship_never ending rare logs threads out))
 
 -- words of a form never get the usage text
-not_usage : (w : Seen) (form : Form) → form_of w.words ≡ Some form → Never Usage (job_of (Some form)) → PutWhole w Usage → ⊥
-not_usage w form e never h = never_says w.store w.store_after (job_of (Some form)) h.text never (subst (λ f. JobEnds w.store w.store_after (job_of f) Usage h.text) e h.allowed)
-
 form_not_usage : (w : Seen) (form : Form) → form_of w.words ≡ Some form → PutWhole w Usage → ⊥
-form_not_usage w (OverInit init (FoldOver script)) e h =
-    not_usage w (OverInit init (FoldOver script)) e (over_never init (FoldOver script) (λ kind bytes s. report_never (kind_at kind).means (kind_at kind).wording s script)) h
-form_not_usage w (Show image) e h = not_usage w (Show image) e (λ bytes. content_never (content_of (image_lines bytes))) h
-form_not_usage w (OverInit init (RecoverOver logs threads)) e h =
-    not_usage w (OverInit init (RecoverOver logs threads)) e
-    (over_never init (RecoverOver logs threads)
-    (λ kind bytes s. let k = kind_at kind in
-    reading_images_never logs threads 0 (λ images. (images_task k bytes s images).job)
-    (λ images. recovered_never k.means k.wording s (state_recovered k.means (expected_heads k.code bytes images) images)))) h
-form_not_usage w (OverInit init (ReplayOver schedule logs scripts)) e h = replay_not_usage w init schedule logs scripts e h
-form_not_usage w (OverInit init (AgainOver schedule logs scripts)) e h = again_not_usage w init schedule logs scripts e h
-form_not_usage w (OverInit init (ResumeOver logs scripts)) e h = resume_not_usage w init logs scripts e h
-form_not_usage w (OverInit init (RunOver logs scripts)) e h = run_not_usage w init logs scripts e h
-form_not_usage w (OverInit init (DetectOver logs scripts)) e h = detect_not_usage w init logs scripts e h
-form_not_usage w (OverInit init (FollowOver threads stream piece)) e h =
-    not_usage w (OverInit init (FollowOver threads stream piece)) e
-    (over_never init (FollowOver threads stream piece) (λ kind bytes s. follow_never (kind_at kind) bytes stream threads s)) h
-form_not_usage w (Make workload) e h = not_usage w (Make workload) e (λ d. cc d) h
-form_not_usage w (Areas ckpt) e h = not_usage w (Areas ckpt) e (areas_never ckpt) h
-form_not_usage w (Restore names threads) e h = not_usage w (Restore names threads) e (restore_never names threads) h
-form_not_usage w (Checkpoint names threads) e h = not_usage w (Checkpoint names threads) e (checkpoint_never names threads) h
-form_not_usage w (Ship logs threads out) e h = not_usage w (Ship logs threads out) e (ship_never logs threads out) h
+form_not_usage w form e h = let audit = rare_form Usage tt w h form e in audit_not_usage w audit.init audit.report audit.names audit.form h
 
 usage_put : (w : Seen) (form : Option Form) → form_of w.words ≡ form → PutWhole w Usage → (form ≡ None) × Puts w.sink w.sink_after usage_text
 usage_put w None e h = (refl, subst (Puts w.sink w.sink_after) (subst (λ f. JobEnds w.store w.store_after (job_of f) Usage h.text) e h.allowed).1 h.put)
@@ -159,16 +177,25 @@ usage_put w (Some form) e h = absurd (form_not_usage w form e h)
 pub usage_of : (w : Seen) (x : Exit) → exit_status x ≡ 2 → ExitSays w x → (form_of w.words ≡ None) × Puts w.sink w.sink_after usage_text
 usage_of w x h s = usage_put w (form_of w.words) refl (said_of w x Usage (λ e. omega arith) h s)
 
+-- a call that ends with a wrong line is an audit
+judged_put : (w : Seen) (form : Option Form) → form_of w.words ≡ form → PutWhole w Judged → IsOfAudit w
+judged_put w None e h = absurd (let same = (subst (λ f. JobEnds w.store w.store_after (job_of f) Judged h.text) e h.allowed).0 in cc)
+judged_put w (Some form) e h = rare_form Judged tt w h form e
+
+pub judged_audit : (w : Seen) → PutWhole w Judged → IsOfAudit w
+judged_audit w h = judged_put w (form_of w.words) refl h
+
 -- the statuses that say that nothing failed
 abbrev IsSound : ℕ → Type 0
-IsSound n = (n ≡ 0) ⊎ (n ≡ 2) ⊎ (n ≡ 3) ⊎ (n ≡ 4) ⊎ (n ≡ 7)
+IsSound n = (n ≡ 0) ⊎ (n ≡ 2) ⊎ (n ≡ 3) ⊎ (n ≡ 4) ⊎ (n ≡ 7) ⊎ (n ≡ 8)
 
 sound_not : (n : ℕ) → IsSound n → (n ≡ 5 → ⊥) × (n ≡ 6 → ⊥) × (n ≡ 9 → ⊥)
 sound_not n (inl h) = (λ e. omega arith, λ e. omega arith, λ e. omega arith)
 sound_not n (inr (inl h)) = (λ e. omega arith, λ e. omega arith, λ e. omega arith)
 sound_not n (inr (inr (inl h))) = (λ e. omega arith, λ e. omega arith, λ e. omega arith)
 sound_not n (inr (inr (inr (inl h)))) = (λ e. omega arith, λ e. omega arith, λ e. omega arith)
-sound_not n (inr (inr (inr (inr h)))) = (λ e. omega arith, λ e. omega arith, λ e. omega arith)
+sound_not n (inr (inr (inr (inr (inl h))))) = (λ e. omega arith, λ e. omega arith, λ e. omega arith)
+sound_not n (inr (inr (inr (inr (inr h))))) = (λ e. omega arith, λ e. omega arith, λ e. omega arith)
 
 tells_none : (e : Ending) → IsSound (status_of e) → TellsFault e → ⊥
 tells_none Done h t = t
@@ -178,6 +205,7 @@ tells_none BadLog h t = t
 tells_none ReadFault h t = (sound_not 5 h).0 refl
 tells_none WriteFault h t = (sound_not 6 h).1 refl
 tells_none Faulty h t = t
+tells_none Judged h t = t
 
 -- such a status says so
 pub none_failed_of : (w : Seen) (x : Exit) (status : ℕ) → status ≡ exit_status x → IsSound status → ExitSays w x → NothingFailed w
@@ -258,6 +286,7 @@ module _ (seen : Seen) (h : PutWhole seen Faulty) where
       absurd (over_not_faulty seen.store seen.store_after h.text init (FollowOver threads stream piece)
       (λ kind bytes s. follow_not_faulty seen.store seen.store_after (kind_at kind) bytes stream threads s h.text)
       (ends_so (Some (OverInit init (FollowOver threads stream piece))) e))
+  of_run (Some (OverInit init (AuditOver report names))) e = absurd (audit_not_faulty seen init report names e h)
   of_run (Some (Make workload)) e = absurd (let same = (ends_so (Some (Make workload)) e).0 in cc)
   of_run (Some (Areas ckpt)) e = absurd (areas_not_faulty seen.store seen.store_after ckpt h.text (ends_so (Some (Areas ckpt)) e))
   of_run (Some (Restore names threads)) e =

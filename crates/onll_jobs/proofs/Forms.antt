@@ -3,7 +3,7 @@ use Rattle.std.proofs.lemmas.Bool.{leb-true}
 use Rattle.onll_model.proofs.Lists.{same_some, some_not_none}
 use Rattle.onll_log.proofs.Accepted.{both_true}
 use Rattle.onll_eras.specs.Names.{EraNames}
-use Rattle.onll_jobs.specs.Command.{Form, Replay, Again, Restore, Checkpoint, Follow, named_form, form_of, is_within, within_limits}
+use Rattle.onll_jobs.specs.Command.{Form, Replay, Again, Run, Restore, Checkpoint, Follow, Audit, named_form, form_of, is_within, within_limits}
 
 -- The scripts of a replay, anew or going on.
 
@@ -52,3 +52,14 @@ few-followed words init stream threads piece e =
     let pieces = nat_le 1 piece && nat_le piece 1048576 in
     let both = both_true (nat_le 1 threads) (nat_le threads 16 && pieces) (form_within words (Follow init threads stream piece) e) in
     (leb-true 1 threads both.0, leb-true threads 16 (both_true (nat_le threads 16) pieces both.1).0)
+
+-- a run has 16 scripts at most, and so has an audit
+pub few-run : (words : List (List ℕ)) (init logs : List ℕ) (scripts : List (List ℕ)) → form_of words ≡ Some (Run init logs scripts) → length scripts ≤ 16
+few-run words init logs scripts e =
+    let both = both_true (nat_le 1 (length scripts)) (nat_le (length scripts) 16) (form_within words (Run init logs scripts) e) in
+    leb-true (length scripts) 16 both.1
+
+pub few-audited : (words : List (List ℕ)) (init report : List ℕ) (scripts : List (List ℕ)) → form_of words ≡ Some (Audit init report scripts) → length scripts ≤ 16
+few-audited words init report scripts e =
+    let both = both_true (nat_le 1 (length scripts)) (nat_le (length scripts) 16) (form_within words (Audit init report scripts) e) in
+    leb-true (length scripts) 16 both.1

@@ -2,7 +2,7 @@
 
 use Rattle.std.proofs.Common.{ℕ, List, ◌≡◌, refl, sym, ◌∙◌, arith}
 use Rattle.onll_task.specs.declared.ending.Ending.{Ending}
-use Rattle.onll_task.specs.declared.ending.Ending.TheVariants.{Done, Usage, Refused, BadLog, ReadFault, WriteFault, Faulty}
+use Rattle.onll_task.specs.declared.ending.Ending.TheVariants.{Done, Usage, Refused, BadLog, ReadFault, WriteFault, Faulty, Judged}
 use Rattle.onll_task.specs.declared.ending.Exit.{Exit}
 use Rattle.onll_task.specs.declared.ending.Exit.TheVariants.{Said, SinkFault, NoMemory}
 use Rattle.onll_jobs.specs.Says.{work_of, ExitDetermined}
@@ -27,5 +27,6 @@ exit_done (Said BadLog) e = absurd (omega arith)
 exit_done (Said ReadFault) e = absurd (omega arith)
 exit_done (Said WriteFault) e = absurd (omega arith)
 exit_done (Said Faulty) e = absurd (omega arith)
+exit_done (Said Judged) e = absurd (omega arith)
 exit_done SinkFault e = absurd (omega arith)
 exit_done NoMemory e = absurd (omega arith)

@@ -2,7 +2,7 @@
 
 use Rattle.std.proofs.Common.{ℕ, ◌≡◌, ◌⊎◌, inl, inr, ⊎_elim, arith, refl, subst, sym}
 use Rattle.onll_task.specs.declared.ending.Exit.{Exit}
-use Rattle.onll_task.specs.declared.ending.Ending.TheVariants.{Done, Refused, BadLog, ReadFault, WriteFault, Faulty}
+use Rattle.onll_task.specs.declared.ending.Ending.TheVariants.{Done, Refused, BadLog, ReadFault, WriteFault, Faulty, Judged}
 use Rattle.onll_jobs.specs.Command.{form_of}
 use Rattle.onll_jobs.specs.AgainPromises.{AgainPromises}
 use Rattle.onll_jobs.specs.Durable.{ReplayPromises}
@@ -18,6 +18,7 @@ use Rattle.onll_jobs.proofs.ExitCauses.{faulty_run, said_of, none_failed_of, usa
 use Rattle.onll_jobs.proofs.FormsDetermined.{exit_done}
 use Rattle.onll_jobs.proofs.AgainDurable.{again_durable, again_bad}
 use Rattle.onll_jobs.proofs.AgainDone.{goes_on_left, goes_on_run}
+use Rattle.onll_jobs.proofs.AuditRuns.{audit_kept}
 use Rattle.onll_jobs.proofs.DetectCrashes.{tells_crashes}
 use Rattle.onll_jobs.proofs.EraEnds.{restore_kept, checkpoint_kept}
 use Rattle.onll_jobs.proofs.ShipEnds.{ship_kept, follow_kept}
@@ -92,6 +93,7 @@ kept_of seen x says determined files = record {
   unread = λ e. said_of seen x ReadFault (λ e. omega arith) e says;
   failed = λ e. failed_of seen x e says;
   faulty = λ e. said_of seen x Faulty (λ e. omega arith) e says;
+  judged = λ e. said_of seen x Judged (λ e. omega arith) e says;
   no_memory = λ e. no_memory_of seen x e says;
   nothing_failed = λ good. none_failed_of seen x (exit_status x) refl good says;
   sink_count = count_of seen x says;
@@ -110,6 +112,7 @@ kept_of seen x says determined files = record {
   checkpoint = checkpoint_kept seen x says;
   ship = ship_kept seen x says;
   follow = follow_kept seen x says;
+  audit = audit_kept seen x says;
 }
 
 pub promises_kept : (seen : Seen) (x : Exit) (status : ℕ) → status ≡ exit_status x → ExitSays seen x → ExitDetermined seen x

@@ -27,3 +27,8 @@ pub mod DetectedCrash
 pub mod DetectCrashes
 mod EraEnds
 mod ShipEnds
+mod AuditReading
+pub mod AuditEnds
+mod AuditRuns
+mod FewNodes
+mod RunJudged

@@ -1,4 +1,4 @@
-use Rattle.std.proofs.Common.{ℕ, suc, List, [], ◌∷◌, ◌≡◌, length, Result, Ok, refl, sym, ap, ◌∙◌, subst, Some}
+use Rattle.std.proofs.Common.{ℕ, suc, List, [], ◌∷◌, ◌≡◌, length, Result, Ok, refl, sym, subst, Some}
 use Rattle.onll_model.specs.Object.{Behaviour}
 use Rattle.onll_log.specs.ImageFile.{image_lines}
 use Rattle.onll_text.specs.declared.any_object.AnyObject.{AnyObject}

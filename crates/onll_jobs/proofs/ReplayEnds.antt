@@ -1,8 +1,6 @@
-use Rattle.std.proofs.Common.{ℕ, suc, List, [], ◌∷◌, ◌≡◌, ◌≤◌, inl, inr, length, Option, Some, None, Result, Ok, refl, sym, ap, subst}
-use Rattle.std.specs.List.{AllByRecursion}
+use Rattle.std.proofs.Common.{ℕ, suc, List, [], ◌∷◌, ◌≡◌, ◌≤◌, inl, inr, length, Option, Some, None, Result, Ok, refl, sym, subst}
 use Rattle.onll_model.specs.declared.call.Call.{Call}
 use Rattle.onll_model.specs.Object.{Behaviour}
-use Rattle.onll_model.specs.Calls.{updates_in}
 use Rattle.onll_core.specs.Core.{CoreState}
 use Rattle.onll_core.specs.Turns.{turns_of}
 use Rattle.onll_core.specs.Created.{created_core, IsWithinLimits}
@@ -17,10 +15,9 @@ use Rattle.onll_text.specs.Wording.{Wording}
 use Rattle.onll_text.specs.Init.{init_of}
 use Rattle.onll_text.specs.Kinds.{ObjectKind, kind_at}
 use Rattle.onll_text.specs.Schedule.{schedule_of}
-use Rattle.onll_text.proofs.FewCalls.{few_calls}
 use Rattle.onll_outside.specs.Views.{StoreView}
 use Rattle.onll_task.specs.declared.ending.Ending.{Ending}
-use Rattle.onll_task.specs.declared.ending.Ending.TheVariants.{Done, Usage, BadLog, Faulty}
+use Rattle.onll_task.specs.declared.ending.Ending.TheVariants.{Done, Usage, BadLog, Faulty, Judged}
 use Rattle.onll_merge.specs.declared.fault.StateFault.{StateFault}
 use Rattle.onll_task.specs.Reading.{ReadsWhole}
 use Rattle.onll_task.specs.Writing.{FilesStay, SameCounts, written}
@@ -31,7 +28,7 @@ use Rattle.onll_jobs.specs.Seen.{Seen}
 use Rattle.onll_jobs.specs.Command.{form_of, Replay}
 use Rattle.onll_jobs.specs.Says.{job_of, PutWhole}
 use Rattle.onll_merge.specs.Recovered.{Recovered, recovered_with, state_recovered}
-use Rattle.onll_recovery.specs.ReplayJob.{played, ReadScripts, replay_report, run_task, crash_task, schedule_task, scripts_task}
+use Rattle.onll_recovery.specs.ReplayJob.{played, replay_report, run_task, crash_task, schedule_task, scripts_task}
 use Rattle.onll_jobs.specs.Durable.{with_images, HasReplayed, HasReplayedAny, ReplayPut}
 use Rattle.onll_jobs.specs.Over.{ReplayOver, over_task, object_task, over_work}
 use Rattle.onll_task.specs.Doing.{Task}
@@ -122,7 +119,7 @@ module _ (seen : Seen) (init schedule logs : List ℕ) (names : List (List ℕ))
   replay_put ending said h = job_ends seen.store_after ending h.text said seen.store init schedule logs names (few-scripts seen.words init schedule logs names form)
       (subst (λ form. JobEnds seen.store seen.store_after (job_of form) ending h.text) form h.allowed)
 
-  -- a replay never says the usage, nor that a log is bad, nor that a fence failed
+  -- a replay never says the usage, nor that a log is bad, nor that a fence failed, nor that a report is wrong
   pub replay_not_usage : PutWhole seen Usage → ⊥
   replay_not_usage h = let e = (replay_put Usage tt h).done in cc
 
@@ -131,6 +128,9 @@ module _ (seen : Seen) (init schedule logs : List ℕ) (names : List (List ℕ))
 
   pub replay_not_faulty : PutWhole seen Faulty → ⊥
   replay_not_faulty h = let e = (replay_put Faulty tt h).done in cc
+
+  pub replay_not_judged : PutWhole seen Judged → ⊥
+  replay_not_judged h = let e = (replay_put Judged tt h).done in cc
 
   -- one that is done is durable
   pub replay_durable : PutWhole seen Done → ReplayPut seen init schedule logs names

@@ -9,9 +9,7 @@ use Rattle.onll_core.specs.Core.{CoreState}
 use Rattle.onll_core.specs.Created.{heads_from, created_heads}
 use Rattle.onll_core.specs.Resume.{Found, found_in, base_in, resumed}
 use Rattle.onll_core.proofs.Based.{same_refusal}
-use Rattle.onll_text.specs.declared.any_object.AnyObject.{AnyObject}
 use Rattle.onll_text.specs.declared.any_object.Kind.{Kind}
-use Rattle.onll_text.specs.Init.{init_of}
 use Rattle.onll_text.specs.Kinds.{kind_at}
 use Rattle.onll_text.proofs.EachKind.{kind_goes}
 use Rattle.onll_task.specs.declared.ending.Ending.{Ending}
@@ -21,18 +19,16 @@ use Rattle.onll_task.specs.declared.ending.Exit.TheVariants as exits
 use Rattle.onll_task.specs.Doing.{Task, lines_stage, each_job}
 use Rattle.onll_task.specs.ImageNames.{image_names}
 use Rattle.onll_task.specs.Images.{images_stage}
-use Rattle.onll_task.specs.Job.{Job, Say, Threads, JobEnds}
+use Rattle.onll_task.specs.Job.{Job, Say, Threads}
 use Rattle.onll_task.specs.Printed.{status_of, exit_status}
 use Rattle.onll_outside.specs.Views.{Puts}
 use Rattle.onll_recovery.specs.AgainJob.{resume_text}
 use Rattle.onll_recovery.proofs.Resumes.{GoesOrMany, goes_or_many}
 use Rattle.onll_runner.specs.ResumeJob.{based_task, reopened_task, resume_task}
 use Rattle.onll_jobs.specs.AgainPromises.{TellScripts}
-use Rattle.onll_jobs.specs.Command.{Resume, form_of}
 use Rattle.onll_jobs.specs.Durable.{TellImages}
 use Rattle.onll_jobs.specs.Over.{ResumeOver, over_task}
-use Rattle.onll_jobs.specs.ResumePromises.{SaysFrom, SaysFromLeft, SaysFromRun, ResumesLeft, ResumesRun, Resumes}
-use Rattle.onll_jobs.specs.RunPromises.{SaysRan}
+use Rattle.onll_jobs.specs.ResumePromises.{SaysFrom, ResumesLeft, ResumesRun, Resumes}
 use Rattle.onll_jobs.specs.Says.{ExitSays, NoneRose, SaysThis}
 use Rattle.onll_jobs.specs.Seen.{Seen}
 use Rattle.onll_jobs.proofs.CrashLeft.{left_many, left_images}

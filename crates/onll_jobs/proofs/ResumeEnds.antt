@@ -1,6 +1,6 @@
 -- How a run that goes on ends: as a run does, from what the images give; or it is said why they give nothing.
 
-use Rattle.std.proofs.Common.{ℕ, List, [], ◌∷◌, ◌≡◌, ◌⊎◌, inl, inr, length, Some, Result, Ok, Err, refl, sym, ◌∙◌}
+use Rattle.std.proofs.Common.{ℕ, List, [], ◌∷◌, ◌≡◌, ◌⊎◌, inl, inr, length, Some, Result, Ok, Err, refl, sym}
 use Rattle.onll_model.specs.declared.call.Call.{Call}
 use Rattle.onll_core.specs.declared.fault.ResumeFault.{ResumeFault}
 use Rattle.onll_core.specs.declared.fault.ResumeFault.TheVariants.{Images, OldFormat, NotOp, TooMany, NoMemory}
@@ -13,7 +13,7 @@ use Rattle.onll_text.specs.Script.{script_of}
 use Rattle.onll_text.specs.Wording.{Wording}
 use Rattle.onll_outside.specs.Views.{StoreView}
 use Rattle.onll_task.specs.declared.ending.Ending.{Ending}
-use Rattle.onll_task.specs.declared.ending.Ending.TheVariants.{Done, Usage, Refused, BadLog, WriteFault, Faulty}
+use Rattle.onll_task.specs.declared.ending.Ending.TheVariants.{Done, Usage, Refused, BadLog, WriteFault, Faulty, Judged}
 use Rattle.onll_task.specs.ImageNames.{image_names}
 use Rattle.onll_task.specs.Images.{images_stage}
 use Rattle.onll_task.specs.Job.{Job, Threads, JobEnds}
@@ -146,6 +146,10 @@ module _ (k : ObjectKind) (init : List ℕ) (s : k.State) (store after : StoreVi
   resumed_usage (inl run) = never_of (Some run.0) k init s store after logs names text Usage (λ e. cc e) (λ e. cc e) (λ e. cc e) run.1
   resumed_usage (inr none) = no_other Usage (λ e. cc e) (λ e. cc e) none
 
+  resumed_judged : ResumeEnded after Judged text k init s store logs names → ⊥
+  resumed_judged (inl run) = never_of (Some run.0) k init s store after logs names text Judged (λ e. cc e) (λ e. cc e) (λ e. cc e) run.1
+  resumed_judged (inr none) = no_other Judged (λ e. cc e) (λ e. cc e) none
+
 -- ---- the call
 module _ (seen : Seen) (init logs : List ℕ) (names : List (List ℕ)) (form : form_of seen.words ≡ Some (Resume init logs names)) where
   resume_put : (ending : Ending) → IsRead ending → (h : PutWhole seen ending)
@@ -174,6 +178,13 @@ module _ (seen : Seen) (init logs : List ℕ) (names : List (List ℕ)) (form : 
       over_never seen init logs names (ResumeOver logs names) form Usage (tt, λ e. cc e) h
       (λ kind bytes s e. resumed_usage (kind_at kind) bytes s seen.store seen.store_after logs names h.text
       (resume_ends seen.store_after h.text Usage (tt, λ e. cc e) kind bytes s seen.store logs names e))
+
+  -- nor is a report judged
+  pub resume_not_judged : PutWhole seen Judged → ⊥
+  resume_not_judged h =
+      over_never seen init logs names (ResumeOver logs names) form Judged (tt, λ e. cc e) h
+      (λ kind bytes s e. resumed_judged (kind_at kind) bytes s seen.store seen.store_after logs names h.text
+      (resume_ends seen.store_after h.text Judged (tt, λ e. cc e) kind bytes s seen.store logs names e))
 
   -- a text is refused, or a script has too many updates
   pub resume_refused : PutWhole seen Refused → InitRefused seen init ⊎ RunPut seen init logs names HasRefused

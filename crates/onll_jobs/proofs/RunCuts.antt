@@ -103,7 +103,14 @@ module _ (from : Option Found) (kind : Kind) (init : List ℕ) (s : (kind_at kin
 
   calls_left : JobCut store after (calls_task (kind_at kind) (Threads kind) plan_here).job → RunCut plan_here store after (λ left kept. FilesStay kept after)
   calls_left (inl short) = inl short
-  calls_left (inr ran) = inr (ran.0, ran.1, ran.2, ran.3, said_cut (kind_at kind) plan_here ran.0 ran.1 after (broken_threads ran.0.ends) ran.4)
+  calls_left (inr ran) = inr (record {
+    left = ran.left;
+    kept = ran.kept;
+    run = ran.run;
+    reads = ran.reads;
+    keeps = ran.keeps;
+    next = said_cut (kind_at kind) plan_here ran.left ran.kept after (broken_threads ran.left.ends) ran.next;
+  })
 
   calls_cut : JobCut store after (calls_task (kind_at kind) (Threads kind) plan_here).job → HasCut from (kind_at kind) init s store after logs names
   calls_cut h = record { scripts = scripts; read = read; begins = begins; cut = calls_left h }

@@ -1,11 +1,10 @@
 -- A run whose texts are told and accepted is run to its end where no call of the store failed.
 
-use Rattle.std.proofs.Common.{ℕ, zero, suc, List, ◌≡◌, ◌<◌, ◌≤◌, ◌^◌, inl, inr, Option, Some, None, Ok, refl, ap, ◌∙◌, arith}
+use Rattle.std.proofs.Common.{ℕ, zero, suc, List, ◌≡◌, ◌<◌, ◌≤◌, ◌^◌, inl, inr, Option, Some, None, Ok, refl, ap, arith}
 use Rattle.std.specs.List.{AllByRecursion}
 use Rattle.onll_model.specs.declared.call.Call.{Call}
 use Rattle.onll_core.specs.Resume.{Found}
 use Rattle.onll_text.specs.declared.any_object.AnyObject.{AnyObject}
-use Rattle.onll_text.specs.declared.any_object.Kind.{Kind}
 use Rattle.onll_text.specs.Script.{script_of}
 use Rattle.onll_text.specs.Init.{init_of}
 use Rattle.onll_text.specs.Kinds.{ObjectKind, kind_at}
@@ -19,7 +18,6 @@ use Rattle.onll_task.specs.Job.{Job, Threads, JobEnds}
 use Rattle.onll_task.specs.Printed.{status_of, exit_status}
 use Rattle.onll_task.specs.Reading.{IsTold}
 use Rattle.onll_runner.specs.RunJob.{run_plan, run_task, calls_task}
-use Rattle.onll_jobs.specs.AgainPromises.{TellScripts}
 use Rattle.onll_jobs.specs.Command.{OverInit, Run, form_of}
 use Rattle.onll_jobs.specs.Over.{OverForm, RunOver, over_task, object_task}
 use Rattle.onll_jobs.specs.RunPromises.{fault_count, HasReported, TellsText, TellsTexts, SaysRan, IsRun}

@@ -13,7 +13,7 @@ use Rattle.onll_text.specs.Kinds.{ObjectKind, kind_at}
 use Rattle.onll_text.proofs.EachKind.{kind_goes, each_kind}
 use Rattle.onll_outside.specs.Views.{StoreView, counted}
 use Rattle.onll_task.specs.declared.ending.Ending.{Ending}
-use Rattle.onll_task.specs.declared.ending.Ending.TheVariants.{Done, Usage, Refused, BadLog, ReadFault, WriteFault, Faulty}
+use Rattle.onll_task.specs.declared.ending.Ending.TheVariants.{Done, Usage, Refused, BadLog, ReadFault, WriteFault, Faulty, Judged}
 use Rattle.onll_task.specs.Doing.{Task}
 use Rattle.onll_task.specs.ImageNames.{image_name}
 use Rattle.onll_task.specs.Job.{Threads, JobEnds}
@@ -72,6 +72,7 @@ run_stops plan store after BadLog text h = absurd h
 run_stops plan store after ReadFault text h = absurd h
 run_stops plan store after WriteFault text h = inr (refl, h)
 run_stops plan store after Faulty text h = inl (refl, h)
+run_stops plan store after Judged text h = absurd h
 
 -- the ending of a report, by how many fault lines it has
 abbrev pub ended_by : ℕ → Ending
@@ -110,16 +111,17 @@ module _ (from : Option Found) (after : StoreView) (ending : Ending) (text : Lis
   calls_end (inl stops) = stopped (run_stops (plan_from from (kind_at kind) init logs s scripts) store after ending text stops)
   calls_end (inr ran) =
       let plan = plan_from from (kind_at kind) init logs s scripts in
-      let end = said_ends (kind_at kind) plan ran.0 ran.1 after ending text (broken_threads ran.0.ends) ran.4 in
-      let kept = kept_after plan ran.0 store ran.1 after ran.3 end.2 end.3 in
-      let lines = length-fault_lines 0 ran.0.ends in
+      let end = said_ends (kind_at kind) plan ran.left ran.kept after ending text (broken_threads ran.left.ends) ran.next in
+      let kept = kept_after plan ran.left store ran.kept after ran.keeps end.2 end.3 in
+      let lines = length-fault_lines 0 ran.left.ends in
       let reported : HasReported from (kind_at kind) init s store after logs names text = record {
         scripts = scripts;
         many = many_scripts (kind_at kind).wording store names scripts read;
         read = read;
         begins = begins;
-        left = ran.0;
-        run = ran.2;
+        left = ran.left;
+        run = ran.run;
+        reads = ran.reads;
         kept = kept;
         printed = end.1;
         rose = kept.faults ∙ ap (counted store.device_faults) (sym lines);
@@ -210,7 +212,7 @@ module _ (after : StoreView) (ending : Ending) (text : List ℕ) (was : IsRead e
       calls_end None after ending text kind init s store logs names read.scripts read.read tt read.ends
 
 module _ (seen : Seen) (init logs : List ℕ) (names : List (List ℕ)) (form : form_of seen.words ≡ Some (Run init logs names)) where
-  run_put : (ending : Ending) → IsRead ending → (h : PutWhole seen ending)
+  pub run_put : (ending : Ending) → IsRead ending → (h : PutWhole seen ending)
       → (Ran : OfText)
       → ((k : ObjectKind) (bytes : List ℕ) (s : k.State) → RunEnded None seen.store_after ending h.text k bytes s seen.store logs names → Ran k bytes s seen.store seen.store_after logs names h.text)
       → RunPut seen init logs names Ran
@@ -236,6 +238,9 @@ module _ (seen : Seen) (init logs : List ℕ) (names : List (List ℕ)) (form : 
 
   pub run_not_usage : PutWhole seen Usage → ⊥
   run_not_usage h = run_never Usage (tt, λ e. cc e) (λ e. cc e) (λ e. cc e) (λ e. cc e) h
+
+  pub run_not_judged : PutWhole seen Judged → ⊥
+  run_not_judged h = run_never Judged (tt, λ e. cc e) (λ e. cc e) (λ e. cc e) (λ e. cc e) h
 
   pub run_not_bad : PutWhole seen BadLog → ⊥
   run_not_bad h = run_never BadLog (tt, λ e. cc e) (λ e. cc e) (λ e. cc e) (λ e. cc e) h

@@ -11,7 +11,7 @@ use Rattle.onll_text.specs.Script.{script_of}
 use Rattle.onll_text.proofs.FewCalls.{few_calls}
 use Rattle.onll_outside.specs.Views.{StoreView}
 use Rattle.onll_task.specs.declared.ending.Ending.{Ending}
-use Rattle.onll_task.specs.declared.ending.Ending.TheVariants.{Done, Usage, Refused, BadLog, ReadFault, WriteFault, Faulty}
+use Rattle.onll_task.specs.declared.ending.Ending.TheVariants.{Done, Usage, Refused, BadLog, ReadFault, WriteFault, Faulty, Judged}
 use Rattle.onll_task.specs.Doing.{lines_stage, each_job, AreKnown}
 use Rattle.onll_task.specs.ImageNames.{image_names}
 use Rattle.onll_task.specs.Reading.{ReadsWhole, Refuses, CannotRead}
@@ -28,6 +28,7 @@ IsSaid Refused = ⊥
 IsSaid ReadFault = ⊥
 IsSaid WriteFault = ⊥
 IsSaid Faulty = Unit {0}
+IsSaid Judged = Unit {0}
 
 -- no file that can't be read gives it
 abbrev pub IsHeld : Ending → Type 0
@@ -38,6 +39,7 @@ IsHeld BadLog = Unit {0}
 IsHeld ReadFault = ⊥
 IsHeld WriteFault = Unit {0}
 IsHeld Faulty = Unit {0}
+IsHeld Judged = Unit {0}
 
 -- nor a text that is refused
 abbrev pub IsRead : Ending → Type 0
@@ -51,6 +53,7 @@ can_read store after name Refused text said h = h
 can_read store after name ReadFault text said h = said
 can_read store after name WriteFault text said h = h
 can_read store after name Faulty text said h = h
+can_read store after name Judged text said h = h
 
 pub can_write : (store after : StoreView) (name : List ℕ) (ending : Ending) (text : List ℕ) → IsSaid ending → CannotWrite store after name ending text → ⊥
 can_write store after name Done text said h = h
@@ -60,6 +63,7 @@ can_write store after name Refused text said h = said
 can_write store after name ReadFault text said h = said
 can_write store after name WriteFault text said h = said
 can_write store after name Faulty text said h = h
+can_write store after name Judged text said h = h
 
 said_held : (ending : Ending) → IsSaid ending → IsHeld ending
 said_held Done said = tt
@@ -69,6 +73,7 @@ said_held BadLog said = tt
 said_held ReadFault said = said
 said_held WriteFault said = tt
 said_held Faulty said = tt
+said_held Judged said = tt
 
 pub said_read : (ending : Ending) → IsSaid ending → IsRead ending
 said_read ending said = (said_held ending said, λ e. subst IsSaid e said)

@@ -29,7 +29,7 @@ use Rattle.onll_shipping.specs.declared.ship_fault.ShipFault.{ShipFault}
 use Rattle.onll_shipping.specs.FollowJob.{FollowData, longest_stream, course_task, follow_data, follow_data_lines, follow_task, followed_task}
 use Rattle.onll_shipping.specs.Laws.{FollowsRecovered}
 use Rattle.onll_shipping.proofs.Recovering.{follows_recovered}
-use Rattle.onll_shipping.specs.ShipJob.{HeadedLog, ready, shipped_bytes, ship_logs_task, ship_task}
+use Rattle.onll_shipping.specs.ShipJob.{HeadedLog, ready, shipped_bytes, ship_logs_task}
 use Rattle.onll_jobs.specs.Command.{Ship, Follow, form_of}
 use Rattle.onll_jobs.specs.Over.{FollowOver, over_task, object_task, over_work}
 use Rattle.onll_jobs.specs.Says.{job_of, ExitSays, NoneRose, PutOverInit, PutWhole, SaysThis}

@@ -10,7 +10,7 @@ use Rattle.onll_workload.specs.Workload.{IsWorkload}
 use Rattle.onll_eras.specs.Names.{EraNames, names_of}
 use Rattle.onll_jobs.specs.declared.command.Command.{Command}
 use Rattle.onll_jobs.specs.declared.command.Command.TheVariants as commands
-use Rattle.onll_jobs.specs.Over.{OverForm, FoldOver, RecoverOver, ReplayOver, AgainOver, ResumeOver, RunOver, DetectOver, FollowOver, over_in, is_over, IsOver}
+use Rattle.onll_jobs.specs.Over.{OverForm, FoldOver, RecoverOver, ReplayOver, AgainOver, ResumeOver, RunOver, DetectOver, FollowOver, AuditOver, over_in, is_over, IsOver}
 
 -- A form of the program's words: a command over the object whose initial state a file holds, or one of an image, or a workload, or a
 -- command over the areas of checkpoints, or over eras of so many threads, or the stream of so many threads' logs.
@@ -47,6 +47,9 @@ Detect init logs scripts = OverInit init (DetectOver logs scripts)
 
 abbrev pub Follow : (init : List ℕ) (threads : ℕ) (stream : List ℕ) (piece : ℕ) → Form
 Follow init threads stream piece = OverInit init (FollowOver threads stream piece)
+
+abbrev pub Audit : (init report : List ℕ) → (scripts : List (List ℕ)) → Form
+Audit init report scripts = OverInit init (AuditOver report scripts)
 
 -- ---- what the names after a command's word say
 abbrev pub fold_of : List (List ℕ) → Option Form
@@ -118,6 +121,10 @@ abbrev pub follow_of : List (List ℕ) → Option Form
 follow_of (init ∷ threads ∷ stream ∷ piece ∷ []) = followed_from init stream (number_of threads) (number_of piece)
 follow_of names = None
 
+abbrev pub audit_of : List (List ℕ) → Option Form
+audit_of (init ∷ report ∷ scripts) = Some (Audit init report scripts)
+audit_of names = None
+
 -- the form of a command's word with these names
 abbrev pub named_form : List ℕ → List (List ℕ) → Option Form
 named_form command names =
@@ -135,6 +142,7 @@ named_form command names =
     else if bytes_eq command (codes "checkpoint") then checkpoint_of names
     else if bytes_eq command (codes "ship") then ship_of names
     else if bytes_eq command (codes "follow") then follow_of names
+    else if bytes_eq command (codes "audit") then audit_of names
     else None
 
 -- ---- the form of words
@@ -194,3 +202,4 @@ usage_text =
     ++ codes "       onll checkpoint INIT LOGS CKPT T\n"
     ++ codes "       onll ship LOGS T OUT\n"
     ++ codes "       onll follow INIT T STREAM PIECE\n"
+    ++ codes "       onll audit INIT REPORT SCRIPT..\n"

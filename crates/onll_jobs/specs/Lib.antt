@@ -1,3 +1,5 @@
+pub mod AuditJob
+pub mod AuditPromises
 pub mod Command
 pub mod Exits
 pub mod Fold

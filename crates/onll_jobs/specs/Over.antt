@@ -14,6 +14,7 @@ use Rattle.onll_task.specs.Doing.{Task, Work, Does, after_stage, whole_stage}
 use Rattle.onll_task.specs.Job.{Job, Threads}
 use Rattle.onll_task.specs.Running.{RunPlan, RunLeft}
 use Rattle.onll_task.specs.Standing.{StandsForRuns}
+use Rattle.onll_jobs.specs.AuditJob.{audit_task}
 use Rattle.onll_jobs.specs.FoldJob.{script_task}
 use Rattle.onll_task.specs.ImageNames.{image_names}
 use Rattle.onll_recovery.specs.RecoverJob.{logs_task}
@@ -26,7 +27,7 @@ use Rattle.onll_shipping.specs.FollowJob.{longest_piece, follow_task}
 
 -- What is done over an object: a script is folded, the logs of so many threads are recovered, scripts are replayed, anew or going on
 -- from the logs of an earlier generation, scripts are run on threads, going on or anew, or it is said what became of their updates, or
--- a stream of the logs of so many threads is followed, in pieces of so many bytes.
+-- a stream of the logs of so many threads is followed, in pieces of so many bytes, or the report of a run of scripts is judged.
 pub data OverForm : Type 0 where
   FoldOver : (script : List ℕ) → OverForm
   RecoverOver : (logs : List ℕ) (threads : ℕ) → OverForm
@@ -36,6 +37,7 @@ pub data OverForm : Type 0 where
   RunOver : (logs : List ℕ) (names : List (List ℕ)) → OverForm
   DetectOver : (logs : List ℕ) (names : List (List ℕ)) → OverForm
   FollowOver : (threads : ℕ) (stream : List ℕ) (piece : ℕ) → OverForm
+  AuditOver : (report : List ℕ) (names : List (List ℕ)) → OverForm
 
 -- what the code's words for it stand for
 abbrev pub over_in : Over → OverForm
@@ -47,9 +49,10 @@ over_in (overs.Resume logs scripts) = ResumeOver logs.now (map string_bytes scri
 over_in (overs.Run logs scripts) = RunOver logs.now (map string_bytes scripts.now)
 over_in (overs.Detect logs scripts) = DetectOver logs.now (map string_bytes scripts.now)
 over_in (overs.Follow threads stream piece) = FollowOver threads stream.now piece
+over_in (overs.Audit report scripts) = AuditOver report.now (map string_bytes scripts.now)
 
--- a recovery is from the logs of 1 to 16 threads, 1 to 16 scripts are replayed, run or asked about, and a stream is of 1 to 16 threads
--- and followed in pieces of 1 to 1,048,576 bytes
+-- a recovery is from the logs of 1 to 16 threads, 1 to 16 scripts are replayed, run or asked about, or their report is judged, and a
+-- stream is of 1 to 16 threads and followed in pieces of 1 to 1,048,576 bytes
 abbrev pub is_over : OverForm → Bool
 is_over (FoldOver script) = true
 is_over (RecoverOver logs threads) = nat_le 1 threads && nat_le threads most_threads
@@ -60,6 +63,7 @@ is_over (RunOver logs names) = nat_le 1 (length names) && nat_le (length names) 
 is_over (DetectOver logs names) = nat_le 1 (length names) && nat_le (length names) most_threads
 is_over (FollowOver threads stream piece) =
     nat_le 1 threads && (nat_le threads most_threads && (nat_le 1 piece && nat_le piece longest_piece))
+is_over (AuditOver report names) = nat_le 1 (length names) && nat_le (length names) most_threads
 
 -- the same of the code's words
 abbrev pub IsOver : Over → Type 0
@@ -71,6 +75,7 @@ IsOver (overs.Resume logs scripts) = (1 ≤ length scripts.now) × (length scrip
 IsOver (overs.Run logs scripts) = (1 ≤ length scripts.now) × (length scripts.now ≤ most_threads)
 IsOver (overs.Detect logs scripts) = (1 ≤ length scripts.now) × (length scripts.now ≤ most_threads)
 IsOver (overs.Follow threads stream piece) = (1 ≤ threads) × (threads ≤ most_threads) × (1 ≤ piece) × (piece ≤ longest_piece)
+IsOver (overs.Audit report scripts) = (1 ≤ length scripts.now) × (length scripts.now ≤ most_threads)
 
 -- the task over a state of this kind, which these bytes say; a part of its job that runs scripts on threads is made so
 abbrev pub over_task : OverForm → (k : ObjectKind) → (RunPlan k → (RunLeft k → Job) → Job) → List ℕ → k.State → Task
@@ -82,6 +87,7 @@ over_task (ResumeOver logs names) k threads init s = resume_task k threads init 
 over_task (RunOver logs names) k threads init s = run_task k threads init logs names s
 over_task (DetectOver logs names) k threads init s = detect_task k init logs names s
 over_task (FollowOver count stream piece) k threads init s = follow_task k init stream count s
+over_task (AuditOver report names) k threads init s = audit_task k report names s
 
 -- the task over an object, whose initial state these bytes say
 abbrev pub object_task : OverForm → List ℕ → AnyObject → Task
@@ -97,6 +103,7 @@ over_writes (ResumeOver logs names) = image_names logs 0 (length names)
 over_writes (RunOver logs names) = image_names logs 0 (length names)
 over_writes (DetectOver logs names) = []
 over_writes (FollowOver threads stream piece) = []
+over_writes (AuditOver report names) = []
 
 -- What a function does over a state of a kind, which these bytes say: the task, whatever stands for the runs of that kind in it.
 pub record DoesOver {A : Type 0} (over : OverForm) (k : ObjectKind) (store after : StoreView) (init : List ℕ) (s : k.State)

@@ -3,8 +3,9 @@
 use Rattle.std.specs.Prelude.{ℕ, List, ◌≡◌, ◌⊎◌, None}
 use Rattle.onll_outside.specs.Views.{Puts}
 use Rattle.onll_task.specs.declared.ending.Ending.{Ending}
-use Rattle.onll_task.specs.declared.ending.Ending.TheVariants.{Done, Refused, BadLog, ReadFault, WriteFault, Faulty}
+use Rattle.onll_task.specs.declared.ending.Ending.TheVariants.{Done, Refused, BadLog, ReadFault, WriteFault, Faulty, Judged}
 use Rattle.onll_jobs.specs.AgainPromises.{AgainPromises}
+use Rattle.onll_jobs.specs.AuditPromises.{AuditPromises}
 use Rattle.onll_jobs.specs.Command.{form_of, usage_text}
 use Rattle.onll_jobs.specs.DetectPromises.{DetectPromises}
 use Rattle.onll_jobs.specs.EraPromises.{RestorePromises, CheckpointPromises}
@@ -30,9 +31,11 @@ pub record Promises (seen : Seen) (status : ℕ) : Type 0 where
   pub unread : status ≡ 5 → PutWhole seen ReadFault
   pub failed : status ≡ 6 → SinkFailed seen ⊎ PutWhole seen WriteFault
   pub faulty : status ≡ 7 → PutWhole seen Faulty
+  pub judged : status ≡ 8 → PutWhole seen Judged
   pub no_memory : status ≡ 9 → OutOfMemory seen
-  -- A good ending says that nothing failed, also where no file is told; so does that of a run in which a fence failed.
-  pub nothing_failed : (status ≡ 0) ⊎ (status ≡ 2) ⊎ (status ≡ 3) ⊎ (status ≡ 4) ⊎ (status ≡ 7) → NothingFailed seen
+  -- A good ending says that nothing failed, also where no file is told; so does that of a run in which a fence failed, and that of a
+  -- report that is wrong.
+  pub nothing_failed : (status ≡ 0) ⊎ (status ≡ 2) ⊎ (status ≡ 3) ⊎ (status ≡ 4) ⊎ (status ≡ 7) ⊎ (status ≡ 8) → NothingFailed seen
   -- Where the sink fails, the status says so, whatever else was found.
   pub sink_count : (status ≡ 6) ⊎ (seen.sink_after.faults ≡ seen.sink.faults)
   -- When it comes: where no count of faults rose, the words and the bytes of the files decide, but for memory.
@@ -57,3 +60,4 @@ pub record Promises (seen : Seen) (status : ℕ) : Type 0 where
   pub checkpoint : CheckpointPromises seen status
   pub ship : ShipPromises seen status
   pub follow : FollowPromises seen status
+  pub audit : AuditPromises seen status

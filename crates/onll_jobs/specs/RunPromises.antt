@@ -15,7 +15,7 @@ use Rattle.onll_text.specs.Kinds.{ObjectKind, on_object}
 use Rattle.onll_outside.specs.Views.{StoreView, Puts, WentUp, counted}
 use Rattle.onll_task.specs.Images.{images_stage}
 use Rattle.onll_task.specs.Reading.{IsTold, ReadsWhole}
-use Rattle.onll_task.specs.Running.{RunPlan, RunLeft, HasKept, HeaderFault, DeviceFault, RunCut}
+use Rattle.onll_task.specs.Running.{RunPlan, RunLeft, PlanReads, HasKept, HeaderFault, DeviceFault, RunCut}
 use Rattle.onll_task.specs.Writing.{FilesStay}
 use Rattle.onll_recovery.specs.ReplayJob.{ReadScripts}
 use Rattle.onll_runner.specs.ResumeJob.{resume_plan}
@@ -55,8 +55,8 @@ module _ (from : Option Found) (k : ObjectKind) (init : List ℕ) (s : k.State) 
     (names : List (List ℕ)) (text : List ℕ) where
   -- This text is the report of a run, on threads, of the scripts that the files hold, from what the files give to go on from, if
   -- anything. What the run left is one legal history which begins with that, with one fence for each update, and logs that recover to a
-  -- front of it whatever a crash leaves of them (`HasRun`); the store keeps those logs. By its fault lines the store's count of device
-  -- faults rose.
+  -- front of it whatever a crash leaves of them (`HasRun`); the store keeps those logs. All that the report says of it reads back. By
+  -- its fault lines the store's count of device faults rose.
   pub record HasReported : Type 0 where
     pub scripts : List (List (Call k.State k.Op k.Query k.Reply))
     pub many : length scripts ≡ length names
@@ -64,6 +64,7 @@ module _ (from : Option Found) (k : ObjectKind) (init : List ℕ) (s : k.State) 
     pub begins : BeginsFrom from k init store logs scripts
     pub left : RunLeft k
     pub run : HasRun k.means (plan_from from k init logs s scripts).run left
+    pub reads : PlanReads (plan_from from k init logs s scripts) left
     pub kept : HasKept (plan_from from k init logs s scripts) left store after
     pub printed : text ≡ plan_report (plan_from from k init logs s scripts) left
     pub rose : after.device_faults ≡ counted store.device_faults (fault_count left.ends)

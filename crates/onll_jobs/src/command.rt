@@ -1,7 +1,7 @@
 //! The words of the program, read as a command.
 
 ghost use Rattle.std.specs.Prelude.{◌≡◌, true, map, string_bytes, Some, None, MatchOption, IfSome};
-ghost use Rattle.onll_jobs.specs.Command.{fold_of, show_of, recover_of, replay_of, again_of, resume_of, run_of, make_of, detect_of, areas_of, restore_of, checkpoint_of, ship_of, follow_of, named_form, form_of, form_in, is_within, usage_text, IsCommand};
+ghost use Rattle.onll_jobs.specs.Command.{fold_of, show_of, recover_of, replay_of, again_of, resume_of, run_of, make_of, detect_of, areas_of, restore_of, checkpoint_of, ship_of, follow_of, audit_of, named_form, form_of, form_in, is_within, usage_text, IsCommand};
 ghost use Rattle.onll_task.specs.Stop.{StopSays};
 
 use crate::objects::Over;
@@ -26,7 +26,8 @@ const USAGE: &[u8] = b"usage: onll fold INIT SCRIPT\n       \
       onll restore INIT LOGS CKPT T\n       \
       onll checkpoint INIT LOGS CKPT T\n       \
       onll ship LOGS T OUT\n       \
-      onll follow INIT T STREAM PIECE\n";
+      onll follow INIT T STREAM PIECE\n       \
+      onll audit INIT REPORT SCRIPT..\n";
 
 /// What is said where words are of no form.
 pub(crate) fn usage(alloc: Global) -> Stop
@@ -279,6 +280,20 @@ fn follow<'a>(names: &'a [String]) -> Option<Command<'a>>
     }
 }
 
+/// The audit of a report of a run of scripts.
+fn audit<'a>(names: &'a [String]) -> Option<Command<'a>>
+    ensures { let form = audit_of (map string_bytes names.now) in
+        MatchOption result (form ≡ None) (λ command. form ≡ Some (form_in command)) }
+{
+    match names {
+        [init, report, scripts @ ..] => Some(Command::OverInit {
+            init,
+            over: Over::Audit { report, scripts },
+        }),
+        _ => None,
+    }
+}
+
 /// The command of a word with these names.
 fn named<'a>(command: &str, names: &'a [String]) -> Option<Command<'a>>
     ensures { let form = named_form command.now (map string_bytes names.now) in
@@ -312,6 +327,8 @@ fn named<'a>(command: &str, names: &'a [String]) -> Option<Command<'a>>
         ship(names)
     } else if command == "follow" {
         follow(names)
+    } else if command == "audit" {
+        audit(names)
     } else {
         None
     }

@@ -1,6 +1,7 @@
 //! What the program does: its commands, and the one call that runs them.
 #![tactic(auto)]
 
+mod audit;
 mod command;
 mod fold;
 mod make;

@@ -5,7 +5,7 @@ ghost use Rattle.onll_text.specs.Kinds.{kind_by, on_object};
 ghost use Rattle.onll_task.specs.Doing.{Does};
 ghost use Rattle.onll_jobs.specs.Over.{over_in, is_over, IsOver, DoesOver, over_work};
 
-use crate::fold;
+use crate::{audit, fold};
 use onll_model::MOST_THREADS;
 use onll_outside::{Gate, Store};
 use onll_recovery::{again_on, detect_on, recover_logs, replay_on};
@@ -54,6 +54,10 @@ pub(crate) enum Over<'a> {
         stream: &'a str,
         piece: u64,
     },
+    Audit {
+        report: &'a str,
+        scripts: &'a [String],
+    },
 }
 
 impl Over<'_> {
@@ -69,7 +73,8 @@ impl Over<'_> {
             | Over::Again { scripts, .. }
             | Over::Resume { scripts, .. }
             | Over::Run { scripts, .. }
-            | Over::Detect { scripts, .. } => {
+            | Over::Detect { scripts, .. }
+            | Over::Audit { scripts, .. } => {
                 !scripts.is_empty() && scripts.len() as u64 <= MOST_THREADS
             }
             Over::Follow { threads, piece, .. } => {
@@ -120,6 +125,7 @@ fn over_one<R: Threads + Wait + Sync, O: Texted + Drop + Send + Sync, S: Store, 
             stream,
             piece,
         } => follow_on(alloc, object, init, threads, stream, piece as usize, store),
+        Over::Audit { report, scripts } => audit::audit_on(alloc, object, report, scripts, store),
     }
 }
 

@@ -200,6 +200,7 @@ fn any_legal_order(rt: HostRuntime) -> Result<(), Fail> {
     let alloc = rt.alloc();
     let mut store = Program::new(RUN, FILES).store(alloc)?;
     let run = run_together(&rt, alloc, &mut store)?;
+    Program::new(RUN, FILES).expect_legal(&rt, alloc, run.text())?;
     let folded = folded_of(&rt, alloc, run.text())?;
     let recovered = recovered_of(&rt, alloc, &mut store)?;
     expect_lines(&rt, run.text());

@@ -27,7 +27,7 @@ use Rattle.onll_text.specs.Bytes.{begins_line, with_words, with_lines}
 use Rattle.onll_text.specs.Wording.{Wording}
 use Rattle.onll_text.proofs.Appending.{with_words-append, with_words-line, with_lines-append}
 use Rattle.onll_text.proofs.LineWords.{AreWords-append}
-use Rattle.onll_recovery.specs.RecoverJob.{recovered_line}
+use Rattle.onll_text.specs.Lines.{recovered_line}
 use Rattle.onll_recovery.specs.DetectJob.{outcome_line, update_lines, scripts_lines, detect_lines, update_rows, is_row, is_in_script, stranger, stranger_line}
 
 -- ---- what is recovered is numbered

@@ -14,16 +14,16 @@ use Rattle.onll_core.specs.Fences.{fences_of}
 use Rattle.onll_core.specs.Core.{CoreThread, CoreState}
 use Rattle.onll_core.specs.Outcomes.{ends_of, script_of}
 use Rattle.onll_text.specs.Wording.{Wording}
-use Rattle.onll_text.specs.Lines.{call_words, end_words, call_line, call_lines, trace_line, node_line, node_lines, log_line, state_lines}
-use Rattle.onll_text.specs.Reports.{NodeReads, NoCallNext, NoNodeNext, SaysOnly}
+use Rattle.onll_text.specs.Lines.{call_words, end_words, call_line, call_lines, trace_line, node_line, node_lines, log_line, state_lines, flagged_lines, LogData, thread_lines, counted_lines, recovered_line}
+use Rattle.onll_text.specs.Reports.{NodeReads, NoCallNext, NoNodeNext, SaysOnly, EachReads, LogReads}
 use Rattle.onll_text.proofs.LineWords.{node_line_in_words, log_line_in_words}
 use Rattle.onll_text.proofs.Determined.{text_determined, AreMeaningful-append, line_same, line_none, calls_determined, nodes_determined, nodes_meaningful, flagged_line_determined, no_node_next, state_determined, calls_meaningful, state_meaningful, says_only}
 use Rattle.onll_merge.specs.declared.counts.LogCounts.{LogCounts}
 use Rattle.onll_merge.specs.Recovered.{Recovered}
-use Rattle.onll_recovery.specs.RecoverJob.{content_line, log_lines, recovered_line, lines_with}
-use Rattle.onll_recovery.specs.ReplayJob.{begun_lines, flagged_lines, crash_line, fenced_lines, resumed_lines, replay_report}
+use Rattle.onll_recovery.specs.RecoverJob.{content_line, log_lines, lines_with}
+use Rattle.onll_recovery.specs.ReplayJob.{begun_lines, crash_line, fenced_lines, resumed_lines, replay_report}
 use Rattle.onll_recovery.specs.RecoverJob.{HeldData, RecoverData, held_line, held_lines, recover_data_lines, HeldReads, RecoverReads, held_with, held_of, data_with, recover_data}
-use Rattle.onll_recovery.specs.ReplayJob.{LogData, RunData, thread_lines, counted_lines, run_data_lines, EachReads, LogReads, RunReads, counts_of, replay_data}
+use Rattle.onll_recovery.specs.ReplayJob.{RunData, run_data_lines, RunReads, counts_of, replay_data}
 use Rattle.onll_recovery.proofs.ReplaySteps.{resumed_in_words, crash_in_words}
 use Rattle.onll_recovery.proofs.RecoverSteps.{recovered_in_words}
 

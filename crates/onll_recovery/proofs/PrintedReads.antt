@@ -16,9 +16,10 @@ use Rattle.onll_core.specs.Core.{CoreThread}
 use Rattle.onll_core.specs.Outcomes.{returned_end, current_ends, current_in, ends_of, script_of}
 use Rattle.onll_merge.specs.declared.counts.LogCounts.{LogCounts}
 use Rattle.onll_text.specs.Wording.{Wording}
-use Rattle.onll_text.specs.Reports.{EndReads, EndsRead}
+use Rattle.onll_text.specs.Reports.{EndReads, EndsRead, EachReads, LogReads}
 use Rattle.onll_recovery.specs.RecoverJob.{HeldReads, held_with, held_of}
-use Rattle.onll_recovery.specs.ReplayJob.{EachReads, LogData, LogReads, counts_of}
+use Rattle.onll_text.specs.Lines.{LogData}
+use Rattle.onll_recovery.specs.ReplayJob.{counts_of}
 use Rattle.onll_recovery.proofs.ReplaySteps.{if_at, thread_at}
 
 -- What the commands print reads back, one part after the other.

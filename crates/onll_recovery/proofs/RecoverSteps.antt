@@ -9,7 +9,8 @@ use Rattle.onll_words.proofs.Decimals.{IsWord-decimal}
 use Rattle.onll_model.specs.declared.node.Node.{Node}
 use Rattle.onll_model.specs.Object.{Behaviour}
 use Rattle.onll_model.specs.Recovered.{operations_front, where_some}
-use Rattle.onll_recovery.specs.RecoverJob.{content_line, log_lines, recovered_line}
+use Rattle.onll_text.specs.Lines.{recovered_line}
+use Rattle.onll_recovery.specs.RecoverJob.{content_line, log_lines}
 
 -- The parts of a recovery, as they are done one after the other.
 

@@ -16,9 +16,9 @@ use Rattle.onll_core.specs.Outcomes.{returned_end, current_ends, current_in, end
 use Rattle.onll_merge.specs.declared.counts.LogCounts.{LogCounts}
 use Rattle.onll_text.specs.Wording.{Wording}
 use Rattle.onll_text.specs.Bytes.{with_lines}
-use Rattle.onll_text.specs.Lines.{call_line, call_lines, trace_line, node_line, log_line}
+use Rattle.onll_text.specs.Lines.{call_line, call_lines, trace_line, node_line, log_line, flagged_lines}
 use Rattle.onll_text.proofs.Appending.{with_lines-one, with_lines-append}
-use Rattle.onll_recovery.specs.ReplayJob.{begun_lines, flagged_lines, crash_line, fenced_lines, run_lines}
+use Rattle.onll_recovery.specs.ReplayJob.{begun_lines, crash_line, fenced_lines, run_lines}
 
 -- The parts of a replay's report, as they are appended one after the other.
 

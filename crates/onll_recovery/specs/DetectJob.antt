@@ -17,11 +17,11 @@ use Rattle.onll_detect.specs.declared.outcome.Outcome.TheVariants.{Took, Lost}
 use Rattle.onll_detect.specs.Outcomes.{Table, table_of, find_in, numbered_in}
 use Rattle.onll_text.specs.Kinds.{ObjectKind}
 use Rattle.onll_text.specs.Wording.{Wording}
-use Rattle.onll_text.specs.Lines.{call_line}
+use Rattle.onll_text.specs.Lines.{call_line, recovered_line}
 use Rattle.onll_task.specs.declared.ending.Ending.TheVariants.{BadLog}
 use Rattle.onll_task.specs.Doing.{Task, after_stage, report_task, say_task}
 use Rattle.onll_task.specs.Images.{images_stage}
-use Rattle.onll_recovery.specs.RecoverJob.{fault_line, recovered_line}
+use Rattle.onll_recovery.specs.RecoverJob.{fault_line}
 use Rattle.onll_recovery.specs.ReplayJob.{scripts_stage}
 
 -- ---- the report

@@ -12,7 +12,7 @@ use Rattle.onll_merge.specs.declared.counts.LogCounts.{LogCounts}
 use Rattle.onll_merge.specs.Recovered.{Recovered, expected_heads, state_recovered}
 use Rattle.onll_text.specs.Kinds.{ObjectKind}
 use Rattle.onll_text.specs.Wording.{Wording}
-use Rattle.onll_text.specs.Lines.{log_line, node_lines, state_lines}
+use Rattle.onll_text.specs.Lines.{log_line, recovered_line, node_lines, state_lines}
 use Rattle.onll_task.specs.declared.ending.Ending.TheVariants.{BadLog}
 use Rattle.onll_merge.specs.declared.fault.StateFault.{StateFault}
 use Rattle.onll_merge.specs.declared.fault.StateFault.TheVariants.{NotLog, NotMerged, NotOperation, NoMemory}
@@ -50,9 +50,6 @@ content_line thread true entries lines = log_line thread entries lines None
 abbrev pub log_lines : ℕ → List LogCounts → List (List (List ℕ))
 log_lines i [] = []
 log_lines i (log ∷ logs) = content_line i log.head log.entries log.lines ∷ log_lines (i + 1) logs
-
-abbrev pub recovered_line : ℕ → List (List ℕ)
-recovered_line nodes = codes "recovered" ∷ decimal nodes ∷ []
 
 -- the lines of the logs, of the trace, and of this state
 abbrev pub lines_with : {State Op Query Reply : Type 0} → Behaviour State Op Query Reply → Wording State Op Query Reply

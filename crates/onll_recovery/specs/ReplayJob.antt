@@ -21,16 +21,16 @@ use Rattle.onll_core.specs.Crash.{heads_of, images_of}
 use Rattle.onll_text.specs.declared.schedule.Schedule.{Schedule}
 use Rattle.onll_text.specs.Kinds.{ObjectKind}
 use Rattle.onll_text.specs.Wording.{Wording}
-use Rattle.onll_text.specs.Lines.{call_lines, trace_line, node_line, log_line, state_lines}
+use Rattle.onll_text.specs.Lines.{LogData, call_lines, thread_lines, trace_line, flagged_lines, log_line, counted_lines, recovered_line, state_lines}
 use Rattle.onll_text.specs.Script.{script_of}
 use Rattle.onll_text.specs.Schedule.{schedule_of}
-use Rattle.onll_text.specs.Reports.{EndsRead, NodeReads, StateReads, SaysOnly}
+use Rattle.onll_text.specs.Reports.{EachReads, NodeReads, LogReads, StateReads, SaysOnly}
 use Rattle.onll_outside.specs.Views.{StoreView}
 use Rattle.onll_task.specs.declared.ending.Ending.TheVariants.{BadLog}
 use Rattle.onll_merge.specs.declared.fault.StateFault.{StateFault}
 use Rattle.onll_task.specs.Doing.{Task, Stage, after_stage, each_stage, report_task, say_task, text_stage}
 use Rattle.onll_task.specs.Images.{writing_stage}
-use Rattle.onll_recovery.specs.RecoverJob.{fault_line, recovered_line}
+use Rattle.onll_recovery.specs.RecoverJob.{fault_line}
 use Rattle.onll_merge.specs.declared.counts.LogCounts.{LogCounts}
 use Rattle.onll_merge.specs.Recovered.{Recovered, state_recovered}
 
@@ -45,12 +45,6 @@ abbrev pub begun_lines : {State Op Query Reply : Type 0} → Wording State Op Qu
     → List (CoreThread State Op Query Reply) → List (List (List ℕ))
 begun_lines w t [] = []
 begun_lines w t (th ∷ ths) = call_lines w t 0 th.script (ends_of th) ++ begun_lines w (t + 1) ths
-
--- the line of each node with its flag, the first of them at place p + 1
-abbrev pub flagged_lines : {State Op Query Reply : Type 0} → Behaviour State Op Query Reply
-    → Wording State Op Query Reply → ℕ → List Node → List Bool → List (List (List ℕ))
-flagged_lines b w p (n ∷ nodes) (flag ∷ flags) = node_line b w (p + 1) n (Some flag) ∷ flagged_lines b w (p + 1) nodes flags
-flagged_lines b w p nodes flags = []
 
 -- the line of how many nodes the core goes on from; none where it begins anew
 abbrev pub resumed_lines : Option ℕ → List (List (List ℕ))
@@ -83,12 +77,6 @@ replay_report b w resumed c keep r =
     flat_map line_text (resumed_lines resumed ++ (run_lines b w c ++ crash_lines w c keep r (state_after b c.initial r.nodes)))
 
 -- ---- what the report says
--- what is said of a log: its entries, its lines, and the fences of this generation
-pub record LogData : Type 0 where
-  pub entries : ℕ
-  pub lines : ℕ
-  pub fences : ℕ
-
 -- what a report of threads says: how many nodes they go on from, where they do, what became of the calls of each, the trace with
 -- its flags, the crash, the logs, how many nodes are recovered, and the state after them
 pub record RunData (State Op Query Reply : Type 0) : Type 0 where
@@ -101,17 +89,6 @@ pub record RunData (State Op Query Reply : Type 0) : Type 0 where
   pub recovered : ℕ
   pub state : State
 
--- the lines of the calls of each thread, from thread t on
-abbrev pub thread_lines : {State Op Query Reply : Type 0} → Wording State Op Query Reply → ℕ
-    → List (List (Call State Op Query Reply)) → List (List (CallEnd State Op Query Reply)) → List (List (List ℕ))
-thread_lines w t (script ∷ scripts) (ends ∷ more) = call_lines w t 0 script ends ++ thread_lines w (t + 1) scripts more
-thread_lines w t scripts ends = []
-
--- the line of each log, from thread t on
-abbrev pub counted_lines : ℕ → List LogData → List (List (List ℕ))
-counted_lines t [] = []
-counted_lines t (log ∷ logs) = log_line t log.entries log.lines (Some log.fences) ∷ counted_lines (t + 1) logs
-
 -- the lines of all of it, for these scripts
 abbrev pub run_data_lines : {State Op Query Reply : Type 0} → Behaviour State Op Query Reply
     → Wording State Op Query Reply → List (List (Call State Op Query Reply)) → RunData State Op Query Reply
@@ -120,19 +97,6 @@ run_data_lines b w scripts said =
     resumed_lines said.resumed
     ++ ((thread_lines w 0 scripts said.ends ++ (trace_line (length said.nodes) ∷ flagged_lines b w 0 said.nodes said.flags))
     ++ (crash_line said.keep ∷ (counted_lines 0 said.logs ++ (recovered_line said.recovered ∷ state_lines w said.state))))
-
--- the outcomes of the first calls of each script read back
-abbrev pub EachReads : {State Op Query Reply : Type 0} → Wording State Op Query Reply
-    → List (List (Call State Op Query Reply)) → List (List (CallEnd State Op Query Reply)) → Type 0
-EachReads w [] [] = Unit {0}
-EachReads w (script ∷ scripts) (ends ∷ more) = EndsRead w script ends × EachReads w scripts more
-EachReads w scripts ends = ⊥
-
--- the numbers of a log are of 64 bits
-pub record LogReads (log : LogData) : Type 0 where
-  pub entries : log.entries < 2 ^ 64
-  pub lines : log.lines < 2 ^ 64
-  pub fences : log.fences < 2 ^ 64
 
 -- all that is said of these scripts' run reads back
 pub record RunReads {State Op Query Reply : Type 0} (b : Behaviour State Op Query Reply)

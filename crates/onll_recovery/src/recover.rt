@@ -9,12 +9,12 @@ ghost use Rattle.onll_model.specs.Trace.{state_after};
 ghost use Rattle.onll_merge.specs.declared.fault.StateFault.TheVariants.{NoMemory as StateOutOfMemory};
 ghost use Rattle.onll_merge.specs.Recovered.{recovered_in, state_recovered};
 ghost use Rattle.onll_text.specs.Bytes.{begins_line, with_lines};
-ghost use Rattle.onll_text.specs.Lines.{node_lines, state_lines};
+ghost use Rattle.onll_text.specs.Lines.{node_lines, state_lines, recovered_line};
 ghost use Rattle.onll_text.specs.Reports.{NodeReads, StateReads};
 ghost use Rattle.onll_task.specs.Doing.{Does};
 ghost use Rattle.onll_outside.specs.Views.{StoreView};
 ghost use Rattle.onll_text.specs.Kinds.{kind_by};
-ghost use Rattle.onll_recovery.specs.RecoverJob.{HeldReads, RecoverReads, held_of, data_with, content_line, log_lines, recovered_line, lines_with, recovered_task, images_task, logs_task};
+ghost use Rattle.onll_recovery.specs.RecoverJob.{HeldReads, RecoverReads, held_of, data_with, content_line, log_lines, lines_with, recovered_task, images_task, logs_task};
 
 use crate::faults::bad_logs;
 use crate::nodes::put_nodes;

@@ -11,14 +11,14 @@ use Rattle.onll_model.specs.Object.{Behaviour}
 use Rattle.onll_run.specs.Outcomes.{failed_in}
 use Rattle.onll_run.specs.Left.{Left}
 use Rattle.onll_text.specs.Wording.{Wording}
-use Rattle.onll_text.specs.Lines.{trace_line, state_lines}
+use Rattle.onll_text.specs.Lines.{trace_line, state_lines, LogData, thread_lines, flagged_lines, counted_lines, recovered_line}
 use Rattle.onll_text.specs.Reports.{NoNodeNext, SaysOnly}
 use Rattle.onll_text.proofs.Determined.{text_determined, AreMeaningful-append, line_same, state_determined, state_meaningful, says_only}
-use Rattle.onll_recovery.specs.RecoverJob.{recovered_line}
-use Rattle.onll_recovery.specs.ReplayJob.{LogData, resumed_lines, thread_lines, flagged_lines, counted_lines}
+use Rattle.onll_recovery.specs.ReplayJob.{resumed_lines}
 use Rattle.onll_recovery.proofs.RecoverSteps.{recovered_in_words}
 use Rattle.onll_recovery.proofs.Determined.{NoResumedNext, no_resumed, resumed_meaningful, resumed_determined, threads_determined, threads_meaningful, flagged_determined, flagged_meaningful, logs_determined, logs_meaningful}
-use Rattle.onll_runner.specs.RunReport.{RunData, RunReads, faults_at, fault_lines, end_lines, run_lines, run_data, run_report}
+use Rattle.onll_task.specs.RunSaid.{RunData, RunReads, run_data}
+use Rattle.onll_runner.specs.RunReport.{faults_at, fault_lines, end_lines, run_lines, run_report}
 use Rattle.onll_runner.proofs.ReportSteps.{fault_in_words}
 
 -- ---- all are lines of words

@@ -24,10 +24,10 @@ use Rattle.onll_task.specs.declared.answer.Stop.TheVariants.{Says, NoMemory}
 use Rattle.onll_outside.specs.LineFiles.{IsWholeLine}
 use Rattle.onll_task.specs.FileLines.{FitFile}
 use Rattle.onll_task.specs.ImageNames.{image_names}
-use Rattle.onll_task.specs.Running.{RunPlan, RunLeft, HoldsLogs, HoldTo, broken_threads, fences_of, log_files}
+use Rattle.onll_task.specs.Running.{RunPlan, RunLeft, PlanReads, HoldsLogs, HoldTo, broken_threads, fences_of, log_files}
 use Rattle.onll_task.specs.Writing.{SameBut, AllButStay}
 use Rattle.onll_runner.specs.Devices.{AreKept, AreKeptTo, KeepFails, HandsEach, fault_of, fences_in}
-use Rattle.onll_runner.specs.RunReport.{plan_report, PlanReads}
+use Rattle.onll_runner.specs.RunReport.{plan_report}
 use Rattle.onll_runner.specs.RunEnds.{IsStored, IsStoredTo, IsAsBefore, HasEnded}
 use Rattle.onll_runner.proofs.Keeping.{risen_all, kept_logs, held_to, kept_befores, kept_many, faults_sum, fences_sum}
 
@@ -120,8 +120,9 @@ module _ {k : ObjectKind} (plan : RunPlan k) (left : RunLeft k) (store after : S
   ended_whole text kept whole report reads others = record { kept = kept; whole = whole; report = report; reads = reads; stop = tt; others = others }
 
   pub ended_broken : {A : Type 0} (text : Vec ℕ Global) → IsStored plan left store after → 1 ≤ broken_threads left.ends → text.items ≡ plan_report plan left
-      → SameBut (log_files plan) store after → HasEnded plan left store after {A = A} (Err (Says Faulty text))
-  ended_broken text kept broken report others = record { kept = tt; whole = tt; report = tt; reads = tt; stop = inl (record { stored = kept; broken = broken; says = (refl, report) }); others = others }
+      → PlanReads plan left → SameBut (log_files plan) store after → HasEnded plan left store after {A = A} (Err (Says Faulty text))
+  ended_broken text kept broken report reads others =
+      record { kept = tt; whole = tt; report = tt; reads = tt; stop = inl (record { stored = kept; broken = broken; reads = reads; says = (refl, report) }); others = others }
 
   -- it is kept in part
   pub ended_unkept : {A : Type 0} (s : Stop) → IsStoredTo plan left store after s → SameBut (log_files plan) store after → HasEnded plan left store after {A = A} (Err s)

@@ -24,13 +24,12 @@ use Rattle.onll_run.specs.Ended.{log_left}
 use Rattle.onll_run.specs.Ran.{script_in, ends_in, node_in, flag_in}
 use Rattle.onll_text.specs.Wording.{Wording}
 use Rattle.onll_text.specs.Bytes.{with_lines}
-use Rattle.onll_text.specs.Lines.{call_lines, trace_line, node_line, log_line, state_lines}
-use Rattle.onll_text.specs.Reports.{EndsRead, NodeReads, StateReads}
+use Rattle.onll_text.specs.Lines.{call_lines, trace_line, node_line, log_line, state_lines, LogData, thread_lines, flagged_lines, counted_lines, recovered_line, fence_line}
+use Rattle.onll_text.specs.Reports.{EndsRead, NodeReads, StateReads, LogReads, EachReads}
 use Rattle.onll_text.proofs.Appending.{with_lines-one, with_lines-append}
-use Rattle.onll_task.specs.Printed.{fault_line}
-use Rattle.onll_recovery.specs.RecoverJob.{recovered_line}
-use Rattle.onll_recovery.specs.ReplayJob.{LogData, LogReads, EachReads, resumed_lines, thread_lines, flagged_lines, counted_lines}
-use Rattle.onll_runner.specs.RunReport.{faults_at, fault_lines, log_data, run_data, run_report, RunReads}
+use Rattle.onll_recovery.specs.ReplayJob.{resumed_lines}
+use Rattle.onll_task.specs.RunSaid.{RunReads, log_data, run_data}
+use Rattle.onll_runner.specs.RunReport.{faults_at, fault_lines, run_report}
 
 -- ---- lists
 pub here_at : {A : Type 0} (xs : List A) (i : ℕ) (x : A) → i < length xs → x ≡ get_or xs i x → slice_get xs i ≡ Some x
@@ -143,7 +142,7 @@ module _ {Device : Type 0} (means : Device → DeviceView) where
       }) rest)
 
 -- ---- the fences that failed
-pub fault_in_words : (thread place : ℕ) → AreWords (fault_line thread place)
+pub fault_in_words : (thread place : ℕ) → AreWords (fence_line thread place)
 fault_in_words thread place = (
   record { some = refl; bytes = refl },
   (record { some = refl; bytes = refl }, (IsWord-decimal thread, (record { some = refl; bytes = refl }, (IsWord-decimal place, tt)))),

@@ -35,17 +35,17 @@ use Rattle.onll_task.specs.declared.ending.Ending.TheVariants.{Done, Faulty}
 use Rattle.onll_task.specs.declared.answer.Stop.{Stop}
 use Rattle.onll_task.specs.declared.answer.Stop.TheVariants.{Says, NoMemory}
 use Rattle.onll_task.specs.ImageNames.{image_names}
-use Rattle.onll_task.specs.Printed.{fault_line}
+use Rattle.onll_text.specs.Lines.{fence_line}
 use Rattle.onll_task.specs.Job.{Job, JobEnds}
 use Rattle.onll_task.specs.Doing.{Does}
-use Rattle.onll_task.specs.Running.{RunPlan, RunLeft, RunStops, IsCutShort, HasKept, HaveSizes, AreSized, IsBegun, HeaderFault, DeviceFault, NoneCounted, FileStands, AllStand, FilesStand, HoldTo, KeptTo, device_call, broken_threads, fences_of, log_files}
+use Rattle.onll_task.specs.Running.{RunPlan, RunLeft, plan_resumed, RunStops, IsCutShort, HasKept, HaveSizes, AreSized, IsBegun, HeaderFault, DeviceFault, NoneCounted, FileStands, AllStand, FilesStand, HoldTo, KeptTo, device_call, broken_threads, fences_of, log_files}
 use Rattle.onll_task.specs.Standing.{StandsForRuns}
 use Rattle.onll_task.specs.Stop.{StopSays}
 use Rattle.onll_task.specs.Writing.{SameBut, SameCounts}
 use Rattle.onll_task.proofs.Stages.{stay_same}
 use Rattle.onll_task.proofs.Runs.{run_does, broken_does, stopped_does}
 use Rattle.onll_runner.specs.Devices.{AreNew, AreBlank, HandsEach, ThreadFails, risen, fault_of, fences_in}
-use Rattle.onll_runner.specs.RunReport.{plan_resumed, plan_report}
+use Rattle.onll_runner.specs.RunReport.{plan_report}
 use Rattle.onll_runner.specs.RunEnds.{IsStored, IsStoredTo, IsBroken, IsLost, IsAsBefore, HasEnded, GaveUp, HasFailed, HasGone, lines_left}
 use Rattle.onll_runner.specs.RunJob.{run_plan, lines_for, said_task, calls_task}
 use Rattle.onll_runner.proofs.Determined.{run_says}
@@ -145,7 +145,7 @@ module _ {k : ObjectKind} (threads : RunPlan k → (RunLeft k → Job) → Job) 
   ended_does : {A : Type 0} (left : RunLeft k) (old mid new : StoreView) (r : Result (Vec ℕ A) Stop) → HasRun k.means plan.run left → SameCounts old mid → SameBut (log_files plan) old mid → FilesStand plan old mid → AreSized plan left.logs old
       → HasEnded plan left mid new r → Does (log_files plan) old new (calls_task k threads plan) r
   ended_does left old mid new (Ok text) run counts files stand sizes h =
-      run_does threads stands plan (λ l. said_task k plan l (broken_threads l.ends)) old new left text run (kept_since plan left old mid new counts files sizes h.kept) (same_then (log_files plan) old mid new files h.others)
+      run_does threads stands plan (λ l. said_task k plan l (broken_threads l.ends)) old new left text run h.reads (kept_since plan left old mid new counts files sizes h.kept) (same_then (log_files plan) old mid new files h.others)
       (subst (λ n. JobEnds new new (said_task k plan left n).job Done text.items) (sym h.whole) (refl, h.report, stay_same new, ((refl, refl), (refl, refl))))
       (λ before. subst (λ n. (said_task k plan left n).reports before text.items) (sym h.whole) (run_says k.means k.wording plan.run.scripts (plan_resumed plan) plan.run.state left text.items h.report h.reads))
   ended_does {A} left old mid new (Err s) run counts files stand sizes h = by h.stop
@@ -159,7 +159,7 @@ module _ {k : ObjectKind} (threads : RunPlan k → (RunLeft k → Job) → Job) 
           (inr (inl (record { files = all_same plan.reopens old mid new files.tells (log_files plan) plan.run.base.logs stand l.1; others = but_stay others }))) tt)
 
       by : IsBroken plan left mid new s ⊎ IsStoredTo plan left mid new s ⊎ IsLost plan left mid new s → Does {A = A} (log_files plan) old new (calls_task k threads plan) (Err s)
-      by (inl b) = broken_does threads stands plan (λ l. said_task k plan l (broken_threads l.ends)) old new left s (plan_report plan left) run
+      by (inl b) = broken_does threads stands plan (λ l. said_task k plan l (broken_threads l.ends)) old new left s (plan_report plan left) run b.reads
           (kept_since plan left old mid new counts files sizes b.stored) others (said_broken left new (broken_threads left.ends) b.broken) b.says
       by (inr (inl t)) = stopped_does threads stands plan (λ l. said_task k plan l (broken_threads l.ends)) old new s others
           (unkept_short plan left old mid new counts files stand run others s t) (unkept_says plan left old mid new counts files stand run others s t)
@@ -414,7 +414,7 @@ module _ {Device : Type 0} (means : Device → DeviceView) where
 
   -- a header's fence failed, and every device is given up
   gave_up : {k : ObjectKind} (plan : RunPlan k) (heads : List LogHead) (olds news : List Device) (thread : ℕ) (mid new : StoreView) → making.HeaderFailed means heads plan.run.base.logs olds thread news
-      → length heads ≡ length plan.run.scripts → SameFaults mid new → HandsEach (map means (reverse news)) mid new → GaveUp plan mid new (line_text (fault_line thread 0))
+      → length heads ≡ length plan.run.scripts → SameFaults mid new → HandsEach (map means (reverse news)) mid new → GaveUp plan mid new (line_text (fence_line thread 0))
   gave_up plan heads olds news thread mid new failed many faults hands =
       let low = headers_low thread heads plan.run.base.logs olds news failed.headers in
       let first = low.0 in
@@ -428,14 +428,14 @@ module _ {Device : Type 0} (means : Device → DeviceView) where
         fences = hands.fences ∙ given_back fences_in mid.device_fences news low.1 ∙ ap (counted mid.device_fences) failed.fences;
       }
 
-  says_so : {k : ObjectKind} (plan : RunPlan k) (thread : ℕ) (mid new : StoreView) (s : Stop) → GaveUp plan mid new (line_text (fault_line thread 0))
-      → StopSays s (λ end said. (end ≡ Faulty) × (said ≡ line_text (fault_line thread 0))) → StopSays s (λ end said. (end ≡ Faulty) × GaveUp plan mid new said)
+  says_so : {k : ObjectKind} (plan : RunPlan k) (thread : ℕ) (mid new : StoreView) (s : Stop) → GaveUp plan mid new (line_text (fence_line thread 0))
+      → StopSays s (λ end said. (end ≡ Faulty) × (said ≡ line_text (fence_line thread 0))) → StopSays s (λ end said. (end ≡ Faulty) × GaveUp plan mid new said)
   says_so plan thread mid new (Says ending text) h s = (s.0, subst (GaveUp plan mid new) (sym s.1) h)
   says_so plan thread mid new NoMemory h s = tt
 
   pub has_failed : {k : ObjectKind} {A : Type 0} (plan : RunPlan k) (lines : List ℕ) (heads : List LogHead) (olds news : List Device) (thread : ℕ) (mid new : StoreView) (s : Stop) → making.HeaderFailed means heads plan.run.base.logs olds thread news
       → length heads ≡ length plan.run.scripts → SameFiles mid new → SameFaults mid new → HandsEach (map means (reverse news)) mid new
-      → StopSays s (λ end said. (end ≡ Faulty) × (said ≡ line_text (fault_line thread 0))) → HasGone plan lines mid new {A = A} (Err s)
+      → StopSays s (λ end said. (end ≡ Faulty) × (said ≡ line_text (fence_line thread 0))) → HasGone plan lines mid new {A = A} (Err s)
   has_failed plan lines heads olds news thread mid new s failed many files faults hands says =
       inr (record { says = says_so plan thread mid new s (gave_up plan heads olds news thread mid new failed many faults hands) says; files = files })
 

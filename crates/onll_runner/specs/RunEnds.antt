@@ -14,13 +14,13 @@ use Rattle.onll_task.specs.declared.ending.Ending.TheVariants.{Faulty}
 use Rattle.onll_task.specs.declared.answer.Stop.{Stop}
 use Rattle.onll_task.specs.declared.answer.Stop.TheVariants.{NoMemory}
 use Rattle.onll_task.specs.FileLines.{FitFile}
-use Rattle.onll_task.specs.Printed.{fault_line}
+use Rattle.onll_text.specs.Lines.{fence_line}
 use Rattle.onll_task.specs.ImageNames.{image_name}
-use Rattle.onll_task.specs.Running.{RunPlan, RunLeft, HoldsLogs, HoldTo, IsBegun, broken_threads, fences_of, log_files}
+use Rattle.onll_task.specs.Running.{RunPlan, RunLeft, PlanReads, HoldsLogs, HoldTo, IsBegun, broken_threads, fences_of, log_files}
 use Rattle.onll_task.specs.Stop.{StopSays}
 use Rattle.onll_task.specs.Writing.{SameBut, AllButStay}
 use Rattle.onll_runner.specs.Devices.{DeviceFails}
-use Rattle.onll_runner.specs.RunReport.{plan_report, PlanReads}
+use Rattle.onll_runner.specs.RunReport.{plan_report}
 
 -- how many lines a log has
 abbrev pub lines_left : LogLeft → ℕ
@@ -51,10 +51,11 @@ module _ {k : ObjectKind} (plan : RunPlan k) (left : RunLeft k) (store after : S
     pub fences : after.device_fences ≡ counted store.device_fences (fences_of left.logs + begun_logs plan.run.base.logs)
     pub says : StopSays stop (DeviceFails kinds.Keep (image_name plan.logs thread) store after)
 
-  -- Fences failed, and the report says so.
+  -- Fences failed, and the report says so, which reads back.
   pub record IsBroken (stop : Stop) : Type 0 where
     pub stored : IsStored
     pub broken : 1 ≤ broken_threads left.ends
+    pub reads : PlanReads plan left
     pub says : StopSays stop (λ ending text. (ending ≡ Faulty) × (text ≡ plan_report plan left))
 
   -- memory could not be had, before any file was changed
@@ -77,7 +78,7 @@ module _ {k : ObjectKind} (plan : RunPlan k) (store after : StoreView) where
     pub thread : ℕ
     pub within : thread < length plan.run.scripts
     pub begun : IsBegun thread plan.run.base.logs
-    pub line : text ≡ line_text (fault_line thread 0)
+    pub line : text ≡ line_text (fence_line thread 0)
     pub calls : SameFaults store after
     pub faults : after.device_faults ≡ counted store.device_faults 1
     pub fences : after.device_fences ≡ counted store.device_fences (begun_logs (take (thread + 1) plan.run.base.logs))

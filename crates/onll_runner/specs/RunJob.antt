@@ -8,12 +8,13 @@ use Rattle.onll_run.specs.Ran.{anew}
 use Rattle.onll_text.specs.Kinds.{ObjectKind}
 use Rattle.onll_text.specs.Reports.{SaysOnly}
 use Rattle.onll_task.specs.declared.ending.Ending.TheVariants.{Faulty}
-use Rattle.onll_task.specs.Running.{RunPlan, RunLeft, broken_threads}
+use Rattle.onll_task.specs.RunSaid.{RunReads}
+use Rattle.onll_task.specs.Running.{RunPlan, RunLeft, plan_data, broken_threads}
 use Rattle.onll_task.specs.Job.{Job}
 use Rattle.onll_task.specs.Doing.{Task, after_stage, report_task, say_task}
 use Rattle.onll_task.specs.Standing.{threads_stage}
 use Rattle.onll_recovery.specs.ReplayJob.{scripts_stage}
-use Rattle.onll_runner.specs.RunReport.{RunReads, run_lines, plan_data, plan_report}
+use Rattle.onll_runner.specs.RunReport.{run_lines, plan_report}
 
 -- these scripts on an object of this kind, in the state that these bytes say, over new logs of this name
 abbrev pub run_plan : (k : ObjectKind) → (init logs : List ℕ) → k.State → List (List (Call k.State k.Op k.Query k.Reply)) → RunPlan k

@@ -15,12 +15,12 @@ ghost use Rattle.onll_run.specs.Left.{AllOver, content_in};
 ghost use Rattle.onll_run.specs.Ended.{log_left};
 ghost use Rattle.onll_run.specs.Ran.{left_in, script_in, ends_in, node_in, flag_in};
 ghost use Rattle.onll_text.specs.Bytes.{begins_line, with_lines};
-ghost use Rattle.onll_text.specs.Lines.{call_lines, trace_line, state_lines};
-ghost use Rattle.onll_text.specs.Reports.{EndsRead, NodeReads, StateReads};
-ghost use Rattle.onll_recovery.specs.RecoverJob.{recovered_line};
-ghost use Rattle.onll_recovery.specs.ReplayJob.{LogReads, EachReads, resumed_lines, thread_lines, flagged_lines, counted_lines};
+ghost use Rattle.onll_text.specs.Lines.{call_lines, trace_line, state_lines, thread_lines, flagged_lines, counted_lines, recovered_line};
+ghost use Rattle.onll_text.specs.Reports.{EndsRead, NodeReads, StateReads, LogReads, EachReads};
+ghost use Rattle.onll_recovery.specs.ReplayJob.{resumed_lines};
 ghost use Rattle.onll_outside.specs.LineFiles.{IsWholeLine};
-ghost use Rattle.onll_runner.specs.RunReport.{faults_at, fault_lines, log_data, run_data, run_report, RunReads, RanOver, LogsOfRun};
+ghost use Rattle.onll_task.specs.RunSaid.{RunReads, log_data, run_data};
+ghost use Rattle.onll_runner.specs.RunReport.{faults_at, fault_lines, run_report, RanOver, LogsOfRun};
 
 use onll_log::{LogHead, TestedImage, ThreadLog};
 use onll_merge::{LogCounts, Recovery, StateFault, recover_state};

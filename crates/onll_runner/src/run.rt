@@ -13,10 +13,10 @@ ghost use Rattle.onll_run.specs.Ran.{CanRun, AreKept, going_on, left_in, script_
 ghost use Rattle.onll_text.specs.Kinds.{kind_by};
 ghost use Rattle.onll_task.specs.ImageNames.{image_names};
 ghost use Rattle.onll_task.specs.Doing.{Does};
+ghost use Rattle.onll_task.specs.RunSaid.{resumed_by};
 ghost use Rattle.onll_task.specs.Running.{RunPlan};
 ghost use Rattle.onll_task.specs.Standing.{StandsForRuns};
 ghost use Rattle.onll_runner.specs.RunEnds.{HasEnded, HasGone};
-ghost use Rattle.onll_runner.specs.RunReport.{resumed_by};
 ghost use Rattle.onll_runner.specs.RunJob.{run_plan, lines_for, calls_task, run_task};
 
 use crate::devices::{give_up_all, keep_devices, make_devices};

@@ -38,6 +38,7 @@ fn what_was_run_is_recovered(rt: HostRuntime) -> Result<(), Fail> {
     let run = Program::new(ONE, FILES);
     let mut store = run.store(alloc)?;
     run.expect_over(&rt, alloc, &mut store, "one thread", 0, REPORT)?;
+    run.expect_legal(&rt, alloc, REPORT)?;
     Program::new(&["recover", "i", "out", "1"], &[]).expect_over(
         &rt, alloc, &mut store, "its log", 0, RECOVERED,
     )
@@ -58,13 +59,9 @@ const TWO_REPORT: &str = "call 0 1 transfer 0 1 30 -> ok at 1\n\
 
 #[test]
 fn a_thread_with_no_call(rt: HostRuntime) -> Result<(), Fail> {
-    Program::new(&["run", "i", "out", "s", "none"], FILES).expect(
-        &rt,
-        rt.alloc(),
-        "two threads",
-        0,
-        TWO_REPORT,
-    )
+    let run = Program::new(&["run", "i", "out", "s", "none"], FILES);
+    run.expect(&rt, rt.alloc(), "two threads", 0, TWO_REPORT)?;
+    run.expect_legal(&rt, rt.alloc(), TWO_REPORT)
 }
 
 /// The lines of a script, the status of a run of it, and a line that is printed.

@@ -8,7 +8,7 @@ use Rattle.onll_model.proofs.Lists.{all_append}
 use Rattle.onll_words.specs.declared.line.Line.{Line}
 use Rattle.onll_pmem.specs.Pmem.{words_of}
 use Rattle.onll_log.specs.ImageFile.{longest_image, image_lines}
-use Rattle.onll_task.specs.declared.ending.Ending.TheVariants.{Usage}
+use Rattle.onll_task.specs.declared.ending.Ending.{Ending}
 use Rattle.onll_task.specs.Job.{Job, Never}
 use Rattle.onll_outside.specs.Views.{StoreView}
 use Rattle.onll_task.specs.declared.answer.Stop.{Stop}
@@ -38,12 +38,12 @@ lines_more lines more line image left before e same split =
     ∙ (append_assoc (images_in lines) (words_of line.items ∷ []) left
     ∙ (ap (λ i. images_in lines ++ i ∷ left) same ∙ ap (λ ls. images_in lines ++ ls) (sym split)))
 
--- a job that reads images and goes on so never says the usage
-pub reading_images_never : (logs : List ℕ) (threads i : ℕ) (next : List (List (List ℕ)) → Job) → ((images : List (List (List ℕ))) → Never Usage (next images))
-    → Never Usage (each_job lines_stage (image_names logs i threads) next)
-reading_images_never logs zero i next f = f []
-reading_images_never logs (suc threads) i next f =
-    λ bytes. reading_images_never logs threads (suc i) (λ images. next (image_lines bytes ∷ images)) (λ images. f (image_lines bytes ∷ images))
+-- a job that reads images and goes on so never says such an ending
+pub reading_images_never : (ending : Ending) (logs : List ℕ) (threads i : ℕ) (next : List (List (List ℕ)) → Job) → ((images : List (List (List ℕ))) → Never ending (next images))
+    → Never ending (each_job lines_stage (image_names logs i threads) next)
+reading_images_never ending logs zero i next f = f []
+reading_images_never ending logs (suc threads) i next f =
+    λ bytes. reading_images_never ending logs threads (suc i) (λ images. next (image_lines bytes ∷ images)) (λ images. f (image_lines bytes ∷ images))
 
 -- ---- lines that stand for the images that were read
 -- lines that stand for one image more

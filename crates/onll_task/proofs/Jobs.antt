@@ -6,7 +6,7 @@ use Rattle.onll_outside.specs.Views.{StoreView, SameFiles, SameFaults, Rose, Hol
 use Rattle.onll_areas.specs.Keeping.{OthersStay, DeviceNotMade, DeviceNotKept, HasKeptLines}
 use Rattle.onll_text.specs.Refusal.{Refusal}
 use Rattle.onll_task.specs.declared.ending.Ending.{Ending}
-use Rattle.onll_task.specs.declared.ending.Ending.TheVariants.{Done, Usage, Refused, BadLog, ReadFault, WriteFault, Faulty}
+use Rattle.onll_task.specs.declared.ending.Ending.TheVariants.{Done, Usage, Refused, BadLog, ReadFault, WriteFault, Faulty, Judged}
 use Rattle.onll_task.specs.Reading.{IsTold, CannotRead}
 use Rattle.onll_text.specs.Kinds.{ObjectKind}
 use Rattle.onll_task.specs.Running.{RunPlan, RunStops}
@@ -26,6 +26,7 @@ cannot store after name BadLog text h = absurd h
 cannot store after name ReadFault text h = h.rose
 cannot store after name WriteFault text h = absurd h
 cannot store after name Faulty text h = absurd h
+cannot store after name Judged text h = absurd h
 
 cannot_write : (store after : StoreView) (name : List ℕ) (ending : Ending) (text : List ℕ) → CannotWrite store after name ending text → Rose store.faults after.faults
 cannot_write store after name Done text h = absurd h
@@ -35,6 +36,7 @@ cannot_write store after name BadLog text h = absurd h
 cannot_write store after name ReadFault text h = absurd h
 cannot_write store after name WriteFault text h = h.failed.rose
 cannot_write store after name Faulty text h = absurd h
+cannot_write store after name Judged text h = absurd h
 
 -- a device can't be kept only where a call of the store failed, or a fence
 not_kept_rose : (store after : StoreView) (name : List ℕ) (lines : List (List ℕ)) (fences : ℕ) → DeviceNotMade store after name ⊎ DeviceNotKept store after name lines fences → Rose store.faults after.faults
@@ -50,6 +52,7 @@ keep_stops_rose store after name lines fences said BadLog text h = absurd h
 keep_stops_rose store after name lines fences said ReadFault text h = absurd h
 keep_stops_rose store after name lines fences said WriteFault text h = inl (not_kept_rose store after name lines fences h.1)
 keep_stops_rose store after name lines fences said Faulty text h = inr h.1.faults
+keep_stops_rose store after name lines fences said Judged text h = absurd h
 
 -- files that stay stay where the same bytes are made one of them
 pub written_stays : (store mid : StoreView) (name bytes : List ℕ) → FilesStay store mid → FilesStay (written store name bytes) (written mid name bytes)
@@ -120,6 +123,7 @@ cannot_tells store after name BadLog text h = absurd h
 cannot_tells store after name ReadFault text h = tt
 cannot_tells store after name WriteFault text h = absurd h
 cannot_tells store after name Faulty text h = absurd h
+cannot_tells store after name Judged text h = absurd h
 
 cannot_write_tells : (store after : StoreView) (name : List ℕ) (ending : Ending) (text : List ℕ) → CannotWrite store after name ending text → TellsFault ending
 cannot_write_tells store after name Done text h = absurd h
@@ -129,6 +133,7 @@ cannot_write_tells store after name BadLog text h = absurd h
 cannot_write_tells store after name ReadFault text h = absurd h
 cannot_write_tells store after name WriteFault text h = tt
 cannot_write_tells store after name Faulty text h = absurd h
+cannot_write_tells store after name Judged text h = absurd h
 
 run_stops_sound : {k : ObjectKind} (plan : RunPlan k) (store after : StoreView) (ending : Ending) (text : List ℕ) → (TellsFault ending → ⊥) → RunStops plan store after ending text → SameFaults store after
 run_stops_sound plan store after Done text sound h = absurd h
@@ -138,6 +143,7 @@ run_stops_sound plan store after BadLog text sound h = absurd h
 run_stops_sound plan store after ReadFault text sound h = absurd h
 run_stops_sound plan store after WriteFault text sound h = absurd (sound tt)
 run_stops_sound plan store after Faulty text sound h = h.calls
+run_stops_sound plan store after Judged text sound h = absurd h
 
 keep_stops_sound : (store after : StoreView) (name : List ℕ) (lines : List (List ℕ)) (fences : ℕ) (said : List ℕ) (ending : Ending) (text : List ℕ) → (TellsFault ending → ⊥) → KeepStops store after name lines fences said ending text
     → SameFaults store after
@@ -148,6 +154,7 @@ keep_stops_sound store after name lines fences said BadLog text sound h = absurd
 keep_stops_sound store after name lines fences said ReadFault text sound h = absurd h
 keep_stops_sound store after name lines fences said WriteFault text sound h = absurd (sound tt)
 keep_stops_sound store after name lines fences said Faulty text sound h = h.1.calls
+keep_stops_sound store after name lines fences said Judged text sound h = absurd h
 
 -- a job that ends otherwise ends where nothing failed
 pub nothing_failed : (store after : StoreView) (job : Job) (ending : Ending) (text : List ℕ) → (TellsFault ending → ⊥) → JobEnds store after job ending text → SameFaults store after
@@ -163,24 +170,47 @@ nothing_failed store after (Keep name lines fences said next) ending text sound 
 nothing_failed store after (Assured b next) ending text sound h = nothing_failed store after next ending text sound h.1
 nothing_failed store after (Threads kind plan next) ending text sound (inl h) = run_stops_sound plan store after ending text sound h
 nothing_failed store after (Threads kind plan next) ending text sound (inr h) =
-    let rest = nothing_failed h.1 after (next h.0) ending text sound h.4 in
-    (rest.0 ∙ h.3.calls.0, rest.1 ∙ h.3.calls.1)
+    let rest = nothing_failed h.kept after (next h.left) ending text sound h.next in
+    (rest.0 ∙ h.keeps.calls.0, rest.1 ∙ h.keeps.calls.1)
 
 pub files_stay : (store after : StoreView) → SameFiles store after → FilesStay store after
 files_stay store after same = record { tells = same.tells; file = λ tells. same.file }
 
--- a job that never says the usage doesn't end so
-pub never_says : (store after : StoreView) (job : Job) (text : List ℕ) → Never Usage job → JobEnds store after job Usage text → ⊥
-never_says store after (Say e t) text never h = never (sym h.0)
-never_says store after (Read name next) text never (inl h) = h.0
-never_says store after (Read name next) text never (inr h) = never_says store after (next h.0) text (never h.0) h.1.1
-never_says store after (Write name bytes next) text never (inl h) = h
-never_says store after (Write name bytes next) text never (inr h) = never_says (written store name bytes) after next text never h
-never_says store after (Keep name lines fences said next) text never (inl h) = h
-never_says store after (Keep name lines fences said next) text never (inr h) = never_says h.0 after next text never h.2
-never_says store after (Assured b next) text never h = never_says store after next text never h.1
-never_says store after (Threads kind plan next) text never (inl h) = h
-never_says store after (Threads kind plan next) text never (inr h) = never_says h.1 after (next h.0) text (never h.0) h.4
+-- endings that no file, no fence and no refused text gives
+abbrev pub IsRare : Ending → Type 0
+IsRare Done = ⊥
+IsRare Usage = Unit {0}
+IsRare Refused = ⊥
+IsRare BadLog = ⊥
+IsRare ReadFault = ⊥
+IsRare WriteFault = ⊥
+IsRare Faulty = ⊥
+IsRare Judged = Unit {0}
+
+pub rare_none : (P : Ending → Type 0) → (P Usage → ⊥) → (P Judged → ⊥) → (ending : Ending) → IsRare ending → P ending → ⊥
+rare_none P usage judged Done rare h = rare
+rare_none P usage judged Usage rare h = usage h
+rare_none P usage judged Refused rare h = rare
+rare_none P usage judged BadLog rare h = rare
+rare_none P usage judged ReadFault rare h = rare
+rare_none P usage judged WriteFault rare h = rare
+rare_none P usage judged Faulty rare h = rare
+rare_none P usage judged Judged rare h = judged h
+
+module _ (ending : Ending) (rare : IsRare ending) where
+  -- a job that never says such an ending doesn't end so
+  pub never_says : (store after : StoreView) (job : Job) (text : List ℕ) → Never ending job → JobEnds store after job ending text → ⊥
+  never_says store after (Say e t) text never h = never (sym h.0)
+  never_says store after (Read name next) text never (inl h) = rare_none (λ e. CannotRead store after name e text) (λ no. no) (λ no. no) ending rare h.0
+  never_says store after (Read name next) text never (inr h) = never_says store after (next h.0) text (never h.0) h.1.1
+  never_says store after (Write name bytes next) text never (inl h) = rare_none (λ e. CannotWrite store after name e text) (λ no. no) (λ no. no) ending rare h
+  never_says store after (Write name bytes next) text never (inr h) = never_says (written store name bytes) after next text never h
+  never_says store after (Keep name lines fences said next) text never (inl h) =
+      rare_none (λ e. KeepStops store after name lines fences said e text) (λ no. no) (λ no. no) ending rare h
+  never_says store after (Keep name lines fences said next) text never (inr h) = never_says h.0 after next text never h.2
+  never_says store after (Assured b next) text never h = never_says store after next text never h.1
+  never_says store after (Threads kind plan next) text never (inl h) = rare_none (λ e. RunStops plan store after e text) (λ no. no) (λ no. no) ending rare h
+  never_says store after (Threads kind plan next) text never (inr h) = never_says h.kept after (next h.left) text (never h.left) h.next
 
 pub cannot_from : (store mid after : StoreView) (name : List ℕ) (ending : Ending) (text : List ℕ) → SameCounts store mid → CannotRead mid after name ending text → CannotRead store after name ending text
 cannot_from store mid after name Done text same h = h
@@ -190,14 +220,17 @@ cannot_from store mid after name BadLog text same h = h
 cannot_from store mid after name WriteFault text same h = h
 cannot_from store mid after name Faulty text same h = h
 cannot_from store mid after name ReadFault text same h = record { rose = subst (λ n. Rose n after.faults) same.0.0 h.rose; last = h.last; line = h.line }
+cannot_from store mid after name Judged text same h = h
 
--- a job that reads a text and goes on so never says the usage
-pub reading_whole_never : {A : Type 0} (name : List ℕ) (grammar : List ℕ → Result A Refusal) (next : List ℕ → A → Job) → ((bytes : List ℕ) (value : A) → Never Usage (next bytes value)) → Never Usage (reading_whole name grammar next)
-reading_whole_never {A = A} name grammar next f bytes = by (grammar bytes)
-  where
-    by : (r : Result A Refusal) → Never Usage (on_value name (next bytes) r)
-    by (Ok value) = f bytes value
-    by (Err refusal) = λ e. cc
+-- a job that reads a text and goes on so never says it
+module _ (ending : Ending) (rare : IsRare ending) where
+  pub reading_whole_never : {A : Type 0} (name : List ℕ) (grammar : List ℕ → Result A Refusal) (next : List ℕ → A → Job)
+      → ((bytes : List ℕ) (value : A) → Never ending (next bytes value)) → Never ending (reading_whole name grammar next)
+  reading_whole_never {A = A} name grammar next f bytes = by (grammar bytes)
+    where
+      by : (r : Result A Refusal) → Never ending (on_value name (next bytes) r)
+      by (Ok value) = f bytes value
+      by (Err refusal) = λ e. subst IsRare (sym e) rare
 
-pub reading_never : {A : Type 0} (name : List ℕ) (grammar : List ℕ → Result A Refusal) (next : A → Job) → ((value : A) → Never Usage (next value)) → Never Usage (reading name grammar next)
-reading_never name grammar next f = reading_whole_never name grammar (λ _. next) (λ _. f)
+  pub reading_never : {A : Type 0} (name : List ℕ) (grammar : List ℕ → Result A Refusal) (next : A → Job) → ((value : A) → Never ending (next value)) → Never ending (reading name grammar next)
+  reading_never name grammar next f = reading_whole_never name grammar (λ _. next) (λ _. f)

@@ -8,7 +8,7 @@ use Rattle.onll_outside.specs.Views.{StoreView, SameFiles, SameOthers, SameFault
 use Rattle.onll_areas.specs.Keeping.{OthersStay, StaysOrZeros, MayKeepLines, HasKeptLines, DeviceNotMade, DeviceNotKept, FenceNotMade}
 use Rattle.onll_text.specs.Refusal.{Refusal}
 use Rattle.onll_task.specs.declared.ending.Ending.{Ending}
-use Rattle.onll_task.specs.declared.ending.Ending.TheVariants.{Done, Usage, Refused, BadLog, ReadFault, WriteFault, Faulty}
+use Rattle.onll_task.specs.declared.ending.Ending.TheVariants.{Done, Usage, Refused, BadLog, ReadFault, WriteFault, Faulty, Judged}
 use Rattle.onll_task.specs.Reading.{Reads, ReadsWhole, HoldsImage, Stops}
 use Rattle.onll_task.specs.ImageNames.{image_name, image_names}
 use Rattle.onll_task.specs.Images.{image_bytes, writing_images}
@@ -18,7 +18,7 @@ use Rattle.onll_model.specs.declared.call.Call.{Call}
 use Rattle.onll_model.specs.declared.call.CallEnd.{CallEnd}
 use Rattle.onll_model.specs.Calls.{updates_in}
 use Rattle.onll_run.specs.Left.{LogLeft, begun_logs}
-use Rattle.onll_task.specs.Running.{RunPlan, RunLeft, HasKept, HasSize, HaveSizes, IsNoLonger, FileStands, AllStand, FilesStand, HoldTo, KeptTo, NoneCounted, NotMade, NotKept, IsCutShort, RunStops, broken_threads, fences_of, log_files}
+use Rattle.onll_task.specs.Running.{RunPlan, RunLeft, HasKept, LeavesKept, HasSize, HaveSizes, IsNoLonger, FileStands, AllStand, FilesStand, HoldTo, KeptTo, NoneCounted, NotMade, NotKept, IsCutShort, RunStops, broken_threads, fences_of, log_files}
 use Rattle.onll_task.specs.Writing.{FilesStay, SameCounts, AllButStay, SameBut, HasWritten, CannotWrite, WriteFailed, written}
 use Rattle.onll_task.specs.Keeps.{KeepStops}
 use Rattle.onll_task.specs.Job.{Job, Say, Read, Write, Keep, Assured, Threads, JobEnds, JobCut, GoesOn, on_value, reading, reading_whole}
@@ -49,6 +49,7 @@ cannot_write_from store mid after name ReadFault text files same h = absurd h
 cannot_write_from store mid after name Faulty text files same h = absurd h
 cannot_write_from store mid after name WriteFault text files same h =
     record { failed = write_failed_from store mid after name files same h.failed; line = h.line }
+cannot_write_from store mid after name Judged text files same h = absurd h
 
 -- ---- runs from the store before
 but_more : (names : List (List ℕ)) (store mid after : StoreView) → FilesStay store mid → AllButStay names mid after → AllButStay names store after
@@ -82,6 +83,16 @@ kept_from plan left store mid kept files counts h = record {
   fit = h.fit;
   sizes = sizes_from plan.reopens (length plan.run.scripts) store mid (log_files plan) plan.run.base.logs plan.run.scripts left.logs files h.sizes;
   others = but_more (log_files plan) store mid kept files h.others;
+}
+
+leaves_from : {k : ObjectKind} (plan : RunPlan k) (store mid : StoreView) {Next : RunLeft k → StoreView → Type 0} → FilesStay store mid → SameCounts store mid → LeavesKept plan mid Next → LeavesKept plan store Next
+leaves_from plan store mid files counts h = record {
+  left = h.left;
+  kept = h.kept;
+  run = h.run;
+  reads = h.reads;
+  keeps = kept_from plan h.left store mid h.kept files counts h.keeps;
+  next = h.next;
 }
 
 zeros_from : (store mid after : StoreView) (name : List ℕ) → FilesStay store mid → StaysOrZeros mid after name → StaysOrZeros store after name
@@ -160,6 +171,7 @@ run_stops_from plan store mid after Faulty text files counts h = record {
   files = stand_from plan store mid after files h.files;
   others = but_more (log_files plan) store mid after files h.others;
 }
+run_stops_from plan store mid after Judged text files counts h = absurd h
 
 -- ---- devices that are kept, from the store before
 lines_kept_from : (store mid kept : StoreView) (name : List ℕ) (lines : List (List ℕ)) (fences : ℕ) → FilesStay store mid → SameCounts store mid → HasKeptLines mid kept name lines fences → HasKeptLines store kept name lines fences
@@ -215,6 +227,7 @@ keep_stops_from store mid after name lines fences said BadLog text files counts 
 keep_stops_from store mid after name lines fences said ReadFault text files counts h = absurd h
 keep_stops_from store mid after name lines fences said WriteFault text files counts h = (h.0, not_kept_from store mid after name lines fences files counts h.1)
 keep_stops_from store mid after name lines fences said Faulty text files counts h = (h.0, fence_from store mid after name fences files counts h.1)
+keep_stops_from store mid after name lines fences said Judged text files counts h = absurd h
 
 -- what a job does from a store it does from the store before, where neither files nor counts changed
 pub ends_from : (store mid after : StoreView) (job : Job) (ending : Ending) (text : List ℕ) → FilesStay store mid → SameCounts store mid → JobEnds mid after job ending text → JobEnds store after job ending text
@@ -230,7 +243,7 @@ ends_from store mid after (Keep name lines fences said next) ending text files c
 ends_from store mid after (Assured b next) ending text files counts h = (h.0, ends_from store mid after next ending text files counts h.1)
 ends_from store mid after (Threads kind plan next) ending text files counts (inl h) = inl (run_stops_from plan store mid after ending text files counts h)
 ends_from store mid after (Threads kind plan next) ending text files counts (inr h) =
-    inr (h.0, h.1, h.2, kept_from plan h.0 store mid h.1 files counts h.3, h.4)
+    inr (leaves_from plan store mid files counts h)
 
 -- ---- jobs that stop early
 stay_may_keep : (store after : StoreView) (name : List ℕ) (lines : List (List ℕ)) → FilesStay store after → MayKeepLines store after name lines
@@ -272,7 +285,7 @@ cut_from store mid after (Assured b next) files counts (inl h) = inl (stay_more 
 cut_from store mid after (Assured b next) files counts (inr h) = inr (h.0, cut_from store mid after next files counts h.1)
 cut_from store mid after (Threads kind plan next) files counts (inl h) = inl (short_from plan store mid after files counts h)
 cut_from store mid after (Threads kind plan next) files counts (inr h) =
-    inr (h.0, h.1, h.2, kept_from plan h.0 store mid h.1 files counts h.3, h.4)
+    inr (leaves_from plan store mid files counts h)
 
 cannot_write_failed : (store after : StoreView) (name : List ℕ) (ending : Ending) (text : List ℕ) → CannotWrite store after name ending text → WriteFailed store after name
 cannot_write_failed store after name Done text h = absurd h
@@ -282,6 +295,7 @@ cannot_write_failed store after name BadLog text h = absurd h
 cannot_write_failed store after name ReadFault text h = absurd h
 cannot_write_failed store after name Faulty text h = absurd h
 cannot_write_failed store after name WriteFault text h = h.failed
+cannot_write_failed store after name Judged text h = absurd h
 
 device_fault_cut : {k : ObjectKind} (plan : RunPlan k) (store after : StoreView) (thread : ℕ) → AllButStay (log_files plan) store after → NotMade plan store after (image_name plan.logs thread) ⊎ NotKept plan store after thread
     → IsCutShort plan store after
@@ -296,6 +310,7 @@ run_stops_cut plan store after BadLog text h = absurd h
 run_stops_cut plan store after ReadFault text h = absurd h
 run_stops_cut plan store after WriteFault text h = device_fault_cut plan store after h.thread h.others h.cause
 run_stops_cut plan store after Faulty text h = inr (inl (record { files = h.files; others = h.others }))
+run_stops_cut plan store after Judged text h = absurd h
 
 -- the named file is as it was or of zeros, or what is kept may hold the lines
 zeros_may_keep : (store after : StoreView) (name : List ℕ) (lines : List (List ℕ)) → StaysOrZeros store after name → OthersStay name store after → MayKeepLines store after name lines
@@ -313,6 +328,7 @@ keep_stops_cut store after name lines fences said BadLog text h = absurd h
 keep_stops_cut store after name lines fences said ReadFault text h = absurd h
 keep_stops_cut store after name lines fences said WriteFault text h = not_kept_cut store after name lines fences h.1
 keep_stops_cut store after name lines fences said Faulty text h = zeros_may_keep store after name lines h.1.file h.1.others
+keep_stops_cut store after name lines fences said Judged text h = absurd h
 
 -- a job that ended may have stopped there
 pub ends_cut : (store after : StoreView) (job : Job) (ending : Ending) (text : List ℕ) → JobEnds store after job ending text → JobCut store after job
@@ -325,7 +341,14 @@ ends_cut store after (Keep name lines fences said next) ending text (inl h) = in
 ends_cut store after (Keep name lines fences said next) ending text (inr h) = inr (h.0, h.1, ends_cut h.0 after next ending text h.2)
 ends_cut store after (Assured b next) ending text h = inr (h.0, ends_cut store after next ending text h.1)
 ends_cut store after (Threads kind plan next) ending text (inl h) = inl (run_stops_cut plan store after ending text h)
-ends_cut store after (Threads kind plan next) ending text (inr h) = inr (h.0, h.1, h.2, h.3, ends_cut h.1 after (next h.0) ending text h.4)
+ends_cut store after (Threads kind plan next) ending text (inr h) = inr (record {
+  left = h.left;
+  kept = h.kept;
+  run = h.run;
+  reads = h.reads;
+  keeps = h.keeps;
+  next = ends_cut h.kept after (next h.left) ending text h.next;
+})
 
 -- ---- jobs one after the other
 pub goes_same : (store : StoreView) (job : Job) → GoesOn store store job job
@@ -371,6 +394,7 @@ stopped_ends store after name grammar next BadLog text same h = absurd h
 stopped_ends store after name grammar next ReadFault text same h = inl (h, files_stay store after same)
 stopped_ends store after name grammar next WriteFault text same h = absurd h
 stopped_ends store after name grammar next Faulty text same h = absurd h
+stopped_ends store after name grammar next Judged text same h = absurd h
 
 -- ---- writing
 -- what a store's write leaves

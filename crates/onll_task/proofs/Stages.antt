@@ -7,7 +7,7 @@ use Rattle.std.proofs.lemmas.Result.{err_from_is_err_and}
 use Rattle.onll_outside.specs.Views.{StoreView, SameFiles, SameOthers}
 use Rattle.onll_text.specs.Refusal.{Refusal}
 use Rattle.onll_task.specs.declared.ending.Ending.{Ending}
-use Rattle.onll_task.specs.declared.ending.Ending.TheVariants.{Done, Usage, Refused, BadLog, ReadFault, WriteFault, Faulty}
+use Rattle.onll_task.specs.declared.ending.Ending.TheVariants.{Done, Usage, Refused, BadLog, ReadFault, WriteFault, Faulty, Judged}
 use Rattle.onll_task.specs.declared.answer.Stop.{Stop}
 use Rattle.onll_task.specs.declared.answer.Stop.TheVariants.{Says, NoMemory}
 use Rattle.onll_task.specs.Doing.{Task, Stage, after_stage, report_task, say_task, text_stage, whole_stage, lines_stage, each_job, AreKnown, each_stage, StopsSo, Does, Begins, GoesBy, BeginsBy}
@@ -78,6 +78,7 @@ refused_end store after grammar name BadLog text h e = h
 refused_end store after grammar name ReadFault text h e = cc e
 refused_end store after grammar name WriteFault text h e = h
 refused_end store after grammar name Faulty text h e = h
+refused_end store after grammar name Judged text h e = h
 
 cannot_end : (store after : StoreView) (name : List ℕ) (ending : Ending) (text : List ℕ) → CannotRead store after name ending text → ending ≡ Done → ⊥
 cannot_end store after name Done text h e = h
@@ -87,6 +88,7 @@ cannot_end store after name BadLog text h e = h
 cannot_end store after name ReadFault text h e = cc e
 cannot_end store after name WriteFault text h e = h
 cannot_end store after name Faulty text h e = h
+cannot_end store after name Judged text h e = h
 
 -- a file can't be read
 pub unread_stops : (store after : StoreView) (name : List ℕ) (next : List ℕ → Job) (s : Stop) → StopSays s (CannotRead store after name) → SameFiles store after → StopsSo store after (Read name next) s
@@ -211,6 +213,7 @@ unwritten_end store after name BadLog text h e = h
 unwritten_end store after name ReadFault text h e = h
 unwritten_end store after name WriteFault text h e = cc e
 unwritten_end store after name Faulty text h e = h
+unwritten_end store after name Judged text h e = h
 
 unwritten_stops : (store after : StoreView) (name bytes : List ℕ) (next : Job) (s : Stop) → StopSays s (CannotWrite store after name) → WriteStops store after name → StopsSo store after (Write name bytes next) s
 unwritten_stops store after name bytes next (Says ending text) stop cut = (unwritten_end store after name ending text.items stop, inl stop)

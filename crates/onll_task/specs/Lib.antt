@@ -6,6 +6,7 @@ pub mod Job
 pub mod Keeps
 pub mod Printed
 pub mod Reading
+pub mod RunSaid
 pub mod Running
 pub mod Standing
 pub mod Stop

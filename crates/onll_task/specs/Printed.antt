@@ -1,8 +1,8 @@
 -- The texts that are no reports, and the statuses.
 
-use Rattle.std.specs.Prelude.{ℕ, List, [], ◌∷◌, ◌++◌, codes, decimal}
+use Rattle.std.specs.Prelude.{ℕ, List, ◌++◌, codes, decimal}
 use Rattle.onll_task.specs.declared.ending.Ending.{Ending}
-use Rattle.onll_task.specs.declared.ending.Ending.TheVariants.{Done, Usage, Refused, BadLog, ReadFault, WriteFault, Faulty}
+use Rattle.onll_task.specs.declared.ending.Ending.TheVariants.{Done, Usage, Refused, BadLog, ReadFault, WriteFault, Faulty, Judged}
 use Rattle.onll_task.specs.declared.ending.Exit.{Exit}
 use Rattle.onll_task.specs.declared.ending.Exit.TheVariants.{Said, SinkFault, NoMemory}
 use Rattle.onll_text.specs.Refusal.{Refusal, reason_text}
@@ -20,10 +20,6 @@ read_fault_text name = codes "read fault " ++ name ++ codes "\n"
 abbrev pub write_fault_text : List ℕ → List ℕ
 write_fault_text name = codes "write fault " ++ name ++ codes "\n"
 
--- the line of a fence that failed: of a thread's update at this place, or of its header at place 0
-abbrev pub fault_line : ℕ → ℕ → List (List ℕ)
-fault_line thread place = codes "fault" ∷ codes "thread" ∷ decimal thread ∷ codes "place" ∷ decimal place ∷ []
-
 -- the exit status of an ending
 abbrev pub status_of : Ending → ℕ
 status_of Done = 0
@@ -33,6 +29,7 @@ status_of BadLog = 4
 status_of ReadFault = 5
 status_of WriteFault = 6
 status_of Faulty = 7
+status_of Judged = 8
 
 -- the exit status of a call
 abbrev pub exit_status : Exit → ℕ

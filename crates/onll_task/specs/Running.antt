@@ -21,7 +21,9 @@ use Rattle.onll_task.specs.declared.ending.Ending.{Ending}
 use Rattle.onll_task.specs.declared.ending.Ending.TheVariants.{WriteFault, Faulty}
 use Rattle.onll_task.specs.FileLines.{FitFile}
 use Rattle.onll_task.specs.ImageNames.{image_name, image_names}
-use Rattle.onll_task.specs.Printed.{write_fault_text, fault_line}
+use Rattle.onll_text.specs.Lines.{fence_line}
+use Rattle.onll_task.specs.Printed.{write_fault_text}
+use Rattle.onll_task.specs.RunSaid.{RunData, RunReads, run_data, resumed_by}
 use Rattle.onll_task.specs.Writing.{FilesStay, AllButStay}
 
 -- ---- what is run
@@ -39,6 +41,20 @@ RunLeft k = Left k.State k.Op k.Query k.Reply
 -- the files of its logs
 abbrev pub log_files : {k : ObjectKind} → RunPlan k → List (List ℕ)
 log_files plan = image_names plan.logs 0 (length plan.run.scripts)
+
+-- ---- what is said of it
+module _ {k : ObjectKind} (plan : RunPlan k) where
+  -- how many nodes are said to be gone on from
+  abbrev pub plan_resumed : Option ℕ
+  plan_resumed = resumed_by plan.reopens (length plan.run.base.nodes)
+
+  -- what is said of a run that left this
+  abbrev pub plan_data : RunLeft k → RunData k.State k.Op k.Query k.Reply
+  plan_data left = run_data k.means plan_resumed plan.run.state left
+
+  -- all of it reads back
+  abbrev pub PlanReads : RunLeft k → Type 0
+  PlanReads left = RunReads k.means k.wording plan.run.scripts (plan_data left)
 
 -- ---- what the store keeps
 -- so many threads have an update whose fence failed
@@ -156,7 +172,7 @@ pub record HeaderFault {k : ObjectKind} (plan : RunPlan k) (store after : StoreV
   pub thread : ℕ
   pub within : thread < length plan.run.scripts
   pub begun : IsBegun thread plan.run.base.logs
-  pub line : text ≡ line_text (fault_line thread 0)
+  pub line : text ≡ line_text (fence_line thread 0)
   pub calls : SameFaults store after
   pub faults : after.device_faults ≡ counted store.device_faults 1
   pub fences : after.device_fences ≡ counted store.device_fences (begun_logs (take (thread + 1) plan.run.base.logs))
@@ -202,11 +218,19 @@ RunStops plan store after Faulty text = HeaderFault plan store after text
 RunStops plan store after ending text = ⊥
 
 -- ---- what comes of it
--- The run stops so; or it leaves something, which the store keeps, and this goes on from there.
+-- A run leaves something, which the store keeps, and of which all that is said reads back; and then this holds.
+pub record LeavesKept {k : ObjectKind} (plan : RunPlan k) (store : StoreView) (Next : RunLeft k → StoreView → Type 0) : Type 0 where
+  pub left : RunLeft k
+  pub kept : StoreView
+  pub run : HasRun k.means plan.run left
+  pub reads : PlanReads plan left
+  pub keeps : HasKept plan left store kept
+  pub next : Next left kept
+
+-- The run stops so; or it leaves something, and this goes on from there.
 abbrev pub RunGoes : {k : ObjectKind} → RunPlan k → (store after : StoreView) → Ending → List ℕ
     → (RunLeft k → StoreView → Type 0) → Type 0
-RunGoes {k} plan store after ending text Next = RunStops plan store after ending text
-    ⊎ ((left : RunLeft k) × (kept : StoreView) × HasRun k.means plan.run left × HasKept plan left store kept × Next left kept)
+RunGoes plan store after ending text Next = RunStops plan store after ending text ⊎ LeavesKept plan store Next
 
 -- No device was kept, and no file changed but those of the logs.
 pub record NoneKept {k : ObjectKind} (plan : RunPlan k) (store after : StoreView) : Type 0 where
@@ -225,7 +249,6 @@ pub record KeptInPart {k : ObjectKind} (plan : RunPlan k) (store after : StoreVi
 abbrev pub IsCutShort : {k : ObjectKind} → RunPlan k → (store after : StoreView) → Type 0
 IsCutShort plan store after = FilesStay store after ⊎ NoneKept plan store after ⊎ KeptInPart plan store after
 
--- The run was cut short; or it left something, which the store keeps, and this was cut.
+-- The run was cut short; or it left something, and this was cut.
 abbrev pub RunCut : {k : ObjectKind} → RunPlan k → (store after : StoreView) → (RunLeft k → StoreView → Type 0) → Type 0
-RunCut {k} plan store after Next = IsCutShort plan store after
-    ⊎ ((left : RunLeft k) × (kept : StoreView) × HasRun k.means plan.run left × HasKept plan left store kept × Next left kept)
+RunCut plan store after Next = IsCutShort plan store after ⊎ LeavesKept plan store Next

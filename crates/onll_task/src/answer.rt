@@ -4,7 +4,8 @@ ghost use Rattle.std.specs.Prelude.{◌≡◌, ◌≤◌, length, map, IfOk};
 ghost use Rattle.onll_text.specs.Refusal.{refused};
 ghost use Rattle.onll_text.specs.Pieces.{piece_word};
 ghost use Rattle.onll_words.specs.Texts.{AreWords, line_text};
-ghost use Rattle.onll_task.specs.Printed.{fault_line, refusal_text, read_fault_text, write_fault_text};
+ghost use Rattle.onll_text.specs.Lines.{fence_line};
+ghost use Rattle.onll_task.specs.Printed.{refusal_text, read_fault_text, write_fault_text};
 ghost use Rattle.onll_task.specs.Stop.{StopSays};
 ghost use Rattle.onll_task.specs.declared.answer.Stop.TheVariants.{NoMemory};
 
@@ -114,7 +115,7 @@ impl Stop {
 
     /// The line of a fence that failed: of an update of this thread at this place, or of its log's header at place 0.
     pub fn fence_failed(alloc: Global, thread: u64, place: u64) -> Stop
-        ensures { StopSays result (λ end said. (end ≡ Ending.Faulty) × (said ≡ line_text (fault_line thread place))) }
+        ensures { StopSays result (λ end said. (end ≡ Ending.Faulty) × (said ≡ line_text (fence_line thread place))) }
     {
         let line = [
             Piece::Text(b"fault"),

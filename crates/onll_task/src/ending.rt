@@ -20,6 +20,8 @@ pub enum Ending {
     WriteFault,
     /// A fence failed; the text is the report, or the one line of a header whose fence failed.
     Faulty,
+    /// A report that was read is wrong; the text is the line that says where.
+    Judged,
 }
 
 impl Ending {
@@ -35,6 +37,7 @@ impl Ending {
             Ending::ReadFault => 5,
             Ending::WriteFault => 6,
             Ending::Faulty => 7,
+            Ending::Judged => 8,
         }
     }
 }

@@ -13,5 +13,6 @@ pub use devices::kept_or;
 pub use ending::{Ending, Exit};
 pub use images::{KeptImages, image_name, into_lines, read_images, write_image};
 pub use texts::{
-    InitText, image_file, init_file, read_lines, schedule_file, script_file, write_bytes,
+    InitText, image_file, init_file, read_bytes, read_lines, schedule_file, script_file,
+    write_bytes,
 };

@@ -28,7 +28,7 @@ use std::alloc::Global;
 use std::borrow::CowSlice;
 
 /// The first bytes of a file, or what is said in their place.
-fn read_bytes<S: Store>(
+pub fn read_bytes<S: Store>(
     alloc: Global,
     name: &str,
     limit: u64,

@@ -1,4 +1,4 @@
-use Rattle.std.proofs.Common.{ℕ, suc, Bool, true, false, List, [], ◌∷◌, ◌++◌, ◌≡◌, ◌+◌, ◌*◌, ◌^◌, ◌<◌, ◌≤◌, nat_lt, not, length, map, sum, decimal, codes, replicate, refl, sym, ap, ◌∙◌, arith, Ok, Some, Result, append_assoc, length-append, slice_get, slice_set, zero-add, drop, slice_index_or}
+use Rattle.std.proofs.Common.{ℕ, suc, Bool, true, false, List, [], ◌∷◌, ◌++◌, ◌≡◌, ◌+◌, ◌^◌, ◌<◌, ◌≤◌, nat_lt, not, length, map, sum, decimal, codes, replicate, refl, sym, ap, ◌∙◌, arith, Ok, Some, Result, append_assoc, length-append, slice_get, slice_set, zero-add, drop, slice_index_or}
 use Rattle.std.specs.List.{flat_map}
 use Rattle.std.proofs.Math.Seq.{get_or-append_seam, set-append_seam}
 use Rattle.std.proofs.lemmas.List.Sums.{sum_by-cons, sum_by-append}
@@ -11,13 +11,14 @@ use Rattle.onll_text.specs.declared.reason.Reason.TheVariants.{OutOfRange, Repea
 use Rattle.onll_text.specs.declared.any_object.AnyObject.TheVariants as objects
 use Rattle.onll_text.specs.declared.any_object.Kind.TheVariants as kinds
 use Rattle.onll_text.specs.Refusal.{Refusal, ◌>>=◌, only_if, at_line}
-use Rattle.onll_text.specs.BankText.{Accounts, is_marked, is_named, account_line, account_lines, bank_state_lines, with_account, with_account_line}
+use Rattle.onll_text.specs.BankText.{Accounts, is_marked, is_named, account_line, account_lines, with_account, with_account_line}
+use Rattle.onll_text.specs.BankLaws.{bank_is_short}
 use Rattle.onll_text.specs.BankWording.{bank_wording, state_in_lines}
-use Rattle.onll_text.specs.Script.{longest_state}
 use Rattle.onll_text.specs.Init.{head_of}
 use Rattle.onll_text.specs.Making.{after_lines}
 use Rattle.onll_text.specs.ReadBack.{ReadsBack}
-use Rattle.onll_text.proofs.ReadBack.{capacity_of-decimal, two_numbers-decimal, length-decimal, after_lines-joined, init_of-flat_map, within_text}
+use Rattle.onll_text.specs.WordsAgain.{two_numbers-decimal}
+use Rattle.onll_text.proofs.ReadBack.{capacity_of-decimal, after_lines-joined, init_of-flat_map, within_text}
 use Rattle.std.proofs.lemmas.List.{drop_more}
 use Rattle.onll_words.proofs.Decimals.{IsWord-decimal}
 use Rattle.onll_text.specs.Bytes.{with_lines}
@@ -33,36 +34,8 @@ account_lines_more bytes balances a h =
     append_assoc bytes (line_text (account_line a (slice_index_or balances a 0))) (flat_map line_text (account_lines (a + 1) (drop (a + 1) balances)))
     ∙ sym (ap (λ t. with_lines bytes (account_lines a t)) (drop_more balances a 0 h))
 
--- the lines of a bank are short
-
-length-account_line : (a x : ℕ) → a < 2 ^ 64 → x < 2 ^ 64 → length (line_text (account_line a x)) ≤ 50
-length-account_line a x h k =
-    omega (arith, length-append (decimal a) (32 ∷ decimal x), length-append (decimal a ++ 32 ∷ decimal x) (10 ∷ []), length-decimal a h, length-decimal x k)
-
-length-account_lines : (a : ℕ) (xs : List ℕ) → a + length xs ≤ 4096 → sum xs ≤ greatest_total → length (flat_map line_text (account_lines a xs)) ≤ 50 * length xs
-length-account_lines a [] h k = omega arith
-length-account_lines a (x ∷ xs) h k =
-    let total : sum (x ∷ xs) ≡ x + sum xs = sum_by-cons (λ n. n) x xs in
-    let rest : length (flat_map line_text (account_lines (a + 1) xs)) ≤ 50 * length xs = length-account_lines (a + 1) xs (omega arith) (omega arith) in
-    let one : length (line_text (account_line a x)) ≤ 50 = length-account_line a x (omega arith) (omega arith) in
-    omega (arith, length-append (line_text (account_line a x)) (flat_map line_text (account_lines (a + 1) xs)))
-
-within_word : (n : ℕ) → n ≤ 4096 → n < 2 ^ 64
-within_word n h = omega arith
-
 from_zero : (n : ℕ) → n ≤ 4096 → 0 + n ≤ 4096
 from_zero n h = omega arith
-
--- so is all that is printed of a bank
-pub bank_is_short : (s : List ℕ) → IsBank s → length (flat_map line_text (bank_state_lines s)) ≤ longest_state
-bank_is_short s h =
-    omega (
-      arith,
-      length-append (line_text (codes "bank" ∷ decimal (length s) ∷ [])) (flat_map line_text (account_lines 0 s)),
-      length-append (decimal (length s)) (10 ∷ []),
-      length-decimal (length s) (within_word (length s) h.greatest),
-      length-account_lines 0 s (from_zero (length s) h.greatest) h.total,
-    )
 
 -- the first line
 

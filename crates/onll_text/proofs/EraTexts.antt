@@ -14,7 +14,8 @@ use Rattle.onll_text.specs.declared.any_object.AnyObject.TheVariants as objects
 use Rattle.onll_text.specs.declared.any_object.Kind.{Kind}
 use Rattle.onll_text.specs.declared.any_object.Kind.TheVariants as kinds
 use Rattle.onll_text.specs.Refusal.{Refusal, refused, ◌>>=◌, at_line}
-use Rattle.onll_text.specs.Script.{longest_text, longest_state, is_too_long}
+use Rattle.onll_text.specs.Script.{longest_text, is_too_long}
+use Rattle.onll_text.specs.Wording.{longest_state}
 use Rattle.onll_text.specs.Making.{after_lines}
 use Rattle.onll_text.specs.Init.{head_of, object_of, init_of_lines, init_of}
 use Rattle.onll_text.specs.BankText.{with_account_line, no_accounts}
@@ -24,7 +25,8 @@ use Rattle.onll_queue.specs.Queue.{items_in}
 use Rattle.onll_text.specs.LeaseText.{with_held_line}
 use Rattle.onll_lease.specs.Entry.{no_lease}
 use Rattle.onll_text.specs.EraText.{era_words, era_text}
-use Rattle.onll_text.proofs.ReadBack.{not_too_long, length-decimal}
+use Rattle.onll_text.specs.WordsAgain.{length-decimal}
+use Rattle.onll_text.proofs.ReadBack.{not_too_long}
 use Rattle.onll_text.proofs.PrintedStates.{bytes_of_test}
 use Rattle.onll_words.proofs.WordBytes.{Bytes}
 use Rattle.std.proofs.lemmas.Fmt.{decimal_by_steps}

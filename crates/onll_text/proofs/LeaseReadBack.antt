@@ -1,10 +1,9 @@
-use Rattle.std.proofs.Common.{ℕ, suc, Bool, true, false, List, [], ◌∷◌, ◌++◌, ◌≡◌, ◌+◌, ◌*◌, ◌^◌, ◌<◌, ◌≤◌, ◌==◌, ◌&&◌, nat_lt, cond, length, map, decimal, codes, replicate, slice_set, All, refl, sym, ap, ◌∙◌, arith, inl, inr, Ok, Result, append_assoc, length-append, drop}
-use Rattle.std.specs.List.{flat_map}
+use Rattle.std.proofs.Common.{ℕ, suc, Bool, true, false, List, [], ◌∷◌, ◌++◌, ◌≡◌, ◌+◌, ◌^◌, ◌<◌, ◌≤◌, ◌==◌, ◌&&◌, nat_lt, cond, length, map, decimal, codes, replicate, slice_set, All, refl, sym, ap, ◌∙◌, arith, inl, inr, Ok, Result, append_assoc, length-append, drop}
 use Rattle.std.proofs.Math.Seq.{get_or-append_seam, set-append_seam}
 use Rattle.std.proofs.lemmas.List.Elements.{All-head, All-tail}
 use Rattle.std.proofs.lemmas.Bool.{cases_lt}
 use Rattle.std.proofs.lemmas.Bool.Decides.{nat_tests}
-use Rattle.onll_words.specs.Texts.{Numbered, numbered, joined, line_text, AreWords}
+use Rattle.onll_words.specs.Texts.{Numbered, numbered, joined, AreWords}
 use Rattle.onll_lease.specs.declared.entry.LeaseEntry.{LeaseEntry}
 use Rattle.onll_lease.specs.Entry.{IsEntry, OfNumbers, no_lease}
 use Rattle.onll_lease.specs.Lease.{IsLease, entry_at}
@@ -13,13 +12,14 @@ use Rattle.onll_text.specs.declared.reason.Reason.TheVariants.{OutOfRange, Repea
 use Rattle.onll_text.specs.declared.any_object.AnyObject.TheVariants as objects
 use Rattle.onll_text.specs.declared.any_object.Kind.TheVariants as kinds
 use Rattle.onll_text.specs.Refusal.{Refusal, ◌>>=◌, only_if, at_line}
-use Rattle.onll_text.specs.LeaseText.{held_line, entry_lines, held_lines, lease_state_lines, entry_of, with_held, with_held_line}
+use Rattle.onll_text.specs.LeaseText.{held_line, entry_lines, held_lines, entry_of, with_held, with_held_line}
+use Rattle.onll_text.specs.LeaseLaws.{lease_is_short}
 use Rattle.onll_text.specs.LeaseWording.{lease_wording, state_in_lines}
-use Rattle.onll_text.specs.Script.{longest_state}
 use Rattle.onll_text.specs.Init.{head_of}
 use Rattle.onll_text.specs.Making.{after_lines}
 use Rattle.onll_text.specs.ReadBack.{ReadsBack}
-use Rattle.onll_text.proofs.ReadBack.{capacity_of-decimal, four_numbers-decimal, length-decimal, after_lines-joined, init_of-flat_map, within_text}
+use Rattle.onll_text.specs.WordsAgain.{four_numbers-decimal}
+use Rattle.onll_text.proofs.ReadBack.{capacity_of-decimal, after_lines-joined, init_of-flat_map, within_text}
 use Rattle.std.proofs.lemmas.List.{drop_more}
 use Rattle.onll_words.proofs.Decimals.{IsWord-decimal}
 use Rattle.onll_text.specs.Bytes.{with_lines}
@@ -37,51 +37,8 @@ held_lines_more bytes entries r h =
     sym (with_lines-append bytes (entry_lines r (entry_at entries r)) (held_lines (r + 1) (drop (r + 1) entries)))
     ∙ sym (ap (λ t. with_lines bytes (held_lines r t)) (drop_more entries r no_lease h))
 
--- the lines of a table are short
-
-length-held_line : (r : ℕ) (e : LeaseEntry) → r < 2 ^ 64 → OfNumbers e → length (line_text (held_line r e)) ≤ 89
-length-held_line r e h n =
-    omega (
-      arith,
-      length-append (decimal r) (32 ∷ (decimal e.token ++ 32 ∷ (decimal e.holder ++ 32 ∷ decimal e.until))),
-      length-append (decimal e.token) (32 ∷ (decimal e.holder ++ 32 ∷ decimal e.until)),
-      length-append (decimal e.holder) (32 ∷ decimal e.until),
-      length-append (decimal r ++ 32 ∷ (decimal e.token ++ 32 ∷ (decimal e.holder ++ 32 ∷ decimal e.until))) (10 ∷ []),
-      length-decimal r h,
-      length-decimal e.token n.token,
-      length-decimal e.holder n.holder,
-      length-decimal e.until n.until,
-    )
-
--- the lines of one resource, or none, before those of the rest
-length-one : (b : Bool) (r : ℕ) (e : LeaseEntry) (rest : List (List (List ℕ))) → length (line_text (held_line r e)) ≤ 89
-    → length (flat_map line_text (cond b [] (held_line r e ∷ []) ++ rest)) ≤ 89 + length (flat_map line_text rest)
-length-one true r e rest h = omega arith
-length-one false r e rest h = omega (arith, length-append (line_text (held_line r e)) (flat_map line_text rest))
-
-length-held_lines : (r : ℕ) (es : List LeaseEntry) → r + length es ≤ 4096 → All OfNumbers es → length (flat_map line_text (held_lines r es)) ≤ 89 * length es
-length-held_lines r [] h n = omega arith
-length-held_lines r (e ∷ es) h n =
-    let rest : length (flat_map line_text (held_lines (r + 1) es)) ≤ 89 * length es = length-held_lines (r + 1) es (omega arith) (All-tail OfNumbers e es n) in
-    let one : length (line_text (held_line r e)) ≤ 89 = length-held_line r e (omega arith) (All-head OfNumbers e es n) in
-    omega (arith, length-one (e.token == 0) r e (held_lines (r + 1) es) one)
-
-within_word : (n : ℕ) → n ≤ 4096 → n < 2 ^ 64
-within_word n h = omega arith
-
 from_zero : (n : ℕ) → n ≤ 4096 → 0 + n ≤ 4096
 from_zero n h = omega arith
-
--- so is all that is printed of a lease table
-pub lease_is_short : (s : List LeaseEntry) → IsLease s → length (flat_map line_text (lease_state_lines s)) ≤ longest_state
-lease_is_short s h =
-    omega (
-      arith,
-      length-append (line_text (codes "lease" ∷ decimal (length s) ∷ [])) (flat_map line_text (held_lines 0 s)),
-      length-append (decimal (length s)) (10 ∷ []),
-      length-decimal (length s) (within_word (length s) h.greatest),
-      length-held_lines 0 s (from_zero (length s) h.greatest) h.numbers,
-    )
 
 -- the first line
 

@@ -3,6 +3,7 @@ pub mod Appending
 pub mod LineWords
 pub mod Whole
 pub mod FewCalls
+pub mod ScriptReads
 pub mod Playable
 pub mod ReadBack
 pub mod BankReadBack

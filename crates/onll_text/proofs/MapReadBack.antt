@@ -1,4 +1,4 @@
-use Rattle.std.proofs.Common.{ℕ, true, List, [], ◌∷◌, ◌++◌, ◌≡◌, ◌+◌, ◌*◌, ◌^◌, ◌<◌, ◌≤◌, not, length, map, decimal, codes, get_or, sym, ap, subst, ◌∙◌, arith, Option, None, Ok, Result, append_assoc, length-append, drop, slice_get, Some, refl}
+use Rattle.std.proofs.Common.{ℕ, true, List, [], ◌∷◌, ◌++◌, ◌≡◌, ◌+◌, ◌<◌, ◌≤◌, not, length, map, decimal, codes, get_or, sym, ap, subst, ◌∙◌, arith, Option, None, Ok, Result, append_assoc, length-append, drop, slice_get, Some, refl}
 use Rattle.std.specs.List.{flat_map}
 use Rattle.std.specs.List.Sorted.{IsStrictlySortedBy}
 use Rattle.std.specs.Map.{keys_of}
@@ -9,27 +9,26 @@ use Rattle.std.proofs.lemmas.List.{append-nil, get_or_append_left, drop_more}
 use Rattle.std.proofs.lemmas.List.Edits.{insert_end}
 use Rattle.std.proofs.lemmas.Map.Keys.{Less-from_sorted}
 use Rattle.std.proofs.lemmas.Map.Entries.{length-keys_of}
-use Rattle.onll_words.specs.Short.{ShortText, short_of-bytes}
+use Rattle.onll_words.specs.Short.{ShortText}
 use Rattle.onll_words.specs.Texts.{Numbered, numbered, joined, line_text, AreWords}
-use Rattle.onll_words.proofs.Packing.{fits-of}
 use Rattle.onll_map.specs.Map.{Pairs, Entries, IsMap, key_cmp, value_at, has_room, pairs_put}
 use Rattle.onll_map.specs.Places.{IsGap}
 use Rattle.onll_map.proofs.Edits.{insert_entry-gap}
 use Rattle.onll_map.proofs.Maps.{key_total}
 use Rattle.onll_map.proofs.Steps.{value_at-gap, room_for}
 use Rattle.onll_text.specs.declared.reason.Reason.{Reason}
-use Rattle.onll_text.specs.declared.reason.Reason.TheVariants.{Repeated, TooMany, BadWord}
+use Rattle.onll_text.specs.declared.reason.Reason.TheVariants.{Repeated, TooMany}
 use Rattle.onll_text.specs.declared.any_object.AnyObject.TheVariants as objects
 use Rattle.onll_text.specs.declared.any_object.Kind.TheVariants as kinds
-use Rattle.onll_text.specs.Refusal.{Refusal, ◌>>=◌, only_if, or_reason, at_line}
-use Rattle.onll_text.specs.Words.{word_as_short, two_shorts}
-use Rattle.onll_text.specs.MapText.{pair_line, pair_lines, map_state_lines, with_pair, with_pair_line}
+use Rattle.onll_text.specs.Refusal.{Refusal, ◌>>=◌, only_if, at_line}
+use Rattle.onll_text.specs.MapText.{pair_line, pair_lines, with_pair, with_pair_line}
+use Rattle.onll_text.specs.MapLaws.{map_is_short}
 use Rattle.onll_text.specs.MapWording.{map_wording, state_in_lines}
-use Rattle.onll_text.specs.Script.{longest_state}
 use Rattle.onll_text.specs.Init.{head_of}
 use Rattle.onll_text.specs.Making.{after_lines}
 use Rattle.onll_text.specs.ReadBack.{ReadsBack}
-use Rattle.onll_text.proofs.ReadBack.{capacity_of-decimal, length-decimal, after_lines-joined, init_of-flat_map, within_text}
+use Rattle.onll_text.specs.WordsAgain.{two_shorts-bytes}
+use Rattle.onll_text.proofs.ReadBack.{capacity_of-decimal, after_lines-joined, init_of-flat_map, within_text}
 use Rattle.std.proofs.lemmas.Option.{slice_get_within, get_or_from_slice_get}
 use Rattle.onll_words.proofs.ShortWord.{IsWord-short}
 use Rattle.onll_text.specs.Bytes.{with_lines}
@@ -47,42 +46,12 @@ pair_lines_more bytes pairs i pair h =
     append_assoc bytes (line_text (pair_line pair)) (flat_map line_text (pair_lines (drop (i + 1) pairs)))
     ∙ sym (ap (λ t. with_lines bytes (pair_lines t)) left)
 
--- the lines of a map are short
-
-length-pair_line : (pair : ShortText × ShortText) → length (line_text (pair_line pair)) ≤ 53
-length-pair_line pair =
-    omega (arith, length-append pair.0.bytes (32 ∷ pair.1.bytes), length-append (pair.0.bytes ++ 32 ∷ pair.1.bytes) (10 ∷ []), fits-of pair.0, fits-of pair.1)
-
-length-pair_lines : (pairs : Pairs) → length (flat_map line_text (pair_lines pairs)) ≤ 53 * length pairs
-length-pair_lines [] = omega arith
-length-pair_lines (pair ∷ pairs) =
-    omega (arith, length-append (line_text (pair_line pair)) (flat_map line_text (pair_lines pairs)), length-pair_line pair, length-pair_lines pairs)
-
--- so is all that is printed of a map
-pub map_is_short : (s : Entries) → IsMap s → length (flat_map line_text (map_state_lines s)) ≤ longest_state
-map_is_short s h =
-    let word : s.room < 2 ^ 64 = omega (arith, h.greatest_room) in
-    omega (
-      arith,
-      length-append (line_text (codes "map" ∷ decimal s.room ∷ [])) (flat_map line_text (pair_lines s.pairs)),
-      length-append (decimal s.room) (10 ∷ []),
-      length-decimal s.room word,
-      length-pair_lines s.pairs,
-      h.fits,
-      h.greatest_room,
-    )
-
 -- the first line
 
 head_of-map : (n : ℕ) → 1 ≤ n → n ≤ 4096 → head_of (codes "map" ∷ decimal n ∷ []) ≡ Ok (record { kind = kinds.Map; capacity = n })
 head_of-map n some few = ap (λ (v : Result ℕ Reason). v >>= λ k. Ok (record { kind = kinds.Map; capacity = k })) (capacity_of-decimal n some few)
 
 -- the lines of the pairs
-
-two_shorts-bytes : (k v : ShortText) → two_shorts (k.bytes ∷ v.bytes ∷ []) ≡ Ok (k, v)
-two_shorts-bytes k v =
-    ap (λ o. or_reason BadWord o >>= λ x. word_as_short v.bytes >>= λ y. Ok (x, y)) (short_of-bytes k)
-    ∙ ap (λ o. or_reason BadWord o >>= λ y. Ok (k, y)) (short_of-bytes v)
 
 -- a pair whose key is new is put where there is room
 with_pair-fits : (made : Entries) (k v : ShortText) → value_at made.pairs k ≡ None → has_room made ≡ true

@@ -1,25 +1,21 @@
 -- A text that prints back is what is printed of the state that it says, and what is printed of a state prints back.
 
-use Rattle.std.proofs.Common.{ℕ, zero, suc, Bool, true, false, ◌&&◌, nat_le, List, [], ◌∷◌, ◌≡◌, ◌<◌, ◌≤◌, length, refl, sym, ap, ◌∙◌, subst, slice_index, arith, Option, Some, None, Result, Ok, Err}
+use Rattle.std.proofs.Common.{ℕ, zero, suc, Bool, true, false, ◌&&◌, nat_le, List, [], ◌∷◌, ◌≡◌, ◌<◌, ◌≤◌, length, refl, sym, ap, ◌∙◌, subst, slice_index, arith, Option, Some, None, Ok}
 use Rattle.std.specs.List.{list_all}
 use Rattle.std.proofs.lemmas.Slice.Eq.{bytes_eq-Decides}
 use Rattle.std.proofs.lemmas.Bool.Decides.{nat_tests}
 use Rattle.onll_words.proofs.WordBytes.{Bytes}
-use Rattle.onll_text.specs.declared.any_object.AnyObject.{AnyObject}
-use Rattle.onll_text.specs.declared.any_object.AnyObject.TheVariants as objects
 use Rattle.onll_text.specs.declared.any_object.Kind.{Kind}
 use Rattle.onll_text.specs.declared.any_object.Kind.TheVariants as kinds
-use Rattle.onll_text.specs.Refusal.{Refusal}
-use Rattle.onll_text.specs.Script.{longest_state}
-use Rattle.onll_text.specs.Wording.{Wording}
+use Rattle.onll_text.specs.Wording.{longest_state, Wording}
 use Rattle.onll_text.specs.Init.{init_of}
 use Rattle.onll_text.specs.Kinds.{kind_at, object_at, on_kind}
 use Rattle.onll_text.specs.Reports.{StateReads}
 use Rattle.onll_text.specs.PrintsBack.{state_text, is_state_text, is_byte, prints_back}
-use Rattle.onll_text.specs.BankWording.{bank_read}
-use Rattle.onll_text.specs.MapWording.{map_read}
-use Rattle.onll_text.specs.QueueWording.{queue_read}
-use Rattle.onll_text.specs.LeaseWording.{lease_read}
+use Rattle.onll_text.specs.BankWording.{bank_back}
+use Rattle.onll_text.specs.MapWording.{map_back}
+use Rattle.onll_text.specs.QueueWording.{queue_back}
+use Rattle.onll_text.specs.LeaseWording.{lease_back}
 
 -- ---- tests
 both_hold : (b c : Bool) → (b && c) ≡ true → (b ≡ true) × (c ≡ true)
@@ -50,17 +46,17 @@ bytes_tested (b ∷ bs) h = ap (λ t. t && list_all is_byte bs) (byte_test b (h 
 
 -- ---- what is printed of a state prints back
 printed_tests : {State Op Query Reply : Type 0} (w : Wording State Op Query Reply) (s : State) → StateReads w s
-    → length (state_text w s) ≤ longest_state → Bytes (state_text w s) → prints_back w (state_text w s) ≡ true
-printed_tests {State} w s reads short bytes =
+    → Bytes (state_text w s) → prints_back w (state_text w s) ≡ true
+printed_tests {State} w s reads bytes =
     let text : List ℕ = state_text w s in
     ap (λ (o : Option State). is_state_text w o text && (nat_le (length text) longest_state && list_all is_byte text)) reads
     ∙ (ap (λ (t : Bool). t && (nat_le (length text) longest_state && list_all is_byte text)) ((bytes_eq-Decides text text).1 refl)
-    ∙ (ap (λ (t : Bool). t && list_all is_byte text) (le_test (length text) longest_state short)
+    ∙ (ap (λ (t : Bool). t && list_all is_byte text) (le_test (length text) longest_state (w.state_is_short s reads))
     ∙ bytes_tested text bytes))
 
 pub state_prints_back : {State Op Query Reply : Type 0} (w : Wording State Op Query Reply) (s : State) (text : List ℕ) → text ≡ state_text w s → StateReads w s
-    → length (state_text w s) ≤ longest_state → ((i : ℕ) → slice_index text i < 256) → prints_back w text ≡ true
-state_prints_back w s text is reads short bytes = subst (λ (t : List ℕ). prints_back w t ≡ true) (sym is) (printed_tests w s reads short (subst Bytes is bytes))
+    → ((i : ℕ) → slice_index text i < 256) → prints_back w text ≡ true
+state_prints_back w s text is reads bytes = subst (λ (t : List ℕ). prints_back w t ≡ true) (sym is) (printed_tests w s reads (subst Bytes is bytes))
 
 -- ---- what prints back
 -- The text says this state, and is what is printed of it, as short as that is and of bytes.
@@ -86,34 +82,6 @@ prints_state w text h =
     state_found w text (w.state_of text) refl parts.0 (le_of_test (length text) longest_state rest.0) (bytes_of_test text rest.1)
 
 -- ---- the object that it is read as
-bank_back : (v : Result AnyObject Refusal) (s : _) → bank_read v ≡ Some s → v ≡ Ok (objects.Bank s)
-bank_back (Ok (objects.Bank x)) s e = let same : x ≡ s = (cc) in ap (λ y. Ok (objects.Bank y)) same
-bank_back (Ok (objects.Map x)) s e = absurd (cc)
-bank_back (Ok (objects.Queue x)) s e = absurd (cc)
-bank_back (Ok (objects.Lease x)) s e = absurd (cc)
-bank_back (Err r) s e = absurd (cc)
-
-map_back : (v : Result AnyObject Refusal) (s : _) → map_read v ≡ Some s → v ≡ Ok (objects.Map s)
-map_back (Ok (objects.Bank x)) s e = absurd (cc)
-map_back (Ok (objects.Map x)) s e = let same : x ≡ s = (cc) in ap (λ y. Ok (objects.Map y)) same
-map_back (Ok (objects.Queue x)) s e = absurd (cc)
-map_back (Ok (objects.Lease x)) s e = absurd (cc)
-map_back (Err r) s e = absurd (cc)
-
-queue_back : (v : Result AnyObject Refusal) (s : _) → queue_read v ≡ Some s → v ≡ Ok (objects.Queue s)
-queue_back (Ok (objects.Bank x)) s e = absurd (cc)
-queue_back (Ok (objects.Map x)) s e = absurd (cc)
-queue_back (Ok (objects.Queue x)) s e = let same : x ≡ s = (cc) in ap (λ y. Ok (objects.Queue y)) same
-queue_back (Ok (objects.Lease x)) s e = absurd (cc)
-queue_back (Err r) s e = absurd (cc)
-
-lease_back : (v : Result AnyObject Refusal) (s : _) → lease_read v ≡ Some s → v ≡ Ok (objects.Lease s)
-lease_back (Ok (objects.Bank x)) s e = absurd (cc)
-lease_back (Ok (objects.Map x)) s e = absurd (cc)
-lease_back (Ok (objects.Queue x)) s e = absurd (cc)
-lease_back (Ok (objects.Lease x)) s e = let same : x ≡ s = (cc) in ap (λ y. Ok (objects.Lease y)) same
-lease_back (Err r) s e = absurd (cc)
-
 -- a text that says a state of a kind is the initial state of the object with that state
 pub says_object : (kind : Kind) (text : List ℕ) (s : (kind_at kind).State) → (kind_at kind).wording.state_of text ≡ Some s → init_of text ≡ Ok (object_at kind s)
 says_object kinds.Bank text s e = bank_back (init_of text) s e

@@ -1,4 +1,4 @@
-use Rattle.std.proofs.Common.{ℕ, false, List, [], ◌∷◌, ◌++◌, ◌≡◌, ◌+◌, ◌*◌, ◌^◌, ◌<◌, ◌≤◌, ◌==◌, not, length, map, decimal, codes, All, sym, ap, ◌∙◌, arith, Ok, Result, append_assoc, length-append, drop, slice_index_or, refl}
+use Rattle.std.proofs.Common.{ℕ, false, List, [], ◌∷◌, ◌++◌, ◌≡◌, ◌+◌, ◌^◌, ◌<◌, ◌≤◌, ◌==◌, not, length, map, decimal, codes, All, sym, ap, ◌∙◌, arith, Ok, Result, append_assoc, length-append, drop, slice_index_or, refl}
 use Rattle.std.specs.List.{flat_map}
 use Rattle.std.proofs.lemmas.List.{append-nil, drop_more}
 use Rattle.std.proofs.lemmas.List.Elements.{All-head, All-tail}
@@ -11,13 +11,14 @@ use Rattle.onll_text.specs.declared.reason.Reason.TheVariants.{TooMany}
 use Rattle.onll_text.specs.declared.any_object.AnyObject.TheVariants as objects
 use Rattle.onll_text.specs.declared.any_object.Kind.TheVariants as kinds
 use Rattle.onll_text.specs.Refusal.{Refusal, ◌>>=◌, only_if, at_line}
-use Rattle.onll_text.specs.QueueText.{item_line, item_lines, queue_state_lines, with_item, with_item_line}
+use Rattle.onll_text.specs.QueueText.{item_line, item_lines, with_item, with_item_line}
+use Rattle.onll_text.specs.QueueLaws.{queue_is_short}
 use Rattle.onll_text.specs.QueueWording.{queue_wording, state_in_lines}
-use Rattle.onll_text.specs.Script.{longest_state}
 use Rattle.onll_text.specs.Init.{head_of}
 use Rattle.onll_text.specs.Making.{after_lines}
 use Rattle.onll_text.specs.ReadBack.{ReadsBack}
-use Rattle.onll_text.proofs.ReadBack.{capacity_of-decimal, one_number-decimal, length-decimal, after_lines-joined, init_of-flat_map, within_text}
+use Rattle.onll_text.specs.WordsAgain.{one_number-decimal}
+use Rattle.onll_text.proofs.ReadBack.{capacity_of-decimal, after_lines-joined, init_of-flat_map, within_text}
 use Rattle.onll_words.proofs.Decimals.{IsWord-decimal}
 use Rattle.onll_text.specs.Bytes.{with_lines}
 
@@ -31,35 +32,6 @@ pub item_lines_more : (bytes items : List ℕ) (i d : ℕ) → i < length items
 item_lines_more bytes items i d h =
     append_assoc bytes (line_text (item_line (slice_index_or items i d))) (flat_map line_text (item_lines (drop (i + 1) items)))
     ∙ sym (ap (λ t. with_lines bytes (item_lines t)) (drop_more items i d h))
-
--- the lines of a queue are short
-
-length-item_line : (x : ℕ) → x < 2 ^ 64 → length (line_text (item_line x)) ≤ 26
-length-item_line x h = omega (arith, length-append (decimal x) (10 ∷ []), length-decimal x h)
-
-length-item_lines : (items : List ℕ) → All (λ x. x < 2 ^ 64) items → length (flat_map line_text (item_lines items)) ≤ 26 * length items
-length-item_lines [] h = omega arith
-length-item_lines (x ∷ items) h =
-    omega (
-      arith,
-      length-append (line_text (item_line x)) (flat_map line_text (item_lines items)),
-      length-item_line x (All-head (λ (n : ℕ). n < 2 ^ 64) x items h),
-      length-item_lines items (All-tail (λ (n : ℕ). n < 2 ^ 64) x items h),
-    )
-
--- so is all that is printed of a queue
-pub queue_is_short : (s : Items) → IsQueue s → length (flat_map line_text (queue_state_lines s)) ≤ longest_state
-queue_is_short s h =
-    let word : s.room < 2 ^ 64 = omega (arith, h.greatest_room) in
-    omega (
-      arith,
-      length-append (line_text (codes "queue" ∷ decimal s.room ∷ [])) (flat_map line_text (item_lines s.items)),
-      length-append (decimal s.room) (10 ∷ []),
-      length-decimal s.room word,
-      length-item_lines s.items h.numbers,
-      h.fits,
-      h.greatest_room,
-    )
 
 -- the first line
 

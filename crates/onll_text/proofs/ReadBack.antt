@@ -1,52 +1,23 @@
-use Rattle.std.proofs.Common.{ℕ, true, false, ◌&&◌, nat_le, List, [], ◌∷◌, ◌≡◌, ◌^◌, ◌<◌, ◌≤◌, cond, length, map, decimal, ap, ◌∙◌, arith, Ok, Err, Result}
+use Rattle.std.proofs.Common.{ℕ, true, false, ◌&&◌, nat_le, List, [], ◌∷◌, ◌≡◌, ◌≤◌, cond, length, map, decimal, ap, ◌∙◌, arith, Ok, Err, Result}
 use Rattle.std.specs.List.{flat_map}
-use Rattle.std.proofs.lemmas.Fmt.{length-decimal-le}
 use Rattle.std.proofs.lemmas.Bool.Decides.{nat_tests}
-use Rattle.onll_words.specs.Short.{ShortText, short_of-bytes}
 use Rattle.onll_words.specs.Texts.{Numbered, meaningful_lines, numbered, joined, line_text, AreWords, AreMeaningful}
-use Rattle.onll_words.proofs.Decimals.{number_of-decimal}
 use Rattle.onll_words.proofs.Joined.{words_of-joined, meaningful_lines-flat_map}
 use Rattle.onll_text.specs.declared.reason.Reason.{Reason}
-use Rattle.onll_text.specs.declared.reason.Reason.TheVariants.{BadNumber, BadWord, OutOfRange, TooLong}
+use Rattle.onll_text.specs.declared.reason.Reason.TheVariants.{OutOfRange, TooLong}
 use Rattle.onll_text.specs.declared.init.Head.{Head}
-use Rattle.onll_text.specs.Refusal.{refused, ◌>>=◌, only_if, or_reason, at_line}
-use Rattle.onll_text.specs.Words.{word_as_number, word_as_short, one_number, two_numbers, four_numbers}
-use Rattle.onll_text.specs.Script.{longest_text, longest_state, is_too_long}
+use Rattle.onll_text.specs.Refusal.{refused, ◌>>=◌, only_if, at_line}
+use Rattle.onll_text.specs.WordsAgain.{one_number-decimal}
+use Rattle.onll_text.specs.Script.{longest_text, is_too_long}
+use Rattle.onll_text.specs.Wording.{longest_state}
 use Rattle.onll_text.specs.Making.{after_lines}
 use Rattle.onll_text.specs.Init.{capacity_of, head_of, object_of, init_of_lines, init_of}
-
--- numbers that are written in decimal are read back
-
-pub decimal_reads : (n : ℕ) → n < 2 ^ 64 → word_as_number (decimal n) ≡ Ok n
-decimal_reads n h = ap (or_reason BadNumber) (number_of-decimal n h)
-
--- so are short texts
-pub short_reads : (word : ShortText) → word_as_short word.bytes ≡ Ok word
-short_reads word = ap (or_reason BadWord) (short_of-bytes word)
-
-pub one_number-decimal : (n : ℕ) → n < 2 ^ 64 → one_number (decimal n ∷ []) ≡ Ok n
-one_number-decimal n h = ap (or_reason BadNumber) (number_of-decimal n h)
 
 pub capacity_of-decimal : (n : ℕ) → 1 ≤ n → n ≤ 4096 → capacity_of (decimal n ∷ []) ≡ Ok n
 capacity_of-decimal n some few =
     let within : (nat_le 1 n && nat_le n 4096) ≡ true = grind (arith, nat_tests) in
     ap (λ v. v >>= λ k. only_if (nat_le 1 k && nat_le k 4096) OutOfRange k) (one_number-decimal n (omega arith))
     ∙ ap (λ t. only_if t OutOfRange n) within
-
-pub two_numbers-decimal : (a b : ℕ) → a < 2 ^ 64 → b < 2 ^ 64 → two_numbers (decimal a ∷ decimal b ∷ []) ≡ Ok (a, b)
-two_numbers-decimal a b h k =
-    ap (λ n. or_reason BadNumber n >>= λ x. word_as_number (decimal b) >>= λ y. Ok (x, y)) (number_of-decimal a h)
-    ∙ ap (λ n. or_reason BadNumber n >>= λ y. Ok (a, y)) (number_of-decimal b k)
-
-pub four_numbers-decimal : (a b c d : ℕ) → a < 2 ^ 64 → b < 2 ^ 64 → c < 2 ^ 64 → d < 2 ^ 64 → four_numbers (decimal a ∷ decimal b ∷ decimal c ∷ decimal d ∷ []) ≡ Ok (a, b, c, d)
-four_numbers-decimal a b c d h i j k =
-    ap (λ n. or_reason BadNumber n >>= λ x. word_as_number (decimal b) >>= λ y. word_as_number (decimal c) >>= λ z. word_as_number (decimal d) >>= λ u. Ok (x, y, z, u)) (number_of-decimal a h)
-    ∙ ap (λ n. or_reason BadNumber n >>= λ y. word_as_number (decimal c) >>= λ z. word_as_number (decimal d) >>= λ u. Ok (a, y, z, u)) (number_of-decimal b i)
-    ∙ ap (λ n. or_reason BadNumber n >>= λ z. word_as_number (decimal d) >>= λ u. Ok (a, b, z, u)) (number_of-decimal c j)
-    ∙ ap (λ n. or_reason BadNumber n >>= λ u. Ok (a, b, c, u)) (number_of-decimal d k)
-
-pub length-decimal : (n : ℕ) → n < 2 ^ 64 → length (decimal n) ≤ 20
-length-decimal n h = length-decimal-le 20 n (omega arith) (omega arith) h
 
 -- a line that is made of words is taken as those words
 pub after_lines-joined : {Making : Type 0} (with_line : Making → List (List ℕ) → Result Making Reason) (made : Making) (k : ℕ) (ws : List (List ℕ)) (lines : List Numbered)

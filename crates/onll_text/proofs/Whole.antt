@@ -14,7 +14,7 @@ lt_test : (m n : ℕ) → m < n → nat_lt m n ≡ true
 lt_test m n h = grind (arith, nat_tests)
 
 -- a text that is cut after the first byte that is too many is refused or read as the whole is
-cut_same : {A : Type 0} (f : List ℕ → A) (m : ℕ) (xs : List ℕ) (d : A)
+pub cut_same : {A : Type 0} (f : List ℕ → A) (m : ℕ) (xs : List ℕ) (d : A)
     → cond (nat_lt m (length (take (m + 1) xs))) d (f (take (m + 1) xs)) ≡ cond (nat_lt m (length xs)) d (f xs)
 cut_same f m xs d = elim (cases_lt m (length xs)) [
   | inl more ↦

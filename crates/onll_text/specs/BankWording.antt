@@ -1,7 +1,11 @@
 -- How a bank is written, as one record.
 
-use Rattle.std.specs.Prelude.{ℕ, List, [], ◌∷◌, ◌+◌, refl, Option, Some, None, Result, Ok}
-use Rattle.onll_words.specs.Texts.{AreWords, AreMeaningful}
+use Rattle.std.specs.Prelude.{ℕ, List, [], ◌∷◌, ◌+◌, refl, Option, Some, None, Result, Ok, Err, ◌≡◌, ◌≤◌, length}
+use Rattle.std.specs.List.{flat_map}
+use Rattle.std.proofs.Common.{ap}
+use Rattle.std.proofs.lemmas.Result.{IfOk-at_ok}
+use Rattle.onll_words.specs.Texts.{AreWords, AreMeaningful, line_text}
+use Rattle.onll_model.specs.declared.call.Call.TheVariants.{Update, Ask}
 use Rattle.onll_words.proofs.Decimals.{IsWord-decimal}
 use Rattle.onll_bank.specs.declared.operation.BankOp.{BankOp}
 use Rattle.onll_bank.specs.declared.operation.BankOp.TheVariants.{Deposit, Withdraw, Transfer}
@@ -9,12 +13,15 @@ use Rattle.onll_bank.specs.declared.operation.BankQuery.{BankQuery}
 use Rattle.onll_bank.specs.declared.operation.BankQuery.TheVariants.{Balance, Total}
 use Rattle.onll_bank.specs.declared.operation.BankReply.{BankReply}
 use Rattle.onll_bank.specs.declared.operation.BankReply.TheVariants.{Done, Over, TooLittle, NoAccount, Amount}
-use Rattle.onll_text.specs.Wording.{Wording}
+use Rattle.onll_text.specs.Wording.{longest_state, Wording}
+use Rattle.onll_text.specs.WordsAgain.{read_again, short_again}
+use Rattle.onll_text.specs.BankLaws.{bank_call_words, bank_calls_again, bank_reply_short, bank_is_short}
 use Rattle.onll_text.specs.BankText.{bank_call_of, bank_reply_of, bank_op_words, bank_query_words, bank_reply_words, account_lines, bank_state_lines}
 use Rattle.onll_text.specs.declared.any_object.AnyObject.{AnyObject}
 use Rattle.onll_text.specs.declared.any_object.AnyObject.TheVariants as objects
 use Rattle.onll_text.specs.Refusal.{Refusal}
 use Rattle.onll_text.specs.Init.{init_of}
+use Rattle.onll_text.specs.InitLaws.{IsState, init_is_state}
 
 pub op_in_words : (op : BankOp) → AreWords (bank_op_words op)
 op_in_words (Deposit a x) = (record { some = refl; bytes = refl }, (IsWord-decimal a, (IsWord-decimal x, tt)))
@@ -45,6 +52,22 @@ abbrev pub bank_read : Result AnyObject Refusal → Option (List ℕ)
 bank_read (Ok (objects.Bank s)) = Some s
 bank_read _ = None
 
+-- the object that was read
+pub bank_back : (v : Result AnyObject Refusal) (s : List ℕ) → bank_read v ≡ Some s → v ≡ Ok (objects.Bank s)
+bank_back (Ok (objects.Bank x)) s e = let same : x ≡ s = (cc) in ap (λ y. Ok (objects.Bank y)) same
+bank_back (Ok (objects.Map x)) s e = absurd (cc)
+bank_back (Ok (objects.Queue x)) s e = absurd (cc)
+bank_back (Ok (objects.Lease x)) s e = absurd (cc)
+bank_back (Err r) s e = absurd (cc)
+
+-- what is printed of a state that reads as it is short
+pub bank_state_short : (s : List ℕ)
+    → bank_read (init_of (flat_map line_text (bank_state_lines s))) ≡ Some s
+    → length (flat_map line_text (bank_state_lines s)) ≤ longest_state
+bank_state_short s e =
+    let text : List ℕ = flat_map line_text (bank_state_lines s) in
+    bank_is_short s (IfOk-at_ok IsState (bank_back (init_of text) s e) (init_is_state text))
+
 -- how a bank is written
 abbrev pub bank_wording : Wording (List ℕ) BankOp BankQuery BankReply
 bank_wording = record {
@@ -62,4 +85,12 @@ bank_wording = record {
   ordered_is_no_reply = refl;
   fence_failed_is_no_reply = refl;
   broken_is_no_reply = refl;
+  no_words_are_no_call = refl;
+  no_words_are_no_reply = refl;
+  op_reads_again = λ words op e. read_again bank_call_of bank_call_words bank_calls_again words (Update op) e;
+  query_reads_again = λ words query e. read_again bank_call_of bank_call_words bank_calls_again words (Ask query) e;
+  op_is_short = λ op e. short_again bank_call_of bank_call_words bank_calls_again (Update op) e;
+  query_is_short = λ query e. short_again bank_call_of bank_call_words bank_calls_again (Ask query) e;
+  reply_is_short = bank_reply_short;
+  state_is_short = bank_state_short;
 }

@@ -1,7 +1,11 @@
 -- How a lease table is written, as one record.
 
-use Rattle.std.specs.Prelude.{ℕ, Bool, true, false, List, [], ◌∷◌, ◌++◌, ◌+◌, ◌==◌, if◌then◌else◌, refl, Option, Some, None, Result, Ok}
-use Rattle.onll_words.specs.Texts.{AreWords, AreMeaningful}
+use Rattle.std.specs.Prelude.{ℕ, Bool, true, false, List, [], ◌∷◌, ◌++◌, ◌+◌, ◌==◌, if◌then◌else◌, refl, Option, Some, None, Result, Ok, Err, ◌≡◌, ◌≤◌, length}
+use Rattle.std.specs.List.{flat_map}
+use Rattle.std.proofs.Common.{ap}
+use Rattle.std.proofs.lemmas.Result.{IfOk-at_ok}
+use Rattle.onll_words.specs.Texts.{AreWords, AreMeaningful, line_text}
+use Rattle.onll_model.specs.declared.call.Call.TheVariants.{Update, Ask}
 use Rattle.onll_words.proofs.Decimals.{IsWord-decimal}
 use Rattle.onll_lease.specs.declared.entry.LeaseEntry.{LeaseEntry}
 use Rattle.onll_lease.specs.declared.operation.LeaseOp.{LeaseOp}
@@ -10,12 +14,15 @@ use Rattle.onll_lease.specs.declared.operation.LeaseQuery.{LeaseQuery}
 use Rattle.onll_lease.specs.declared.operation.LeaseQuery.TheVariants.{Holder}
 use Rattle.onll_lease.specs.declared.operation.LeaseReply.{LeaseReply}
 use Rattle.onll_lease.specs.declared.operation.LeaseReply.TheVariants.{NoResource, HeldUntil, Late, Spent, Granted, Renewed, Stale, Released, HeldBy, Free}
-use Rattle.onll_text.specs.Wording.{Wording}
+use Rattle.onll_text.specs.Wording.{longest_state, Wording}
+use Rattle.onll_text.specs.WordsAgain.{read_again, short_again}
+use Rattle.onll_text.specs.LeaseLaws.{lease_call_words, lease_calls_again, lease_replies_again, lease_is_short}
 use Rattle.onll_text.specs.LeaseText.{lease_call_of, lease_reply_of, lease_op_words, lease_query_words, lease_reply_words, held_line, held_lines, lease_state_lines}
 use Rattle.onll_text.specs.declared.any_object.AnyObject.{AnyObject}
 use Rattle.onll_text.specs.declared.any_object.AnyObject.TheVariants as objects
 use Rattle.onll_text.specs.Refusal.{Refusal}
 use Rattle.onll_text.specs.Init.{init_of}
+use Rattle.onll_text.specs.InitLaws.{IsState, init_is_state}
 
 pub op_in_words : (op : LeaseOp) → AreWords (lease_op_words op)
 op_in_words (Grant r h now ttl) = (
@@ -77,6 +84,22 @@ abbrev pub lease_read : Result AnyObject Refusal → Option (List LeaseEntry)
 lease_read (Ok (objects.Lease s)) = Some s
 lease_read _ = None
 
+-- the object that was read
+pub lease_back : (v : Result AnyObject Refusal) (s : List LeaseEntry) → lease_read v ≡ Some s → v ≡ Ok (objects.Lease s)
+lease_back (Ok (objects.Bank x)) s e = absurd (cc)
+lease_back (Ok (objects.Map x)) s e = absurd (cc)
+lease_back (Ok (objects.Queue x)) s e = absurd (cc)
+lease_back (Ok (objects.Lease x)) s e = let same : x ≡ s = (cc) in ap (λ y. Ok (objects.Lease y)) same
+lease_back (Err r) s e = absurd (cc)
+
+-- what is printed of a state that reads as it is short
+pub lease_state_short : (s : List LeaseEntry)
+    → lease_read (init_of (flat_map line_text (lease_state_lines s))) ≡ Some s
+    → length (flat_map line_text (lease_state_lines s)) ≤ longest_state
+lease_state_short s e =
+    let text : List ℕ = flat_map line_text (lease_state_lines s) in
+    lease_is_short s (IfOk-at_ok IsState (lease_back (init_of text) s e) (init_is_state text))
+
 -- how a table of leases is written
 abbrev pub lease_wording : Wording (List LeaseEntry) LeaseOp LeaseQuery LeaseReply
 lease_wording = record {
@@ -94,4 +117,12 @@ lease_wording = record {
   ordered_is_no_reply = refl;
   fence_failed_is_no_reply = refl;
   broken_is_no_reply = refl;
+  no_words_are_no_call = refl;
+  no_words_are_no_reply = refl;
+  op_reads_again = λ words op e. read_again lease_call_of lease_call_words lease_calls_again words (Update op) e;
+  query_reads_again = λ words query e. read_again lease_call_of lease_call_words lease_calls_again words (Ask query) e;
+  op_is_short = λ op e. short_again lease_call_of lease_call_words lease_calls_again (Update op) e;
+  query_is_short = λ query e. short_again lease_call_of lease_call_words lease_calls_again (Ask query) e;
+  reply_is_short = λ reply e. short_again lease_reply_of lease_reply_words lease_replies_again reply e;
+  state_is_short = lease_state_short;
 }

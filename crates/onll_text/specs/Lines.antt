@@ -37,6 +37,12 @@ call_lines w thread k calls [] = []
 call_lines w thread k [] ends = []
 call_lines w thread k (c ∷ calls) (e ∷ ends) = call_line w thread (k + 1) c e ∷ call_lines w thread (k + 1) calls ends
 
+-- the lines of the calls of each thread, from thread t on
+abbrev pub thread_lines : {State Op Query Reply : Type 0} → Wording State Op Query Reply → ℕ
+    → List (List (Call State Op Query Reply)) → List (List (CallEnd State Op Query Reply)) → List (List (List ℕ))
+thread_lines w t (script ∷ scripts) (ends ∷ more) = call_lines w t 0 script ends ++ thread_lines w (t + 1) scripts more
+thread_lines w t scripts ends = []
+
 abbrev pub trace_line : ℕ → List (List ℕ)
 trace_line count = codes "trace" ∷ decimal count ∷ []
 
@@ -62,6 +68,12 @@ abbrev pub node_lines : {State Op Query Reply : Type 0} → Behaviour State Op Q
 node_lines b w p [] = []
 node_lines b w p (n ∷ nodes) = node_line b w (p + 1) n None ∷ node_lines b w (p + 1) nodes
 
+-- the line of each node with its flag, the first of them at place p + 1
+abbrev pub flagged_lines : {State Op Query Reply : Type 0} → Behaviour State Op Query Reply
+    → Wording State Op Query Reply → ℕ → List Node → List Bool → List (List (List ℕ))
+flagged_lines b w p (n ∷ nodes) (flag ∷ flags) = node_line b w (p + 1) n (Some flag) ∷ flagged_lines b w (p + 1) nodes flags
+flagged_lines b w p nodes flags = []
+
 -- the entries, lines and fences of a thread's log
 abbrev pub fence_words : Option ℕ → List (List ℕ)
 fence_words None = []
@@ -70,6 +82,25 @@ fence_words (Some fences) = codes "fences" ∷ decimal fences ∷ []
 abbrev pub log_line : ℕ → ℕ → ℕ → Option ℕ → List (List ℕ)
 log_line thread entries lines fences =
     codes "log" ∷ decimal thread ∷ codes "entries" ∷ decimal entries ∷ codes "lines" ∷ decimal lines ∷ fence_words fences
+
+-- what is said of a log: its entries, its lines, and the fences of its device since it was opened
+pub record LogData : Type 0 where
+  pub entries : ℕ
+  pub lines : ℕ
+  pub fences : ℕ
+
+-- the line of each log, from thread t on
+abbrev pub counted_lines : ℕ → List LogData → List (List (List ℕ))
+counted_lines t [] = []
+counted_lines t (log ∷ logs) = log_line t log.entries log.lines (Some log.fences) ∷ counted_lines (t + 1) logs
+
+-- how many nodes are recovered from the logs
+abbrev pub recovered_line : ℕ → List (List ℕ)
+recovered_line nodes = codes "recovered" ∷ decimal nodes ∷ []
+
+-- the line of a fence that failed: of a thread's update at this place, or of its header at place 0
+abbrev pub fence_line : ℕ → ℕ → List (List ℕ)
+fence_line thread place = codes "fault" ∷ codes "thread" ∷ decimal thread ∷ codes "place" ∷ decimal place ∷ []
 
 -- the line `state`, and the state
 abbrev pub state_lines : {State Op Query Reply : Type 0} → Wording State Op Query Reply → State → List (List (List ℕ))

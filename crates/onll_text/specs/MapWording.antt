@@ -1,7 +1,11 @@
 -- How a map is written, as one record.
 
-use Rattle.std.specs.Prelude.{[], ◌∷◌, refl, Option, Some, None, Result, Ok}
-use Rattle.onll_words.specs.Texts.{AreWords, AreMeaningful}
+use Rattle.std.specs.Prelude.{[], ◌∷◌, refl, Option, Some, None, Result, Ok, Err, ℕ, List, ◌≡◌, ◌≤◌, length}
+use Rattle.std.specs.List.{flat_map}
+use Rattle.std.proofs.Common.{ap}
+use Rattle.std.proofs.lemmas.Result.{IfOk-at_ok}
+use Rattle.onll_words.specs.Texts.{AreWords, AreMeaningful, line_text}
+use Rattle.onll_model.specs.declared.call.Call.TheVariants.{Update, Ask}
 use Rattle.onll_words.proofs.Decimals.{IsWord-decimal}
 use Rattle.onll_words.proofs.ShortWord.{IsWord-short}
 use Rattle.onll_map.specs.declared.operation.MapOp.{MapOp}
@@ -11,12 +15,15 @@ use Rattle.onll_map.specs.declared.operation.MapQuery.TheVariants.{Get, Next, Co
 use Rattle.onll_map.specs.declared.operation.MapReply.{MapReply}
 use Rattle.onll_map.specs.declared.operation.MapReply.TheVariants.{New, Old, Full, Absent, Value, Key, Count as Counted}
 use Rattle.onll_map.specs.Map.{Pairs, Entries}
-use Rattle.onll_text.specs.Wording.{Wording}
+use Rattle.onll_text.specs.Wording.{longest_state, Wording}
+use Rattle.onll_text.specs.WordsAgain.{read_again, short_again}
+use Rattle.onll_text.specs.MapLaws.{map_call_words, map_calls_again, map_replies_again, map_is_short}
 use Rattle.onll_text.specs.MapText.{map_call_of, map_reply_of, map_op_words, map_query_words, map_reply_words, pair_lines, map_state_lines}
 use Rattle.onll_text.specs.declared.any_object.AnyObject.{AnyObject}
 use Rattle.onll_text.specs.declared.any_object.AnyObject.TheVariants as objects
 use Rattle.onll_text.specs.Refusal.{Refusal}
 use Rattle.onll_text.specs.Init.{init_of}
+use Rattle.onll_text.specs.InitLaws.{IsState, init_is_state}
 
 pub op_in_words : (op : MapOp) → AreWords (map_op_words op)
 op_in_words (Put k v) = (record { some = refl; bytes = refl }, (IsWord-short k, (IsWord-short v, tt)))
@@ -49,6 +56,22 @@ abbrev pub map_read : Result AnyObject Refusal → Option Entries
 map_read (Ok (objects.Map s)) = Some s
 map_read _ = None
 
+-- the object that was read
+pub map_back : (v : Result AnyObject Refusal) (s : Entries) → map_read v ≡ Some s → v ≡ Ok (objects.Map s)
+map_back (Ok (objects.Bank x)) s e = absurd (cc)
+map_back (Ok (objects.Map x)) s e = let same : x ≡ s = (cc) in ap (λ y. Ok (objects.Map y)) same
+map_back (Ok (objects.Queue x)) s e = absurd (cc)
+map_back (Ok (objects.Lease x)) s e = absurd (cc)
+map_back (Err r) s e = absurd (cc)
+
+-- what is printed of a state that reads as it is short
+pub map_state_short : (s : Entries)
+    → map_read (init_of (flat_map line_text (map_state_lines s))) ≡ Some s
+    → length (flat_map line_text (map_state_lines s)) ≤ longest_state
+map_state_short s e =
+    let text : List ℕ = flat_map line_text (map_state_lines s) in
+    map_is_short s (IfOk-at_ok IsState (map_back (init_of text) s e) (init_is_state text))
+
 -- how a map is written
 abbrev pub map_wording : Wording Entries MapOp MapQuery MapReply
 map_wording = record {
@@ -66,4 +89,12 @@ map_wording = record {
   ordered_is_no_reply = refl;
   fence_failed_is_no_reply = refl;
   broken_is_no_reply = refl;
+  no_words_are_no_call = refl;
+  no_words_are_no_reply = refl;
+  op_reads_again = λ words op e. read_again map_call_of map_call_words map_calls_again words (Update op) e;
+  query_reads_again = λ words query e. read_again map_call_of map_call_words map_calls_again words (Ask query) e;
+  op_is_short = λ op e. short_again map_call_of map_call_words map_calls_again (Update op) e;
+  query_is_short = λ query e. short_again map_call_of map_call_words map_calls_again (Ask query) e;
+  reply_is_short = λ reply e. short_again map_reply_of map_reply_words map_replies_again reply e;
+  state_is_short = map_state_short;
 }

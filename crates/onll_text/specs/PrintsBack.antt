@@ -4,8 +4,7 @@ use Rattle.std.specs.Prelude.{ℕ, Bool, false, List, Option, Some, None, length
 use Rattle.std.specs.List.{flat_map, list_all}
 use Rattle.std.specs.Str.{bytes_eq}
 use Rattle.onll_words.specs.Texts.{line_text}
-use Rattle.onll_text.specs.Wording.{Wording}
-use Rattle.onll_text.specs.Script.{longest_state}
+use Rattle.onll_text.specs.Wording.{longest_state, Wording}
 
 -- what is printed of a state
 abbrev pub state_text : {State Op Query Reply : Type 0} → Wording State Op Query Reply → State → List ℕ

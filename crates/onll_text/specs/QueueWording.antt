@@ -1,7 +1,11 @@
 -- How a queue is written, as one record.
 
-use Rattle.std.specs.Prelude.{ℕ, List, [], ◌∷◌, refl, Option, Some, None, Result, Ok}
-use Rattle.onll_words.specs.Texts.{AreWords, AreMeaningful}
+use Rattle.std.specs.Prelude.{ℕ, List, [], ◌∷◌, refl, Option, Some, None, Result, Ok, Err, ◌≡◌, ◌≤◌, length}
+use Rattle.std.specs.List.{flat_map}
+use Rattle.std.proofs.Common.{ap}
+use Rattle.std.proofs.lemmas.Result.{IfOk-at_ok}
+use Rattle.onll_words.specs.Texts.{AreWords, AreMeaningful, line_text}
+use Rattle.onll_model.specs.declared.call.Call.TheVariants.{Update, Ask}
 use Rattle.onll_words.proofs.Decimals.{IsWord-decimal}
 use Rattle.onll_queue.specs.Items.{Items}
 use Rattle.onll_queue.specs.declared.operation.QueueOp.{QueueOp}
@@ -10,12 +14,15 @@ use Rattle.onll_queue.specs.declared.operation.QueueQuery.{QueueQuery}
 use Rattle.onll_queue.specs.declared.operation.QueueQuery.TheVariants.{Front, Length as AskLength}
 use Rattle.onll_queue.specs.declared.operation.QueueReply.{QueueReply}
 use Rattle.onll_queue.specs.declared.operation.QueueReply.TheVariants.{Done, Full, Empty, Item, Length}
-use Rattle.onll_text.specs.Wording.{Wording}
+use Rattle.onll_text.specs.Wording.{longest_state, Wording}
+use Rattle.onll_text.specs.WordsAgain.{read_again, short_again}
+use Rattle.onll_text.specs.QueueLaws.{queue_call_words, queue_calls_again, queue_replies_again, queue_is_short}
 use Rattle.onll_text.specs.QueueText.{queue_call_of, queue_reply_of, queue_op_words, queue_query_words, queue_reply_words, item_lines, queue_state_lines}
 use Rattle.onll_text.specs.declared.any_object.AnyObject.{AnyObject}
 use Rattle.onll_text.specs.declared.any_object.AnyObject.TheVariants as objects
 use Rattle.onll_text.specs.Refusal.{Refusal}
 use Rattle.onll_text.specs.Init.{init_of}
+use Rattle.onll_text.specs.InitLaws.{IsState, init_is_state}
 
 pub op_in_words : (op : QueueOp) → AreWords (queue_op_words op)
 op_in_words (Push x) = (record { some = refl; bytes = refl }, (IsWord-decimal x, tt))
@@ -44,6 +51,22 @@ abbrev pub queue_read : Result AnyObject Refusal → Option Items
 queue_read (Ok (objects.Queue s)) = Some s
 queue_read _ = None
 
+-- the object that was read
+pub queue_back : (v : Result AnyObject Refusal) (s : Items) → queue_read v ≡ Some s → v ≡ Ok (objects.Queue s)
+queue_back (Ok (objects.Bank x)) s e = absurd (cc)
+queue_back (Ok (objects.Map x)) s e = absurd (cc)
+queue_back (Ok (objects.Queue x)) s e = let same : x ≡ s = (cc) in ap (λ y. Ok (objects.Queue y)) same
+queue_back (Ok (objects.Lease x)) s e = absurd (cc)
+queue_back (Err r) s e = absurd (cc)
+
+-- what is printed of a state that reads as it is short
+pub queue_state_short : (s : Items)
+    → queue_read (init_of (flat_map line_text (queue_state_lines s))) ≡ Some s
+    → length (flat_map line_text (queue_state_lines s)) ≤ longest_state
+queue_state_short s e =
+    let text : List ℕ = flat_map line_text (queue_state_lines s) in
+    queue_is_short s (IfOk-at_ok IsState (queue_back (init_of text) s e) (init_is_state text))
+
 -- how a queue is written
 abbrev pub queue_wording : Wording Items QueueOp QueueQuery QueueReply
 queue_wording = record {
@@ -61,4 +84,12 @@ queue_wording = record {
   ordered_is_no_reply = refl;
   fence_failed_is_no_reply = refl;
   broken_is_no_reply = refl;
+  no_words_are_no_call = refl;
+  no_words_are_no_reply = refl;
+  op_reads_again = λ words op e. read_again queue_call_of queue_call_words queue_calls_again words (Update op) e;
+  query_reads_again = λ words query e. read_again queue_call_of queue_call_words queue_calls_again words (Ask query) e;
+  op_is_short = λ op e. short_again queue_call_of queue_call_words queue_calls_again (Update op) e;
+  query_is_short = λ query e. short_again queue_call_of queue_call_words queue_calls_again (Ask query) e;
+  reply_is_short = λ reply e. short_again queue_reply_of queue_reply_words queue_replies_again reply e;
+  state_is_short = queue_state_short;
 }

@@ -2,7 +2,7 @@
 
 use Rattle.std.specs.Prelude.{ℕ, ◌≡◌, Bool, Option, Some, None, Result, Ok, Err, if◌then◌else◌, List, codes}
 use Rattle.onll_text.specs.declared.reason.Reason.{Reason}
-use Rattle.onll_text.specs.declared.reason.Reason.TheVariants.{TooLong, Missing, UnknownObject, UnknownWord, WrongCount, BadNumber, BadWord, OutOfRange, Repeated, TooMany, TooLarge, AfterCrash}
+use Rattle.onll_text.specs.declared.reason.Reason.TheVariants.{TooLong, Missing, UnknownObject, UnknownWord, WrongCount, BadNumber, BadWord, OutOfRange, Repeated, TooMany, TooLarge, AfterCrash, BadLine}
 use Rattle.onll_text.specs.declared.reason.TextFault.{TextFault}
 use Rattle.onll_text.specs.declared.reason.TextFault.TheVariants.{Refused, NoMemory}
 
@@ -52,3 +52,4 @@ reason_text Repeated = codes "repeated"
 reason_text TooMany = codes "too many"
 reason_text TooLarge = codes "too large"
 reason_text AfterCrash = codes "after crash"
+reason_text BadLine = codes "bad line"

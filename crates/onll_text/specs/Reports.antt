@@ -11,9 +11,13 @@ use Rattle.onll_model.specs.declared.call.CallEnd.{CallEnd}
 use Rattle.onll_model.specs.declared.call.CallEnd.TheVariants.{Answered, Running, Ordered, FenceFailed, Broken}
 use Rattle.onll_model.specs.Object.{Behaviour}
 use Rattle.onll_text.specs.Wording.{Wording}
-use Rattle.onll_text.specs.Lines.{call_lines, trace_line, node_lines, state_lines}
+use Rattle.onll_text.specs.Lines.{LogData, call_words, call_lines, trace_line, node_lines, state_lines}
 
 -- ---- data that read back
+-- what is printed of a call reads as it
+abbrev pub CallReads : {State Op Query Reply : Type 0} → Wording State Op Query Reply → Call State Op Query Reply → Type 0
+CallReads w call = w.call_of (call_words w call) ≡ Ok call
+
 -- what became of a call: its reply reads back, and its place is a number of 64 bits
 abbrev pub EndReads : {State Op Query Reply : Type 0} → Wording State Op Query Reply → CallEnd State Op Query Reply → Type 0
 EndReads w (Answered reply place) = (w.reply_of (w.reply_words reply) ≡ Ok reply) × (place < 2 ^ 64)
@@ -28,6 +32,13 @@ pub record EndsRead {State Op Query Reply : Type 0} (w : Wording State Op Query 
   pub few : length ends ≤ length script
   pub reads : All (EndReads w) ends
 
+-- the outcomes of the first calls of each script read back
+abbrev pub EachReads : {State Op Query Reply : Type 0} → Wording State Op Query Reply
+    → List (List (Call State Op Query Reply)) → List (List (CallEnd State Op Query Reply)) → Type 0
+EachReads w [] [] = Unit {0}
+EachReads w (script ∷ scripts) (ends ∷ more) = EndsRead w script ends × EachReads w scripts more
+EachReads w scripts ends = ⊥
+
 -- a node: its numbers are of 64 bits, and its row is that of an operation that reads back
 pub record NodeReads {State Op Query Reply : Type 0} (b : Behaviour State Op Query Reply)
     (w : Wording State Op Query Reply) (node : Node) : Type 0 where
@@ -36,6 +47,12 @@ pub record NodeReads {State Op Query Reply : Type 0} (b : Behaviour State Op Que
   pub op : Op
   pub row : b.op_at node.row ≡ Some op
   pub reads : w.call_of (w.op_words op) ≡ Ok (Update op)
+
+-- the numbers of a log are of 64 bits
+pub record LogReads (log : LogData) : Type 0 where
+  pub entries : log.entries < 2 ^ 64
+  pub lines : log.lines < 2 ^ 64
+  pub fences : log.fences < 2 ^ 64
 
 abbrev pub StateReads : {State Op Query Reply : Type 0} → Wording State Op Query Reply → State → Type 0
 StateReads w state = w.state_of (flat_map line_text (w.state_lines state)) ≡ Some state

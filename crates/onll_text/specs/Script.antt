@@ -15,10 +15,6 @@ use Rattle.onll_text.specs.Wording.{Wording}
 abbrev pub longest_text : ℕ
 longest_text = 1048576
 
--- the greatest length of what is printed of a state, in bytes: a text of an initial state that has one line more is within its limit
-abbrev pub longest_state : ℕ
-longest_state = 1000000
-
 abbrev pub is_too_long : List ℕ → Bool
 is_too_long text = nat_lt longest_text (length text)
 

@@ -193,8 +193,4 @@ impl Texted for Bank {
     fn state_reads_back(&self) {
         bank_reads_back(self);
     }
-
-    fn state_is_short(&self) {
-        self.consistent();
-    }
 }

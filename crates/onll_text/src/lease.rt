@@ -242,10 +242,6 @@ impl Texted for Lease {
     fn state_reads_back(&self) {
         lease_reads_back(self);
     }
-
-    fn state_is_short(&self) {
-        self.consistent();
-    }
 }
 
 /// Puts the entry of a resource of an initial table in. A token that was given is never 0.

@@ -181,10 +181,6 @@ impl Texted for Map {
     fn state_reads_back(&self) {
         map_reads_back(self);
     }
-
-    fn state_is_short(&self) {
-        self.consistent();
-    }
 }
 
 /// Puts a pair of an initial map in.

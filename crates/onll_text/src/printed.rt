@@ -22,7 +22,6 @@ pub fn print_state<O: Texted>(alloc: Global, object: &O) -> Result<Vec<u8>, NoMe
     ensures back { IfOk result (λ text. prints_back O.wording text.items ≡ true) }
 {
     object.state_reads_back();
-    object.state_is_short();
     let mut report = Report::new(alloc);
     object.put_state(&mut report)?;
     are_bytes(report.bytes());

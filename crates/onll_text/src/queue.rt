@@ -158,10 +158,6 @@ impl Texted for Queue {
     fn state_reads_back(&self) {
         queue_reads_back(self);
     }
-
-    fn state_is_short(&self) {
-        self.consistent();
-    }
 }
 
 /// Puts the next item of an initial queue in.

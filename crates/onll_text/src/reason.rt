@@ -47,6 +47,9 @@ pub enum Reason {
     /// A line stands after the crash line.
     #[error("after crash")]
     AfterCrash,
+    /// The line is none that a report of a run has there.
+    #[error("bad line")]
+    BadLine,
 }
 
 impl Reason {
@@ -67,6 +70,7 @@ impl Reason {
             Reason::TooMany => b"too many",
             Reason::TooLarge => b"too large",
             Reason::AfterCrash => b"after crash",
+            Reason::BadLine => b"bad line",
         }
     }
 }

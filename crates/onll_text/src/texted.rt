@@ -1,11 +1,10 @@
 //! The trait of an object whose calls, replies and states have texts.
 
-ghost use Rattle.std.specs.Prelude.{◌≡◌, ◌≤◌, true, Ok, OnOk, Some, length};
+ghost use Rattle.std.specs.Prelude.{◌≡◌, true, Ok, OnOk, Some};
 ghost use Rattle.std.specs.List.{flat_map};
 ghost use Rattle.onll_model.specs.declared.call.Call.TheVariants.{Update, Ask};
 ghost use Rattle.onll_words.specs.Texts.{words_of, line_text};
 ghost use Rattle.onll_text.specs.Bytes.{begins_line, with_words, with_lines, IsFront};
-ghost use Rattle.onll_text.specs.Script.{longest_state};
 ghost use Rattle.onll_text.specs.Wording.{Wording};
 
 use crate::reason::Reason;
@@ -62,9 +61,4 @@ pub trait Texted: Object {
     /// A law: what is printed of a state reads as that state. It does nothing when called.
     fn state_reads_back(&self)
         ensures { wording.state_of (flat_map line_text (wording.state_lines self.now)) ≡ Some self.now };
-
-    /// A law: what is printed of a state is short, so that a text with one line before it is within its limit. It does nothing
-    /// when called.
-    fn state_is_short(&self)
-        ensures { length (flat_map line_text (wording.state_lines self.now)) ≤ longest_state };
 }

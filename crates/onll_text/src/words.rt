@@ -22,7 +22,7 @@ pub(crate) fn number(word: &[u8]) -> Result<u64, Reason>
 }
 
 /// A law: a number reads as that number where it is printed. It does nothing when called.
-#[tactic(auto, using(crate::proofs::ReadBack::decimal_reads))]
+#[tactic(auto, using(crate::specs::WordsAgain::decimal_reads))]
 pub(crate) fn number_reads_back(n: u64)
     ensures { word_as_number (decimal n) ≡ Ok n }
 {
@@ -30,7 +30,7 @@ pub(crate) fn number_reads_back(n: u64)
 }
 
 /// A law: a short text reads as that text where it is printed. It does nothing when called.
-#[tactic(auto, using(crate::proofs::ReadBack::short_reads))]
+#[tactic(auto, using(crate::specs::WordsAgain::short_reads))]
 pub(crate) fn short_reads_back(word: Short)
     ensures { word_as_short word.bytes ≡ Ok word }
 {

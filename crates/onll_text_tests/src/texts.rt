@@ -290,6 +290,7 @@ fn texts_of_reasons(rt: HostRuntime) {
         (Reason::TooMany, "too many"),
         (Reason::TooLarge, "too large"),
         (Reason::AfterCrash, "after crash"),
+        (Reason::BadLine, "bad line"),
     ];
     for (reason, text) in texts {
         assert_eq!(rt; reason.text(), text.as_bytes());

@@ -72,7 +72,8 @@ const HELPED_REPORT: &str = "call 0 1 deposit 0 5 -> ok at 1\n\
 fn threads_overlap(rt: HostRuntime) -> Result<(), Fail> {
     let alloc = rt.alloc();
     let mut store = Program::new(TWO, FILES).store(alloc)?;
-    expect_held(&rt, alloc, TWO, &mut store, HELPED, 0, HELPED_REPORT)
+    expect_held(&rt, alloc, TWO, &mut store, HELPED, 0, HELPED_REPORT)?;
+    Program::new(TWO, FILES).expect_legal(&rt, alloc, HELPED_REPORT)
 }
 
 /// Thread 0 begins its update once thread 1's is answered, and thread 1 goes on once thread 0's is answered.
@@ -110,7 +111,8 @@ fn a_read_that_has_to_look(rt: HostRuntime) -> Result<(), Fail> {
     let alloc = rt.alloc();
     let words = &["run", "b2", "out", "s0", "reads"];
     let mut store = Program::new(words, FILES).store(alloc)?;
-    expect_held(&rt, alloc, words, &mut store, LOOKING, 0, LOOKING_REPORT)
+    expect_held(&rt, alloc, words, &mut store, LOOKING, 0, LOOKING_REPORT)?;
+    Program::new(words, FILES).expect_legal(&rt, alloc, LOOKING_REPORT)
 }
 
 /// The same as the first, but that thread 0 is held when it has walked, so that its own fence, which fails, comes last.
@@ -157,6 +159,7 @@ fn a_window_keeps_what_a_failed_fence_lost(rt: HostRuntime) -> Result<(), Fail> 
     };
     let mut store = Program::new(TWO, FILES).store_with(alloc, &[fence])?;
     expect_held(&rt, alloc, TWO, &mut store, WALKED, 7, BROKEN_REPORT)?;
+    Program::new(TWO, FILES).expect_legal(&rt, alloc, BROKEN_REPORT)?;
     Program::new(&["recover", "b2", "out", "2"], &[]).expect_over(
         &rt,
         alloc,

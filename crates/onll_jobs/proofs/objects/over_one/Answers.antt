@@ -29,3 +29,6 @@ returns-in-Detect g c = record { by = λ threads stands. rw c.in-Detect.is c.det
 
 pub returns-in-Follow : goal.returns-in-Follow
 returns-in-Follow g c = record { by = λ threads stands. rw c.in-Follow.is c.follow_on.ensures }
+
+pub returns-in-Audit : goal.returns-in-Audit
+returns-in-Audit g c = record { by = λ threads stands. rw c.in-Audit.is c.audit_on.ensures }

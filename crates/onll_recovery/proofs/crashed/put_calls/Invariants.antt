@@ -1,7 +1,8 @@
 use Rattle.std.proofs.Common.{◌≡◌, drop, map, true}
 use Rattle.onll_core.specs.Outcomes.{ends_of, script_of}
 use Rattle.onll_text.specs.Bytes.{begins_line, with_lines}
-use Rattle.onll_recovery.specs.ReplayJob.{begun_lines, EachReads}
+use Rattle.onll_text.specs.Reports.{EachReads}
+use Rattle.onll_recovery.specs.ReplayJob.{begun_lines}
 use Rattle.onll_recovery.proofs.crashed.put_calls.Given as goal
 
 -- the threads that are left make the lines that all make

@@ -7,7 +7,8 @@ use Rattle.onll_core.specs.Fences.{fences_of}
 use Rattle.onll_merge.specs.declared.counts.LogCounts.{LogCounts}
 use Rattle.onll_text.specs.Lines.{log_line}
 use Rattle.onll_recovery.proofs.FoldSteps.{begins_after}
-use Rattle.onll_recovery.specs.ReplayJob.{LogReads, counts_of}
+use Rattle.onll_text.specs.Reports.{LogReads}
+use Rattle.onll_recovery.specs.ReplayJob.{counts_of}
 use Rattle.onll_recovery.proofs.PrintedReads.{logs_more}
 use Rattle.onll_recovery.proofs.ReplaySteps.{fenced_next}
 use Rattle.onll_recovery.proofs.crashed.put_fenced.Goals as goal

@@ -1,7 +1,8 @@
 use Rattle.std.proofs.Common.{◌≡◌, drop, true}
 use Rattle.std.specs.List.{All}
 use Rattle.onll_text.specs.Bytes.{begins_line, with_lines}
-use Rattle.onll_recovery.specs.ReplayJob.{fenced_lines, LogReads, counts_of}
+use Rattle.onll_text.specs.Reports.{LogReads}
+use Rattle.onll_recovery.specs.ReplayJob.{fenced_lines, counts_of}
 use Rattle.onll_recovery.proofs.crashed.put_fenced.Given as goal
 
 -- the logs that are left make the lines that all make

@@ -2,7 +2,7 @@ use Rattle.std.proofs.Common.{◌≡◌, drop, true, IsSome}
 use Rattle.std.specs.List.{All, AllByRecursion}
 use Rattle.onll_text.specs.Bytes.{begins_line, with_lines}
 use Rattle.onll_text.specs.Reports.{NodeReads}
-use Rattle.onll_recovery.specs.ReplayJob.{flagged_lines}
+use Rattle.onll_text.specs.Lines.{flagged_lines}
 use Rattle.onll_recovery.proofs.crashed.put_flagged.Given as goal
 
 -- the nodes that are left make the lines that all make

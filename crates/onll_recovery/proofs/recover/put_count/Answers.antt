@@ -1,5 +1,5 @@
 use Rattle.std.proofs.lemmas.Result.{on_ok_weaker}
-use Rattle.onll_recovery.specs.RecoverJob.{recovered_line}
+use Rattle.onll_text.specs.Lines.{recovered_line}
 use Rattle.onll_recovery.proofs.FoldSteps.{begins_after}
 use Rattle.onll_recovery.proofs.RecoverSteps.{recovered_in_words}
 use Rattle.onll_recovery.proofs.recover.put_count.Goals as goal

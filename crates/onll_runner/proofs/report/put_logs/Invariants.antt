@@ -1,7 +1,8 @@
 use Rattle.std.proofs.Common.{◌≡◌, drop, true}
 use Rattle.std.specs.List.{All}
 use Rattle.onll_text.specs.Bytes.{begins_line, with_lines}
-use Rattle.onll_recovery.specs.ReplayJob.{counted_lines, LogReads}
+use Rattle.onll_text.specs.Lines.{counted_lines}
+use Rattle.onll_text.specs.Reports.{LogReads}
 use Rattle.onll_runner.proofs.ReportSteps.{told}
 use Rattle.onll_runner.proofs.report.put_logs.Given as goal
 

@@ -3,7 +3,7 @@ use Rattle.std.specs.List.{All, AllByRecursion}
 use Rattle.onll_run.specs.Ran.{node_in, flag_in}
 use Rattle.onll_text.specs.Bytes.{begins_line, with_lines}
 use Rattle.onll_text.specs.Reports.{NodeReads}
-use Rattle.onll_recovery.specs.ReplayJob.{flagged_lines}
+use Rattle.onll_text.specs.Lines.{flagged_lines}
 use Rattle.onll_runner.proofs.report.put_nodes.Given as goal
 
 -- the nodes that are left make the lines that all make

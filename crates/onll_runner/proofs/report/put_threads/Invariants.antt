@@ -1,7 +1,8 @@
 use Rattle.std.proofs.Common.{◌≡◌, drop, map, true}
 use Rattle.onll_run.specs.Ran.{script_in, ends_in}
 use Rattle.onll_text.specs.Bytes.{begins_line, with_lines}
-use Rattle.onll_recovery.specs.ReplayJob.{thread_lines, EachReads}
+use Rattle.onll_text.specs.Lines.{thread_lines}
+use Rattle.onll_text.specs.Reports.{EachReads}
 use Rattle.onll_runner.proofs.report.put_threads.Given as goal
 
 -- the threads that are left make the lines that all make

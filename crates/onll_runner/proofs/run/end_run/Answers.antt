@@ -32,7 +32,7 @@ returns-in-Ok g c =
     (stored_by c.image_laws.ensures.same means _ _ c.requires.kept.0 c.args.ran.logs.items (g.S.Store.seen c.args.store.now) (g.S.Store.seen c.keep_devices.new.store) refl (omega (arith, scripts, some)) (ends ∙ sym scripts) c.requires.kept.1
     c.in_ok-report.ensures.whole c.requires.small c.in_ok-devices.devices.items c.in_ok-devices.ensures (λ on d. c.told_law.ensures d ∙ g.met.S.Store.devices_tell c.keep_devices.new.store on) c.in-Ok.ensures.kept c.in-Ok.ensures.faults c.in-Ok.ensures.devices c.keep_devices.ensures.others)
     (some_broken means (contents_in c.args.base.now) (map ends_in c.args.ran.threads.items) c.requires.kept.0 c.args.ran.logs.items c.requires.kept.1 (ap (list_any (λ (log : LogState _). log.broken)) (sym c.deref.ensures.value) ∙ sym c.is_broken-broken.ensures ∙ c.if-broken.true))
-    (rw c.resumed_by-resumed.ensures at c.in_ok-report.ensures.report)
+    (rw c.resumed_by-resumed.ensures at c.in_ok-report.ensures.report) (rw c.resumed_by-resumed.ensures at c.in_ok-report.ensures.reads)
     (others_many means (contents_in c.args.base.now) (map ends_in c.args.ran.threads.items) c.requires.kept.0 c.args.ran.logs.items c.args.ran.threads.items c.in_ok-devices.devices.items c.args.logs.now (g.S.Store.seen c.args.store.now) (g.S.Store.seen c.keep_devices.new.store)
     script_in ends c.in_ok-devices.ensures c.requires.kept.1 c.keep_devices.ensures.others)
 

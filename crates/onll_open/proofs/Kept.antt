@@ -1,0 +1,211 @@
+-- Devices that are kept as files, one thread after the other.
+use Rattle.std.proofs.Common.{ℕ, zero, suc, List, [], ◌∷◌, ◌++◌, ◌≡◌, ◌+◌, ◌<◌, ◌^◌, ◌⊎◌, inl, inr, length, map, reverse, refl, sym, ap, ◌∙◌, subst, arith, append_assoc, append-nil, length-append, Err}
+use Rattle.std.proofs.lemmas.List.{map-append, length-map, reverse-append, reverse-reverse, length-reverse}
+use Rattle.onll_pmem.specs.Pmem.{DeviceView}
+use Rattle.onll_outside.specs.Views.{StoreView, SameFiles, SameOthers, SameFaults, HandsBack, HoldsImageOf, KeepsDevice, MayKeep, Holds, FaultsOf, Rose, image_bytes, with_zeros}
+use Rattle.onll_outside.specs.declared.OutsideFault.{OutsideFault}
+use Rattle.onll_outside.specs.declared.OutsideFault.TheVariants.{Failed, NoMemory}
+use Rattle.onll_outside.specs.declared.store.FaultKind.{FaultKind}
+use Rattle.onll_outside.specs.declared.store.FaultKind.TheVariants as kinds
+use Rattle.onll_shared.specs.Passes.{PassView, log_of}
+use Rattle.onll_run.specs.Making.{device_of}
+use Rattle.onll_open.specs.Names.{log_name, log_names}
+use Rattle.onll_open.specs.Files.{SameBut, LogFaults}
+use Rattle.onll_open.specs.Devices.{HandsEach, risen, fault_of, fences_in}
+use Rattle.onll_open.specs.Faults.{fault_at}
+use Rattle.onll_open.specs.Keeping.{AreKept, AreKeptTo, AreAsBefore, AreBegun, KeepFails, device_in, devices_in}
+use Rattle.onll_open.proofs.Handing.{name_differs, others_on, HandedSo, map_reverse, handed_next}
+
+kept_stays : (name : List ℕ) (d : DeviceView) (mid new : StoreView) → new.tells ≡ mid.tells → new.file name ≡ mid.file name → KeepsDevice mid name d → KeepsDevice new name d
+kept_stays name d mid new tells file h on = let k = h (sym tells ∙ on) in (k.0, file ∙ k.1, k.2)
+
+-- files that were kept stay so where another is kept
+kept_others : (logs : List ℕ) (t last : ℕ) (ds : List DeviceView) (mid new : StoreView) → t + length ds ≡ last → last < 2 ^ 64 → SameOthers (log_name logs last) mid new → AreKept logs t ds mid → AreKept logs t ds new
+kept_others logs t last [] mid new e few others h = tt
+kept_others logs t last (d ∷ ds) mid new e few others h =
+    let differs : log_name logs t ≡ log_name logs last → ⊥ = λ same. let is = name_differs logs t last (omega arith) few same in absurd (omega (arith, is)) in
+    (kept_stays (log_name logs t) d mid new others.tells (others.file (log_name logs t) differs) h.0, kept_others logs (suc t) last ds mid new (omega arith) few others h.1)
+
+kept_more : (logs : List ℕ) (t last : ℕ) (ds : List DeviceView) (d : DeviceView) (store : StoreView) → t + length ds ≡ last → AreKept logs t ds store → KeepsDevice store (log_name logs last) d → AreKept logs t (ds ++ d ∷ []) store
+kept_more logs t last [] d store e h k = (subst (λ i. KeepsDevice store (log_name logs i) d) (sym e ∙ omega arith) k, tt)
+kept_more logs t last (x ∷ ds) d store e h k = (h.0, kept_more logs (suc t) last ds d store (omega arith) h.1 k)
+
+kept_same : (logs : List ℕ) (t : ℕ) (ds : List DeviceView) (mid new : StoreView) → SameFiles mid new → AreKept logs t ds mid → AreKept logs t ds new
+kept_same logs t [] mid new same h = tt
+kept_same logs t (d ∷ ds) mid new same h = (kept_stays (log_name logs t) d mid new same.tells (same.file (log_name logs t)) h.0, kept_same logs (suc t) ds mid new same h.1)
+
+later_none : (logs : List ℕ) (t n : ℕ) (store : StoreView) → AreAsBefore logs t n store store
+later_none logs t zero store = tt
+later_none logs t (suc n) store = (refl, later_none logs (suc t) n store)
+
+later_since : (logs : List ℕ) (t n : ℕ) (old mid new : StoreView) → SameFiles mid new → AreAsBefore logs t n old mid → AreAsBefore logs t n old new
+later_since logs t zero old mid new same h = tt
+later_since logs t (suc n) old mid new same h = (same.file (log_name logs t) ∙ h.0, later_since logs (suc t) n old mid new same h.1)
+
+-- where another before them is kept
+later_next : (logs : List ℕ) (last t n : ℕ) (old mid new : StoreView) → last < t → t + n < 2 ^ 64 → SameOthers (log_name logs last) mid new → AreAsBefore logs t n old mid → AreAsBefore logs t n old new
+later_next logs last t zero old mid new less few others h = tt
+later_next logs last t (suc n) old mid new less few others h =
+    let differs : log_name logs t ≡ log_name logs last → ⊥ = λ same. let is = name_differs logs t last (omega (arith, few)) (omega (arith, less, few)) same in absurd (omega (arith, is, less)) in
+    (others.file (log_name logs t) differs ∙ h.0, later_next logs last (suc t) n old mid new (omega (arith, less)) (omega (arith, few)) others h.1)
+
+kept_to : (logs : List ℕ) (t last : ℕ) (fs : List DeviceView) (d : DeviceView) (ds : List DeviceView) (old new : StoreView) → t + length fs ≡ last → AreKept logs t fs new → MayKeep (log_name logs last) d old new
+    → AreAsBefore logs (suc last) (length ds) old new → AreKeptTo logs t (fs ++ d ∷ ds) (length fs) old new
+kept_to logs t last [] d ds old new e kept may later =
+    let here : last ≡ t = omega (arith, e) in
+    (subst (λ i. MayKeep (log_name logs i) d old new) here may, subst (λ i. AreAsBefore logs (suc i) (length ds) old new) here later)
+kept_to logs t last (f ∷ fs) d ds old new e kept may later = (kept.0, kept_to logs (suc t) last fs d ds old new (omega (arith, e)) kept.1 may later)
+
+may_keep_since : (name : List ℕ) (d : DeviceView) (old mid new last : StoreView) → mid.file name ≡ old.file name → SameFiles new last → MayKeep name d mid new → MayKeep name d old last
+may_keep_since name d old mid new last before same h on = by (h (sym same.tells ∙ on))
+  where
+    by : (new.file name ≡ mid.file name) ⊎ HoldsImageOf new name d → (last.file name ≡ old.file name) ⊎ HoldsImageOf last name d
+    by (inl e) = inl (same.file name ∙ e ∙ before)
+    by (inr k) = inr (k.0, same.file name ∙ k.1, k.2)
+
+fails_since : (logs : List ℕ) (thread : ℕ) (old mid new last : StoreView) (f : OutsideFault) → SameFaults old mid → SameFaults new last
+    → FaultsOf {T = Unit {0}} (record { kind = kinds.Keep; name = log_name logs thread }) mid new (Err f) → FaultsOf {T = Unit {0}} (record { kind = kinds.Keep; name = log_name logs thread }) old last (Err f)
+fails_since logs thread old mid new last Failed first then_ h = (subst (λ n. Rose n last.faults) first.0 (subst (Rose mid.faults) (sym then_.0) h.0), then_.1 ∙ h.1)
+fails_since logs thread old mid new last NoMemory first then_ h = (then_.0 ∙ (h.0 ∙ first.0), then_.1 ∙ (h.1 ∙ first.1))
+
+module _ {Device : Type 0} (means : Device → DeviceView) where
+  -- The devices before those that are left were kept; those that are left stand with the last of them first.
+  pub record KeptSo (logs : List ℕ) (all left : List Device) (thread : ℕ) (old mid : StoreView) : Type 0 where
+    pub front : List Device
+    pub whole : front ++ reverse left ≡ all
+    pub count : length front ≡ thread
+    pub kept : AreKept logs 0 (map means front) mid
+    pub later : AreAsBefore logs thread (length left) old mid
+    pub faults : SameFaults old mid
+    pub handed : HandedSo (map means all) (map means left) old mid
+    pub others : SameBut (log_names logs 0 (length all)) old mid
+
+  pub kept_start : (logs : List ℕ) (all left : List Device) (store : StoreView) → left ≡ reverse all → KeptSo logs all left 0 store store
+  kept_start logs all left store e =
+      let back : reverse left ≡ all = ap reverse e ∙ reverse-reverse all in
+      let same : reverse (map means left) ≡ map means all = ap (λ (l : List Device). reverse (map means l)) e ∙ ap reverse (map_reverse means all) ∙ reverse-reverse (map means all) in
+      record {
+        front = [];
+        whole = back;
+        count = refl;
+        kept = tt;
+        later = later_none logs 0 (length left) store;
+        faults = (refl, refl);
+        handed = record { faults = ap (λ ds. risen store.device_faults (map fault_of ds)) same; fences = ap (λ ds. risen store.device_fences (map fences_in ds)) same };
+        others = record { tells = refl; file = λ other differs. refl };
+      }
+
+  -- one that is left is of a thread that is there
+  pub kept_low : (logs : List ℕ) (all left rest : List Device) (d : Device) (thread : ℕ) (old mid : StoreView) → left ≡ rest ++ d ∷ [] → KeptSo logs all left thread old mid → thread < length all
+  kept_low logs all left rest d thread old mid e so =
+      let total = ap length so.whole in
+      let long = length-append so.front (reverse left) in
+      let back = length-reverse left in
+      let some = ap length e ∙ length-append rest (d ∷ []) in
+      let count = so.count in
+      omega (arith, total, long, back, some, count)
+
+  -- one device more was kept
+  pub kept_next : (logs : List ℕ) (all left rest : List Device) (d : Device) (thread : ℕ) (old mid new : StoreView) → left ≡ rest ++ d ∷ [] → length all < 2 ^ 64 → KeptSo logs all left thread old mid
+      → KeepsDevice new (log_name logs thread) (means d) → SameFaults mid new → HandsBack (means d) mid new → SameOthers (log_name logs thread) mid new → KeptSo logs all rest (thread + 1) old new
+  kept_next logs all left rest d thread old mid new e few so keeps faults hands others =
+      let back : reverse left ≡ d ∷ reverse rest = ap reverse e ∙ reverse-append rest (d ∷ []) in
+      let whole : (so.front ++ d ∷ []) ++ reverse rest ≡ all = append_assoc so.front (d ∷ []) (reverse rest) ∙ ap (λ l. so.front ++ l) (sym back) ∙ so.whole in
+      let total = ap length whole in
+      let long = length-append (so.front ++ d ∷ []) (reverse rest) in
+      let one = length-append so.front (d ∷ []) in
+      let count = so.count in
+      let low : thread < length all = omega (arith, total, long, one, count) in
+      let mapped = length-map so.front means in
+      let in_front : 0 + length (map means so.front) ≡ thread = omega (arith, mapped, count) in
+      record {
+        front = so.front ++ d ∷ [];
+        whole = whole;
+        count = omega (arith, one, count);
+        kept = subst (λ ds. AreKept logs 0 ds new) (sym (map-append means so.front (d ∷ [])))
+            (kept_more logs 0 thread (map means so.front) (means d) new in_front (kept_others logs 0 thread (map means so.front) mid new in_front (omega (arith, low, few)) others so.kept) keeps);
+        later = (let more : length left ≡ suc (length rest) = (let long_ = ap length e ∙ length-append rest (d ∷ []) in omega (arith, long_)) in
+            let left_long = length-reverse left in
+            let total_ = ap length so.whole in
+            let front_long = length-append so.front (reverse left) in
+            let after : AreAsBefore logs (suc thread) (length rest) old mid = (subst (λ n. AreAsBefore logs thread n old mid) more so.later).1 in
+            let next : suc thread ≡ thread + 1 = omega arith in
+            subst (λ n. AreAsBefore logs n (length rest) old new) next
+            (later_next logs thread (suc thread) (length rest) old mid new (omega arith) (omega (arith, more, left_long, total_, front_long, count, few)) others after));
+        faults = (faults.0 ∙ so.faults.0, faults.1 ∙ so.faults.1);
+        handed = handed_next means (map means all) left rest d old mid new e hands so.handed;
+        others = others_on old mid new logs (length all) thread low so.others others;
+      }
+
+  -- all were kept
+  pub kept_end : (logs : List ℕ) (all left : List Device) (thread : ℕ) (old mid : StoreView) → left ≡ [] → KeptSo logs all left thread old mid → AreKept logs 0 (map means all) mid × HandsEach (map means all) old mid
+  kept_end logs all left thread old mid none so =
+      let whole : so.front ≡ all = sym (append-nil so.front) ∙ ap (λ (l : List Device). so.front ++ reverse l) (sym none) ∙ so.whole in
+      let here : HandedSo (map means all) [] old mid = subst (λ (l : List Device). HandedSo (map means all) (map means l) old mid) none so.handed in
+      (subst (λ (l : List Device). AreKept logs 0 (map means l) mid) whole so.kept, record { faults = here.faults; fences = here.fences })
+
+  -- one could not be kept, and those after it were given up
+  pub keep_fails : (logs : List ℕ) (all left rest : List Device) (d : Device) (thread : ℕ) (old mid new last : StoreView) (f : OutsideFault) → left ≡ rest ++ d ∷ [] → length all < 2 ^ 64 → KeptSo logs all left thread old mid
+      → MayKeep (log_name logs thread) (means d) mid new → SameOthers (log_name logs thread) mid new → SameFiles new last → SameFaults new last → FaultsOf {T = Unit {0}} (record { kind = kinds.Keep; name = log_name logs thread }) mid new (Err f)
+      → KeepFails logs (map means all) old last thread f
+  keep_fails logs all left rest d thread old mid new last f e few so may others same faults says =
+      let back : reverse left ≡ d ∷ reverse rest = ap reverse e ∙ reverse-append rest (d ∷ []) in
+      let whole : so.front ++ d ∷ reverse rest ≡ all = ap (λ l. so.front ++ l) (sym back) ∙ so.whole in
+      let total = ap length whole in
+      let long = length-append so.front (d ∷ reverse rest) in
+      let rest_long = length-reverse rest in
+      let count = so.count in
+      let low : thread < length all = omega (arith, total, long, count) in
+      let mapped : length (map means so.front) ≡ thread = length-map so.front means ∙ count in
+      let more : length left ≡ suc (length rest) = (let left_long = ap length e ∙ length-append rest (d ∷ []) in omega (arith, left_long)) in
+      let later : AreAsBefore logs thread (suc (length rest)) old mid = subst (λ n. AreAsBefore logs thread n old mid) more so.later in
+      let after : AreAsBefore logs (suc thread) (length rest) old last =
+      later_since logs (suc thread) (length rest) old new last same (later_next logs thread (suc thread) (length rest) old mid new (omega arith) (omega (arith, total, long, rest_long, count, few)) others later.1) in
+      let in_front : 0 + length (map means so.front) ≡ thread = omega (arith, mapped) in
+      let kept : AreKept logs 0 (map means so.front) last = kept_same logs 0 (map means so.front) new last same (kept_others logs 0 thread (map means so.front) mid new in_front (omega (arith, low, few)) others so.kept) in
+      let mine : MayKeep (log_name logs thread) (means d) old last = may_keep_since (log_name logs thread) (means d) old mid new last later.0 same may in
+      let rest_many : length rest ≡ length (map means (reverse rest)) = sym (length-map (reverse rest) means ∙ rest_long) in
+      let files = kept_to logs 0 thread (map means so.front) (means d) (map means (reverse rest)) old last in_front kept mine (subst (λ n. AreAsBefore logs (suc thread) n old last) rest_many after) in
+      record {
+        files = subst (λ ds. AreKeptTo logs 0 ds thread old last) (sym (map-append means so.front (d ∷ reverse rest)) ∙ ap (map means) whole)
+            (subst (λ n. AreKeptTo logs 0 (map means so.front ++ means d ∷ map means (reverse rest)) n old last) mapped files);
+        faults = fails_since logs thread old mid new last f so.faults faults says;
+      }
+
+  pub hands_all : (logs : List ℕ) (all left rest : List Device) (d : Device) (thread : ℕ) (old mid new last : StoreView) → left ≡ rest ++ d ∷ [] → KeptSo logs all left thread old mid → HandsBack (means d) mid new → HandsEach (map means (reverse rest)) new last
+      → HandsEach (map means all) old last
+  hands_all logs all left rest d thread old mid new last e so hands given =
+      let next = handed_next means (map means all) left rest d old mid new e hands so.handed in
+      record {
+        faults = given.faults ∙ ap (λ ds. risen new.device_faults (map fault_of ds)) (map_reverse means rest) ∙ next.faults;
+        fences = given.fences ∙ ap (λ ds. risen new.device_fences (map fences_in ds)) (map_reverse means rest) ∙ next.fences;
+      }
+
+-- a call that failed is of one of the threads, and is the last that did
+pub failed_at : (kind : FaultKind) (logs : List ℕ) (threads thread : ℕ) (old mid new last : StoreView) (e : OutsideFault) → thread < threads → SameFaults old mid → SameFaults new last
+    → FaultsOf {T = Unit {0}} (record { kind = kind; name = log_name logs thread }) mid new (Err e) → LogFaults {T = Unit {0}} kind logs threads old last (Err (fault_at thread e))
+failed_at kind logs threads thread old mid new last Failed low first then_ h = record {
+  within = low;
+  rose = subst (λ n. Rose n last.faults) first.0 (subst (Rose mid.faults) (sym then_.0) h.0);
+  last = then_.1 ∙ h.1;
+}
+failed_at kind logs threads thread old mid new last NoMemory low first then_ h = (then_.0 ∙ (h.0 ∙ first.0), then_.1 ∙ (h.1 ∙ first.1))
+
+-- ---- files that are begun
+begun_others : (logs : List ℕ) (t n last : ℕ) (mid new : StoreView) → t + n ≡ last → last < 2 ^ 64 → SameOthers (log_name logs last) mid new → AreBegun logs t n mid → AreBegun logs t n new
+begun_others logs t zero last mid new e few others h = tt
+begun_others logs t (suc n) last mid new e few others h =
+    let differs : log_name logs t ≡ log_name logs last → ⊥ = λ same. let is = name_differs logs t last (omega (arith, e, few)) few same in absurd (omega (arith, is, e)) in
+    ((λ on. others.file (log_name logs t) differs ∙ h.0 (sym others.tells ∙ on)), begun_others logs (suc t) n last mid new (omega (arith, e)) few others h.1)
+
+begun_more : (logs : List ℕ) (t n last : ℕ) (store : StoreView) → t + n ≡ last → AreBegun logs t n store → Holds store (log_name logs last) (image_bytes (with_zeros [] 1)) → AreBegun logs t (suc n) store
+begun_more logs t zero last store e h k = (subst (λ i. Holds store (log_name logs i) (image_bytes (with_zeros [] 1))) (sym e ∙ omega arith) k, tt)
+begun_more logs t (suc n) last store e h k = (h.0, begun_more logs (suc t) n last store (omega (arith, e)) h.1 k)
+
+pub begun_next : (logs : List ℕ) (thread : ℕ) (mid new : StoreView) → thread < 2 ^ 64 → SameOthers (log_name logs thread) mid new → Holds new (log_name logs thread) (image_bytes (with_zeros [] 1)) → AreBegun logs 0 thread mid → AreBegun logs 0 (thread + 1) new
+begun_next logs thread mid new few others holds h = let up : suc thread ≡ thread + 1 = omega arith in subst (λ n. AreBegun logs 0 n new) up (begun_more logs 0 thread thread new (omega arith) (begun_others logs 0 thread thread mid new (omega arith) few others h) holds)
+
+-- the devices of passes
+pub devices_are : {State Device : Type 0} (means : Device → DeviceView) (passes : List (PassView State Device)) → map means (map device_of (map log_of passes)) ≡ devices_in means passes
+devices_are means [] = refl
+devices_are means (p ∷ ps) = ap (λ ds. means (device_in p) ∷ ds) (devices_are means ps)

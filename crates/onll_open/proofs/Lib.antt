@@ -1,0 +1,11 @@
+pub mod Handing
+pub mod NewHeads
+pub mod FirstEntries
+pub mod ReadImages
+pub mod Decoding
+pub mod RoomSteps
+pub mod Reopening
+pub mod GivenLogs
+pub mod Onwards
+pub mod Kept
+pub mod HeaderFaults

@@ -1,0 +1,9 @@
+pub mod Names
+pub mod Files
+pub mod Devices
+pub mod Heads
+pub mod Faults
+pub mod Misfits
+pub mod Rooms
+pub mod Opening
+pub mod Keeping

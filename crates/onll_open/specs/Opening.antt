@@ -1,0 +1,135 @@
+-- How an object is opened over the files of its logs, and why it isn't.
+use Rattle.std.specs.Prelude.{ℕ, zero, suc, false, List, [], ◌∷◌, ◌+◌, ◌*◌, ◌≤◌, ◌≡◌, ◌⊎◌, length, map, Result, Ok, Err, Some, None}
+use Rattle.std.specs.List.{AllByRecursion}
+use Rattle.onll_model.specs.declared.node.Node.{Node}
+use Rattle.onll_model.specs.Object.{Behaviour}
+use Rattle.onll_pmem.specs.Pmem.{DeviceView}
+use Rattle.onll_log.specs.declared.head.LogHead.{LogHead}
+use Rattle.onll_log.specs.Log.{LogState, free_of}
+use Rattle.onll_merge.specs.declared.counts.LogCounts.{LogCounts}
+use Rattle.onll_merge.specs.Merge.{merge}
+use Rattle.onll_merge.specs.Recovered.{Recovered}
+use Rattle.onll_outside.specs.Views.{StoreView, SameFaults, SameFiles, counted}
+use Rattle.onll_outside.specs.declared.store.FaultKind.TheVariants.{Read, Reopen}
+use Rattle.onll_shared.specs.Found.{content_held, head_held}
+use Rattle.onll_shared.specs.Passes.{OnllView, PassView}
+use Rattle.onll_shared.specs.Starts.{AreLogs, HasBegun}
+use Rattle.onll_run.specs.Making.{AreHeads}
+use Rattle.onll_run.specs.Outcomes.{HasRoomFor}
+use Rattle.onll_open.specs.declared.fault.FilesFault.{FilesFault}
+use Rattle.onll_open.specs.declared.fault.FilesFault.TheVariants as files
+use Rattle.onll_open.specs.declared.fault.OpenFault.{OpenFault}
+use Rattle.onll_open.specs.declared.fault.OpenFault.TheVariants.{Files, NoRoom, NotReopened, HeaderFailed, NoMemory}
+use Rattle.onll_open.specs.Devices.{fronts_by}
+use Rattle.onll_open.specs.Files.{FilesHold, AreRead, AreWiped, LogCallFailed, SameCounts}
+use Rattle.onll_open.specs.Misfits.{found_in}
+use Rattle.onll_open.specs.Rooms.{first_full}
+
+-- the pass has nodes, and lines for any window, for all the updates that it may order
+abbrev pub IsRoomy : {State Device : Type 0} → (Device → DeviceView) → OnllView State → PassView State Device → Type 0
+IsRoomy means onll pass = HasRoomFor means onll pass.room pass
+
+-- each log has lines for any window, among so many threads, for as many updates as its room
+abbrev pub HaveLines : {Device : Type 0} → (Device → DeviceView) → ℕ → List ℕ → List (LogState Device) → Type 0
+HaveLines means threads [] [] = Unit {0}
+HaveLines means threads (room ∷ rooms) (log ∷ logs) =
+    ((threads + 1) * room ≤ free_of (length (means log.device).read) log.entries) × HaveLines means threads rooms logs
+HaveLines means threads rooms logs = ⊥
+
+-- The logs of all threads are open, with these heads; they hold these nodes, and have lines for the updates to come.
+pub record AreOpenLogs {Device : Type 0} (means : Device → DeviceView) (heads : List LogHead) (rooms : List ℕ) (nodes : List Node)
+    (logs : List (LogState Device)) : Type 0 where
+  pub many : length logs ≡ length rooms
+  pub are_logs : AreLogs logs
+  pub heads_are : map head_held logs ≡ heads
+  pub merged : merge (map head_held logs) (map content_held logs) ≡ Ok nodes
+  pub lines : HaveLines means (length rooms) rooms logs
+
+-- the log of this thread has no head
+abbrev pub IsHeadless : ℕ → List LogCounts → Type 0
+IsHeadless t [] = ⊥
+IsHeadless zero (log ∷ logs) = log.head ≡ false
+IsHeadless (suc t) (log ∷ logs) = IsHeadless t logs
+
+module _ {State Op Query Reply : Type 0} (b : Behaviour State Op Query Reply) (store : StoreView) (logs : List ℕ)
+    (heads : List LogHead) where
+  -- What the files of these logs hold gives this, as the logs of one run with these heads.
+  pub record FilesGive (result : Result Recovered FilesFault) : Type 0 where
+    pub images : List (List (List ℕ))
+    pub many : length images ≡ length heads
+    pub hold : FilesHold logs 0 images store
+    pub gives : found_in b heads images ≡ result
+
+  -- why files give nothing: but for a file that could not be read and want of memory, by what they hold
+  abbrev pub FilesRefuse : FilesFault → Type 0
+  FilesRefuse (files.NotRead thread) = Unit {0}
+  FilesRefuse files.NoMemory = Unit {0}
+  FilesRefuse fault = FilesGive (Err fault)
+
+  -- What is kept of the files of so many threads' logs gives this, as the logs of one run with these heads.
+  pub record HasFound (threads : ℕ) (lines : List (List (List ℕ))) (found : Recovered) : Type 0 where
+    pub heads_are : AreHeads threads 0 heads
+    pub count : length heads ≡ threads
+    pub read : AreRead logs lines store
+    pub many : length lines ≡ threads
+    pub gives : found_in b heads lines ≡ Ok found
+    pub counts : length found.logs ≡ threads
+
+  -- The same, and each thread has room for its updates.
+  pub record HasRoomIn (rooms : List ℕ) (lines : List (List (List ℕ))) (found : Recovered) : Type 0 where
+    pub has : HasFound (length rooms) lines found
+    pub room : first_full (length rooms) found.nodes 0 found.logs rooms ≡ None
+
+  -- The object goes on from exactly what was recovered, with a pass for each log, which has room for the updates that it may order and
+  -- has made no call.
+  pub record HasOpened {Device : Type 0} (means : Device → DeviceView) (state : State) (rooms : List ℕ) (onll : OnllView State)
+      (passes : List (PassView State Device)) : Type 0 where
+    pub found : Recovered
+    pub recovered : FilesGive (Ok found)
+    pub first : onll.first ≡ state
+    pub base : onll.trace.plan.base ≡ found.nodes
+    pub opened : List (LogState Device)
+    pub logs_are : AreLogs opened
+    pub heads_are : map head_held opened ≡ heads
+    pub begun : HasBegun b means onll opened rooms passes
+    pub roomy : AllByRecursion (IsRoomy means onll) passes
+
+  -- the files give this, which leaves each thread room
+  abbrev pub GivesRoom : List ℕ → Recovered → Type 0
+  GivesRoom rooms found = FilesGive (Ok found) × (first_full (length rooms) found.nodes 0 found.logs rooms ≡ None)
+
+  -- why no object was opened: the files give nothing; or they do, and a thread has no room; or each has, and a file is not made a device
+  -- again, or the header of a log that has none is not made durable
+  abbrev pub CannotOpen : List ℕ → OpenFault → Type 0
+  CannotOpen rooms (Files files.NoMemory) = ⊥
+  CannotOpen rooms (Files fault) = FilesRefuse fault
+  CannotOpen rooms (NoRoom thread) =
+      (found : Recovered) × FilesGive (Ok found) × (first_full (length rooms) found.nodes 0 found.logs rooms ≡ Some thread)
+  CannotOpen rooms (NotReopened thread) = (found : Recovered) × GivesRoom rooms found
+  CannotOpen rooms (HeaderFailed thread) = (found : Recovered) × GivesRoom rooms found × IsHeadless thread found.logs
+  CannotOpen rooms NoMemory = Unit {0}
+
+  -- Nothing that the logs hold is lost, whatever the answer: no file changed; or the files give nodes, and each begins with the lines that
+  -- hold its log, as before, and what follows is wiped in part or not.
+  abbrev pub NothingLost : List ℕ → StoreView → Type 0
+  NothingLost rooms new = SameFiles store new
+      ⊎ ((lines : List (List (List ℕ))) × (found : Recovered) × HasRoomIn rooms lines found
+      × AreWiped logs 0 (fronts_by found.logs lines) store new)
+
+-- ---- what is left of the store
+-- a call failed exactly where that is the answer
+abbrev pub ReadFaults : {T : Type 0} → List ℕ → ℕ → StoreView → StoreView → Result T FilesFault → Type 0
+ReadFaults logs threads old new (Err (files.NotRead thread)) = LogCallFailed Read logs threads thread old new
+ReadFaults logs threads old new result = SameFaults old new
+
+-- the outside failed exactly where that is the answer, one device has a fault where a header failed, and no device is out where none was
+-- opened; what files hold that is refused changes nothing
+abbrev pub OpenFaults : {T : Type 0} → List ℕ → ℕ → StoreView → StoreView → Result T OpenFault → Type 0
+OpenFaults logs threads old new (Ok x) = SameCounts old new
+OpenFaults logs threads old new (Err (Files (files.NotRead thread))) = LogCallFailed Read logs threads thread old new × SameFiles old new
+OpenFaults logs threads old new (Err (Files fault)) = SameCounts old new × SameFiles old new
+OpenFaults logs threads old new (Err (NoRoom thread)) = SameCounts old new × SameFiles old new
+OpenFaults logs threads old new (Err (NotReopened thread)) = LogCallFailed Reopen logs threads thread old new
+OpenFaults logs threads old new (Err (HeaderFailed thread)) =
+    SameFaults old new × (new.device_faults ≡ counted old.device_faults 1)
+OpenFaults logs threads old new (Err NoMemory) = SameFaults old new

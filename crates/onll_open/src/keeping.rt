@@ -1,0 +1,158 @@
+//! The files of an object's logs: made, and kept when the object is closed.
+
+ghost use Rattle.std.specs.Prelude.{◌≡◌, ◌≤◌, List, [], length, map, vec_capacity, IfErr, OnOk};
+ghost use Rattle.std.specs.List.{AllByRecursion};
+ghost use Rattle.onll_model.specs.Limits.{most_threads};
+ghost use Rattle.onll_outside.specs.Views.{SameFaults, SameDevices, SameOthers, FaultsOf, Holds, KeepsDevice, HandsBack, MayKeep};
+ghost use Rattle.onll_outside.specs.Views.{image_bytes, with_zeros};
+ghost use Rattle.onll_outside.specs.declared.store.FaultKind.TheVariants as kinds;
+ghost use Rattle.onll_trace.specs.Closing.{AreAll};
+ghost use Rattle.onll_trace.specs.declared.trace.Ended.{Ended as SomeEnded};
+ghost use Rattle.onll_shared.specs.Passes.{IsTied, spot_of};
+ghost use Rattle.onll_shared.specs.Ends.{HasClosed};
+ghost use Rattle.onll_run.specs.Making.{device_of};
+ghost use Rattle.onll_open.specs.Names.{log_name, log_names};
+ghost use Rattle.onll_open.specs.Files.{LogFaults, SameBut};
+ghost use Rattle.onll_open.specs.Devices.{HandsEach};
+ghost use Rattle.onll_open.specs.Keeping.{AreBegun, AreKept, CannotClose, KeepFails, devices_in};
+
+use crate::devices::give_up_all;
+use crate::fault::{FileFault, NotKept, fault_at};
+use crate::names::log_name;
+use onll_log::ThreadLog;
+use onll_model::Object;
+use onll_outside::{OutsideFault, Store};
+use onll_pmem::Pmem;
+use onll_shared::{Onll, Pass, Unclosed};
+use std::alloc::Global;
+
+/// Why an object wasn't closed.
+#[derive(Drop)]
+pub enum CloseFault<O: Object, P: Pmem> {
+    /// There was no memory to close it. All is handed back, and nothing was changed.
+    NoMemory(Unclosed<O, P>),
+    /// It was closed, and not every log was kept.
+    NotKept(NotKept),
+}
+
+/// Makes the files of the logs of so many threads, each with a line of zeros, so that an object can be opened over them for the first
+/// time. What such files held is gone.
+pub fn make_files<S: Store>(
+    alloc: Global,
+    store: &mut S,
+    logs: &str,
+    threads: u64,
+) -> Result<(), FileFault>
+    requires { threads ≤ most_threads }
+    ensures made { OnOk result (AreBegun logs.now 0 threads (S.seen store.new)) }
+    ensures faults { LogFaults kinds.Write logs.now threads (S.seen store.old) (S.seen store.new) result }
+    ensures others { SameBut (log_names logs.now 0 threads) (S.seen store.old) (S.seen store.new) }
+    ensures devices { SameDevices (S.seen store.old) (S.seen store.new) }
+{
+    for thread in 0..threads {
+        let Ok(name) = log_name(alloc, logs, thread) else {
+            return Err(FileFault::NoMemory);
+        };
+        match store.write_lines(alloc, &name, &[], 1) {
+            Ok(()) => {}
+            Err(fault) => return Err(fault_at(thread, fault)),
+        }
+    }
+    Ok(())
+}
+
+/// The devices under logs, in their order, in a list with room for them.
+fn devices_of<P: Pmem + Drop>(mut logs: Vec<ThreadLog<P>>, mut devices: Vec<P>) -> Vec<P>
+    requires { (devices.items ≡ []) × (length logs.items ≤ vec_capacity devices) }
+    ensures { result.items ≡ map device_of logs.items }
+{
+    logs.reverse();
+    while let Some(log) = logs.pop() {
+        devices.push_reserved(log.into_device());
+    }
+    devices
+}
+
+/// Keeps the device of a thread's log as its file.
+fn keep_device<S: Store>(
+    alloc: Global,
+    store: &mut S,
+    logs: &str,
+    thread: u64,
+    device: S::Dev,
+) -> Result<(), OutsideFault>
+    ensures kept { OnOk result (KeepsDevice (S.seen store.new) (log_name logs.now thread) (S.Dev.means device)) }
+    ensures file { MayKeep (log_name logs.now thread) (S.Dev.means device) (S.seen store.old) (S.seen store.new) }
+    ensures faults { FaultsOf (record { kind = kinds.Keep; name = log_name logs.now thread }) (S.seen store.old) (S.seen store.new) result }
+    ensures devices { HandsBack (S.Dev.means device) (S.seen store.old) (S.seen store.new) }
+    ensures others { SameOthers (log_name logs.now thread) (S.seen store.old) (S.seen store.new) }
+{
+    let Ok(name) = log_name(alloc, logs, thread) else {
+        store.give_up(device);
+        return Err(OutsideFault::NoMemory);
+    };
+    store.keep(alloc, &name, device)
+}
+
+/// Keeps each device as its thread's file, in their order. Where one can't be kept, those after it are given up, and their files are as
+/// they were.
+pub fn keep_devices<S: Store>(
+    alloc: Global,
+    store: &mut S,
+    logs: &str,
+    mut devices: Vec<S::Dev>,
+) -> Result<(), NotKept>
+    requires { length devices.items ≤ most_threads }
+    ensures kept { OnOk result (AreKept logs.now 0 (map S.Dev.means devices.items) (S.seen store.new)) }
+    ensures faults { OnOk result (SameFaults (S.seen store.old) (S.seen store.new)) }
+    ensures failed { IfErr result (λ e. KeepFails logs.now (map S.Dev.means devices.items)
+        (S.seen store.old) (S.seen store.new) e.thread e.fault) }
+    ensures handed { HandsEach (map S.Dev.means devices.items) (S.seen store.old) (S.seen store.new) }
+    ensures others { SameBut (log_names logs.now 0 (length devices.items)) (S.seen store.old) (S.seen store.new) }
+{
+    devices.reverse();
+    let mut thread = 0;
+    while let Some(device) = devices.pop() {
+        match keep_device(alloc, store, logs, thread, device) {
+            Ok(()) => thread += 1,
+            Err(fault) => {
+                give_up_all(devices, store);
+                return Err(NotKept { thread, fault });
+            }
+        }
+    }
+    Ok(())
+}
+
+/// Closes an object after all its threads are done, and keeps its logs as their files.
+pub fn close<O: Object + Drop, S: Store>(
+    alloc: Global,
+    store: &mut S,
+    logs: &str,
+    onll: Onll<O>,
+    passes: Vec<Pass<O, S::Dev>>,
+) -> Result<(), CloseFault<O, S::Dev>>
+    requires few { length passes.items ≤ most_threads }
+    requires all { AreAll onll.trace (map spot_of passes.items) }
+    requires tied { AllByRecursion (IsTied O.means S.Dev.means onll) passes.items }
+    ensures closed { OnOk result ((trace : List SomeEnded) × HasClosed onll.trace passes.items trace) }
+    ensures kept { OnOk result (AreKept logs.now 0 (devices_in S.Dev.means passes.items) (S.seen store.new)) }
+    ensures handed { OnOk result (HandsEach (devices_in S.Dev.means passes.items) (S.seen store.old) (S.seen store.new)) }
+    ensures faults { OnOk result (SameFaults (S.seen store.old) (S.seen store.new)) }
+    ensures refused { IfErr result (CannotClose S.Dev.means onll passes.items logs.now (S.seen store.old) (S.seen store.new)) }
+    ensures others { SameBut (log_names logs.now 0 (length passes.items)) (S.seen store.old) (S.seen store.new) }
+{
+    let Ok(devices) = Vec::with_capacity(alloc, passes.len()) else {
+        return Err(CloseFault::NoMemory(Unclosed {
+            object: onll,
+            passes,
+        }));
+    };
+    match onll.end(alloc, passes) {
+        Ok(closed) => match keep_devices(alloc, store, logs, devices_of(closed, devices)) {
+            Ok(()) => Ok(()),
+            Err(fault) => Err(CloseFault::NotKept(fault)),
+        },
+        Err(unclosed) => Err(CloseFault::NoMemory(unclosed)),
+    }
+}

@@ -1,0 +1,23 @@
+//! Objects that threads share over the files of their logs: opened from what the files hold, used, and kept.
+#![tactic(auto)]
+
+mod devices;
+mod fault;
+mod heads;
+mod keeping;
+mod misfits;
+mod names;
+mod over_files;
+mod reading;
+mod recovery;
+mod rooms;
+
+pub use devices::{decode_logs, give_up_all, reopen_devices};
+pub use fault::{FileFault, FilesFault, NotKept, OpenFault};
+pub use heads::new_heads;
+pub use keeping::{CloseFault, close, keep_devices, make_files};
+pub use names::log_name;
+pub use over_files::{FoundLogs, Opened, find, open};
+pub use reading::read_images;
+pub use recovery::{RecoveredObject, recover};
+pub use rooms::{first_full, lines_for};

@@ -1,0 +1,71 @@
+//! How many updates each thread may order.
+
+ghost use Rattle.std.specs.Prelude.{◌≡◌, ◌≤◌, ◌+◌, ◌*◌, ◌^◌, ◌<◌, length, max, count_by, IfOk, MatchOption, Some, None};
+ghost use Rattle.onll_model.specs.Limits.{most_threads, most_updates};
+ghost use Rattle.onll_model.specs.Trace.{is_of_thread};
+ghost use Rattle.onll_open.specs.Rooms.{first_full, is_too_many, lines_for, lines_with, most_lines};
+
+use onll_merge::LogCounts;
+use onll_model::{MOST_THREADS, MOST_UPDATES, Node};
+use std::alloc::{AllocError, Global};
+
+/// The most lines of a log.
+const MOST_LINES: u64 = 1 + MOST_UPDATES * (MOST_THREADS + 1);
+
+/// How many of these nodes are a thread's.
+fn count_nodes(nodes: &[Node], thread: u64) -> u64
+    ensures { result ≡ count_by (is_of_thread thread) nodes.now }
+{
+    nodes.iter().filter(|node| node.thread == thread).count() as u64
+}
+
+/// Whether a thread has too few numbers left, or its log would be too long.
+fn is_too_many(threads: u64, nodes: u64, used: u64, room: u64) -> bool
+    requires { threads ≤ most_threads }
+    ensures { result ≡ is_too_many threads nodes used room }
+{
+    if room > MOST_UPDATES || nodes > MOST_UPDATES - room {
+        return true;
+    }
+    used.max(1) > MOST_LINES - (threads + 1) * room
+}
+
+/// The first thread that has too few numbers left for its room, or whose log would be too long.
+pub fn first_full(nodes: &[Node], logs: &[LogCounts], rooms: &[u64]) -> Option<u64>
+    requires few { length rooms.now ≤ most_threads }
+    requires many { length logs.now ≡ length rooms.now }
+    ensures { result ≡ first_full (length rooms.now) nodes.now 0 logs.now rooms.now }
+{
+    let threads = rooms.len() as u64;
+    for (thread, room) in rooms.iter().enumerate() {
+        if is_too_many(
+            threads,
+            count_nodes(nodes, thread as u64),
+            logs[thread].lines,
+            *room,
+        ) {
+            return Some(thread as u64);
+        }
+    }
+    None
+}
+
+/// How many lines the device of each log has, where no thread has too many updates.
+pub fn lines_for(
+    alloc: Global,
+    nodes: &[Node],
+    logs: &[LogCounts],
+    rooms: &[u64],
+) -> Result<Vec<u64>, AllocError>
+    requires few { length rooms.now ≤ most_threads }
+    requires many { length logs.now ≡ length rooms.now }
+    requires room { first_full (length rooms.now) nodes.now 0 logs.now rooms.now ≡ None }
+    ensures { IfOk result (λ lines. lines.items ≡ lines_for (length rooms.now) logs.now rooms.now) }
+{
+    let entry = rooms.len() as u64 + 1;
+    let mut lines = Vec::with_capacity(alloc, rooms.len())?;
+    for (thread, room) in rooms.iter().enumerate() {
+        lines.push_reserved(logs[thread].lines.max(1) + entry * *room);
+    }
+    Ok(lines)
+}

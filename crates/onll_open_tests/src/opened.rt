@@ -1,0 +1,274 @@
+//! Counters that are opened, used, closed and recovered: each refusal, and files that are emptied, replaced, swapped or missing.
+
+ghost use Rattle.std.specs.Prelude.{◌≡◌, ◌≤◌, length, map};
+ghost use Rattle.std.specs.List.{AllByRecursion};
+ghost use Rattle.onll_model.specs.Limits.{most_threads};
+ghost use Rattle.onll_trace.specs.Closing.{AreAll};
+ghost use Rattle.onll_shared.specs.Passes.{IsTied, spot_of};
+ghost use Rattle.onll_open_tests.specs.Counter.{counter};
+
+use crate::{Counter, CounterOp};
+use onll_found::Found;
+use onll_log::LogHead;
+use onll_open::{CloseFault, FilesFault, OpenFault, Opened, close, make_files, open, recover};
+use onll_outside::{FenceAt, FileStore, FreeGate, MemStore, OutsideFault, Store};
+use onll_pmem::Pmem;
+use onll_shared::{Onll, Pass};
+use std::alloc::Global;
+use std::fs;
+use std::sync::Wait;
+use std::test::Fail;
+
+const INIT: &[u8] = b"counter";
+
+const NAME: &str = "onll_tests_open/count";
+
+const FIRST: &str = "onll_tests_open/count.0";
+
+const SECOND: &str = "onll_tests_open/count.1";
+
+/// How it went to open a counter, add 1 and close it.
+#[derive(Clone, Copy, Debug, PartialEq, Eq)]
+enum Went {
+    /// It went on from so many updates, and was kept.
+    OnFrom(u64),
+    NotOpened(OpenFault),
+    /// The log of this thread was not kept.
+    NotKept(u64),
+    NoMemory,
+}
+
+/// The files gave nothing.
+fn refused(fault: FilesFault) -> Went {
+    Went::NotOpened(OpenFault::Files(fault))
+}
+
+/// The files held logs that are not those of one run.
+fn is_not_one_run(went: Went) -> bool {
+    matches!(
+        went,
+        Went::NotOpened(OpenFault::Files(FilesFault::NotOneRun(_)))
+    )
+}
+
+/// Adds 1 in the last thread.
+fn add_last<R: Wait, P: Pmem + Drop>(
+    rt: &R,
+    onll: &Onll<Counter>,
+    mut passes: Vec<Pass<Counter, P>>,
+) -> Vec<Pass<Counter, P>>
+    requires all { AreAll onll.now.trace (map spot_of passes.items) }
+    requires tied { AllByRecursion (IsTied counter P.means onll.now) passes.items }
+    ensures all { AreAll onll.now.trace (map spot_of result.items) }
+    ensures tied { AllByRecursion (IsTied counter P.means onll.now) result.items }
+    ensures count { length result.items ≡ length passes.items }
+{
+    match passes.pop() {
+        Some(mut pass) => {
+            let _done = onll.update(rt, &mut pass, CounterOp::Add { more: 1 }, &FreeGate);
+            passes.push_reserved(pass);
+            passes
+        }
+        None => passes,
+    }
+}
+
+/// Opens a counter, adds 1 and closes it.
+fn count_on<R: Wait, S: Store>(
+    rt: &R,
+    alloc: Global,
+    store: &mut S,
+    init: &[u8],
+    rooms: &[u64],
+) -> Went
+    requires some_thread { 1 ≤ length rooms.now }
+    requires few { length rooms.now ≤ most_threads }
+{
+    match open(alloc, store, NAME, Counter::new(), init, rooms) {
+        Ok(opened) => {
+            let Opened {
+                onll,
+                passes,
+                recovered,
+            } = opened;
+            let passes = add_last(rt, &onll, passes);
+            match close(alloc, store, NAME, onll, passes) {
+                Ok(()) => Went::OnFrom(recovered),
+                Err(CloseFault::NotKept(fault)) => Went::NotKept(fault.thread),
+                Err(CloseFault::NoMemory(_)) => Went::NoMemory,
+            }
+        }
+        Err(fault) => Went::NotOpened(fault),
+    }
+}
+
+/// The same with two threads.
+fn count_two<R: Wait, S: Store>(rt: &R, alloc: Global, store: &mut S) -> Went {
+    count_on(rt, alloc, store, INIT, &[8, 8])
+}
+
+/// How many updates the files of so many threads give.
+fn left_in<S: Store>(alloc: Global, store: &mut S, threads: u64) -> Result<usize, FilesFault>
+    requires { threads ≤ most_threads }
+{
+    let found = recover(alloc, store, NAME, threads, Counter::new(), INIT)?;
+    Ok(found.recovery.nodes.len())
+}
+
+/// Begun and gone on with.
+fn expect_opened<R: Wait, S: Store>(rt: &R, alloc: Global, store: &mut S, found: &mut Found) {
+    let first = refused(FilesFault::NotRead { thread: 0 });
+    found.must(count_two(rt, alloc, store) == first, "all missing");
+    found.must(make_files(alloc, store, NAME, 1).is_ok(), "one file");
+    let second = refused(FilesFault::NotRead { thread: 1 });
+    found.must(count_two(rt, alloc, store) == second, "one missing");
+    found.must(make_files(alloc, store, NAME, 2).is_ok(), "files");
+    found.must(count_two(rt, alloc, store) == Went::OnFrom(0), "begun");
+    found.must(count_two(rt, alloc, store) == Went::OnFrom(1), "gone on");
+    found.must(left_in(alloc, store, 2) == Ok(2), "recovered");
+}
+
+/// Refused by what is asked.
+fn expect_refused<R: Wait, S: Store>(rt: &R, alloc: Global, store: &mut S, found: &mut Found) {
+    let threads = FilesFault::Threads { were: 2 };
+    found.must(
+        left_in(alloc, store, 1) == Err(threads),
+        "one thread of two",
+    );
+    found.must(
+        count_on(rt, alloc, store, INIT, &[8]) == refused(threads),
+        "one room of two",
+    );
+    let full = Went::NotOpened(OpenFault::NoRoom { thread: 1 });
+    found.must(
+        count_on(rt, alloc, store, INIT, &[8, 4095]) == full,
+        "no room",
+    );
+    found.must(
+        is_not_one_run(count_on(rt, alloc, store, b"other", &[8, 8])),
+        "another object",
+    );
+}
+
+/// How it goes where the file of a log was made these bytes.
+fn with_file<R: Wait, S: Store>(
+    rt: &R,
+    alloc: Global,
+    store: &mut S,
+    name: &str,
+    bytes: &[u8],
+) -> Went {
+    match store.write(alloc, name, bytes) {
+        Ok(()) => count_two(rt, alloc, store),
+        Err(_) => Went::NoMemory,
+    }
+}
+
+/// Refused by what files hold that were replaced, emptied and swapped, and gone on with where they are put back.
+fn expect_changed<R: Wait, S: Store>(
+    rt: &R,
+    alloc: Global,
+    store: &mut S,
+    found: &mut Found,
+) -> Result<(), OutsideFault> {
+    let first = store.read(alloc, FIRST, 1_000_000)?;
+    let second = store.read(alloc, SECOND, 1_000_000)?;
+    let gone = refused(FilesFault::Gone { log: 0 });
+    found.must(
+        with_file(rt, alloc, store, FIRST, &[0; 64]) == gone,
+        "replaced",
+    );
+    let empty = refused(FilesFault::NotLog { log: 0 });
+    found.must(with_file(rt, alloc, store, FIRST, &[]) == empty, "emptied");
+    let swapped = with_file(rt, alloc, store, FIRST, &second);
+    found.must(is_not_one_run(swapped), "swapped");
+    let back = with_file(rt, alloc, store, FIRST, &first);
+    found.must(back == Went::OnFrom(2), "put back");
+    let other = refused(FilesFault::NotLog { log: 1 });
+    found.must(
+        with_file(rt, alloc, store, SECOND, &[]) == other,
+        "the other emptied",
+    );
+    let older = with_file(rt, alloc, store, SECOND, &second);
+    found.must(older == Went::OnFrom(2), "an older file put back");
+    Ok(())
+}
+
+/// Refused by a head of the first format.
+fn expect_old<R: Wait, S: Store>(rt: &R, alloc: Global, store: &mut S, found: &mut Found) {
+    let head = LogHead::of_format(1, 0, 2, 4, INIT).line();
+    found.must(
+        store.write_lines(alloc, FIRST, &[head], 1).is_ok(),
+        "an old head",
+    );
+    let old = refused(FilesFault::OldFormat { log: 0 });
+    found.must(count_two(rt, alloc, store) == old, "the first format");
+}
+
+/// All of these over one store.
+fn expect_all<R: Wait, S: Store>(rt: &R, alloc: Global, store: &mut S, found: &mut Found) {
+    expect_opened(rt, alloc, store, found);
+    expect_refused(rt, alloc, store, found);
+    let changed = expect_changed(rt, alloc, store, found);
+    found.must(changed.is_ok(), "files read");
+    expect_old(rt, alloc, store, found);
+}
+
+#[test]
+fn in_memory(rt: HostRuntime) -> Result<(), Fail> {
+    let alloc = rt.alloc();
+    let mut found = Found::new();
+    let mut store = MemStore::new(Vec::new(alloc), Vec::new(alloc), Vec::new(alloc));
+    expect_all(&rt, alloc, &mut store, &mut found);
+    found.ended()
+}
+
+#[test]
+fn header(rt: HostRuntime) -> Result<(), Fail> {
+    let alloc = rt.alloc();
+    let mut found = Found::new();
+    let fences = vec![in alloc;
+        FenceAt {
+            device: 1,
+            fence: 1
+        },
+    ]?;
+    let mut store = MemStore::new(Vec::new(alloc), Vec::new(alloc), fences);
+    found.must(make_files(alloc, &mut store, NAME, 2).is_ok(), "files");
+    let failed = Went::NotOpened(OpenFault::HeaderFailed { thread: 1 });
+    found.must(count_two(&rt, alloc, &mut store) == failed, "header");
+    found.must(
+        count_two(&rt, alloc, &mut store) == Went::OnFrom(0),
+        "begun",
+    );
+    found.ended()
+}
+
+#[test]
+fn keep(rt: HostRuntime) -> Result<(), Fail> {
+    let alloc = rt.alloc();
+    let mut found = Found::new();
+    let mut store = MemStore::new(Vec::new(alloc), vec![in alloc; 8]?, Vec::new(alloc));
+    found.must(make_files(alloc, &mut store, NAME, 2).is_ok(), "files");
+    found.must(
+        count_two(&rt, alloc, &mut store) == Went::NotKept(1),
+        "the eighth call",
+    );
+    found.must(
+        count_two(&rt, alloc, &mut store) == Went::OnFrom(0),
+        "begun again",
+    );
+    found.ended()
+}
+
+#[test]
+fn over_files(rt: HostRuntime) -> Result<(), Fail> {
+    let mut found = Found::new();
+    fs::create_dir(&rt, "onll_tests_open")?;
+    let mut store = FileStore::new(&rt);
+    expect_all(&rt, rt.alloc(), &mut store, &mut found);
+    fs::remove_file(&rt, FIRST)?;
+    fs::remove_file(&rt, SECOND)?;
+    fs::remove_dir(&rt, "onll_tests_open")?;
+    found.ended()
+}

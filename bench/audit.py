@@ -22,6 +22,7 @@ import time
 from pathlib import Path
 
 from judge import KINDS, READS, UPDATES, Judge
+from memory import make_library
 from proved import proved_program
 
 FAILER = r"""
@@ -48,13 +49,6 @@ int fdatasync(int fd) {
 """
 TEXTS = ["->", "at", "broken", "failed", "0", "12", "state", "#", "k"]
 LONGEST = 67_108_864
-
-
-def make_failer(folder):
-    source, library = folder / "failer.c", folder / "failer.so"
-    source.write_text(FAILER)
-    subprocess.run(["cc", "-shared", "-fPIC", "-O2", "-o", library, source, "-ldl"], check=True)
-    return library
 
 
 # ---- runs
@@ -134,7 +128,7 @@ def compare(program, folder, judge, report):
 
 
 def many_runs(program, folder, rng, args):
-    failer = make_failer(folder.parent)
+    failer = make_library(folder.parent, "failer", FAILER)
     counts = {}
     for _ in range(args.runs):
         status, report, judge = run_one(program, folder, rng, failer)

@@ -92,13 +92,18 @@ BEFORE = {"restore": ["checkpoint", "bank", "out", "k", "2"], "checkpoint": ["ch
 WRITES = {"replay": ("log.", 2), "again": ("out.", 2), "run": ("log.", 1), "resume": ("out.", 2), "checkpoint": ("k.0", 2)}
 
 
-def make_refuser(folder):
-    """The library that refuses memory, built from its text."""
-    source, library = os.path.join(folder, "refuser.c"), os.path.join(folder, "refuser.so")
+def make_library(folder, name, text):
+    """A library that stands before the C library, built from its text."""
+    source, library = os.path.join(folder, f"{name}.c"), os.path.join(folder, f"{name}.so")
     with open(source, "w") as file:
-        file.write(REFUSER)
+        file.write(text)
     subprocess.run(["cc", "-O1", "-shared", "-fPIC", "-o", library, source, "-ldl"], check=True)
     return library
+
+
+def make_refuser(folder):
+    """The library that refuses memory."""
+    return make_library(folder, "refuser", REFUSER)
 
 
 def files_of(folder):

@@ -24,7 +24,7 @@ use Rattle.onll_merge.specs.Laws.{HeadsFit}
 use Rattle.onll_merge.specs.Merge.{merge}
 use Rattle.onll_merge.specs.Recovered.{Recovered, content_before, contents_from, log_counts, recovered_with, with_logs, merged, with_operations, state_recovered}
 use Rattle.onll_merge.proofs.Backs.{merge-back}
-use Rattle.onll_outside.specs.Views.{StoreView, SameFiles}
+use Rattle.onll_outside.specs.Views.{StoreView}
 use Rattle.onll_outside.specs.LineFiles.{FrontHasLines}
 use Rattle.onll_shared.specs.Found.{content_held, head_held}
 use Rattle.onll_shared.specs.Passes.{OnllView, PassView, log_of, spot_of}
@@ -33,41 +33,35 @@ use Rattle.onll_run.specs.Making.{AreHeads, StandsBy, AllCanOpen, AreOpen}
 use Rattle.onll_run.proofs.Headers.{opened_lines}
 use Rattle.onll_run.proofs.Merging.{SameEntries, merge_filled}
 use Rattle.onll_open.specs.Names.{log_name}
-use Rattle.onll_open.specs.Files.{HoldsLogImage, FilesHold, StandsFor, StandFor, FilesBegin, AreRead}
+use Rattle.onll_open.specs.Files.{HoldsLogImage, FilesHold, StandsFor, StandFor, FilesBegin, AreRead, SameLogs}
 use Rattle.onll_open.specs.Devices.{AreHeld, AreReopened, AreWithin, fronts_by}
 use Rattle.onll_open.specs.Rooms.{lines_with, lines_for}
 use Rattle.onll_open.specs.declared.fault.FilesFault.{FilesFault}
 use Rattle.onll_open.specs.declared.fault.FilesFault.TheVariants as files
-use Rattle.onll_open.specs.declared.fault.FileFault.{FileFault}
-use Rattle.onll_open.specs.declared.fault.FileFault.TheVariants as file
-use Rattle.onll_open.specs.Faults.{of_reopen}
 use Rattle.onll_open.specs.Misfits.{head_in, head_of_content, has_entries, content_has_entries, is_old, other_number, first_old, other_threads, have_entries, first_headless, first_gone, misfit, with_misfit, found_in}
-use Rattle.onll_open.specs.Opening.{CannotOpen, FilesGive, FilesRefuse, HasFound, HasRoomIn, AreOpenLogs, HaveLines, IsRoomy}
+use Rattle.onll_open.specs.Opening.{FilesGive, FilesRefuse, HasFound, HasRoomIn, AreOpenLogs, HaveLines, IsRoomy}
 use Rattle.onll_open.proofs.ReadImages.{stand_long}
 use Rattle.onll_open.proofs.RoomSteps.{HaveRoom, have_room}
 use Rattle.onll_open.proofs.Reopening.{AreSound, are_sound, are_within, AreReady, can_open}
 
 -- ---- files that are the same
-pub files_back : (a b : StoreView) → SameFiles a b → SameFiles b a
-files_back a b same = record { tells = sym same.tells; file = λ name. sym (same.file name) }
-
-holds_same : (a b : StoreView) (name : List ℕ) (image : List (List ℕ)) → SameFiles a b → HoldsLogImage a name image → HoldsLogImage b name image
-holds_same a b name image same h = record {
+holds_same : (a b : StoreView) (logs : List ℕ) (t : ℕ) (image : List (List ℕ)) → SameLogs logs a b → HoldsLogImage a (log_name logs t) image → HoldsLogImage b (log_name logs t) image
+holds_same a b logs t image same h = record {
   front = h.front;
   count = h.count;
-  gives = λ on. subst (λ o. FrontHasLines longest_image o h.front h.count) (sym (same.file name)) (h.gives (sym same.tells ∙ on));
+  gives = λ on. subst (λ o. FrontHasLines longest_image o h.front h.count) (sym (same.file t)) (h.gives (sym same.tells ∙ on));
   image_is = h.image_is;
 }
 
-pub hold_same : (a b : StoreView) (logs : List ℕ) (t : ℕ) (images : List (List (List ℕ))) → SameFiles a b → FilesHold logs t images a → FilesHold logs t images b
+pub hold_same : (a b : StoreView) (logs : List ℕ) (t : ℕ) (images : List (List (List ℕ))) → SameLogs logs a b → FilesHold logs t images a → FilesHold logs t images b
 hold_same a b logs t [] same h = tt
-hold_same a b logs t (image ∷ images) same h = (holds_same a b (log_name logs t) image same h.0, hold_same a b logs (suc t) images same h.1)
+hold_same a b logs t (image ∷ images) same h = (holds_same a b logs t image same h.0, hold_same a b logs (suc t) images same h.1)
 
-begin_same : (a b : StoreView) (logs : List ℕ) (t : ℕ) (lines : List (List (List ℕ))) → SameFiles a b → FilesBegin logs t lines a → FilesBegin logs t lines b
+begin_same : (a b : StoreView) (logs : List ℕ) (t : ℕ) (lines : List (List (List ℕ))) → SameLogs logs a b → FilesBegin logs t lines a → FilesBegin logs t lines b
 begin_same a b logs t [] same h = tt
-begin_same a b logs t (l ∷ lines) same h = ((λ on. let r = h.0 (sym same.tells ∙ on) in (r.0, same.file (log_name logs t) ∙ r.1)), begin_same a b logs (suc t) lines same h.1)
+begin_same a b logs t (l ∷ lines) same h = ((λ on. let r = h.0 (sym same.tells ∙ on) in (r.0, same.file t ∙ r.1)), begin_same a b logs (suc t) lines same h.1)
 
-pub read_there : (a b : StoreView) (logs : List ℕ) (lines : List (List (List ℕ))) → SameFiles a b → AreRead logs lines a → AreRead logs lines b
+pub read_there : (a b : StoreView) (logs : List ℕ) (lines : List (List (List ℕ))) → SameLogs logs a b → AreRead logs lines a → AreRead logs lines b
 read_there a b logs lines same r = record { images = r.images; hold = hold_same a b logs 0 r.images same r.hold; stand = r.stand; begin = begin_same a b logs 0 lines same r.begin }
 
 -- ---- what lines give, images give
@@ -139,7 +133,7 @@ module _ {State Op Query Reply : Type 0} (b : Behaviour State Op Query Reply) wh
   pub gives_found : (store : StoreView) (logs : List ℕ) (heads : List LogHead) (threads : ℕ) (lines : List (List (List ℕ))) (found : Recovered) → HasFound b store logs heads threads lines found → FilesGive b store logs heads (Ok found)
   gives_found store logs heads threads lines found h = files_give store logs heads lines (Ok found) h.read (h.many ∙ sym h.count) h.gives
 
-  pub give_same : (a z : StoreView) (logs : List ℕ) (heads : List LogHead) (r : Result Recovered FilesFault) → SameFiles a z → FilesGive b a logs heads r → FilesGive b z logs heads r
+  pub give_same : (a z : StoreView) (logs : List ℕ) (heads : List LogHead) (r : Result Recovered FilesFault) → SameLogs logs a z → FilesGive b a logs heads r → FilesGive b z logs heads r
   give_same a z logs heads r same g = record { images = g.images; many = g.many; hold = hold_same a z logs 0 g.images same g.hold; gives = g.gives }
 
 -- ---- the parts of what was recovered
@@ -306,13 +300,6 @@ module _ {State Op Query Reply : Type 0} (b : Behaviour State Op Query Reply) (s
   logs_many : length parts.logs ≡ length rooms
   logs_many = sym (length-map parts.logs Some) ∙ (sym (ap length contents) ∙ (length-map lines content_of ∙ h.has.many))
 
-  pub found_give : FilesGive b store logs heads (Ok found)
-  found_give = gives_found b store logs heads (length rooms) lines found h.has
-
-  pub reopen_refused : (e : FileFault) → CannotOpen b store logs heads rooms (of_reopen e)
-  reopen_refused (file.Failed thread) = (found, (found_give, h.room))
-  reopen_refused file.NoMemory = tt
-
   pub are_logs : AllByRecursion (λ image. IsSome (content_of image)) lines
   are_logs = all_logs lines parts.logs contents
 
@@ -402,5 +389,7 @@ module _ {State Op Query Reply : Type 0} (b : Behaviour State Op Query Reply) (s
   refused_by (files.NotOneRun fault) (inr e) = gives_so (Err (files.NotOneRun fault)) e
   refused_by (files.NotOperation place) (inl none) = absurd (cc)
   refused_by (files.NotOperation place) (inr e) = gives_so (Err (files.NotOperation place)) e
+  refused_by files.InUse e = tt
+  refused_by files.NotLocked e = tt
   refused_by (files.NotRead thread) e = tt
   refused_by files.NoMemory e = tt

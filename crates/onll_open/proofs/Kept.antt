@@ -2,7 +2,7 @@
 use Rattle.std.proofs.Common.{ℕ, zero, suc, List, [], ◌∷◌, ◌++◌, ◌≡◌, ◌+◌, ◌<◌, ◌^◌, ◌⊎◌, inl, inr, length, map, reverse, refl, sym, ap, ◌∙◌, subst, arith, append_assoc, append-nil, length-append, Err}
 use Rattle.std.proofs.lemmas.List.{map-append, length-map, reverse-append, reverse-reverse, length-reverse}
 use Rattle.onll_pmem.specs.Pmem.{DeviceView}
-use Rattle.onll_outside.specs.Views.{StoreView, SameFiles, SameOthers, SameFaults, HandsBack, HoldsImageOf, KeepsDevice, MayKeep, Holds, FaultsOf, Rose, image_bytes, with_zeros}
+use Rattle.onll_outside.specs.Views.{StoreView, SameFiles, SameOthers, SameFaults, SameDevices, HandsBack, HoldsImageOf, KeepsDevice, MayKeep, Holds, FaultsOf, Rose, image_bytes, with_zeros}
 use Rattle.onll_outside.specs.declared.OutsideFault.{OutsideFault}
 use Rattle.onll_outside.specs.declared.OutsideFault.TheVariants.{Failed, NoMemory}
 use Rattle.onll_outside.specs.declared.store.FaultKind.{FaultKind}
@@ -30,7 +30,7 @@ kept_more : (logs : List ℕ) (t last : ℕ) (ds : List DeviceView) (d : DeviceV
 kept_more logs t last [] d store e h k = (subst (λ i. KeepsDevice store (log_name logs i) d) (sym e ∙ omega arith) k, tt)
 kept_more logs t last (x ∷ ds) d store e h k = (h.0, kept_more logs (suc t) last ds d store (omega arith) h.1 k)
 
-kept_same : (logs : List ℕ) (t : ℕ) (ds : List DeviceView) (mid new : StoreView) → SameFiles mid new → AreKept logs t ds mid → AreKept logs t ds new
+pub kept_same : (logs : List ℕ) (t : ℕ) (ds : List DeviceView) (mid new : StoreView) → SameFiles mid new → AreKept logs t ds mid → AreKept logs t ds new
 kept_same logs t [] mid new same h = tt
 kept_same logs t (d ∷ ds) mid new same h = (kept_stays (log_name logs t) d mid new same.tells (same.file (log_name logs t)) h.0, kept_same logs (suc t) ds mid new same h.1)
 
@@ -180,6 +180,21 @@ module _ {Device : Type 0} (means : Device → DeviceView) where
         faults = given.faults ∙ ap (λ ds. risen new.device_faults (map fault_of ds)) (map_reverse means rest) ∙ next.faults;
         fences = given.fences ∙ ap (λ ds. risen new.device_fences (map fences_in ds)) (map_reverse means rest) ∙ next.fences;
       }
+
+-- ---- and then no file changes
+kept_to_then : (logs : List ℕ) (t : ℕ) (ds : List DeviceView) (kept : ℕ) (old mid new : StoreView) → SameFiles mid new → AreKeptTo logs t ds kept old mid → AreKeptTo logs t ds kept old new
+kept_to_then logs t [] kept old mid new same h = absurd h
+kept_to_then logs t (d ∷ ds) zero old mid new same h = (may_keep_since (log_name logs t) d old old mid new refl same h.0, later_since logs (suc t) (length ds) old mid new same h.1)
+kept_to_then logs t (d ∷ ds) (suc kept) old mid new same h = (kept_stays (log_name logs t) d mid new same.tells (same.file (log_name logs t)) h.0, kept_to_then logs (suc t) ds kept old mid new same h.1)
+
+pub fails_then : (logs : List ℕ) (ds : List DeviceView) (old mid new : StoreView) (thread : ℕ) (f : OutsideFault) → SameFiles mid new → SameFaults mid new → KeepFails logs ds old mid thread f → KeepFails logs ds old new thread f
+fails_then logs ds old mid new thread f same faults h = record {
+  files = kept_to_then logs 0 ds thread old mid new same h.files;
+  faults = fails_since logs thread old old mid new f (refl, refl) faults h.faults;
+}
+
+pub handed_then : (ds : List DeviceView) (old mid new : StoreView) → SameDevices mid new → HandsEach ds old mid → HandsEach ds old new
+handed_then ds old mid new same h = record { faults = same.0 ∙ h.faults; fences = same.1 ∙ h.fences }
 
 -- a call that failed is of one of the threads, and is the last that did
 pub failed_at : (kind : FaultKind) (logs : List ℕ) (threads thread : ℕ) (old mid new last : StoreView) (e : OutsideFault) → thread < threads → SameFaults old mid → SameFaults new last

@@ -4,8 +4,10 @@ pub mod FirstEntries
 pub mod ReadImages
 pub mod Decoding
 pub mod RoomSteps
+pub mod LeftRooms
 pub mod Reopening
 pub mod GivenLogs
+pub mod Locked
 pub mod Onwards
 pub mod Kept
 pub mod HeaderFaults

@@ -21,6 +21,11 @@ pub record SameStore (old new : StoreView) : Type 0 where
   pub files : SameFiles old new
   pub counts : SameCounts old new
 
+-- no thread's file changed
+pub record SameLogs (logs : List ℕ) (old new : StoreView) : Type 0 where
+  pub tells : new.tells ≡ old.tells
+  pub file : (thread : ℕ) → new.file (log_name logs thread) ≡ old.file (log_name logs thread)
+
 -- no file changed but perhaps those of these names
 pub record SameBut (names : List (List ℕ)) (old new : StoreView) : Type 0 where
   pub tells : new.tells ≡ old.tells

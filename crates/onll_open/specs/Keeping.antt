@@ -1,5 +1,5 @@
 -- The files of logs that are begun, and that are kept.
-use Rattle.std.specs.Prelude.{ℕ, zero, suc, List, [], ◌∷◌, ◌≡◌, length, map, Err}
+use Rattle.std.specs.Prelude.{ℕ, zero, suc, List, [], ◌∷◌, ◌≡◌, length, map, Result, Err}
 use Rattle.std.specs.List.{AllByRecursion}
 use Rattle.onll_pmem.specs.Pmem.{DeviceView}
 use Rattle.onll_outside.specs.Views.{StoreView, FaultsOf, Holds, KeepsDevice, MayKeep, SameFiles, image_bytes, with_zeros}
@@ -10,6 +10,7 @@ use Rattle.onll_open.specs.declared.keeping.CloseFault.{CloseFault}
 use Rattle.onll_open.specs.declared.keeping.CloseFault.TheVariants.{NoMemory, NotKept}
 use Rattle.onll_open.specs.Devices.{HandsEach}
 use Rattle.onll_open.specs.Files.{SameCounts}
+use Rattle.onll_open.specs.Locking.{AreFree}
 use Rattle.onll_open.specs.Names.{log_name, log_names}
 
 -- each thread's file, from thread t on, is a line of zeros
@@ -52,3 +53,9 @@ CannotClose means onll passes logs old new (NoMemory unclosed) =
     (unclosed.object ≡ onll) × (unclosed.passes.items ≡ passes) × SameFiles old new × SameCounts old new
 CannotClose means onll passes logs old new (NotKept fault) =
     KeepFails logs (devices_in means passes) old new fault.thread fault.fault × HandsEach (devices_in means passes) old new
+
+-- the logs of an object that was closed are free; where it wasn't, they are locked as they were
+abbrev pub CloseLocks : {State Op Query Reply Device T : Type 0} → StoreView → List ℕ → List (List ℕ) → List (List ℕ)
+    → Result T (CloseFault State Device Op Query Reply) → Type 0
+CloseLocks store logs old new (Err (NoMemory unclosed)) = new ≡ old
+CloseLocks store logs old new result = AreFree store logs new

@@ -5,5 +5,7 @@ pub mod Heads
 pub mod Faults
 pub mod Misfits
 pub mod Rooms
+pub mod Asking
+pub mod Locking
 pub mod Opening
 pub mod Keeping

@@ -1,5 +1,5 @@
 -- How an object is opened over the files of its logs, and why it isn't.
-use Rattle.std.specs.Prelude.{ℕ, zero, suc, false, List, [], ◌∷◌, ◌+◌, ◌*◌, ◌≤◌, ◌≡◌, ◌⊎◌, length, map, Result, Ok, Err, Some, None}
+use Rattle.std.specs.Prelude.{ℕ, zero, suc, false, List, [], ◌∷◌, ◌+◌, ◌*◌, ◌≤◌, ◌≡◌, ◌⊎◌, length, map, Result, Ok, Err, Option, Some, None}
 use Rattle.std.specs.List.{AllByRecursion}
 use Rattle.onll_model.specs.declared.node.Node.{Node}
 use Rattle.onll_model.specs.Object.{Behaviour}
@@ -9,7 +9,7 @@ use Rattle.onll_log.specs.Log.{LogState, free_of}
 use Rattle.onll_merge.specs.declared.counts.LogCounts.{LogCounts}
 use Rattle.onll_merge.specs.Merge.{merge}
 use Rattle.onll_merge.specs.Recovered.{Recovered}
-use Rattle.onll_outside.specs.Views.{StoreView, SameFaults, SameFiles, counted}
+use Rattle.onll_outside.specs.Views.{StoreView, SameFaults, SameDevices, counted}
 use Rattle.onll_outside.specs.declared.store.FaultKind.TheVariants.{Read, Reopen}
 use Rattle.onll_shared.specs.Found.{content_held, head_held}
 use Rattle.onll_shared.specs.Passes.{OnllView, PassView}
@@ -19,9 +19,11 @@ use Rattle.onll_run.specs.Outcomes.{HasRoomFor}
 use Rattle.onll_open.specs.declared.fault.FilesFault.{FilesFault}
 use Rattle.onll_open.specs.declared.fault.FilesFault.TheVariants as files
 use Rattle.onll_open.specs.declared.fault.OpenFault.{OpenFault}
-use Rattle.onll_open.specs.declared.fault.OpenFault.TheVariants.{Files, NoRoom, NotReopened, HeaderFailed, NoMemory}
+use Rattle.onll_open.specs.declared.fault.OpenFault.TheVariants.{Files, NoRoom, Full, NotReopened, HeaderFailed, NoMemory}
+use Rattle.onll_open.specs.Asking.{rooms_of, room_refused}
 use Rattle.onll_open.specs.Devices.{fronts_by}
-use Rattle.onll_open.specs.Files.{FilesHold, AreRead, AreWiped, LogCallFailed, SameCounts}
+use Rattle.onll_open.specs.Files.{FilesHold, AreRead, AreWiped, LogCallFailed, SameCounts, SameLogs}
+use Rattle.onll_open.specs.Locking.{LockFailed}
 use Rattle.onll_open.specs.Misfits.{found_in}
 use Rattle.onll_open.specs.Rooms.{first_full}
 
@@ -51,6 +53,18 @@ IsHeadless t [] = ⊥
 IsHeadless zero (log ∷ logs) = log.head ≡ false
 IsHeadless (suc t) (log ∷ logs) = IsHeadless t logs
 
+module _ {State Op Query Reply Device : Type 0} (b : Behaviour State Op Query Reply) (means : Device → DeviceView) where
+  -- The object goes on from these nodes, with a pass for each log, which has room for the updates that it may order and has made no call.
+  pub record GoesOn (heads : List LogHead) (state : State) (nodes : List Node) (rooms : List ℕ)
+      (onll : OnllView State) (passes : List (PassView State Device)) : Type 0 where
+    pub first : onll.first ≡ state
+    pub base : onll.trace.plan.base ≡ nodes
+    pub opened : List (LogState Device)
+    pub logs_are : AreLogs opened
+    pub heads_are : map head_held opened ≡ heads
+    pub begun : HasBegun b means onll opened rooms passes
+    pub roomy : AllByRecursion (IsRoomy means onll) passes
+
 module _ {State Op Query Reply : Type 0} (b : Behaviour State Op Query Reply) (store : StoreView) (logs : List ℕ)
     (heads : List LogHead) where
   -- What the files of these logs hold gives this, as the logs of one run with these heads.
@@ -60,8 +74,10 @@ module _ {State Op Query Reply : Type 0} (b : Behaviour State Op Query Reply) (s
     pub hold : FilesHold logs 0 images store
     pub gives : found_in b heads images ≡ result
 
-  -- why files give nothing: but for a file that could not be read and want of memory, by what they hold
+  -- why files give nothing: but for a lock, a file that could not be read and want of memory, by what they hold
   abbrev pub FilesRefuse : FilesFault → Type 0
+  FilesRefuse files.InUse = Unit {0}
+  FilesRefuse files.NotLocked = Unit {0}
   FilesRefuse (files.NotRead thread) = Unit {0}
   FilesRefuse files.NoMemory = Unit {0}
   FilesRefuse fault = FilesGive (Err fault)
@@ -80,56 +96,78 @@ module _ {State Op Query Reply : Type 0} (b : Behaviour State Op Query Reply) (s
     pub has : HasFound (length rooms) lines found
     pub room : first_full (length rooms) found.nodes 0 found.logs rooms ≡ None
 
-  -- The object goes on from exactly what was recovered, with a pass for each log, which has room for the updates that it may order and
-  -- has made no call.
-  pub record HasOpened {Device : Type 0} (means : Device → DeviceView) (state : State) (rooms : List ℕ) (onll : OnllView State)
-      (passes : List (PassView State Device)) : Type 0 where
-    pub found : Recovered
-    pub recovered : FilesGive (Ok found)
-    pub first : onll.first ≡ state
-    pub base : onll.trace.plan.base ≡ found.nodes
-    pub opened : List (LogState Device)
-    pub logs_are : AreLogs opened
-    pub heads_are : map head_held opened ≡ heads
-    pub begun : HasBegun b means onll opened rooms passes
-    pub roomy : AllByRecursion (IsRoomy means onll) passes
+  -- the files give this, which leaves each of so many threads the room that is asked for
+  abbrev pub GivesRoom : ℕ → Option (List ℕ) → Recovered → Type 0
+  GivesRoom threads asked found = FilesGive (Ok found) × (room_refused threads asked found ≡ None)
 
-  -- the files give this, which leaves each thread room
-  abbrev pub GivesRoom : List ℕ → Recovered → Type 0
-  GivesRoom rooms found = FilesGive (Ok found) × (first_full (length rooms) found.nodes 0 found.logs rooms ≡ None)
+  -- The object goes on from exactly what was recovered, with as much room as is asked for.
+  pub record HasOpened {Device : Type 0} (means : Device → DeviceView) (state : State) (threads : ℕ) (asked : Option (List ℕ))
+      (onll : OnllView State) (passes : List (PassView State Device)) : Type 0 where
+    pub found : Recovered
+    pub recovered : GivesRoom threads asked found
+    pub on : GoesOn b means heads state found.nodes (rooms_of threads asked found) onll passes
 
   -- why no object was opened: the files give nothing; or they do, and a thread has no room; or each has, and a file is not made a device
   -- again, or the header of a log that has none is not made durable
-  abbrev pub CannotOpen : List ℕ → OpenFault → Type 0
-  CannotOpen rooms (Files files.NoMemory) = ⊥
-  CannotOpen rooms (Files fault) = FilesRefuse fault
-  CannotOpen rooms (NoRoom thread) =
-      (found : Recovered) × FilesGive (Ok found) × (first_full (length rooms) found.nodes 0 found.logs rooms ≡ Some thread)
-  CannotOpen rooms (NotReopened thread) = (found : Recovered) × GivesRoom rooms found
-  CannotOpen rooms (HeaderFailed thread) = (found : Recovered) × GivesRoom rooms found × IsHeadless thread found.logs
-  CannotOpen rooms NoMemory = Unit {0}
+  abbrev pub CannotOpen : ℕ → Option (List ℕ) → OpenFault → Type 0
+  CannotOpen threads asked (Files files.NoMemory) = ⊥
+  CannotOpen threads asked (Files fault) = FilesRefuse fault
+  CannotOpen threads asked (NoRoom thread) =
+      (found : Recovered) × FilesGive (Ok found) × (room_refused threads asked found ≡ Some (NoRoom thread))
+  CannotOpen threads asked (Full thread) =
+      (found : Recovered) × FilesGive (Ok found) × (room_refused threads asked found ≡ Some (Full thread))
+  CannotOpen threads asked (NotReopened thread) = (found : Recovered) × GivesRoom threads asked found
+  CannotOpen threads asked (HeaderFailed thread) =
+      (found : Recovered) × GivesRoom threads asked found × IsHeadless thread found.logs
+  CannotOpen threads asked NoMemory = Unit {0}
 
-  -- Nothing that the logs hold is lost, whatever the answer: no file changed; or the files give nodes, and each begins with the lines that
-  -- hold its log, as before, and what follows is wiped in part or not.
-  abbrev pub NothingLost : List ℕ → StoreView → Type 0
-  NothingLost rooms new = SameFiles store new
-      ⊎ ((lines : List (List (List ℕ))) × (found : Recovered) × HasRoomIn rooms lines found
-      × AreWiped logs 0 (fronts_by found.logs lines) store new)
+  -- Nothing that the logs hold is lost, whatever the answer: no thread's file changed; or the files give nodes, and each begins with the
+  -- lines that hold its log, as before, and what follows is wiped in part or not.
+  abbrev pub NothingLost : ℕ → Option (List ℕ) → StoreView → Type 0
+  NothingLost threads asked new = SameLogs logs store new
+      ⊎ ((lines : List (List (List ℕ))) × (found : Recovered) × HasFound threads lines found
+      × (room_refused threads asked found ≡ None) × AreWiped logs 0 (fronts_by found.logs lines) store new)
+
+-- why logs were not opened over what was found, where each thread has room
+abbrev pub CannotGoOn : Recovered → OpenFault → Type 0
+CannotGoOn found (NotReopened thread) = Unit {0}
+CannotGoOn found (HeaderFailed thread) = IsHeadless thread found.logs
+CannotGoOn found NoMemory = Unit {0}
+CannotGoOn found fault = ⊥
 
 -- ---- what is left of the store
--- a call failed exactly where that is the answer
+-- a call for the logs, which are locked, failed exactly where that is the answer
 abbrev pub ReadFaults : {T : Type 0} → List ℕ → ℕ → StoreView → StoreView → Result T FilesFault → Type 0
+ReadFaults logs threads old new (Err files.InUse) = ⊥
+ReadFaults logs threads old new (Err files.NotLocked) = ⊥
 ReadFaults logs threads old new (Err (files.NotRead thread)) = LogCallFailed Read logs threads thread old new
 ReadFaults logs threads old new result = SameFaults old new
 
--- the outside failed exactly where that is the answer, one device has a fault where a header failed, and no device is out where none was
--- opened; what files hold that is refused changes nothing
-abbrev pub OpenFaults : {T : Type 0} → List ℕ → ℕ → StoreView → StoreView → Result T OpenFault → Type 0
-OpenFaults logs threads old new (Ok x) = SameCounts old new
-OpenFaults logs threads old new (Err (Files (files.NotRead thread))) = LogCallFailed Read logs threads thread old new × SameFiles old new
-OpenFaults logs threads old new (Err (Files fault)) = SameCounts old new × SameFiles old new
-OpenFaults logs threads old new (Err (NoRoom thread)) = SameCounts old new × SameFiles old new
-OpenFaults logs threads old new (Err (NotReopened thread)) = LogCallFailed Reopen logs threads thread old new
-OpenFaults logs threads old new (Err (HeaderFailed thread)) =
+-- the same where the call locks them first
+abbrev pub RecoverFaults : {T : Type 0} → List ℕ → ℕ → StoreView → StoreView → Result T FilesFault → Type 0
+RecoverFaults logs threads old new (Err files.InUse) = SameFaults old new
+RecoverFaults logs threads old new (Err files.NotLocked) = LockFailed logs old new
+RecoverFaults logs threads old new result = ReadFaults logs threads old new result
+
+-- Of logs that are locked: the outside failed exactly where that is the answer, one device has a fault where a header failed, and no
+-- device is out where none was opened; what files hold that is refused changes nothing.
+abbrev pub HeldFaults : {T : Type 0} → List ℕ → ℕ → StoreView → StoreView → Result T OpenFault → Type 0
+HeldFaults logs threads old new (Ok x) = SameCounts old new
+HeldFaults logs threads old new (Err (Files files.InUse)) = ⊥
+HeldFaults logs threads old new (Err (Files files.NotLocked)) = ⊥
+HeldFaults logs threads old new (Err (Files (files.NotRead thread))) =
+    LogCallFailed Read logs threads thread old new × SameDevices old new × SameLogs logs old new
+HeldFaults logs threads old new (Err (Files fault)) = SameCounts old new × SameLogs logs old new
+HeldFaults logs threads old new (Err (NoRoom thread)) = SameCounts old new × SameLogs logs old new
+HeldFaults logs threads old new (Err (Full thread)) = SameCounts old new × SameLogs logs old new
+HeldFaults logs threads old new (Err (NotReopened thread)) = LogCallFailed Reopen logs threads thread old new
+HeldFaults logs threads old new (Err (HeaderFailed thread)) =
     SameFaults old new × (new.device_faults ≡ counted old.device_faults 1)
-OpenFaults logs threads old new (Err NoMemory) = SameFaults old new
+HeldFaults logs threads old new (Err NoMemory) = SameFaults old new
+
+-- the same where the call locks them first
+abbrev pub OpenFaults : {T : Type 0} → List ℕ → ℕ → StoreView → StoreView → Result T OpenFault → Type 0
+OpenFaults logs threads old new (Err (Files files.InUse)) = SameCounts old new × SameLogs logs old new
+OpenFaults logs threads old new (Err (Files files.NotLocked)) =
+    LockFailed logs old new × SameDevices old new × SameLogs logs old new
+OpenFaults logs threads old new result = HeldFaults logs threads old new result

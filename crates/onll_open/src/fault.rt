@@ -26,6 +26,12 @@ pub enum FileFault {
 /// Files are numbered from 0. Nothing was changed.
 #[derive(Clone, Copy, Debug, PartialEq, Eq, Error)]
 pub enum FilesFault {
+    /// Another has opened these logs, here or in another process.
+    #[error("the logs are in use")]
+    InUse,
+    /// The logs could not be locked.
+    #[error("the logs could not be locked")]
+    NotLocked,
     /// A file holds no log.
     #[error("file {log} holds no log")]
     NotLog { log: u64 },
@@ -61,6 +67,9 @@ pub enum OpenFault {
     /// The first thread that has too few numbers left for its room, or whose log would be too long. Nothing was changed.
     #[error("thread {thread} has no room for so many updates")]
     NoRoom { thread: u64 },
+    /// The first thread whose log has no room for any update. Nothing was changed.
+    #[error("thread {thread} has no room left")]
+    Full { thread: u64 },
     /// The file of this thread's log could not be made a device.
     #[error("file {thread} could not be opened to be written")]
     NotReopened { thread: u64 },

@@ -1,8 +1,9 @@
 //! The files of an object's logs: made, and kept when the object is closed.
 
-ghost use Rattle.std.specs.Prelude.{◌≡◌, ◌≤◌, List, [], length, map, vec_capacity, IfErr, OnOk};
+ghost use Rattle.std.specs.Prelude.{◌≡◌, ◌≤◌, true, false, List, [], length, map, vec_capacity, IfErr, OnOk};
 ghost use Rattle.std.specs.List.{AllByRecursion};
 ghost use Rattle.onll_model.specs.Limits.{most_threads};
+ghost use Rattle.onll_outside.specs.Directory.{is_locked};
 ghost use Rattle.onll_outside.specs.Views.{SameFaults, SameDevices, SameOthers, FaultsOf, Holds, KeepsDevice, HandsBack, MayKeep};
 ghost use Rattle.onll_outside.specs.Views.{image_bytes, with_zeros};
 ghost use Rattle.onll_outside.specs.declared.store.FaultKind.TheVariants as kinds;
@@ -14,14 +15,15 @@ ghost use Rattle.onll_run.specs.Making.{device_of};
 ghost use Rattle.onll_open.specs.Names.{log_name, log_names};
 ghost use Rattle.onll_open.specs.Files.{LogFaults, SameBut};
 ghost use Rattle.onll_open.specs.Devices.{HandsEach};
-ghost use Rattle.onll_open.specs.Keeping.{AreBegun, AreKept, CannotClose, KeepFails, devices_in};
+ghost use Rattle.onll_open.specs.Keeping.{AreBegun, AreKept, CannotClose, CloseLocks, KeepFails, devices_in};
 
 use crate::devices::give_up_all;
 use crate::fault::{FileFault, NotKept, fault_at};
-use crate::names::log_name;
+use crate::locking::unlock_logs;
+use crate::names::{log_lock_name, log_name};
 use onll_log::ThreadLog;
 use onll_model::Object;
-use onll_outside::{OutsideFault, Store};
+use onll_outside::{Directory, OutsideFault, Store};
 use onll_pmem::Pmem;
 use onll_shared::{Onll, Pass, Unclosed};
 use std::alloc::Global;
@@ -124,8 +126,30 @@ pub fn keep_devices<S: Store>(
     Ok(())
 }
 
-/// Closes an object after all its threads are done, and keeps its logs as their files.
-pub fn close<O: Object + Drop, S: Store>(
+/// The same, and then gives back the name of the logs' lock.
+fn keep_and_unlock<S: Directory>(
+    alloc: Global,
+    store: &mut S,
+    logs: &str,
+    lock: &str,
+    devices: Vec<S::Dev>,
+) -> Result<(), NotKept>
+    requires { length devices.items ≤ most_threads }
+    ensures kept { OnOk result (AreKept logs.now 0 (map S.Dev.means devices.items) (S.seen store.new)) }
+    ensures faults { OnOk result (SameFaults (S.seen store.old) (S.seen store.new)) }
+    ensures failed { IfErr result (λ e. KeepFails logs.now (map S.Dev.means devices.items)
+        (S.seen store.old) (S.seen store.new) e.thread e.fault) }
+    ensures handed { HandsEach (map S.Dev.means devices.items) (S.seen store.old) (S.seen store.new) }
+    ensures others { SameBut (log_names logs.now 0 (length devices.items)) (S.seen store.old) (S.seen store.new) }
+    ensures free { (S.seen store.old).tells ≡ true → is_locked (S.locked store.new) lock.now ≡ false }
+{
+    let kept = keep_devices(alloc, store, logs, devices);
+    unlock_logs(store, lock);
+    kept
+}
+
+/// Closes an object after all its threads are done, and keeps its logs as their files. Others may open them then.
+pub fn close<O: Object + Drop, S: Directory>(
     alloc: Global,
     store: &mut S,
     logs: &str,
@@ -139,9 +163,16 @@ pub fn close<O: Object + Drop, S: Store>(
     ensures kept { OnOk result (AreKept logs.now 0 (devices_in S.Dev.means passes.items) (S.seen store.new)) }
     ensures handed { OnOk result (HandsEach (devices_in S.Dev.means passes.items) (S.seen store.old) (S.seen store.new)) }
     ensures faults { OnOk result (SameFaults (S.seen store.old) (S.seen store.new)) }
+    ensures locks { CloseLocks (S.seen store.old) logs.now (S.locked store.old) (S.locked store.new) result }
     ensures refused { IfErr result (CannotClose S.Dev.means onll passes.items logs.now (S.seen store.old) (S.seen store.new)) }
     ensures others { SameBut (log_names logs.now 0 (length passes.items)) (S.seen store.old) (S.seen store.new) }
 {
+    let Ok(lock) = log_lock_name(alloc, logs) else {
+        return Err(CloseFault::NoMemory(Unclosed {
+            object: onll,
+            passes,
+        }));
+    };
     let Ok(devices) = Vec::with_capacity(alloc, passes.len()) else {
         return Err(CloseFault::NoMemory(Unclosed {
             object: onll,
@@ -149,10 +180,13 @@ pub fn close<O: Object + Drop, S: Store>(
         }));
     };
     match onll.end(alloc, passes) {
-        Ok(closed) => match keep_devices(alloc, store, logs, devices_of(closed, devices)) {
-            Ok(()) => Ok(()),
-            Err(fault) => Err(CloseFault::NotKept(fault)),
-        },
+        Ok(closed) => {
+            let devices = devices_of(closed, devices);
+            match keep_and_unlock(alloc, store, logs, &lock, devices) {
+                Ok(()) => Ok(()),
+                Err(fault) => Err(CloseFault::NotKept(fault)),
+            }
+        }
         Err(unclosed) => Err(CloseFault::NoMemory(unclosed)),
     }
 }

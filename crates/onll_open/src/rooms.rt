@@ -3,7 +3,7 @@
 ghost use Rattle.std.specs.Prelude.{◌≡◌, ◌≤◌, ◌+◌, ◌*◌, ◌^◌, ◌<◌, length, max, count_by, IfOk, MatchOption, Some, None};
 ghost use Rattle.onll_model.specs.Limits.{most_threads, most_updates};
 ghost use Rattle.onll_model.specs.Trace.{is_of_thread};
-ghost use Rattle.onll_open.specs.Rooms.{first_full, is_too_many, lines_for, lines_with, most_lines};
+ghost use Rattle.onll_open.specs.Rooms.{first_empty, first_full, is_too_many, lines_for, lines_with, most_lines, room_left, rooms_left};
 
 use onll_merge::LogCounts;
 use onll_model::{MOST_THREADS, MOST_UPDATES, Node};
@@ -68,4 +68,45 @@ pub fn lines_for(
         lines.push_reserved(logs[thread].lines.max(1) + entry * *room);
     }
     Ok(lines)
+}
+
+/// How many updates a log may have yet.
+fn room_left(threads: u64, nodes: u64, used: u64) -> u64
+    requires { threads ≤ most_threads }
+    ensures { result ≡ room_left threads nodes used }
+{
+    let lines = MOST_LINES.saturating_sub(used.max(1)) / (threads + 1);
+    lines.min(MOST_UPDATES.saturating_sub(nodes))
+}
+
+/// All the updates that each log may have yet.
+pub fn rooms_left(
+    alloc: Global,
+    nodes: &[Node],
+    logs: &[LogCounts],
+    threads: u64,
+) -> Result<Vec<u64>, AllocError>
+    requires few { threads ≤ most_threads }
+    requires many { length logs.now ≡ threads }
+    ensures rooms { IfOk result (λ rooms. rooms.items ≡ rooms_left threads nodes.now 0 logs.now) }
+    ensures count { IfOk result (λ rooms. length rooms.items ≡ threads) }
+{
+    let mut rooms = Vec::with_capacity(alloc, logs.len())?;
+    for (thread, log) in logs.iter().enumerate() {
+        let count = count_nodes(nodes, thread as u64);
+        rooms.push_reserved(room_left(threads, count, log.lines));
+    }
+    Ok(rooms)
+}
+
+/// The first thread that has no room.
+pub fn first_empty(rooms: &[u64]) -> Option<u64>
+    ensures { result ≡ first_empty 0 rooms.now }
+{
+    for (thread, room) in rooms.iter().enumerate() {
+        if *room == 0 {
+            return Some(thread as u64);
+        }
+    }
+    None
 }

@@ -5,27 +5,37 @@ ghost use Rattle.std.specs.List.{AllByRecursion};
 ghost use Rattle.onll_model.specs.Limits.{most_threads};
 ghost use Rattle.onll_trace.specs.Closing.{AreAll};
 ghost use Rattle.onll_shared.specs.Passes.{IsTied, spot_of};
-ghost use Rattle.onll_open_tests.specs.Counter.{counter};
+ghost use Rattle.onll_rows.specs.Sketch.{behaviour_of};
+ghost use Rattle.onll_counter.specs.Counter.{counter};
 
-use crate::{Counter, CounterOp};
+use onll_counter::{Count, CounterOp};
 use onll_found::Found;
 use onll_log::LogHead;
-use onll_open::{CloseFault, FilesFault, OpenFault, Opened, close, make_files, open, recover};
-use onll_outside::{FenceAt, FileStore, FreeGate, MemStore, OutsideFault, Store};
+use onll_open::{
+    CloseFault, FilesFault, OpenFault, Opened, close, make_files, open, open_with_rooms, recover,
+};
+use onll_outside::{Directory, FenceAt, FileStore, FreeGate, MemStore, OutsideFault};
 use onll_pmem::Pmem;
+use onll_rows::Plain;
 use onll_shared::{Onll, Pass};
 use std::alloc::Global;
 use std::fs;
 use std::sync::Wait;
 use std::test::Fail;
 
-const INIT: &[u8] = b"counter";
+/// The object of the tests.
+type Counter = Plain<Count>;
+
+/// What the counter says of itself before it counts.
+const BEGUN: &[u8] = b"counter 0";
 
 const NAME: &str = "onll_tests_open/count";
 
 const FIRST: &str = "onll_tests_open/count.0";
 
 const SECOND: &str = "onll_tests_open/count.1";
+
+const LOCK: &str = "onll_tests_open/count.lock";
 
 /// How it went to open a counter, add 1 and close it.
 #[derive(Clone, Copy, Debug, PartialEq, Eq)]
@@ -58,9 +68,9 @@ fn add_last<R: Wait, P: Pmem + Drop>(
     mut passes: Vec<Pass<Counter, P>>,
 ) -> Vec<Pass<Counter, P>>
     requires all { AreAll onll.now.trace (map spot_of passes.items) }
-    requires tied { AllByRecursion (IsTied counter P.means onll.now) passes.items }
+    requires tied { AllByRecursion (IsTied (behaviour_of counter) P.means onll.now) passes.items }
     ensures all { AreAll onll.now.trace (map spot_of result.items) }
-    ensures tied { AllByRecursion (IsTied counter P.means onll.now) result.items }
+    ensures tied { AllByRecursion (IsTied (behaviour_of counter) P.means onll.now) result.items }
     ensures count { length result.items ≡ length passes.items }
 {
     match passes.pop() {
@@ -73,18 +83,19 @@ fn add_last<R: Wait, P: Pmem + Drop>(
     }
 }
 
-/// Opens a counter, adds 1 and closes it.
-fn count_on<R: Wait, S: Store>(
+/// Opens a counter that began at this count, adds 1 and closes it.
+fn count_on<R: Wait, S: Directory>(
     rt: &R,
     alloc: Global,
     store: &mut S,
-    init: &[u8],
+    count: u64,
     rooms: &[u64],
 ) -> Went
     requires some_thread { 1 ≤ length rooms.now }
     requires few { length rooms.now ≤ most_threads }
 {
-    match open(alloc, store, NAME, Counter::new(), init, rooms) {
+    let counter = Plain::of(Count { count });
+    match open_with_rooms(alloc, store, NAME, counter, rooms) {
         Ok(opened) => {
             let Opened {
                 onll,
@@ -103,20 +114,51 @@ fn count_on<R: Wait, S: Store>(
 }
 
 /// The same with two threads.
-fn count_two<R: Wait, S: Store>(rt: &R, alloc: Global, store: &mut S) -> Went {
-    count_on(rt, alloc, store, INIT, &[8, 8])
+fn count_two<R: Wait, S: Directory>(rt: &R, alloc: Global, store: &mut S) -> Went {
+    count_on(rt, alloc, store, 0, &[8, 8])
 }
 
 /// How many updates the files of so many threads give.
-fn left_in<S: Store>(alloc: Global, store: &mut S, threads: u64) -> Result<usize, FilesFault>
+fn left_in<S: Directory>(alloc: Global, store: &mut S, threads: u64) -> Result<usize, FilesFault>
     requires { threads ≤ most_threads }
 {
-    let found = recover(alloc, store, NAME, threads, Counter::new(), INIT)?;
+    let counter = Plain::of(Count { count: 0 });
+    let found = recover(alloc, store, NAME, threads, counter)?;
     Ok(found.recovery.nodes.len())
 }
 
+/// Refused while the counter is open already, and opened with all the room that its logs have left.
+fn expect_in_use<R: Wait, S: Directory>(rt: &R, alloc: Global, store: &mut S, found: &mut Found) {
+    let counter = Plain::of(Count { count: 0 });
+    match open(alloc, store, NAME, counter, 2) {
+        Ok(opened) => {
+            let Opened {
+                onll,
+                passes,
+                recovered,
+            } = opened;
+            found.must(recovered == 2, "opened with all room");
+            let in_use = FilesFault::InUse;
+            found.must(
+                count_two(rt, alloc, store) == refused(in_use),
+                "opened twice",
+            );
+            found.must(
+                left_in(alloc, store, 2) == Err(in_use),
+                "recovered while it is open",
+            );
+            found.must(
+                close(alloc, store, NAME, onll, passes).is_ok(),
+                "closed again",
+            );
+        }
+        Err(_) => found.must(false, "opened once"),
+    }
+    found.must(left_in(alloc, store, 2) == Ok(2), "given back");
+}
+
 /// Begun and gone on with.
-fn expect_opened<R: Wait, S: Store>(rt: &R, alloc: Global, store: &mut S, found: &mut Found) {
+fn expect_opened<R: Wait, S: Directory>(rt: &R, alloc: Global, store: &mut S, found: &mut Found) {
     let first = refused(FilesFault::NotRead { thread: 0 });
     found.must(count_two(rt, alloc, store) == first, "all missing");
     found.must(make_files(alloc, store, NAME, 1).is_ok(), "one file");
@@ -129,29 +171,26 @@ fn expect_opened<R: Wait, S: Store>(rt: &R, alloc: Global, store: &mut S, found:
 }
 
 /// Refused by what is asked.
-fn expect_refused<R: Wait, S: Store>(rt: &R, alloc: Global, store: &mut S, found: &mut Found) {
+fn expect_refused<R: Wait, S: Directory>(rt: &R, alloc: Global, store: &mut S, found: &mut Found) {
     let threads = FilesFault::Threads { were: 2 };
     found.must(
         left_in(alloc, store, 1) == Err(threads),
         "one thread of two",
     );
     found.must(
-        count_on(rt, alloc, store, INIT, &[8]) == refused(threads),
+        count_on(rt, alloc, store, 0, &[8]) == refused(threads),
         "one room of two",
     );
     let full = Went::NotOpened(OpenFault::NoRoom { thread: 1 });
+    found.must(count_on(rt, alloc, store, 0, &[8, 4095]) == full, "no room");
     found.must(
-        count_on(rt, alloc, store, INIT, &[8, 4095]) == full,
-        "no room",
-    );
-    found.must(
-        is_not_one_run(count_on(rt, alloc, store, b"other", &[8, 8])),
-        "another object",
+        is_not_one_run(count_on(rt, alloc, store, 5, &[8, 8])),
+        "another initial state",
     );
 }
 
 /// How it goes where the file of a log was made these bytes.
-fn with_file<R: Wait, S: Store>(
+fn with_file<R: Wait, S: Directory>(
     rt: &R,
     alloc: Global,
     store: &mut S,
@@ -165,7 +204,7 @@ fn with_file<R: Wait, S: Store>(
 }
 
 /// Refused by what files hold that were replaced, emptied and swapped, and gone on with where they are put back.
-fn expect_changed<R: Wait, S: Store>(
+fn expect_changed<R: Wait, S: Directory>(
     rt: &R,
     alloc: Global,
     store: &mut S,
@@ -195,8 +234,8 @@ fn expect_changed<R: Wait, S: Store>(
 }
 
 /// Refused by a head of the first format.
-fn expect_old<R: Wait, S: Store>(rt: &R, alloc: Global, store: &mut S, found: &mut Found) {
-    let head = LogHead::of_format(1, 0, 2, 4, INIT).line();
+fn expect_old<R: Wait, S: Directory>(rt: &R, alloc: Global, store: &mut S, found: &mut Found) {
+    let head = LogHead::of_format(1, 0, 2, 4, BEGUN).line();
     found.must(
         store.write_lines(alloc, FIRST, &[head], 1).is_ok(),
         "an old head",
@@ -206,8 +245,9 @@ fn expect_old<R: Wait, S: Store>(rt: &R, alloc: Global, store: &mut S, found: &m
 }
 
 /// All of these over one store.
-fn expect_all<R: Wait, S: Store>(rt: &R, alloc: Global, store: &mut S, found: &mut Found) {
+fn expect_all<R: Wait, S: Directory>(rt: &R, alloc: Global, store: &mut S, found: &mut Found) {
     expect_opened(rt, alloc, store, found);
+    expect_in_use(rt, alloc, store, found);
     expect_refused(rt, alloc, store, found);
     let changed = expect_changed(rt, alloc, store, found);
     found.must(changed.is_ok(), "files read");
@@ -248,11 +288,11 @@ fn header(rt: HostRuntime) -> Result<(), Fail> {
 fn keep(rt: HostRuntime) -> Result<(), Fail> {
     let alloc = rt.alloc();
     let mut found = Found::new();
-    let mut store = MemStore::new(Vec::new(alloc), vec![in alloc; 8]?, Vec::new(alloc));
+    let mut store = MemStore::new(Vec::new(alloc), vec![in alloc; 9]?, Vec::new(alloc));
     found.must(make_files(alloc, &mut store, NAME, 2).is_ok(), "files");
     found.must(
         count_two(&rt, alloc, &mut store) == Went::NotKept(1),
-        "the eighth call",
+        "the ninth call",
     );
     found.must(
         count_two(&rt, alloc, &mut store) == Went::OnFrom(0),
@@ -269,6 +309,7 @@ fn over_files(rt: HostRuntime) -> Result<(), Fail> {
     expect_all(&rt, rt.alloc(), &mut store, &mut found);
     fs::remove_file(&rt, FIRST)?;
     fs::remove_file(&rt, SECOND)?;
+    fs::remove_file(&rt, LOCK)?;
     fs::remove_dir(&rt, "onll_tests_open")?;
     found.ended()
 }

@@ -1,7 +1,8 @@
 -- A store in memory: what it is, and how each of its calls ends.
 
-use Rattle.std.specs.Prelude.{ℕ, suc, Bool, true, false, List, [], ◌∷◌, ◌≡◌, ◌==◌, Result, Ok, Err, Option, Some, None, if◌then◌else◌}
+use Rattle.std.specs.Prelude.{ℕ, suc, Bool, true, false, List, [], ◌∷◌, ◌++◌, ◌≡◌, ◌==◌, length, Result, Ok, Err, Option, Some, None, if◌then◌else◌}
 use Rattle.std.specs.Str.{bytes_eq}
+use Rattle.std.specs.Option.{option_map}
 use Rattle.std.specs.String.{string_bytes}
 use Rattle.std.specs.List.{list_any}
 use Rattle.std.specs.declared.vec.Vec.{Vec}
@@ -17,10 +18,13 @@ use Rattle.onll_pmem.specs.Memory.{MemoryState}
 use Rattle.onll_outside.specs.Views.{Last, StoreView, IsFront, counted, one_fault, with_zeros, image_bytes}
 use Rattle.onll_outside.specs.Faults.{one_more}
 use Rattle.onll_outside.specs.LineFiles.{FrontHasLines}
+use Rattle.onll_outside.specs.declared.directory.LockFault.{LockFault}
+use Rattle.onll_outside.specs.declared.directory.LockFault.TheVariants as locks
+use Rattle.onll_outside.specs.Directory.{is_locked}
 
 -- a store in memory: names with their bytes, the numbers of the calls that fail, the fences that fail,
 -- how many calls there were, how many of them failed, and the last of those; how many devices it made, and what
--- those counted that were handed back
+-- those counted that were handed back; and the names that are locked
 pub record FilesHeld : Type 0 where
   pub files : List (List ℕ × List ℕ)
   pub failing : List ℕ
@@ -31,6 +35,7 @@ pub record FilesHeld : Type 0 where
   pub devices : ℕ
   pub device_faults : ℕ
   pub device_fences : ℕ
+  pub locked : List (List ℕ)
 
 abbrev pub texts_of : List Named → List (List ℕ × List ℕ)
 texts_of [] = []
@@ -134,3 +139,18 @@ MemStores old new name d (Ok done) =
     { files = with_file old.files name (image_bytes (image_of d.device 0)) })
 MemStores old new name d (Err Failed) = (call_fails old ≡ true) × (new ≡ failed old (record { kind = Keep; name = name }))
 MemStores old new name d (Err NoMemory) = new ≡ called old
+
+-- a size is told exactly where the call isn't to fail, unless memory runs out
+abbrev pub MemSizes : FilesHeld → FilesHeld → List ℕ → Result (Option ℕ) OutsideFault → Type 0
+MemSizes old new name (Ok size) =
+    (call_fails old ≡ false) × (size ≡ option_map length (file_in old.files name)) × (new ≡ called old)
+MemSizes old new name (Err Failed) = (call_fails old ≡ true) × (new ≡ failed old (record { kind = Read; name = name }))
+MemSizes old new name (Err NoMemory) = new ≡ called old
+
+-- a name is locked exactly where the call isn't to fail and it wasn't locked before, unless memory runs out
+abbrev pub MemLocks : FilesHeld → FilesHeld → List ℕ → Result (Unit {0}) LockFault → Type 0
+MemLocks old new name (Ok done) = (call_fails old ≡ false) × (is_locked old.locked name ≡ false)
+    × (new ≡ record (called old) { locked = old.locked ++ name ∷ [] })
+MemLocks old new name (Err locks.InUse) = (call_fails old ≡ false) × (is_locked old.locked name ≡ true) × (new ≡ called old)
+MemLocks old new name (Err locks.Failed) = (call_fails old ≡ true) × (new ≡ failed old (record { kind = Write; name = name }))
+MemLocks old new name (Err locks.NoMemory) = new ≡ called old

@@ -1,6 +1,6 @@
 //! The store over the files of the system.
 
-ghost use Rattle.std.specs.Prelude.{◌≡◌, None};
+ghost use Rattle.std.specs.Prelude.{◌≡◌, [], None, Some, MatchOption};
 ghost use Rattle.std.proofs.Common.{true≢false, sym};
 ghost use Rattle.onll_outside.specs.Faults.{CountsSeen, untold};
 
@@ -9,8 +9,9 @@ use crate::disk::{
     read_lines,
 };
 use crate::faults::Faults;
+use crate::lock_file::{LockFile, open_locked};
 use crate::mem_store::one_fault;
-use crate::{FaultKind, FileLines, OutsideFault, Store};
+use crate::{Directory, FailedCall, FaultKind, FileLines, LockFault, OutsideFault, Store};
 use onll_pmem::{FilePmem, Pmem};
 use onll_words::Line;
 use std::alloc::Global;
@@ -20,6 +21,13 @@ use std::os::unix::fs::FileExt;
 use std::rt::Files;
 use std::{fs, io};
 
+/// A name that is locked, with the open file that has the lock.
+#[derive(Drop)]
+struct Lock<F> {
+    name: String,
+    file: F,
+}
+
 /// The files of the system. What they hold is not told, only how many calls failed and the last of them, and what the devices
 /// counted that were handed back.
 #[derive(Drop)]
@@ -28,6 +36,8 @@ pub struct FileStore<R: Files + Drop> {
     faults: Faults,
     device_faults: u64,
     device_fences: u64,
+    /// None before the first one is taken.
+    locks: Option<Vec<Lock<R::File>>>,
 }
 
 impl<R: Files + Drop> Model for FileStore<R> {
@@ -62,7 +72,37 @@ impl<R: Files + Drop> FileStore<R> {
             faults: Faults::new(),
             device_faults: 0,
             device_fences: 0,
+            locks: None,
         }
+    }
+
+    /// The last call that failed, with the system's number of its error.
+    pub fn last_fault(&self) -> Option<FailedCall<'_>>
+        ensures { MatchOption result (self.now.last ≡ None)
+            (λ f. self.now.last ≡ Some (record { kind = f.kind; name = f.name.now })) }
+    {
+        self.faults.last()
+    }
+
+    /// Whether a name is locked.
+    fn has_locked(&self, name: &str) -> bool {
+        match &self.locks {
+            Some(locks) => locks.iter().any(|lock| lock.name.as_str() == name),
+            None => false,
+        }
+    }
+
+    /// Keeps a lock until the name is unlocked, and tells whether memory could be had for it.
+    fn add_lock(&mut self, alloc: Global, lock: Lock<R::File>) -> bool
+        ensures { self.new ≡ self.old }
+    {
+        let mut locks = match self.locks.take() {
+            Some(locks) => locks,
+            None => Vec::new(alloc),
+        };
+        let added = locks.push(lock).is_ok();
+        self.locks = Some(locks);
+        added
     }
 }
 
@@ -78,7 +118,10 @@ where
         match read_file(&self.files, alloc, name, limit) {
             Ok(bytes) => Ok(bytes),
             Err(e) if e.kind() == ErrorKind::OutOfMemory => Err(OutsideFault::NoMemory),
-            Err(_) => Err(self.faults.raise(alloc, FaultKind::Read, name)),
+            Err(e) => Err(
+                self.faults
+                    .raise(alloc, FaultKind::Read, name, e.raw_os_error()),
+            ),
         }
     }
 
@@ -91,7 +134,10 @@ where
         match read_lines(&self.files, alloc, name, limit) {
             Ok(lines) => Ok(lines),
             Err(e) if e.kind() == ErrorKind::OutOfMemory => Err(OutsideFault::NoMemory),
-            Err(_) => Err(self.faults.raise(alloc, FaultKind::Read, name)),
+            Err(e) => Err(
+                self.faults
+                    .raise(alloc, FaultKind::Read, name, e.raw_os_error()),
+            ),
         }
     }
 
@@ -104,11 +150,17 @@ where
         let mut file = match fs::create(&self.files, name) {
             Ok(file) => file,
             Err(e) if e.kind() == ErrorKind::OutOfMemory => return Err(OutsideFault::NoMemory),
-            Err(_) => return Err(self.faults.raise_named(FaultKind::Write, kept)),
+            Err(e) => return Err(
+                self.faults
+                    .raise_named(FaultKind::Write, kept, e.raw_os_error()),
+            ),
         };
         match fill_with(&self.files, name, &mut file, bytes) {
             Ok(()) => Ok(()),
-            Err(_) => Err(self.faults.raise_named(FaultKind::Write, kept)),
+            Err(e) => Err(
+                self.faults
+                    .raise_named(FaultKind::Write, kept, e.raw_os_error()),
+            ),
         }
     }
 
@@ -129,11 +181,17 @@ where
         let mut file = match fs::create(&self.files, name) {
             Ok(file) => file,
             Err(e) if e.kind() == ErrorKind::OutOfMemory => return Err(OutsideFault::NoMemory),
-            Err(_) => return Err(self.faults.raise_named(FaultKind::Write, kept)),
+            Err(e) => return Err(
+                self.faults
+                    .raise_named(FaultKind::Write, kept, e.raw_os_error()),
+            ),
         };
         match fill_with_lines(&self.files, name, &mut file, &mut buffer, front, count) {
             Ok(()) => Ok(()),
-            Err(_) => Err(self.faults.raise_named(FaultKind::Write, kept)),
+            Err(e) => Err(
+                self.faults
+                    .raise_named(FaultKind::Write, kept, e.raw_os_error()),
+            ),
         }
     }
 
@@ -146,7 +204,10 @@ where
         let file = match make_file(&self.files, name, lines) {
             Ok(file) => file,
             Err(e) if e.kind() == ErrorKind::OutOfMemory => return Err(OutsideFault::NoMemory),
-            Err(_) => return Err(self.faults.raise(alloc, FaultKind::Device, name)),
+            Err(e) => return Err(
+                self.faults
+                    .raise(alloc, FaultKind::Device, name, e.raw_os_error()),
+            ),
         };
         match FilePmem::over(alloc, file, lines) {
             Ok(device) => Ok(device),
@@ -167,7 +228,10 @@ where
         let file = match cut_file(&self.files, name, &mut buffer, front, lines) {
             Ok(file) => file,
             Err(e) if e.kind() == ErrorKind::OutOfMemory => return Err(OutsideFault::NoMemory),
-            Err(_) => return Err(self.faults.raise(alloc, FaultKind::Reopen, name)),
+            Err(e) => return Err(
+                self.faults
+                    .raise(alloc, FaultKind::Reopen, name, e.raw_os_error()),
+            ),
         };
         match FilePmem::reading(alloc, file, front, lines) {
             Ok(device) => Ok(device),
@@ -188,7 +252,10 @@ where
         match keep_device(&self.files, alloc, name, &device) {
             Ok(()) => Ok(()),
             Err(e) if e.kind() == ErrorKind::OutOfMemory => Err(OutsideFault::NoMemory),
-            Err(_) => Err(self.faults.raise(alloc, FaultKind::Keep, name)),
+            Err(e) => Err(
+                self.faults
+                    .raise(alloc, FaultKind::Keep, name, e.raw_os_error()),
+            ),
         }
     }
 
@@ -200,4 +267,58 @@ where
     }
 
     ghost devices_tell = { λ store told. absurd (true≢false (sym told)) };
+}
+
+impl<R: Files + Drop> Directory for FileStore<R>
+where
+    R::File: FileExt + Send + LockFile,
+{
+    ghost locked = { λ s. [] };
+
+    fn size(&mut self, alloc: Global, name: &str) -> Result<Option<u64>, OutsideFault> {
+        match fs::metadata(&self.files, name) {
+            Ok(data) if data.is_dir() => Err(self.faults.raise(alloc, FaultKind::Read, name, None)),
+            Ok(data) => Ok(Some(data.len())),
+            Err(e) if e.kind() == ErrorKind::NotFound => Ok(None),
+            Err(e) if e.kind() == ErrorKind::OutOfMemory => Err(OutsideFault::NoMemory),
+            Err(e) => Err(
+                self.faults
+                    .raise(alloc, FaultKind::Read, name, e.raw_os_error()),
+            ),
+        }
+    }
+
+    // Memory for the name is taken before the file is opened.
+    fn lock(&mut self, alloc: Global, name: &str) -> Result<(), LockFault> {
+        if self.has_locked(name) {
+            return Err(LockFault::InUse);
+        }
+        let Ok(name) = String::from_str(alloc, name) else {
+            return Err(LockFault::NoMemory);
+        };
+        match open_locked(&self.files, name.as_str()) {
+            Ok(Some(file)) => {
+                if self.add_lock(alloc, Lock { name, file }) {
+                    Ok(())
+                } else {
+                    Err(LockFault::NoMemory)
+                }
+            }
+            Ok(None) => Err(LockFault::InUse),
+            Err(e) if e.kind() == ErrorKind::OutOfMemory => Err(LockFault::NoMemory),
+            Err(e) => match self
+                .faults
+                .raise_named(FaultKind::Write, name, e.raw_os_error())
+            {
+                OutsideFault::Failed => Err(LockFault::Failed),
+                OutsideFault::NoMemory => Err(LockFault::NoMemory),
+            },
+        }
+    }
+
+    fn unlock(&mut self, name: &str) {
+        if let Some(locks) = &mut self.locks {
+            locks.retain(|lock| lock.name.as_str() != name);
+        }
+    }
 }

@@ -15,21 +15,26 @@
 #![tactic(auto)]
 
 mod bytes;
+mod directory;
 mod disk;
 mod faults;
 mod file_store;
 mod gate;
 mod gather;
 mod hold_gate;
+mod lock_file;
 mod mem_sink;
 mod mem_store;
 mod out_sink;
 mod sink;
 mod store;
 
+pub use directory::{Directory, LockFault};
+pub use faults::FailedCall;
 pub use file_store::FileStore;
 pub use gate::{FreeGate, Gate, Point};
 pub use hold_gate::{Hold, HoldGate};
+pub use lock_file::LockFile;
 pub use mem_sink::MemSink;
 pub use mem_store::{FenceAt, MemStore, Named};
 pub use out_sink::OutSink;

@@ -1,18 +1,19 @@
 //! The store in memory.
 
-ghost use Rattle.std.specs.Prelude.{◌≡◌, ◌≤◌, ◌*◌, refl, length, MatchOption, None, IfOk, IfErr, OnOk, map};
+ghost use Rattle.std.specs.Prelude.{◌≡◌, ◌≤◌, ◌*◌, refl, [], length, MatchOption, None, IfOk, IfErr, OnOk, map, string_bytes};
 ghost use Rattle.std.specs.Option.{option_copied};
 ghost use Rattle.onll_pmem.specs.Device.{zero_lines, fenced_device, image_of, IsImage};
 ghost use Rattle.onll_pmem.specs.Pmem.{words_of};
 ghost use Rattle.onll_pmem.specs.Memory.{memory_view};
 ghost use Rattle.onll_outside.specs.Views.{SameFiles, SameOthers, Holds, Gives, FaultsOf, SameDevices, HandsBack, IsFresh, KeptOrZeros, BeginsWith, MayWipe, KeepsDevice, MayKeep, with_zeros, image_bytes, one_fault};
 ghost use Rattle.onll_outside.specs.LineFiles.{IsFileFront, GivesLines};
-ghost use Rattle.onll_outside.specs.MemStore.{FilesHeld, texts_of, file_in, place_in, with_file, store_of, call_fails, called, MemReads, MemReadsLines, MemWrites, MemMakes, MemReopens, MemStores, back, failing_of, reopened};
+ghost use Rattle.onll_outside.specs.MemStore.{FilesHeld, texts_of, file_in, place_in, with_file, store_of, call_fails, called, MemReads, MemReadsLines, MemWrites, MemMakes, MemReopens, MemStores, MemSizes, MemLocks, back, failing_of, reopened};
+ghost use Rattle.onll_outside.specs.Directory.{SizeOf, LocksOf, LockFaults, is_locked, without_name};
 
 use crate::bytes::{file_bytes, front_of, image_bytes, with_zeros};
 use crate::faults::Faults;
 use crate::gather::lines_of;
-use crate::{FaultKind, FileLines, OutsideFault, Store};
+use crate::{Directory, FaultKind, FileLines, LockFault, OutsideFault, Store};
 use onll_pmem::{MemPmem, Pmem};
 use onll_words::Line;
 use std::alloc::{AllocError, Global};
@@ -43,6 +44,7 @@ pub struct MemStore {
     devices: u64,
     device_faults: u64,
     device_fences: u64,
+    locked: Vec<String>,
 }
 
 impl Model for MemStore {
@@ -58,6 +60,7 @@ impl Model for MemStore {
       devices = s.devices;
       device_faults = s.device_faults;
       device_fences = s.device_fences;
+      locked = map string_bytes s.locked.items;
     } };
 }
 
@@ -73,6 +76,33 @@ fn find<'a>(files: &'a [Named], name: &str) -> Option<&'a Named>
         }
     }
     None
+}
+
+/// Whether a name is among these.
+#[tactic(auto, using(crate::proofs::Names::same_names))]
+fn has_name(names: &[String], name: &str) -> bool
+    ensures { result ≡ is_locked (map string_bytes names.now) name.now }
+{
+    for held in names {
+        if held.as_str() == name {
+            return true;
+        }
+    }
+    false
+}
+
+/// No names; this takes no memory.
+fn no_names(alloc: Global) -> Vec<String>
+    ensures { result.items ≡ [] }
+{
+    Vec::new(alloc)
+}
+
+/// Takes a name out of these.
+fn drop_name(names: &mut Vec<String>, name: &str)
+    ensures { map string_bytes names.new.items ≡ without_name (map string_bytes names.old.items) name.now }
+{
+    names.retain(|held| held.as_str() != name);
 }
 
 /// The place of the first file of that name, or the count of files where there is none.
@@ -164,8 +194,10 @@ impl MemStore {
           devices = 0;
           device_faults = 0;
           device_fences = 0;
+          locked = [];
         } }
     {
+        let locked = no_names(*files.allocator());
         MemStore {
             files,
             failing,
@@ -175,6 +207,7 @@ impl MemStore {
             devices: 0,
             device_faults: 0,
             device_fences: 0,
+            locked,
         }
     }
 
@@ -217,7 +250,7 @@ impl MemStore {
         ensures exact { MemStores self.old self.new name.now device.now result }
     {
         if self.begin_call() {
-            return Err(self.faults.raise(alloc, FaultKind::Keep, name));
+            return Err(self.faults.raise(alloc, FaultKind::Keep, name, None));
         }
         let Ok(bytes) = kept_bytes(alloc, device) else {
             return Err(OutsideFault::NoMemory);
@@ -286,7 +319,7 @@ impl Store for MemStore {
                 Err(_) => Err(OutsideFault::NoMemory),
             };
         }
-        Err(self.faults.raise(alloc, FaultKind::Read, name))
+        Err(self.faults.raise(alloc, FaultKind::Read, name, None))
     }
 
     fn read_lines(
@@ -310,7 +343,7 @@ impl Store for MemStore {
                 Err(_) => Err(OutsideFault::NoMemory),
             };
         }
-        Err(self.faults.raise(alloc, FaultKind::Read, name))
+        Err(self.faults.raise(alloc, FaultKind::Read, name, None))
     }
 
     fn write(&mut self, alloc: Global, name: &str, bytes: &[u8]) -> Result<(), OutsideFault>
@@ -322,7 +355,7 @@ impl Store for MemStore {
         ensures exact { MemWrites self.old self.new name.now bytes.now result }
     {
         if self.begin_call() {
-            return Err(self.faults.raise(alloc, FaultKind::Write, name));
+            return Err(self.faults.raise(alloc, FaultKind::Write, name, None));
         }
         let Ok(bytes) = Vec::from_slice(alloc, bytes) else {
             return Err(OutsideFault::NoMemory);
@@ -349,7 +382,7 @@ impl Store for MemStore {
         ensures exact { MemWrites self.old self.new name.now (image_bytes (with_zeros (words_of front.now) count)) result }
     {
         if self.begin_call() {
-            let fault = self.faults.raise(alloc, FaultKind::Write, name);
+            let fault = self.faults.raise(alloc, FaultKind::Write, name, None);
             return Err(fault);
         }
         let Ok(bytes) = file_bytes(alloc, front, count) else {
@@ -371,7 +404,7 @@ impl Store for MemStore {
         ensures exact { MemMakes self.old self.new name.now lines result }
     {
         if self.begin_call() {
-            return Err(self.faults.raise(alloc, FaultKind::Device, name));
+            return Err(self.faults.raise(alloc, FaultKind::Device, name, None));
         }
         let Ok(failing) = failing_of(alloc, &self.fences, self.devices) else {
             return Err(OutsideFault::NoMemory);
@@ -401,7 +434,7 @@ impl Store for MemStore {
         ensures exact { MemReopens self.old self.new name.now (words_of front.now) lines result }
     {
         if self.begin_call() {
-            return Err(self.faults.raise(alloc, FaultKind::Reopen, name));
+            return Err(self.faults.raise(alloc, FaultKind::Reopen, name, None));
         }
         match with_zeros(alloc, front, lines) {
             Ok(image) => self.device_of(alloc, name, image),
@@ -428,4 +461,56 @@ impl Store for MemStore {
     }
 
     ghost devices_tell = { λ store told. refl };
+}
+
+impl Directory for MemStore {
+    ghost locked = { λ s. s.locked };
+
+    fn size(&mut self, alloc: Global, name: &str) -> Result<Option<u64>, OutsideFault>
+        ensures size { IfOk result (λ n. SizeOf (store_of self.old) name.now n) }
+        ensures same { SameFiles (store_of self.old) (store_of self.new) }
+        ensures faults { FaultsOf (record { kind = FaultKind.Read; name = name.now }) (store_of self.old) (store_of self.new) result }
+        ensures devices { SameDevices (store_of self.old) (store_of self.new) }
+        ensures locks { self.new.locked ≡ self.old.locked }
+        ensures exact { MemSizes self.old self.new name.now result }
+    {
+        if self.begin_call() {
+            return Err(self.faults.raise(alloc, FaultKind::Read, name, None));
+        }
+        match find(&self.files, name) {
+            Some(file) => Ok(Some(file.bytes.len() as u64)),
+            None => Ok(None),
+        }
+    }
+
+    fn lock(&mut self, alloc: Global, name: &str) -> Result<(), LockFault>
+        ensures locks { LocksOf (store_of self.old) name.now self.old.locked self.new.locked result }
+        ensures others { SameOthers name.now (store_of self.old) (store_of self.new) }
+        ensures faults { LockFaults name.now (store_of self.old) (store_of self.new) result }
+        ensures devices { SameDevices (store_of self.old) (store_of self.new) }
+        ensures exact { MemLocks self.old self.new name.now result }
+    {
+        if self.begin_call() {
+            return match self.faults.raise(alloc, FaultKind::Write, name, None) {
+                OutsideFault::Failed => Err(LockFault::Failed),
+                OutsideFault::NoMemory => Err(LockFault::NoMemory),
+            };
+        }
+        if has_name(&self.locked, name) {
+            return Err(LockFault::InUse);
+        }
+        let Ok(name) = String::from_str(alloc, name) else {
+            return Err(LockFault::NoMemory);
+        };
+        match self.locked.push(name) {
+            Ok(()) => Ok(()),
+            Err(_) => Err(LockFault::NoMemory),
+        }
+    }
+
+    fn unlock(&mut self, name: &str)
+        ensures { self.new ≡ record self.old { locked = without_name self.old.locked name.now } }
+    {
+        drop_name(&mut self.locked, name);
+    }
 }

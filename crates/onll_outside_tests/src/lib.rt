@@ -19,6 +19,8 @@ mod line_files;
 #[cfg(test)]
 mod logs;
 #[cfg(test)]
+mod name_locks;
+#[cfg(test)]
 mod plain_store;
 #[cfg(test)]
 mod reopened;

@@ -24,7 +24,7 @@ fn files_of(alloc: Global, texts: &[(&str, &str)]) -> Result<Vec<Named>, AllocEr
 }
 
 /// A store in memory of these files, whose calls of these numbers fail.
-fn store_of(
+pub(crate) fn store_of(
     alloc: Global,
     texts: &[(&str, &str)],
     failing: &[u64],

@@ -1,4 +1,4 @@
-use Rattle.std.proofs.Common.{◌≡◌, ◌≤◌, IsSome, length, map, inr, sym, ap, ◌∙◌, subst}
+use Rattle.std.proofs.Common.{◌≡◌, ◌≤◌, IsSome, length, map, sym, ap, ◌∙◌, subst}
 use Rattle.std.proofs.lemmas.Result.{err_from_is_err_and}
 use Rattle.std.specs.Prelude.{All}
 use Rattle.std.specs.List.{AllByRecursion}
@@ -10,8 +10,9 @@ use Rattle.onll_run.specs.Making.{AllCanOpen, AreOpen, HeaderFailed}
 use Rattle.onll_open.specs.Devices.{AreHeld, AreReopened, AreWithin, fronts_by}
 use Rattle.onll_open.specs.Files.{AreWiped}
 use Rattle.onll_open.specs.Rooms.{lines_for}
-use Rattle.onll_open.proofs.Reopening.{wiped_same}
-use Rattle.onll_open.proofs.GivenLogs.{found_give, counts, reopen_refused, are_logs, short, within, can, opened_logs}
+use Rattle.onll_open.proofs.Reopening.{fronts_begin, wiped_none, wiped_same}
+use Rattle.onll_open.proofs.Onwards.{reopen_cannot}
+use Rattle.onll_open.proofs.GivenLogs.{counts, are_logs, short, within, can, opened_logs}
 use Rattle.onll_open.proofs.Handing.{faults_more}
 use Rattle.onll_open.proofs.HeaderFaults.{headless, one_risen}
 use Rattle.onll_open.specs.Opening.{IsHeadless}
@@ -72,7 +73,7 @@ returns-in_err-devices-clause-kept g c =
     let mid = g.S.Store.seen c.reopen_devices.new.store in
     let wiped = subst (λ ls. AreWiped c.args.logs.now 0 (fronts_by found.logs ls) store mid) c.deref-5.ensures.value
     (subst (λ ls. AreWiped c.args.logs.now 0 (fronts_by ls c.deref-5.result.now) store mid) c.deref-4.ensures.value c.reopen_devices.ensures.files) in
-    inr (images, found, h, wiped)
+    wiped
 
 pub open_logs-requires : goal.open_logs-requires
 open_logs-requires g c =
@@ -128,7 +129,7 @@ returns-in-Ok-clause-kept g c =
     let mid = g.S.Store.seen c.reopen_devices.new.store in
     let wiped = subst (λ ls. AreWiped c.args.logs.now 0 (fronts_by found.logs ls) store mid) c.deref-5.ensures.value
     (subst (λ ls. AreWiped c.args.logs.now 0 (fronts_by ls c.deref-5.result.now) store mid) c.deref-4.ensures.value c.reopen_devices.ensures.files) in
-    inr (images, found, h, wiped)
+    wiped
 
 pub returns-in-Err-NoMemory-clause-kept : goal.returns-in-Err-NoMemory-clause-kept
 returns-in-Err-NoMemory-clause-kept g c =
@@ -143,19 +144,26 @@ returns-in-Err-NoMemory-clause-kept g c =
     let mid = g.S.Store.seen c.reopen_devices.new.store in
     let wiped = subst (λ ls. AreWiped c.args.logs.now 0 (fronts_by found.logs ls) store mid) c.deref-5.ensures.value
     (subst (λ ls. AreWiped c.args.logs.now 0 (fronts_by ls c.deref-5.result.now) store mid) c.deref-4.ensures.value c.reopen_devices.ensures.files) in
-    inr (images, found, h, wiped)
+    wiped
 
 pub returns-in_err-devices-clause-refused : goal.returns-in_err-devices-clause-refused
 returns-in_err-devices-clause-refused g c =
-    let b = g.O.Object.means in
-    let store = g.S.Store.seen c.args.store.now in
-    let heads = c.args.found.now.heads.items in
-    let images = c.args.found.now.images.items in
-    let rooms = c.args.rooms.now in
-    let found = recovered_in c.args.found.now.recovery in
-    let h = c.requires.found in
     let p = err_from_is_err_and c.from_residual-in_err-devices.result c.from_residual-in_err-devices.ensures.1 in
-    rw (p.1, p.2) (reopen_refused b store c.args.logs.now heads rooms images found h c.in_err-devices.field-0.0)
+    rw (p.1, p.2) (reopen_cannot (recovered_in c.args.found.now.recovery) c.in_err-devices.field-0.0)
+
+pub returns-in_err-lines-clause-kept : goal.returns-in_err-lines-clause-kept
+returns-in_err-lines-clause-kept g c =
+    let store = g.S.Store.seen c.args.store.now in
+    let found = c.args.found.now in
+    wiped_none c.args.logs.now 0 (fronts_by found.recovery.logs.items found.images.items) store
+    (fronts_begin c.args.logs.now 0 found.recovery.logs.items found.images.items store c.requires.found.has.read.begin)
+
+pub returns-in_err-held-clause-kept : goal.returns-in_err-held-clause-kept
+returns-in_err-held-clause-kept g c =
+    let store = g.S.Store.seen c.args.store.now in
+    let found = c.args.found.now in
+    wiped_none c.args.logs.now 0 (fronts_by found.recovery.logs.items found.images.items) store
+    (fronts_begin c.args.logs.now 0 found.recovery.logs.items found.images.items store c.requires.found.has.read.begin)
 
 pub returns-clause-refused : goal.returns-clause-refused
 returns-clause-refused g c =
@@ -173,7 +181,7 @@ returns-clause-refused g c =
     let begun : IsHeadless c.in-Err-HeaderFailed.thread (map log_counts (contents_in c.deref-8.result.now)) =
     headless g.S.Dev.Pmem.means c.in-Err-HeaderFailed.thread c.deref-7.result.now (contents_in c.deref-8.result.now) c.in_ok-devices.devices.items c.in-Err-HeaderFailed.devices.items failed.headers in
     let all : map log_counts (contents_in c.deref-8.result.now) ≡ found.logs = ap (λ ls. map log_counts (contents_in ls)) c.deref-8.ensures.value ∙ sym (counts b store c.args.logs.now heads rooms images found h held is) in
-    (found, (found_give b store c.args.logs.now heads rooms images found h, h.room), subst (IsHeadless c.in-Err-HeaderFailed.thread) all begun)
+    subst (IsHeadless c.in-Err-HeaderFailed.thread) all begun
 
 pub returns-clause-faults : goal.returns-clause-faults
 returns-clause-faults g c =
@@ -199,4 +207,4 @@ returns-clause-kept g c =
     let mid = g.S.Store.seen c.reopen_devices.new.store in
     let wiped = subst (λ ls. AreWiped c.args.logs.now 0 (fronts_by found.logs ls) store mid) c.deref-5.ensures.value
     (subst (λ ls. AreWiped c.args.logs.now 0 (fronts_by ls c.deref-5.result.now) store mid) c.deref-4.ensures.value c.reopen_devices.ensures.files) in
-    inr (images, found, h, wiped_same c.args.logs.now 0 (fronts_by found.logs images) store mid (g.S.Store.seen c.give_up_all.new.store) c.give_up_all.ensures.files wiped)
+    wiped_same c.args.logs.now 0 (fronts_by found.logs images) store mid (g.S.Store.seen c.give_up_all.new.store) c.give_up_all.ensures.files wiped

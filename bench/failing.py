@@ -1,0 +1,168 @@
+"""A library that stands between a program of one thread and the system's files: it counts the calls, and ends the process at one, or fails
+one, by what the environment says.
+
+    CALLS=FILE        each call is noted in this file, as its name and the name of what it is for
+    KILL=N            the process is killed before the N-th call
+    CUT=N             so it is, after the N-th call has written half of its bytes, where these are more than a line
+    FAIL=N ERRNO=E    the N-th call is not made, and fails with this error
+    DISK=FOLDER       this folder has what a loss of power would leave of the files: a sync that is done makes the bytes that were written
+                      since the last try durable; of one that fails they are lost, until they are written again"""
+import os
+import shutil
+import subprocess
+
+from memory import make_library
+
+LIBRARY = r"""
+#define _GNU_SOURCE
+#include <errno.h>
+#include <fcntl.h>
+#include <signal.h>
+#include <stdarg.h>
+#include <stdio.h>
+#include <stdlib.h>
+#include <string.h>
+#include <sys/stat.h>
+#include <sys/syscall.h>
+#include <unistd.h>
+
+static char names[1024][256];                                    /* of the open files, by their descriptors */
+static struct { char name[256]; off_t from, to; } waiting[65536]; /* bytes that wait for a sync */
+static int many;
+static long calls;
+
+static long number(const char *name) { return getenv(name) ? atol(getenv(name)) : 0; }
+static const char *name_of(int fd) { return fd == 1 ? "output" : names[fd]; }
+static void die(void) { kill(getpid(), SIGKILL); for (;;) pause(); }
+
+static int refused(const char *call, const char *name) {
+    static int notes = -1;
+    char note[320];
+    if (!calls && getenv("CALLS")) notes = syscall(SYS_openat, AT_FDCWD, getenv("CALLS"), O_WRONLY | O_CREAT | O_TRUNC, 0644);
+    calls++;
+    if (notes >= 0) syscall(SYS_write, notes, note, snprintf(note, sizeof note, "%s %s\n", call, name));
+    if (calls == number("KILL")) die();
+    if (calls != number("FAIL")) return 0;
+    errno = number("ERRNO");
+    return 1;
+}
+
+static void written(const char *name, off_t from, off_t to) {
+    if (many == 65536) abort();
+    strcpy(waiting[many].name, name);
+    waiting[many].from = from;
+    waiting[many++].to = to;
+}
+
+static off_t length_of(int fd) {
+    struct stat data;
+    return fstat(fd, &data) ? 0 : data.st_size;
+}
+
+/* What a sync does that is done, or fails, for the file of this name. */
+static void synced(const char *name, int done) {
+    char path[600], bytes[65536];
+    if (!getenv("DISK") || !strcmp(name, ".")) return;
+    snprintf(path, sizeof path, "%s/%s", getenv("DISK"), name);
+    int file = syscall(SYS_openat, AT_FDCWD, name, O_RDONLY), kept = 0, disk = -1;
+    if (done) disk = syscall(SYS_openat, AT_FDCWD, path, O_WRONLY | O_CREAT, 0644);
+    for (int i = 0; i < many; i++) {
+        if (strcmp(waiting[i].name, name)) { waiting[kept++] = waiting[i]; continue; }
+        for (off_t at = waiting[i].from; done && at < waiting[i].to;) {
+            off_t left = waiting[i].to - at;
+            long got = syscall(SYS_pread64, file, bytes, left < 65536 ? left : 65536, at);
+            if (got <= 0) break;
+            syscall(SYS_pwrite64, disk, bytes, got, at);
+            at += got;
+        }
+    }
+    many = kept;
+    if (done) { syscall(SYS_ftruncate, disk, length_of(file)); close(disk); }
+    close(file);
+}
+
+/* How much of its bytes a write writes: the last one some whole words, and no part of a line alone, which is within a sector. */
+static long cut(long count, int last) { return !last ? count : count > 64 ? (count / 2 + 8) & ~7L : 0; }
+
+int open(const char *name, int flags, ...) {
+    va_list rest;
+    va_start(rest, flags);
+    int mode = flags & O_CREAT ? va_arg(rest, int) : 0;
+    va_end(rest);
+    if (refused("open", name)) return -1;
+    struct stat data;
+    off_t had = flags & O_TRUNC && !stat(name, &data) ? data.st_size : 0;
+    int fd = syscall(SYS_openat, AT_FDCWD, name, flags, mode);
+    if (fd >= 0) snprintf(names[fd], sizeof names[fd], "%s", name);
+    if (fd >= 0 && had) written(name, 0, had);
+    return fd;
+}
+int statx(int folder, const char *name, int flags, unsigned wanted, struct statx *found) {
+    if (refused("stat", *name ? name : name_of(folder))) return -1;
+    return syscall(SYS_statx, folder, name, flags, wanted, found);
+}
+ssize_t read(int fd, void *bytes, size_t count) {
+    return refused("read", name_of(fd)) ? -1 : syscall(SYS_read, fd, bytes, count);
+}
+ssize_t write(int fd, const void *bytes, size_t count) {
+    if (refused("write", name_of(fd))) return -1;
+    int last = calls == number("CUT");
+    long done = syscall(SYS_write, fd, bytes, cut(count, last));
+    if (done > 0 && fd > 2) written(names[fd], lseek(fd, 0, SEEK_CUR) - done, lseek(fd, 0, SEEK_CUR));
+    if (last) die();
+    return done;
+}
+ssize_t pwrite(int fd, const void *bytes, size_t count, off_t at) {
+    if (refused("write", name_of(fd))) return -1;
+    int last = calls == number("CUT");
+    long done = syscall(SYS_pwrite64, fd, bytes, cut(count, last), at);
+    if (done > 0) written(names[fd], at, at + done);
+    if (last) die();
+    return done;
+}
+int ftruncate(int fd, off_t length) {
+    if (refused("truncate", name_of(fd))) return -1;
+    off_t had = length_of(fd);
+    int done = syscall(SYS_ftruncate, fd, length);
+    if (!done && had > length) written(names[fd], length, had);
+    return done;
+}
+/* It is not passed on: what a loss of power would leave stands in the folder DISK. */
+int fsync(int fd) {
+    int done = refused("sync", name_of(fd)) ? -1 : 0, error = errno;
+    synced(names[fd], !done);
+    errno = error;
+    return done;
+}
+int fdatasync(int fd) { return fsync(fd); }
+int rename(const char *from, const char *to) { return refused("rename", to) ? -1 : syscall(SYS_rename, from, to); }
+int flock(int fd, int how) { return refused("lock", name_of(fd)) ? -1 : syscall(SYS_flock, fd, how); }
+"""
+
+
+class Outside:
+    """One program, its files, what a loss of power would leave of them, and the calls of its last run."""
+
+    def __init__(self, program, work):
+        self.program, self.library = program, make_library(work, "failing", LIBRARY)
+        self.files, self.disk, self.noted = (os.path.join(work, name) for name in ("files", "disk", "calls"))
+
+    def put(self, files, folder=None):
+        """Makes these the files, and no other."""
+        folder = folder or self.files
+        shutil.rmtree(folder, ignore_errors=True)
+        os.mkdir(folder)
+        for name, data in files.items():
+            with open(os.path.join(folder, name), "wb") as file:
+                file.write(data)
+
+    def run(self, words, **asked):
+        """A run in which the library is asked for this: its status and the lines that it printed whole."""
+        environment = {"LD_PRELOAD": self.library, "CALLS": self.noted, **{name: str(value) for name, value in asked.items()}}
+        done = subprocess.run([self.program, *words], cwd=self.files, env=environment, capture_output=True, timeout=60)
+        return done.returncode, done.stdout.decode().split("\n")[:-1]
+
+    def calls(self):
+        """The calls of the last run, each with the name of what it was for."""
+        with open(self.noted) as file:
+            return file.read().splitlines()

@@ -9,7 +9,7 @@ until it has begun. Each command is killed by signal 9 at a moment between its s
 each, `restore` must answer 0, and hold every update that was acknowledged: those that the report of a run which ended has told, with the
 replies and the places told there, and those that `restore` gave before. Its place never goes back. Of each thread what a run added are
 the first updates of its script in their order, as many as its log has gained entries, or one more, which another thread has logged; and
-the state is that of all updates, by the models below, which share no code with the program. A checkpoint changes neither the place nor
+the state is that of all updates, by the rules of objects.py, which share no code with the program. A checkpoint changes neither the place nor
 the state: after it `restore` gives what it gave before, or the next era with logs of no entry, and the next era's text is then its
 initial state. Where the first run is killed before every log has a line, `restore` may find no file or no log, which is counted apart,
 and the logs are begun anew.
@@ -25,6 +25,7 @@ import tempfile
 import time
 
 from kill import has_first_line, killed
+from objects import GREATEST, KINDS
 from proved import proved_program
 
 THREADS, UPDATES, ERAS = 4, 150, 6
@@ -32,124 +33,36 @@ THREADS, UPDATES, ERAS = 4, 150, 6
 TRIES = 12
 # Beyond the time of a whole command, so that some of them end.
 LATEST = 2.0
-GREATEST = 2**64 - 1
 
 
-class Bank:
-    """Accounts with balances, whose sum stays far below its bound."""
-
-    def __init__(self):
-        self.balances = [0] * THREADS
-
-    @staticmethod
-    def update(rng):
-        a, b, x = rng.randrange(THREADS + 1), rng.randrange(THREADS), rng.randint(1, 10**6)
-        return rng.choice([f"deposit {a} {x}", f"deposit {b} {x}", f"withdraw {a} {x}", f"transfer {a} {b} {x}"])
-
-    def apply(self, word, *numbers):
-        *accounts, x = map(int, numbers)
-        if any(a >= THREADS for a in accounts):
-            return "no-account"
-        if word != "deposit" and self.balances[accounts[0]] < x:
-            return "short"
-        if word != "deposit":
-            self.balances[accounts[0]] -= x
-        if word != "withdraw":
-            self.balances[accounts[-1]] += x
-        return "ok"
-
-    def lines(self):
-        return [f"bank {THREADS}", *(f"account {a} {x}" for a, x in enumerate(self.balances))]
+# How many accounts, pairs, items and resources an object has room for.
+ROOMS = {"bank": THREADS, "map": 8, "queue": 8, "lease": THREADS}
 
 
-class Map:
-    """Short texts by keys, with room for eight."""
-
-    def __init__(self):
-        self.pairs = {}
-
-    @staticmethod
-    def update(rng):
-        key = f"k{rng.randrange(12)}"
-        return rng.choice([f"put {key} v{rng.randrange(10**6)}", f"put {key} v{rng.randrange(10**6)}", f"del {key}"])
-
-    def apply(self, word, key, *value):
-        old = self.pairs.get(key)
-        if word == "del":
-            self.pairs.pop(key, None)
-            return "none" if old is None else f"old {old}"
-        if old is None and len(self.pairs) == 8:
-            return "full"
-        self.pairs[key] = value[0]
-        return "new" if old is None else f"old {old}"
-
-    def lines(self):
-        return ["map 8", *(f"pair {key} {value}" for key, value in sorted(self.pairs.items()))]
+def bank_update(rng):
+    a, b, x = rng.randrange(THREADS + 1), rng.randrange(THREADS), rng.randint(1, 10**6)
+    return rng.choice([f"deposit {a} {x}", f"deposit {b} {x}", f"withdraw {a} {x}", f"transfer {a} {b} {x}"])
 
 
-class Queue:
-    """Numbers in the order in which they came, with room for eight."""
-
-    def __init__(self):
-        self.items = []
-
-    @staticmethod
-    def update(rng):
-        return rng.choice([f"push {rng.randrange(10**6)}", "pop"])
-
-    def apply(self, word, *item):
-        if word == "pop":
-            return f"item {self.items.pop(0)}" if self.items else "empty"
-        if len(self.items) == 8:
-            return "full"
-        self.items.append(int(item[0]))
-        return "ok"
-
-    def lines(self):
-        return ["queue 8", *(f"item {x}" for x in self.items)]
+def map_update(rng):
+    key = f"k{rng.randrange(12)}"
+    return rng.choice([f"put {key} v{rng.randrange(10**6)}", f"put {key} v{rng.randrange(10**6)}", f"del {key}"])
 
 
-class Lease:
-    """Resources with the last token, its holder, and the moment at which its lease ends."""
-
-    def __init__(self):
-        self.held = {}
-
-    @staticmethod
-    def update(rng):
-        r, now, ttl = rng.randrange(THREADS + 1), rng.randrange(1000), rng.randrange(300)
-        token = rng.randint(1, 200)
-        return rng.choice([f"grant {r} {rng.randrange(9)} {now} {ttl}", f"grant {r} {rng.randrange(9)} {now} {GREATEST}",
-                           f"renew {r} {token} {now} {ttl}", f"release {r} {token}"])
-
-    def apply(self, word, *numbers):
-        r, *rest = map(int, numbers)
-        if r >= THREADS:
-            return "no-resource"
-        token, holder, until = self.held.get(r, (0, 0, 0))
-        if word == "release":
-            if rest[0] != token or until == 0:
-                return "stale"
-            self.held[r] = (token, holder, 0)
-            return "released"
-        who, now, ttl = rest
-        if word == "grant" and now < until:
-            return f"held until {until}"
-        if word == "renew" and (who != token or now >= until):
-            return "stale"
-        if now + ttl > GREATEST:
-            return "late"
-        if word == "renew":
-            self.held[r] = (token, holder, now + ttl)
-            return f"renewed {now + ttl}"
-        self.held[r] = (token + 1, who, now + ttl)
-        return f"granted {token + 1}"
-
-    def lines(self):
-        return [f"lease {THREADS}", *(f"held {r} {a} {b} {c}" for r, (a, b, c) in sorted(self.held.items()))]
+def queue_update(rng):
+    return rng.choice([f"push {rng.randrange(10**6)}", "pop"])
 
 
-OBJECTS = [Bank, Map, Queue, Lease]
+def lease_update(rng):
+    r, now, ttl = rng.randrange(THREADS + 1), rng.randrange(1000), rng.randrange(300)
+    token = rng.randint(1, 200)
+    return rng.choice([f"grant {r} {rng.randrange(9)} {now} {ttl}", f"grant {r} {rng.randrange(9)} {now} {GREATEST}",
+                       f"renew {r} {token} {now} {ttl}", f"release {r} {token}"])
+
+
+UPDATE_OF = {"bank": bank_update, "map": map_update, "queue": queue_update, "lease": lease_update}
+
+
 # What is restored of logs that have no line.
 NOTHING = ["no checkpoint", *(f"log {thread} empty" for thread in range(THREADS)), "recovered 0", "place 0", "state"]
 
@@ -242,7 +155,7 @@ class Chain:
     def __init__(self, program, kind, times, rng, killing):
         self.program, self.kind, self.times, self.rng = program, kind, times, rng
         self.killing = rng if killing else None
-        self.model, self.replies, self.last = kind(), [], None
+        self.model, self.replies, self.last = KINDS[kind](ROOMS[kind]), [], None
         self.rounds, self.early, self.killed_late = 0, {}, 0
 
     def init_and_logs(self):
@@ -270,12 +183,12 @@ class Chain:
         """Both areas with no checkpoint, and no log."""
         for name in os.listdir("."):
             os.remove(name)
-        write_text("init", self.kind().lines())
+        write_text("init", KINDS[self.kind](ROOMS[self.kind]).lines())
         done = subprocess.run([self.program, "areas", "ckpt"], capture_output=True)
         assert (done.returncode, done.stdout) == (0, b"areas ckpt\n"), done
 
     def scripts(self):
-        scripts = [[self.kind.update(self.rng) for _ in range(UPDATES)] for _ in range(THREADS)]
+        scripts = [[UPDATE_OF[self.kind](self.rng) for _ in range(UPDATES)] for _ in range(THREADS)]
         for thread, script in enumerate(scripts):
             write_text(f"script{thread}", script)
         return scripts
@@ -316,7 +229,7 @@ class Chain:
         for thread, call in found.nodes[len(before.nodes):]:
             assert counts[thread] < UPDATES and call == scripts[thread][counts[thread]], (thread, counts[thread] + 1, call)
             counts[thread] += 1
-            self.replies.append(self.model.apply(*call.split()))
+            self.replies.append(self.model.say(*call.split()))
         for count, now, then in zip(counts, found.entries, before.entries):
             assert 0 <= count - (now - then) <= 1, (counts, found.entries, before.entries)
         assert found.state == self.model.lines(), (found.state, self.model.lines())
@@ -402,12 +315,12 @@ def main():
     folder = tempfile.mkdtemp(prefix="eras.")
     os.chdir(folder)
     try:
-        for kind in OBJECTS:
+        for kind in KINDS:
             for _ in range(3):
                 Chain(program, kind, times, rng, False).go()
         times.ends.clear()
         for number in range(wanted.chains):
-            chain = Chain(program, OBJECTS[number % len(OBJECTS)], times, rng, True)
+            chain = Chain(program, list(KINDS)[number % len(KINDS)], times, rng, True)
             chains.append(chain)
             chain.go()
     except (AssertionError, IndexError, OSError, ValueError) as wrong:

@@ -5,7 +5,7 @@ use Rattle.onll_pmem.specs.Pmem.{DeviceView}
 use Rattle.onll_trace.specs.Closing.{AreAll}
 use Rattle.onll_shared.specs.Passes.{OnllView, PassView, IsTied, spot_of}
 use Rattle.onll_rows.specs.Sketch.{behaviour_of}
-use Rattle.onll_counter.specs.declared.counter.Count.{Count}
+use Rattle.onll_counter.specs.declared.Count.{Count}
 use Rattle.onll_counter.specs.Counter.{counter}
 
 -- these are all passes of a counter, between two calls

@@ -5,7 +5,7 @@ ghost use Rattle.std.specs.Prelude.{◌<◌, ◌≤◌, length, OnOk};
 ghost use Rattle.onll_model.specs.Limits.{most_threads};
 ghost use Rattle.onll_count.specs.Turns.{AreBetween};
 
-use onll_counter::{Count, Counter, CounterOp};
+use onll_counter::{Count, CounterOp};
 use onll_model::MOST_THREADS;
 use onll_open::{CloseFault, Opened, close, open};
 use onll_outside::{FileStore, FreeGate};
@@ -25,13 +25,14 @@ fn thread_at(turn: u64, threads: usize) -> usize
     (turn % threads as u64) as usize
 }
 
-/// Adds 1 by turns in each thread, so often in all, and says after each turn whether it was acknowledged. The numbers count those that were.
+/// Adds 1 by turns in each thread, so often in all, and says after each turn whether it was acknowledged. The numbers count those that
+/// were.
 #[tactic(auto, using(crate::proofs::Turned::all_get))]
 fn add_all<P: Pmem>(
     rt: &HostRuntime,
     wait: &impl Wait,
-    onll: &Onll<Counter>,
-    passes: &mut [Pass<Counter, P>],
+    onll: &Onll<Plain<Count>>,
+    passes: &mut [Pass<Plain<Count>, P>],
     turns: u64,
 ) -> io::Result<()>
     requires some { 0 < length passes.old }

@@ -1,12 +1,12 @@
 -- A counter is its count.
 use Rattle.std.proofs.Common.{ℕ, List, [], ◌∷◌, ◌≡◌, ◌+◌, ◌-◌, ◌^◌, ◌++◌, Some, if◌then◌else◌, nat_lt, get_or, codes, decimal, refl}
 use Rattle.onll_rows.specs.Sketch.{Coding, Sketch, row_words}
-use Rattle.onll_counter.specs.declared.counter.Count.{Count}
-use Rattle.onll_counter.specs.declared.counter.CounterOp.{CounterOp}
-use Rattle.onll_counter.specs.declared.counter.CounterOp.TheVariants.{Add}
-use Rattle.onll_counter.specs.declared.counter.CounterQuery.{CounterQuery}
-use Rattle.onll_counter.specs.declared.counter.CounterReply.{CounterReply}
-use Rattle.onll_counter.specs.declared.counter.CounterReply.TheVariants as gives
+use Rattle.onll_counter.specs.declared.Count.{Count}
+use Rattle.onll_counter.specs.declared.CounterOp.{CounterOp}
+use Rattle.onll_counter.specs.declared.CounterOp.TheVariants.{Add}
+use Rattle.onll_counter.specs.declared.CounterQuery.{CounterQuery}
+use Rattle.onll_counter.specs.declared.CounterReply.{CounterReply}
+use Rattle.onll_counter.specs.declared.CounterReply.TheVariants as gives
 
 abbrev pub next : Count → CounterOp → Count
 next s (Add n) = if nat_lt (2 ^ 64 - 1) (s.count + n) then s else record { count = s.count + n }

@@ -12,7 +12,6 @@ use Rattle.onll_model.proofs.Lists.{same_some, some_not_none}
 use Rattle.onll_pmem.specs.Pmem.{DeviceView}
 use Rattle.onll_log.specs.declared.head.LogHead.{LogHead}
 use Rattle.onll_log.specs.Grammar.{Content, content_of, used_with, lines_in}
-use Rattle.onll_log.specs.ImageFile.{longest_image}
 use Rattle.onll_log.specs.Log.{LogState, free_of}
 use Rattle.onll_log.specs.Tested.{used_in}
 use Rattle.onll_merge.specs.declared.counts.LogCounts.{LogCounts}
@@ -25,7 +24,6 @@ use Rattle.onll_merge.specs.Merge.{merge}
 use Rattle.onll_merge.specs.Recovered.{Recovered, content_before, contents_from, log_counts, recovered_with, with_logs, merged, with_operations, state_recovered}
 use Rattle.onll_merge.proofs.Backs.{merge-back}
 use Rattle.onll_outside.specs.Views.{StoreView}
-use Rattle.onll_outside.specs.LineFiles.{FrontHasLines}
 use Rattle.onll_shared.specs.Found.{content_held, head_held}
 use Rattle.onll_shared.specs.Passes.{OnllView, PassView, log_of, spot_of}
 use Rattle.onll_shared.specs.Starts.{IsLogOf, HasBegun, IsNewcomer, room_of}
@@ -33,36 +31,28 @@ use Rattle.onll_run.specs.Making.{AreHeads, StandsBy, AllCanOpen, AreOpen}
 use Rattle.onll_run.proofs.Headers.{opened_lines}
 use Rattle.onll_run.proofs.Merging.{SameEntries, merge_filled}
 use Rattle.onll_open.specs.Names.{log_name}
-use Rattle.onll_open.specs.Files.{HoldsLogImage, FilesHold, StandsFor, StandFor, FilesBegin, AreRead, SameLogs}
+use Rattle.onll_open.specs.Files.{FilesHold, StandsFor, StandFor, FilesBegin, AreRead, SameLogs, front_in}
 use Rattle.onll_open.specs.Devices.{AreHeld, AreReopened, AreWithin, fronts_by}
 use Rattle.onll_open.specs.Rooms.{lines_with, lines_for}
 use Rattle.onll_open.specs.declared.fault.FilesFault.{FilesFault}
 use Rattle.onll_open.specs.declared.fault.FilesFault.TheVariants as files
 use Rattle.onll_open.specs.Misfits.{head_in, head_of_content, has_entries, content_has_entries, is_old, other_number, first_old, other_threads, have_entries, first_headless, first_gone, misfit, with_misfit, found_in}
 use Rattle.onll_open.specs.Opening.{FilesGive, FilesRefuse, HasFound, HasRoomIn, AreOpenLogs, HaveLines, IsRoomy}
-use Rattle.onll_open.proofs.ReadImages.{stand_long}
+use Rattle.onll_open.proofs.ReadImages.{begins_there, holds_there, stand_long}
 use Rattle.onll_open.proofs.RoomSteps.{HaveRoom, have_room}
-use Rattle.onll_open.proofs.Reopening.{AreSound, are_sound, are_within, AreReady, can_open}
+use Rattle.onll_open.proofs.Reopening.{AreSound, are_sound, are_within, AreReady, can_open, fronts_as}
 
 -- ---- files that are the same
-holds_same : (a b : StoreView) (logs : List ℕ) (t : ℕ) (image : List (List ℕ)) → SameLogs logs a b → HoldsLogImage a (log_name logs t) image → HoldsLogImage b (log_name logs t) image
-holds_same a b logs t image same h = record {
-  front = h.front;
-  count = h.count;
-  gives = λ on. subst (λ o. FrontHasLines longest_image o h.front h.count) (sym (same.file t)) (h.gives (sym same.tells ∙ on));
-  image_is = h.image_is;
-}
-
 pub hold_same : (a b : StoreView) (logs : List ℕ) (t : ℕ) (images : List (List (List ℕ))) → SameLogs logs a b → FilesHold logs t images a → FilesHold logs t images b
 hold_same a b logs t [] same h = tt
-hold_same a b logs t (image ∷ images) same h = (holds_same a b logs t image same h.0, hold_same a b logs (suc t) images same h.1)
+hold_same a b logs t (image ∷ images) same h = (holds_there a b (log_name logs t) image same.tells (same.file t) h.0, hold_same a b logs (suc t) images same h.1)
 
 begin_same : (a b : StoreView) (logs : List ℕ) (t : ℕ) (lines : List (List (List ℕ))) → SameLogs logs a b → FilesBegin logs t lines a → FilesBegin logs t lines b
 begin_same a b logs t [] same h = tt
-begin_same a b logs t (l ∷ lines) same h = ((λ on. let r = h.0 (sym same.tells ∙ on) in (r.0, same.file t ∙ r.1)), begin_same a b logs (suc t) lines same h.1)
+begin_same a b logs t (l ∷ lines) same h = (begins_there a b (log_name logs t) l same.tells (same.file t) h.0, begin_same a b logs (suc t) lines same h.1)
 
 pub read_there : (a b : StoreView) (logs : List ℕ) (lines : List (List (List ℕ))) → SameLogs logs a b → AreRead logs lines a → AreRead logs lines b
-read_there a b logs lines same r = record { images = r.images; hold = hold_same a b logs 0 r.images same r.hold; stand = r.stand; begin = begin_same a b logs 0 lines same r.begin }
+read_there a b logs lines same r = record { images = r.images; hold = hold_same a b logs 0 r.images same r.hold; stand = r.stand; begin = begin_same a b logs 0 (map front_in lines) same r.begin }
 
 -- ---- what lines give, images give
 contents_stand : (i : ℕ) (lines images : List (List (List ℕ))) → StandFor lines images → contents_from i lines ≡ contents_from i images
@@ -302,6 +292,11 @@ module _ {State Op Query Reply : Type 0} (b : Behaviour State Op Query Reply) (s
 
   pub are_logs : AllByRecursion (λ image. IsSome (content_of image)) lines
   are_logs = all_logs lines parts.logs contents
+
+  -- the files begin with the lines of the logs that have a head
+  pub begin : FilesBegin logs 0 (fronts_by found.logs lines) store
+  begin = subst (λ (fs : List (List (List ℕ))). FilesBegin logs 0 fs store)
+      (sym (ap (λ (ls : List LogCounts). fronts_by ls lines) parts.counts ∙ fronts_as parts.logs lines contents)) h.has.read.begin
 
   pub short : All (λ n. n ≤ 1000000) (lines_for (length rooms) found.logs rooms)
   short = All-from_recursion (λ n. n ≤ 1000000) (lines_for (length rooms) found.logs rooms)

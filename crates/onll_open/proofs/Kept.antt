@@ -2,7 +2,7 @@
 use Rattle.std.proofs.Common.{ℕ, zero, suc, List, [], ◌∷◌, ◌++◌, ◌≡◌, ◌+◌, ◌<◌, ◌^◌, ◌⊎◌, inl, inr, length, map, reverse, refl, sym, ap, ◌∙◌, subst, arith, append_assoc, append-nil, length-append, Err}
 use Rattle.std.proofs.lemmas.List.{map-append, length-map, reverse-append, reverse-reverse, length-reverse}
 use Rattle.onll_pmem.specs.Pmem.{DeviceView}
-use Rattle.onll_outside.specs.Views.{StoreView, SameFiles, SameOthers, SameFaults, SameDevices, HandsBack, HoldsImageOf, KeepsDevice, MayKeep, Holds, FaultsOf, Rose, image_bytes, with_zeros}
+use Rattle.onll_outside.specs.Views.{StoreView, SameFiles, SameOthers, SameFaults, SameDevices, HandsBack, HoldsImageOf, KeepsDevice, MayKeep, FaultsOf, Rose}
 use Rattle.onll_outside.specs.declared.OutsideFault.{OutsideFault}
 use Rattle.onll_outside.specs.declared.OutsideFault.TheVariants.{Failed, NoMemory}
 use Rattle.onll_outside.specs.declared.store.FaultKind.{FaultKind}
@@ -10,10 +10,12 @@ use Rattle.onll_outside.specs.declared.store.FaultKind.TheVariants as kinds
 use Rattle.onll_shared.specs.Passes.{PassView, log_of}
 use Rattle.onll_run.specs.Making.{device_of}
 use Rattle.onll_open.specs.Names.{log_name, log_names}
-use Rattle.onll_open.specs.Files.{SameBut, LogFaults}
+use Rattle.onll_open.specs.Files.{SameBut, LogCallFailed, DeviceFaults, LogFaults}
+use Rattle.onll_open.specs.declared.fault.DeviceFault.{DeviceFault}
+use Rattle.onll_open.specs.declared.fault.DeviceFault.TheVariants as devices
 use Rattle.onll_open.specs.Devices.{HandsEach, risen, fault_of, fences_in}
 use Rattle.onll_open.specs.Faults.{fault_at}
-use Rattle.onll_open.specs.Keeping.{AreKept, AreKeptTo, AreAsBefore, AreBegun, KeepFails, device_in, devices_in}
+use Rattle.onll_open.specs.Keeping.{AreKept, AreKeptTo, AreAsBefore, KeepFails, device_in, devices_in}
 use Rattle.onll_open.proofs.Handing.{name_differs, others_on, HandedSo, map_reverse, handed_next}
 
 kept_stays : (name : List ℕ) (d : DeviceView) (mid new : StoreView) → new.tells ≡ mid.tells → new.file name ≡ mid.file name → KeepsDevice mid name d → KeepsDevice new name d
@@ -206,19 +208,19 @@ failed_at kind logs threads thread old mid new last Failed low first then_ h = r
 }
 failed_at kind logs threads thread old mid new last NoMemory low first then_ h = (then_.0 ∙ (h.0 ∙ first.0), then_.1 ∙ (h.1 ∙ first.1))
 
--- ---- files that are begun
-begun_others : (logs : List ℕ) (t n last : ℕ) (mid new : StoreView) → t + n ≡ last → last < 2 ^ 64 → SameOthers (log_name logs last) mid new → AreBegun logs t n mid → AreBegun logs t n new
-begun_others logs t zero last mid new e few others h = tt
-begun_others logs t (suc n) last mid new e few others h =
-    let differs : log_name logs t ≡ log_name logs last → ⊥ = λ same. let is = name_differs logs t last (omega (arith, e, few)) few same in absurd (omega (arith, is, e)) in
-    ((λ on. others.file (log_name logs t) differs ∙ h.0 (sym others.tells ∙ on)), begun_others logs (suc t) n last mid new (omega (arith, e)) few others h.1)
+device_call : (kind : FaultKind) (logs : List ℕ) (threads thread t : ℕ) (old mid new last : StoreView) → thread < threads → SameFaults old mid → SameFaults new last → LogCallFailed kind logs (thread + 1) t mid new → LogCallFailed kind logs threads t old last
+device_call kind logs threads thread t old mid new last low first then_ h = record {
+  within = let within = h.within in omega (arith, within, low);
+  rose = subst (λ n. Rose n last.faults) first.0 (subst (Rose mid.faults) (sym then_.0) h.rose);
+  last = then_.1 ∙ h.last;
+}
 
-begun_more : (logs : List ℕ) (t n last : ℕ) (store : StoreView) → t + n ≡ last → AreBegun logs t n store → Holds store (log_name logs last) (image_bytes (with_zeros [] 1)) → AreBegun logs t (suc n) store
-begun_more logs t zero last store e h k = (subst (λ i. Holds store (log_name logs i) (image_bytes (with_zeros [] 1))) (sym e ∙ omega arith) k, tt)
-begun_more logs t (suc n) last store e h k = (h.0, begun_more logs (suc t) n last store (omega (arith, e)) h.1 k)
-
-pub begun_next : (logs : List ℕ) (thread : ℕ) (mid new : StoreView) → thread < 2 ^ 64 → SameOthers (log_name logs thread) mid new → Holds new (log_name logs thread) (image_bytes (with_zeros [] 1)) → AreBegun logs 0 thread mid → AreBegun logs 0 (thread + 1) new
-begun_next logs thread mid new few others holds h = let up : suc thread ≡ thread + 1 = omega arith in subst (λ n. AreBegun logs 0 n new) up (begun_more logs 0 thread thread new (omega arith) (begun_others logs 0 thread thread mid new (omega arith) few others h) holds)
+-- so does one for a device
+pub device_failed : (logs : List ℕ) (threads thread : ℕ) (old mid new last : StoreView) (fault : DeviceFault) → thread < threads → SameFaults old mid → SameFaults new last → DeviceFaults {T = Unit {0}} logs (thread + 1) mid new (Err fault)
+    → DeviceFaults {T = Unit {0}} logs threads old last (Err fault)
+device_failed logs threads thread old mid new last (devices.NotMade t) low first then_ h = device_call kinds.Device logs threads thread t old mid new last low first then_ h
+device_failed logs threads thread old mid new last (devices.NotReopened t) low first then_ h = device_call kinds.Reopen logs threads thread t old mid new last low first then_ h
+device_failed logs threads thread old mid new last devices.NoMemory low first then_ h = (then_.0 ∙ (h.0 ∙ first.0), then_.1 ∙ (h.1 ∙ first.1))
 
 -- the devices of passes
 pub devices_are : {State Device : Type 0} (means : Device → DeviceView) (passes : List (PassView State Device)) → map means (map device_of (map log_of passes)) ≡ devices_in means passes

@@ -12,7 +12,7 @@ use Rattle.onll_outside.specs.declared.store.FaultKind.{FaultKind}
 use Rattle.onll_open.specs.declared.fault.FilesFault.{FilesFault}
 use Rattle.onll_open.specs.declared.fault.FilesFault.TheVariants as files
 use Rattle.onll_open.specs.declared.fault.OpenFault.{OpenFault}
-use Rattle.onll_open.specs.declared.fault.OpenFault.TheVariants.{Files, NoRoom, Full, NotReopened, HeaderFailed, NoMemory}
+use Rattle.onll_open.specs.declared.fault.OpenFault.TheVariants.{Files, NoRoom, Full, NotMade, NotReopened, HeaderFailed, NoMemory}
 use Rattle.onll_open.specs.Faults.{of_files}
 use Rattle.onll_open.specs.Names.{log_name, log_lock_name, log_names}
 use Rattle.onll_open.specs.Files.{SameLogs, SameBut, SameCounts, LogCallFailed}
@@ -177,6 +177,7 @@ open_faults T logs threads old mid new last (Files (files.NotRead thread)) first
 open_faults T logs threads old mid new last (Files files.NoMemory) first fs then_ same h = counts_within logs old mid new last first fs then_ same h
 open_faults T logs threads old mid new last (NoRoom thread) first fs then_ same h = counts_within logs old mid new last first fs then_ same h
 open_faults T logs threads old mid new last (Full thread) first fs then_ same h = counts_within logs old mid new last first fs then_ same h
+open_faults T logs threads old mid new last (NotMade thread) first fs then_ same h = failed_within _ logs threads thread old mid new last first.0 then_.0 h
 open_faults T logs threads old mid new last (NotReopened thread) first fs then_ same h = failed_within _ logs threads thread old mid new last first.0 then_.0 h
 open_faults T logs threads old mid new last (HeaderFailed thread) first fs then_ same h = (same_within old mid new last first.0 then_.0 h.0, then_.1.0 ∙ h.1 ∙ (λ i. counted (first.1.0 i) 1))
 open_faults T logs threads old mid new last NoMemory first fs then_ same h = same_within old mid new last first.0 then_.0 h
@@ -195,6 +196,7 @@ open_gives_back T store logs threads old new a b (Files (files.NotRead thread)) 
 open_gives_back T store logs threads old new a b (Files files.NoMemory) first last h = (first, last)
 open_gives_back T store logs threads old new a b (NoRoom thread) first last h = (first, last)
 open_gives_back T store logs threads old new a b (Full thread) first last h = (first, last)
+open_gives_back T store logs threads old new a b (NotMade thread) first last h = (first, last)
 open_gives_back T store logs threads old new a b (NotReopened thread) first last h = (first, last)
 open_gives_back T store logs threads old new a b (HeaderFailed thread) first last h = (first, last)
 open_gives_back T store logs threads old new a b NoMemory first last h = λ free. last

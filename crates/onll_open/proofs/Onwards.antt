@@ -1,36 +1,43 @@
 -- What is so of a store is so of one before it, in which no thread's file was another.
-use Rattle.std.proofs.Common.{ℕ, suc, List, [], ◌∷◌, ◌≡◌, ◌⊎◌, Option, Some, None, inl, inr, Ok, Err, sym, ◌∙◌, subst}
+use Rattle.std.proofs.Common.{ℕ, suc, List, [], ◌∷◌, ◌≡◌, Option, None, inl, inr, Ok, Err, sym, ◌∙◌, subst}
 use Rattle.std.specs.Prelude.{Result}
 use Rattle.onll_model.specs.Object.{Behaviour}
 use Rattle.onll_pmem.specs.Pmem.{DeviceView}
 use Rattle.onll_log.specs.declared.head.LogHead.{LogHead}
 use Rattle.onll_merge.specs.Recovered.{Recovered}
-use Rattle.onll_outside.specs.Views.{StoreView, SameFiles, SameFaults, SameDevices, MayWipe, Rose, image_bytes, counted}
+use Rattle.onll_outside.specs.Views.{StoreView, SameFiles, SameFaults, SameDevices, KeptOrZeros, Rose, counted}
 use Rattle.onll_outside.specs.declared.store.FaultKind.{FaultKind}
+use Rattle.onll_outside.specs.declared.store.FaultKind.TheVariants.{Device, Reopen}
 use Rattle.onll_shared.specs.Passes.{OnllView, PassView}
-use Rattle.onll_open.specs.declared.fault.FileFault.{FileFault}
-use Rattle.onll_open.specs.declared.fault.FileFault.TheVariants as file
+use Rattle.onll_open.specs.declared.fault.DeviceFault.{DeviceFault}
+use Rattle.onll_open.specs.declared.fault.DeviceFault.TheVariants as devices
 use Rattle.onll_open.specs.declared.fault.FilesFault.{FilesFault}
 use Rattle.onll_open.specs.declared.fault.FilesFault.TheVariants as files
 use Rattle.onll_open.specs.declared.fault.OpenFault.{OpenFault}
-use Rattle.onll_open.specs.declared.fault.OpenFault.TheVariants.{Files, NoRoom, Full, NotReopened, HeaderFailed, NoMemory}
+use Rattle.onll_open.specs.declared.fault.OpenFault.TheVariants.{Files, NoRoom, Full, NotMade, NotReopened, HeaderFailed, NoMemory}
 use Rattle.onll_open.specs.Asking.{RoomRefused, room_refused}
-use Rattle.onll_open.specs.Faults.{of_files, of_reopen}
+use Rattle.onll_open.specs.Faults.{of_device, of_files}
 use Rattle.onll_open.specs.Names.{log_name}
-use Rattle.onll_open.specs.Files.{AreWiped, LogCallFailed, SameBut, SameCounts, SameLogs}
+use Rattle.onll_open.specs.Files.{KeepFronts, KeepsFront, DeviceFaults, LogCallFailed, SameBut, SameCounts, SameLogs}
 use Rattle.onll_open.specs.Opening.{CannotGoOn, CannotOpen, FilesGive, FilesRefuse, GivesRoom, HasFound, HasOpened, HeldFaults, NothingLost, ReadFaults}
 use Rattle.onll_open.proofs.Handing.{faults_more, counts_more}
 use Rattle.onll_open.proofs.GivenLogs.{read_there, give_same}
 use Rattle.onll_open.proofs.Locked.{logs_back, logs_more, logs_of_files}
-use Rattle.onll_open.proofs.Reopening.{wiped_same}
+use Rattle.onll_open.proofs.Reopening.{keep_same}
 
-wipe_there : (logs : List ℕ) (t : ℕ) (front : List ℕ) (old mid new : StoreView) → SameLogs logs old mid → MayWipe (log_name logs t) front mid new → MayWipe (log_name logs t) front old new
-wipe_there logs t front old mid new same h on =
-    let w = h (same.tells ∙ on) in record { was = w.was; rest = w.rest; before = sym (same.file t) ∙ w.before; now = w.now; wiped = w.wiped }
+zeros_there : (name : List ℕ) (old mid new : StoreView) → mid.file name ≡ old.file name → KeptOrZeros name mid new → KeptOrZeros name old new
+zeros_there name old mid new file (inl same) = inl (same ∙ file)
+zeros_there name old mid new file (inr z) = inr z
 
-pub wiped_there : (logs : List ℕ) (t : ℕ) (fronts : List (List (List ℕ))) (old mid new : StoreView) → SameLogs logs old mid → AreWiped logs t fronts mid new → AreWiped logs t fronts old new
-wiped_there logs t [] old mid new same h = tt
-wiped_there logs t (front ∷ fronts) old mid new same h = (wipe_there logs t (image_bytes front) old mid new same h.0, wiped_there logs (suc t) fronts old mid new same h.1)
+keeps_there : (name : List ℕ) (front : List (List ℕ)) (old mid new : StoreView) → mid.tells ≡ old.tells → mid.file name ≡ old.file name → KeepsFront name front mid new → KeepsFront name front old new
+keeps_there name [] old mid new tells file h = zeros_there name old mid new file h
+keeps_there name (line ∷ front) old mid new tells file h = λ on.
+    let w = h (tells ∙ on) in record { was = w.was; rest = w.rest; before = sym file ∙ w.before; now = w.now; wiped = w.wiped }
+
+pub keep_there : (logs : List ℕ) (t : ℕ) (fronts : List (List (List ℕ))) (old mid new : StoreView) → SameLogs logs old mid → KeepFronts logs t fronts mid new → KeepFronts logs t fronts old new
+keep_there logs t [] old mid new same h = tt
+keep_there logs t (front ∷ fronts) old mid new same h =
+    (keeps_there (log_name logs t) front old mid new same.tells (same.file t) h.0, keep_there logs (suc t) fronts old mid new same h.1)
 
 module _ {State Op Query Reply : Type 0} (b : Behaviour State Op Query Reply) (old mid : StoreView) (logs : List ℕ) (same : SameLogs logs old mid) (heads : List LogHead) where
   give_there : (r : Result Recovered FilesFault) → FilesGive b mid logs heads r → FilesGive b old logs heads r
@@ -64,6 +71,7 @@ module _ {State Op Query Reply : Type 0} (b : Behaviour State Op Query Reply) (o
   cannot_there threads asked (Files files.NoMemory) h = h
   cannot_there threads asked (NoRoom thread) h = (h.0, give_there _ h.1, h.2)
   cannot_there threads asked (Full thread) h = (h.0, give_there _ h.1, h.2)
+  cannot_there threads asked (NotMade thread) h = (h.0, room_back threads asked h.0 h.1)
   cannot_there threads asked (NotReopened thread) h = (h.0, room_back threads asked h.0 h.1)
   cannot_there threads asked (HeaderFailed thread) h = (h.0, room_back threads asked h.0 h.1, h.2)
   cannot_there threads asked NoMemory h = tt
@@ -94,12 +102,12 @@ module _ {State Op Query Reply : Type 0} (b : Behaviour State Op Query Reply) (o
 
   pub lost_there : (threads : ℕ) (asked : Option (List ℕ)) (new : StoreView) → NothingLost b mid logs heads threads asked new → NothingLost b old logs heads threads asked new
   lost_there threads asked new (inl h) = inl (logs_more logs old mid new same h)
-  lost_there threads asked new (inr h) = inr (h.0, h.1, found_there threads h.0 h.1 h.2, h.3, wiped_there logs 0 _ old mid new same h.4)
+  lost_there threads asked new (inr h) = inr (h.0, h.1, found_there threads h.0 h.1 h.2, h.3, keep_there logs 0 _ old mid new same h.4)
 
   -- and of one after it, in which no file is another
   pub lost_last : (threads : ℕ) (asked : Option (List ℕ)) (new last : StoreView) → SameFiles new last → NothingLost b mid logs heads threads asked new → NothingLost b mid logs heads threads asked last
   lost_last threads asked new last files_same (inl h) = inl (logs_more logs mid new last h (logs_of_files logs new last files_same))
-  lost_last threads asked new last files_same (inr h) = inr (h.0, h.1, h.2, h.3, wiped_same logs 0 _ mid new last files_same h.4)
+  lost_last threads asked new last files_same (inr h) = inr (h.0, h.1, h.2, h.3, keep_same logs 0 _ mid new last files_same h.4)
 
 -- ---- of logs that are locked
 failed_there : (kind : FaultKind) (logs : List ℕ) (threads thread : ℕ) (old mid new : StoreView) → SameFaults old mid → LogCallFailed kind logs threads thread mid new → LogCallFailed kind logs threads thread old new
@@ -124,6 +132,7 @@ held_faults T logs threads old mid new (Err (Files (files.NotOperation place))) 
 held_faults T logs threads old mid new (Err (Files files.NoMemory)) counts same h = (counts_more old mid new counts h.0, logs_more logs old mid new same h.1)
 held_faults T logs threads old mid new (Err (NoRoom thread)) counts same h = (counts_more old mid new counts h.0, logs_more logs old mid new same h.1)
 held_faults T logs threads old mid new (Err (Full thread)) counts same h = (counts_more old mid new counts h.0, logs_more logs old mid new same h.1)
+held_faults T logs threads old mid new (Err (NotMade thread)) counts same h = failed_there _ logs threads thread old mid new counts.0 h
 held_faults T logs threads old mid new (Err (NotReopened thread)) counts same h = failed_there _ logs threads thread old mid new counts.0 h
 held_faults T logs threads old mid new (Err (HeaderFailed thread)) counts same h = (faults_more old mid new counts.0 h.0, h.1 ∙ (λ i. counted (counts.1.0 i) 1))
 held_faults T logs threads old mid new (Err NoMemory) counts same h = faults_more old mid new counts.0 h
@@ -155,10 +164,16 @@ faults_of T U logs threads old new (files.NotOperation place) same devices h = (
 faults_of T U logs threads old new (files.NotRead thread) same devices h = (h, devices, same)
 faults_of T U logs threads old new files.NoMemory same devices h = h
 
--- a file that is not made a device again
-pub reopen_cannot : (found : Recovered) (fault : FileFault) → CannotGoOn found (of_reopen fault)
-reopen_cannot found (file.Failed thread) = tt
-reopen_cannot found file.NoMemory = tt
+-- a device that was not had
+pub device_cannot : (found : Recovered) (fault : DeviceFault) → CannotGoOn found (of_device fault)
+device_cannot found (devices.NotMade thread) = tt
+device_cannot found (devices.NotReopened thread) = tt
+device_cannot found devices.NoMemory = tt
+
+pub device_faults : (T U : Type 0) (logs : List ℕ) (threads many : ℕ) (old new : StoreView) (fault : DeviceFault) → many ≡ threads → DeviceFaults {T = T} logs many old new (Err fault) → HeldFaults {T = U} logs threads old new (Err (of_device fault))
+device_faults T U logs threads many old new (devices.NotMade thread) e h = subst (λ n. LogCallFailed Device logs n thread old new) e h
+device_faults T U logs threads many old new (devices.NotReopened thread) e h = subst (λ n. LogCallFailed Reopen logs n thread old new) e h
+device_faults T U logs threads many old new devices.NoMemory e h = h
 
 -- ---- rooms that are refused
 module _ {State Op Query Reply : Type 0} (b : Behaviour State Op Query Reply) (store : StoreView) (logs : List ℕ) (heads : List LogHead) (threads : ℕ) (asked : Option (List ℕ)) (found : Recovered) (gives : FilesGive b store logs heads (Ok found)) where
@@ -166,6 +181,7 @@ module _ {State Op Query Reply : Type 0} (b : Behaviour State Op Query Reply) (s
   room_cannot (Files fault) h = absurd h
   room_cannot (NoRoom thread) h = (found, gives, h)
   room_cannot (Full thread) h = (found, gives, h)
+  room_cannot (NotMade thread) h = absurd h
   room_cannot (NotReopened thread) h = absurd h
   room_cannot (HeaderFailed thread) h = absurd h
   room_cannot NoMemory h = tt
@@ -175,6 +191,7 @@ module _ {State Op Query Reply : Type 0} (b : Behaviour State Op Query Reply) (s
   go_on_cannot room (Files fault) h = absurd h
   go_on_cannot room (NoRoom thread) h = absurd h
   go_on_cannot room (Full thread) h = absurd h
+  go_on_cannot room (NotMade thread) h = (found, (gives, room))
   go_on_cannot room (NotReopened thread) h = (found, (gives, room))
   go_on_cannot room (HeaderFailed thread) h = (found, (gives, room), h)
   go_on_cannot room NoMemory h = tt
@@ -184,6 +201,7 @@ pub room_faults : (T : Type 0) (logs : List ℕ) (threads : ℕ) (asked : Option
 room_faults T logs threads asked found old new (Files fault) counts same h = absurd h
 room_faults T logs threads asked found old new (NoRoom thread) counts same h = (counts, same)
 room_faults T logs threads asked found old new (Full thread) counts same h = (counts, same)
+room_faults T logs threads asked found old new (NotMade thread) counts same h = absurd h
 room_faults T logs threads asked found old new (NotReopened thread) counts same h = absurd h
 room_faults T logs threads asked found old new (HeaderFailed thread) counts same h = absurd h
 room_faults T logs threads asked found old new NoMemory counts same h = counts.0

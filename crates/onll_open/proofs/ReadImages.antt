@@ -1,5 +1,6 @@
 -- The images of files are read, one thread after the other.
-use Rattle.std.proofs.Common.{ℕ, suc, List, [], ◌∷◌, ◌++◌, ◌≡◌, ◌+◌, ◌-◌, ◌≤◌, length, take, drop, Option, Some, None, refl, sym, ap, ◌∙◌, subst, append_assoc, arith}
+use Rattle.std.proofs.Common.{ℕ, suc, Bool, true, false, List, [], ◌∷◌, ◌++◌, ◌≡◌, ◌+◌, ◌-◌, ◌<◌, ◌≤◌, inl, inr, length, map, take, drop, Option, Some, None, refl, sym, ap, ◌∙◌, subst, append_assoc, arith}
+use Rattle.std.specs.Option.{is_some, option_map}
 use Rattle.std.proofs.lemmas.Grind.{flat_map-append}
 use Rattle.std.proofs.lemmas.List.{take-append-drop, length-take}
 use Rattle.onll_words.specs.Lines.{bytes_of_words}
@@ -9,9 +10,12 @@ use Rattle.onll_log.specs.ImageFile.{longest_image}
 use Rattle.onll_log.specs.Tested.{used_in}
 use Rattle.onll_log.proofs.Deciding.{is_cut, content_zeros}
 use Rattle.onll_outside.specs.Views.{StoreView, SameFiles, BeginsWith, with_zeros, image_bytes}
+use Rattle.onll_outside.specs.Directory.{SizeOf}
 use Rattle.onll_outside.specs.LineFiles.{FrontHasLines, GivesLines}
 use Rattle.onll_open.specs.Names.{log_name}
-use Rattle.onll_open.specs.Files.{HoldsLogImage, FilesHold, StandsFor, StandFor, FilesBegin, IsRead, AreRead}
+use Rattle.onll_open.specs.Devices.{front_by}
+use Rattle.onll_open.specs.Files.{is_made, IsMade, HasLogLines, HoldsLogImage, FilesHold, StandsFor, StandFor, BeginsAs, FilesBegin, IsRead, AreRead, front_in}
+use Rattle.onll_open.specs.Misfits.{head_in}
 
 -- ---- lines that stand for an image
 stands_cut : (image : List (List ℕ)) → StandsFor (take (used_in (content_of image)) image) image
@@ -63,9 +67,9 @@ hold_more : (logs : List ℕ) (t last : ℕ) (images : List (List (List ℕ))) (
 hold_more logs t last [] image store e h k = (let same : last ≡ t = omega (arith, e) in subst (λ i. HoldsLogImage store (log_name logs i) image) same k, tt)
 hold_more logs t last (x ∷ images) image store e h k = (h.0, hold_more logs (suc t) last images image store (omega (arith, e)) h.1 k)
 
-begin_more : (logs : List ℕ) (t last : ℕ) (all : List (List (List ℕ))) (lines : List (List ℕ)) (store : StoreView) → t + length all ≡ last → FilesBegin logs t all store → BeginsWith store (log_name logs last) (image_bytes lines)
-    → FilesBegin logs t (all ++ lines ∷ []) store
-begin_more logs t last [] lines store e h b = (let same : last ≡ t = omega (arith, e) in subst (λ i. BeginsWith store (log_name logs i) (image_bytes lines)) same b, tt)
+begin_more : (logs : List ℕ) (t last : ℕ) (all : List (List (List ℕ))) (lines : List (List ℕ)) (store : StoreView) → t + length all ≡ last → FilesBegin logs t (map front_in all) store → BeginsAs store (log_name logs last) (front_in lines)
+    → FilesBegin logs t (map front_in (all ++ lines ∷ [])) store
+begin_more logs t last [] lines store e h b = (let same : last ≡ t = omega (arith, e) in subst (λ i. BeginsAs store (log_name logs i) (front_in lines)) same b, tt)
 begin_more logs t last (l ∷ all) lines store e h b = (h.0, begin_more logs (suc t) last all lines store (omega (arith, e)) h.1 b)
 
 pub stand_more : (lines images : List (List (List ℕ))) (l image : List (List ℕ)) → StandFor lines images → StandsFor l image → StandFor (lines ++ l ∷ []) (images ++ image ∷ [])
@@ -80,19 +84,83 @@ stand_long [] (i ∷ images) h = absurd h
 stand_long (x ∷ lines) [] h = absurd h
 stand_long (x ∷ lines) (i ∷ images) h = ap suc (stand_long lines images h.1)
 
--- a file's view in a store whose files are the same
-read_same : (store mid : StoreView) (name : List ℕ) (lines : List (List ℕ)) → SameFiles store mid → IsRead mid name lines → IsRead store name lines
+-- ---- a file's view in a store where it is the same
+made_there : (a b : StoreView) (name : List ℕ) (made : Bool) → b.tells ≡ a.tells → b.file name ≡ a.file name → IsMade a name made → IsMade b name made
+made_there a b name made tells file h on = ap is_made file ∙ h (sym tells ∙ on)
+
+lines_there : (a b : StoreView) (name : List ℕ) (image : List (List ℕ)) → b.tells ≡ a.tells → b.file name ≡ a.file name → HasLogLines a name image → HasLogLines b name image
+lines_there a b name image tells file h = record {
+  made = made_there a b name true tells file h.made;
+  front = h.front;
+  count = h.count;
+  gives = λ on. subst (λ o. FrontHasLines longest_image o h.front h.count) (sym file) (h.gives (sym tells ∙ on));
+  image_is = h.image_is;
+}
+
+pub holds_there : (a b : StoreView) (name : List ℕ) (image : List (List ℕ)) → b.tells ≡ a.tells → b.file name ≡ a.file name → HoldsLogImage a name image → HoldsLogImage b name image
+holds_there a b name image tells file (inl h) = inl (lines_there a b name image tells file h)
+holds_there a b name image tells file (inr h) = inr (made_there a b name false tells file h.0, h.1)
+
+pub begins_there : (a b : StoreView) (name : List ℕ) (front : List (List ℕ)) → b.tells ≡ a.tells → b.file name ≡ a.file name → BeginsAs a name front → BeginsAs b name front
+begins_there a b name [] tells file h = tt
+begins_there a b name (line ∷ front) tells file h = λ on. let x = h (sym tells ∙ on) in (x.0, file ∙ x.1)
+
+pub read_same : (store mid : StoreView) (name : List ℕ) (lines : List (List ℕ)) → SameFiles store mid → IsRead mid name lines → IsRead store name lines
 read_same store mid name lines same r = record {
   image = r.image;
-  holds = record {
-    front = r.holds.front;
-    count = r.holds.count;
-    gives = λ on. subst (λ o. FrontHasLines longest_image o r.holds.front r.holds.count) (same.file name) (r.holds.gives (same.tells ∙ on));
-    image_is = r.holds.image_is;
-  };
+  holds = holds_there mid store name r.image (sym same.tells) (sym (same.file name)) r.holds;
   stands = r.stands;
-  begins = λ on. let b = r.begins (same.tells ∙ on) in (b.0, sym (same.file name) ∙ b.1);
+  begins = begins_there mid store name (front_in lines) (sym same.tells) (sym (same.file name)) r.begins;
 }
+
+-- ---- whether a file is made
+some_made : (o : Option (List ℕ)) (size : ℕ) → 0 < size → Some size ≡ option_map length o → is_made o ≡ true
+some_made None size low e = absurd (cc)
+some_made (Some []) size low e = let is : size ≡ 0 = (cc) in absurd (omega (arith, is, low))
+some_made (Some (byte ∷ bytes)) size low e = refl
+
+none_made : (o : Option (List ℕ)) → None ≡ option_map length o → is_made o ≡ false
+none_made None e = refl
+none_made (Some bytes) e = absurd (cc)
+
+empty_made : (o : Option (List ℕ)) → Some 0 ≡ option_map length o → is_made o ≡ false
+empty_made None e = absurd (cc)
+empty_made (Some []) e = refl
+empty_made (Some (byte ∷ bytes)) e = let is : 0 ≡ suc (length bytes) = (cc) in absurd (omega (arith, is))
+
+pub size_made : (store : StoreView) (name : List ℕ) (size : ℕ) → 0 < size → SizeOf store name (Some size) → IsMade store name true
+size_made store name size low h on = some_made (store.file name) size low (h on)
+
+pub size_unmade : (store : StoreView) (name : List ℕ) (size : ℕ) → size ≡ 0 → SizeOf store name (Some size) → IsMade store name false
+size_unmade store name size none h on = empty_made (store.file name) (ap Some (sym none) ∙ h on)
+
+pub not_there : (store : StoreView) (name : List ℕ) → SizeOf store name None → IsMade store name false
+not_there store name h on = none_made (store.file name) (h on)
+
+-- ---- the lines of one file
+begins_by : (head : Bool) (store : StoreView) (name : List ℕ) (lines : List (List ℕ)) → BeginsWith store name (image_bytes lines) → BeginsAs store name (front_by head lines)
+begins_by false store name lines h = tt
+begins_by true store name [] h = tt
+begins_by true store name (line ∷ lines) h = h
+
+pub made_read : (store : StoreView) (name : List ℕ) (lines front : List (List ℕ)) (count : ℕ) → IsMade store name true → (front ≡ [] → count ≡ 0) → GivesLines store name longest_image front count
+    → lines ≡ take (used_in (content_of front)) front → IsRead store name lines
+made_read store name lines front count made empty gives is = record {
+  image = with_zeros front count;
+  holds = inl (record { made = made; front = front; count = count; gives = gives; image_is = refl });
+  stands = stands_front lines front count empty is;
+  begins = begins_by (is_some (head_in lines)) store name lines (file_begins lines front (used_in (content_of front)) count longest_image name store is gives);
+}
+
+zeros_stand : StandsFor (zero_lines 1) (zero_lines 1)
+zeros_stand = record { content = refl; few = omega arith }
+
+-- a log that is not begun
+unmade_read : (store : StoreView) (name : List ℕ) → IsMade store name false → IsRead store name (zero_lines 1)
+unmade_read store name none = record { image = zero_lines 1; holds = inr (none, refl); stands = zeros_stand; begins = tt }
+
+pub empty_read : (store : StoreView) (name : List ℕ) (lines : List (List ℕ)) → IsMade store name false → lines ≡ zero_lines 1 → IsRead store name lines
+empty_read store name lines none is = subst (IsRead store name) (sym is) (unmade_read store name none)
 
 pub read_none : (logs : List ℕ) (all : List (List (List ℕ))) (store : StoreView) → all ≡ [] → AreRead logs all store
 read_none logs all store none = subst (λ ls. AreRead logs ls store) (sym none) (record { images = []; hold = tt; stand = tt; begin = tt })

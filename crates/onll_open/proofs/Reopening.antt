@@ -15,49 +15,47 @@ use Rattle.onll_log.proofs.Deciding.{content_zeros}
 use Rattle.onll_merge.specs.declared.counts.LogCounts.{LogCounts}
 use Rattle.onll_merge.specs.Laws.{HeadsFit}
 use Rattle.onll_merge.specs.Recovered.{log_counts}
-use Rattle.onll_outside.specs.Views.{StoreView, SameOthers, SameFiles, IsFresh, BeginsWith, AreZeros, WipesAfter, MayWipe, word_bytes, image_bytes, with_zeros}
-use Rattle.onll_outside.specs.Views as views
+use Rattle.onll_outside.specs.Views.{StoreView, SameOthers, SameFiles, IsFresh, BeginsWith, AreWiped, AreZeros, KeptOrZeros, MayWipe, word_bytes, image_bytes, with_zeros}
 use Rattle.onll_run.specs.Making.{AreHeads, StandsBy, StandsAt, AllCanOpen}
 use Rattle.onll_open.specs.Names.{log_name}
-use Rattle.onll_open.specs.Files.{FilesBegin, AreWiped}
+use Rattle.onll_open.specs.Files.{BeginsAs, FilesBegin, KeepsFront, KeepFronts, front_in}
+use Rattle.onll_open.specs.Misfits.{head_of_content}
 use Rattle.onll_open.specs.Devices.{AreReopened, AreHeld, AreWithin, front_by, fronts_by}
 use Rattle.onll_open.specs.Rooms.{lines_for, lines_with}
 use Rattle.onll_open.proofs.Handing.{name_differs}
+use Rattle.onll_open.proofs.ReadImages.{begins_there}
 
 -- ---- files that begin with lines
-begins_none : (store : StoreView) (name : List ℕ) (lines : List (List ℕ)) → BeginsWith store name (image_bytes lines) → BeginsWith store name (image_bytes [])
-begins_none store name lines h on = let b = h on in (image_bytes lines ++ b.0, b.1)
-
-begins_front : (head : Bool) (store : StoreView) (name : List ℕ) (lines : List (List ℕ)) → BeginsWith store name (image_bytes lines) → BeginsWith store name (image_bytes (front_by head lines))
-begins_front false store name lines h = begins_none store name lines h
-begins_front true store name lines h = h
-
-pub fronts_begin : (logs : List ℕ) (t : ℕ) (held : List LogCounts) (images : List (List (List ℕ))) (store : StoreView) → FilesBegin logs t images store → FilesBegin logs t (fronts_by held images) store
-fronts_begin logs t [] images store h = tt
-fronts_begin logs t (log ∷ held) [] store h = tt
-fronts_begin logs t (log ∷ held) (image ∷ images) store h =
-    (begins_front log.head store (log_name logs t) image h.0, fronts_begin logs (suc t) held images store h.1)
+-- where there are such lines
+pub begins_some : (store : StoreView) (name : List ℕ) (front : List (List ℕ)) → 0 < length front → BeginsAs store name front → BeginsWith store name (image_bytes front)
+begins_some store name [] some h = absurd (omega (arith, some))
+begins_some store name (line ∷ front) some h = h
 
 -- one file changes, and those after it don't
 begins_later : (logs : List ℕ) (last t : ℕ) (fronts : List (List (List ℕ))) (mid new : StoreView) → last < t → t + length fronts < 2 ^ 64 → SameOthers (log_name logs last) mid new → FilesBegin logs t fronts mid → FilesBegin logs t fronts new
 begins_later logs last t [] mid new less few others h = tt
 begins_later logs last t (front ∷ fronts) mid new less few others h =
     let differs : log_name logs t ≡ log_name logs last → ⊥ = λ same. let is = name_differs logs t last (omega (arith, few)) (omega (arith, less, few)) same in absurd (omega (arith, is, less)) in (
-      (λ on. let b = h.0 (sym others.tells ∙ on) in (b.0, others.file (log_name logs t) differs ∙ b.1)),
+      begins_there mid new (log_name logs t) front others.tells (others.file (log_name logs t) differs) h.0,
       begins_later logs last (suc t) fronts mid new (omega (arith, less)) (omega (arith, few)) others h.1,
     )
 
--- ---- files that are wiped after these lines
-wipes_none : (store : StoreView) (name front : List ℕ) → BeginsWith store name front → MayWipe name front store store
-wipes_none store name front h on = let b = h on in record { was = b.0; rest = b.0; before = b.1; now = b.1; wiped = λ word. inl refl }
+-- ---- files that keep these lines
+keeps_none : (store : StoreView) (name : List ℕ) (front : List (List ℕ)) → BeginsAs store name front → KeepsFront name front store store
+keeps_none store name [] h = inl refl
+keeps_none store name (line ∷ front) h = λ on. let b = h on in record { was = b.0; rest = b.0; before = b.1; now = b.1; wiped = λ word. inl refl }
 
-pub wiped_none : (logs : List ℕ) (t : ℕ) (fronts : List (List (List ℕ))) (store : StoreView) → FilesBegin logs t fronts store → AreWiped logs t fronts store store
-wiped_none logs t [] store h = tt
-wiped_none logs t (front ∷ fronts) store h = (wipes_none store (log_name logs t) (image_bytes front) h.0, wiped_none logs (suc t) fronts store h.1)
+pub keep_none : (logs : List ℕ) (t : ℕ) (fronts : List (List (List ℕ))) (store : StoreView) → FilesBegin logs t fronts store → KeepFronts logs t fronts store store
+keep_none logs t [] store h = tt
+keep_none logs t (front ∷ fronts) store h = (keeps_none store (log_name logs t) front h.0, keep_none logs (suc t) fronts store h.1)
 
-wipes_other : (name other front : List ℕ) (old mid new : StoreView) → (name ≡ other → ⊥) → SameOthers other mid new → MayWipe name front old mid → MayWipe name front old new
-wipes_other name other front old mid new differs others h on =
-    let w = h on in record { was = w.was; rest = w.rest; before = w.before; now = others.file name differs ∙ w.now; wiped = w.wiped }
+zeros_since : (name : List ℕ) (old mid new : StoreView) → new.file name ≡ mid.file name → KeptOrZeros name old mid → KeptOrZeros name old new
+zeros_since name old mid new file (inl same) = inl (file ∙ same)
+zeros_since name old mid new file (inr z) = inr (z.0, file ∙ z.1, z.2)
+
+pub keeps_since : (name : List ℕ) (front : List (List ℕ)) (old mid new : StoreView) → new.file name ≡ mid.file name → KeepsFront name front old mid → KeepsFront name front old new
+keeps_since name [] old mid new file h = zeros_since name old mid new file h
+keeps_since name (line ∷ front) old mid new file h = λ on. let w = h on in record { was = w.was; rest = w.rest; before = w.before; now = file ∙ w.now; wiped = w.wiped }
 
 word_wiped : (was mid now : List ℕ) → (mid ≡ was) ⊎ AreZeros mid → (now ≡ mid) ⊎ AreZeros now → (now ≡ was) ⊎ AreZeros now
 word_wiped was mid now (inl e) (inl f) = inl (f ∙ e)
@@ -75,38 +73,59 @@ wipes_two name front old mid new tells h k on =
       rest = b.rest;
       before = a.before;
       now = b.now;
-      wiped = λ word. word_wiped (word_bytes a.was word) (word_bytes b.was word) (word_bytes b.rest word) (subst (λ r. views.AreWiped a.was r) same a.wiped word) (b.wiped word);
+      wiped = λ word. word_wiped (word_bytes a.was word) (word_bytes b.was word) (word_bytes b.rest word) (subst (λ r. AreWiped a.was r) same a.wiped word) (b.wiped word);
     }
 
-wiped_later : (logs : List ℕ) (last t : ℕ) (fronts : List (List (List ℕ))) (old mid new : StoreView) → last < t → t + length fronts < 2 ^ 64 → SameOthers (log_name logs last) mid new → AreWiped logs t fronts old mid → AreWiped logs t fronts old new
-wiped_later logs last t [] old mid new less few others h = tt
-wiped_later logs last t (front ∷ fronts) old mid new less few others h =
+zeros_two : (name : List ℕ) (old mid new : StoreView) → KeptOrZeros name old mid → KeptOrZeros name mid new → KeptOrZeros name old new
+zeros_two name old mid new h (inl same) = zeros_since name old mid new same h
+zeros_two name old mid new h (inr z) = inr z
+
+keeps_two : (name : List ℕ) (front : List (List ℕ)) (old mid new : StoreView) → mid.tells ≡ old.tells → KeepsFront name front old mid → KeepsFront name front mid new → KeepsFront name front old new
+keeps_two name [] old mid new tells h k = zeros_two name old mid new h k
+keeps_two name (line ∷ front) old mid new tells h k = wipes_two name (image_bytes (line ∷ front)) old mid new tells h k
+
+keep_later : (logs : List ℕ) (last t : ℕ) (fronts : List (List (List ℕ))) (old mid new : StoreView) → last < t → t + length fronts < 2 ^ 64 → SameOthers (log_name logs last) mid new → KeepFronts logs t fronts old mid → KeepFronts logs t fronts old new
+keep_later logs last t [] old mid new less few others h = tt
+keep_later logs last t (front ∷ fronts) old mid new less few others h =
     let differs : log_name logs t ≡ log_name logs last → ⊥ = λ same. let is = name_differs logs t last (omega (arith, few)) (omega (arith, less, few)) same in absurd (omega (arith, is, less)) in (
-      wipes_other (log_name logs t) (log_name logs last) (image_bytes front) old mid new differs others h.0,
-      wiped_later logs last (suc t) fronts old mid new (omega (arith, less)) (omega (arith, few)) others h.1,
+      keeps_since (log_name logs t) front old mid new (others.file (log_name logs t) differs) h.0,
+      keep_later logs last (suc t) fronts old mid new (omega (arith, less)) (omega (arith, few)) others h.1,
     )
 
--- the file at this place is wiped after its lines, and no other changes
-pub wiped_next : (logs : List ℕ) (t i last : ℕ) (fronts : List (List (List ℕ))) (old mid new : StoreView) → t + i ≡ last → i < length fronts → t + length fronts < 2 ^ 64 → mid.tells ≡ old.tells
-    → MayWipe (log_name logs last) (image_bytes (get_or fronts i [])) mid new → SameOthers (log_name logs last) mid new → AreWiped logs t fronts old mid → AreWiped logs t fronts old new
-wiped_next logs t i last [] old mid new e low few tells w others h = absurd (omega (arith, low))
-wiped_next logs t zero last (front ∷ fronts) old mid new e low few tells w others h =
+-- the file at this place keeps its lines, and no other changes
+pub keep_next : (logs : List ℕ) (t i last : ℕ) (fronts : List (List (List ℕ))) (old mid new : StoreView) → t + i ≡ last → i < length fronts → t + length fronts < 2 ^ 64 → mid.tells ≡ old.tells
+    → KeepsFront (log_name logs last) (get_or fronts i []) mid new → SameOthers (log_name logs last) mid new → KeepFronts logs t fronts old mid → KeepFronts logs t fronts old new
+keep_next logs t i last [] old mid new e low few tells w others h = absurd (omega (arith, low))
+keep_next logs t zero last (front ∷ fronts) old mid new e low few tells w others h =
     let here : last ≡ t = omega (arith, e) in (
-      wipes_two (log_name logs t) (image_bytes front) old mid new tells h.0 (subst (λ n. MayWipe (log_name logs n) (image_bytes front) mid new) here w),
-      wiped_later logs last (suc t) fronts old mid new (omega (arith, here)) (omega (arith, few)) others h.1,
+      keeps_two (log_name logs t) front old mid new tells h.0 (subst (λ n. KeepsFront (log_name logs n) front mid new) here w),
+      keep_later logs last (suc t) fronts old mid new (omega (arith, here)) (omega (arith, few)) others h.1,
     )
-wiped_next logs t (suc i) last (front ∷ fronts) old mid new e low few tells w others h =
+keep_next logs t (suc i) last (front ∷ fronts) old mid new e low few tells w others h =
     let differs : log_name logs t ≡ log_name logs last → ⊥ = λ same. let is = name_differs logs t last (omega (arith, few)) (omega (arith, e, low, few)) same in absurd (omega (arith, is, e)) in (
-      wipes_other (log_name logs t) (log_name logs last) (image_bytes front) old mid new differs others h.0,
-      wiped_next logs (suc t) i last fronts old mid new (omega (arith, e)) (omega (arith, low)) (omega (arith, few)) tells w others h.1,
+      keeps_since (log_name logs t) front old mid new (others.file (log_name logs t) differs) h.0,
+      keep_next logs (suc t) i last fronts old mid new (omega (arith, e)) (omega (arith, low)) (omega (arith, few)) tells w others h.1,
     )
 
-pub wiped_same : (logs : List ℕ) (t : ℕ) (fronts : List (List (List ℕ))) (old mid new : StoreView) → SameFiles mid new → AreWiped logs t fronts old mid → AreWiped logs t fronts old new
-wiped_same logs t [] old mid new same h = tt
-wiped_same logs t (front ∷ fronts) old mid new same h = (
-  (λ on. let w = h.0 on in record { was = w.was; rest = w.rest; before = w.before; now = same.file (log_name logs t) ∙ w.now; wiped = w.wiped }),
-  wiped_same logs (suc t) fronts old mid new same h.1,
-)
+pub keep_same : (logs : List ℕ) (t : ℕ) (fronts : List (List (List ℕ))) (old mid new : StoreView) → SameFiles mid new → KeepFronts logs t fronts old mid → KeepFronts logs t fronts old new
+keep_same logs t [] old mid new same h = tt
+keep_same logs t (front ∷ fronts) old mid new same h =
+    (keeps_since (log_name logs t) front old mid new (same.file (log_name logs t)) h.0, keep_same logs (suc t) fronts old mid new same h.1)
+
+-- ---- the lines that files begin with, by how much their logs hold
+front_as : (log : Content) (lines : List (List ℕ)) → content_of lines ≡ Some log → front_by (is_some log.head) lines ≡ front_in lines
+front_as log lines e = ap (λ (o : Option Content). front_by (is_some (head_of_content o)) lines) (sym e)
+
+pub fronts_as : (logs : List Content) (images : List (List (List ℕ))) → map content_of images ≡ map Some logs → fronts_by (map log_counts logs) images ≡ map front_in images
+fronts_as [] [] e = refl
+fronts_as [] (image ∷ images) e = absurd (omega (arith, ap length e))
+fronts_as (log ∷ logs) [] e = refl
+fronts_as (log ∷ logs) (image ∷ images) e =
+    let here : content_of image ≡ Some log = (cc) in
+    let rest : map content_of images ≡ map Some logs = (cc) in
+    let front = front_as log image here in
+    let more = fronts_as logs images rest in
+    (λ i. front i ∷ more i)
 
 -- the lines with which a device begins, and how many
 pub front_at : (held : List LogCounts) (images : List (List (List ℕ))) (t : ℕ) (none : LogCounts) → length held ≡ length images → t < length images
@@ -135,7 +154,7 @@ within_at (image ∷ images) [] t h low = absurd h
 within_at (image ∷ images) (n ∷ lines) zero h low = h.0
 within_at (image ∷ images) (n ∷ lines) (suc t) h low = within_at images lines t h.1 (omega (arith, low))
 
-pub begins_at : (logs : List ℕ) (t i : ℕ) (fronts : List (List (List ℕ))) (store : StoreView) → i < length fronts → FilesBegin logs t (drop i fronts) store → BeginsWith store (log_name logs t) (image_bytes (get_or fronts i []))
+pub begins_at : (logs : List ℕ) (t i : ℕ) (fronts : List (List (List ℕ))) (store : StoreView) → i < length fronts → FilesBegin logs t (drop i fronts) store → BeginsAs store (log_name logs t) (get_or fronts i [])
 begins_at logs t i fronts store low h = (subst (λ fs. FilesBegin logs t fs store) (drop_more fronts i [] low) h).0
 
 -- ---- one device more

@@ -4,6 +4,8 @@ use Rattle.onll_merge.specs.declared.fault.StateFault.{StateFault}
 use Rattle.onll_merge.specs.declared.fault.StateFault.TheVariants as states
 use Rattle.onll_outside.specs.declared.OutsideFault.{OutsideFault}
 use Rattle.onll_outside.specs.declared.OutsideFault.TheVariants as outside
+use Rattle.onll_open.specs.declared.fault.DeviceFault.{DeviceFault}
+use Rattle.onll_open.specs.declared.fault.DeviceFault.TheVariants as devices
 use Rattle.onll_open.specs.declared.fault.FileFault.{FileFault}
 use Rattle.onll_open.specs.declared.fault.FileFault.TheVariants as file
 use Rattle.onll_open.specs.declared.fault.FilesFault.{FilesFault}
@@ -33,9 +35,10 @@ abbrev pub of_read : FileFault → FilesFault
 of_read (file.Failed thread) = NotRead thread
 of_read file.NoMemory = NoMemory
 
-abbrev pub of_reopen : FileFault → OpenFault
-of_reopen (file.Failed thread) = opens.NotReopened thread
-of_reopen file.NoMemory = opens.NoMemory
+abbrev pub of_device : DeviceFault → OpenFault
+of_device (devices.NotMade thread) = opens.NotMade thread
+of_device (devices.NotReopened thread) = opens.NotReopened thread
+of_device devices.NoMemory = opens.NoMemory
 
 -- want of memory is one answer
 abbrev pub of_files : FilesFault → OpenFault

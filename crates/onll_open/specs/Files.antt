@@ -1,14 +1,22 @@
 -- What the files of an object's logs hold, and what calls leave of them.
-use Rattle.std.specs.Prelude.{ℕ, suc, List, [], ◌∷◌, ◌≡◌, ◌<◌, ◌≤◌, Result, Ok, Err, Some, length}
+use Rattle.std.specs.Prelude.{ℕ, suc, Bool, true, false, List, [], ◌∷◌, ◌≡◌, ◌<◌, ◌≤◌, ◌⊎◌, Result, Ok, Err, Option, Some, None, length, map}
+use Rattle.std.specs.Option.{is_some}
 use Rattle.std.specs.List.{AllByRecursion}
 use Rattle.onll_log.specs.Grammar.{content_of}
 use Rattle.onll_log.specs.ImageFile.{longest_image}
 use Rattle.onll_log.specs.Tested.{used_in}
 use Rattle.onll_outside.specs.LineFiles.{GivesLines}
-use Rattle.onll_outside.specs.Views.{StoreView, SameFaults, SameDevices, SameFiles, BeginsWith, MayWipe, Rose, image_bytes, with_zeros}
+use Rattle.onll_outside.specs.Views.{StoreView, SameFaults, SameDevices, SameFiles, BeginsWith, KeptOrZeros, MayWipe, Rose}
+use Rattle.onll_outside.specs.Views.{image_bytes, with_zeros}
+use Rattle.onll_pmem.specs.Device.{zero_lines}
 use Rattle.onll_outside.specs.declared.store.FaultKind.{FaultKind}
+use Rattle.onll_outside.specs.declared.store.FaultKind.TheVariants.{Device, Reopen}
+use Rattle.onll_open.specs.declared.fault.DeviceFault.{DeviceFault}
+use Rattle.onll_open.specs.declared.fault.DeviceFault.TheVariants as devices
 use Rattle.onll_open.specs.declared.fault.FileFault.{FileFault}
 use Rattle.onll_open.specs.declared.fault.FileFault.TheVariants.{Failed, NoMemory}
+use Rattle.onll_open.specs.Devices.{front_by}
+use Rattle.onll_open.specs.Misfits.{head_in}
 use Rattle.onll_open.specs.Names.{log_name}
 
 -- ---- what stays
@@ -44,13 +52,35 @@ LogFaults kind logs threads old new (Ok x) = SameFaults old new
 LogFaults kind logs threads old new (Err (Failed thread)) = LogCallFailed kind logs threads thread old new
 LogFaults kind logs threads old new (Err NoMemory) = SameFaults old new
 
+-- the same of the devices of logs, which are made where a log has no head, and made again of its file's lines where it has one
+abbrev pub DeviceFaults : {T : Type 0} → List ℕ → ℕ → StoreView → StoreView → Result T DeviceFault → Type 0
+DeviceFaults logs threads old new (Ok x) = SameFaults old new
+DeviceFaults logs threads old new (Err (devices.NotMade thread)) = LogCallFailed Device logs threads thread old new
+DeviceFaults logs threads old new (Err (devices.NotReopened thread)) = LogCallFailed Reopen logs threads thread old new
+DeviceFaults logs threads old new (Err devices.NoMemory) = SameFaults old new
+
 -- ---- images
+-- a file is there, and has a byte
+abbrev pub is_made : Option (List ℕ) → Bool
+is_made None = false
+is_made (Some []) = false
+is_made (Some (byte ∷ bytes)) = true
+
+-- so is the file of this name or not, where the store tells its files
+abbrev pub IsMade : StoreView → List ℕ → Bool → Type 0
+IsMade store name made = store.tells ≡ true → is_made (store.file name) ≡ made
+
 -- where the store tells its files, these are the lines of the file of this name, up to the limit of an image
-pub record HoldsLogImage (store : StoreView) (name : List ℕ) (image : List (List ℕ)) : Type 0 where
+pub record HasLogLines (store : StoreView) (name : List ℕ) (image : List (List ℕ)) : Type 0 where
+  pub made : IsMade store name true
   pub front : List (List ℕ)
   pub count : ℕ
   pub gives : GivesLines store name longest_image front count
   pub image_is : image ≡ with_zeros front count
+
+-- What the file of this name holds: its lines, or a line of zeros where it is not made, which is a log that is not begun.
+abbrev pub HoldsLogImage : StoreView → List ℕ → List (List ℕ) → Type 0
+HoldsLogImage store name image = HasLogLines store name image ⊎ (IsMade store name false × (image ≡ zero_lines 1))
 
 -- so each thread's file holds the image at its place, from thread t on
 abbrev pub FilesHold : List ℕ → ℕ → List (List (List ℕ)) → StoreView → Type 0
@@ -67,27 +97,41 @@ StandFor [] [] = Unit {0}
 StandFor (lines ∷ more) (image ∷ images) = StandsFor lines image × StandFor more images
 StandFor more images = ⊥
 
--- lines of the image that the file of this name holds, which stand for it, and with which the file begins
+-- of lines that stand for a log those with which its file begins: none where the log has no head
+abbrev pub front_in : List (List ℕ) → List (List ℕ)
+front_in lines = front_by (is_some (head_in lines)) lines
+
+-- where there are such lines, and the store tells its files, the one of this name begins with them
+abbrev pub BeginsAs : StoreView → List ℕ → List (List ℕ) → Type 0
+BeginsAs store name [] = Unit {0}
+BeginsAs store name (line ∷ front) = BeginsWith store name (image_bytes (line ∷ front))
+
+-- lines of the image that the file of this name holds, which stand for it, and with which the file begins where the log has a head
 pub record IsRead (store : StoreView) (name : List ℕ) (lines : List (List ℕ)) : Type 0 where
   pub image : List (List ℕ)
   pub holds : HoldsLogImage store name image
   pub stands : StandsFor lines image
-  pub begins : BeginsWith store name (image_bytes lines)
+  pub begins : BeginsAs store name (front_in lines)
 
--- where the store tells its files, each thread's, from thread t on, begins with the lines at its place
+-- where the store tells its files, each thread's, from thread t on, begins with the lines at its place, where there are any
 abbrev pub FilesBegin : List ℕ → ℕ → List (List (List ℕ)) → StoreView → Type 0
 FilesBegin logs t [] store = Unit {0}
-FilesBegin logs t (lines ∷ more) store = BeginsWith store (log_name logs t) (image_bytes lines) × FilesBegin logs (suc t) more store
+FilesBegin logs t (front ∷ fronts) store = BeginsAs store (log_name logs t) front × FilesBegin logs (suc t) fronts store
 
--- What is kept of the files' images: lines with which the files begin, and which stand for the images.
+-- What is kept of the files' images: lines which stand for the images, and with which the files of logs with a head begin.
 pub record AreRead (logs : List ℕ) (lines : List (List (List ℕ))) (store : StoreView) : Type 0 where
   pub images : List (List (List ℕ))
   pub hold : FilesHold logs 0 images store
   pub stand : StandFor lines images
-  pub begin : FilesBegin logs 0 lines store
+  pub begin : FilesBegin logs 0 (map front_in lines) store
 
--- Where the store tells its files, each thread's, from thread t on, begins with the lines at its place as before, and what follows is
--- wiped in part or not.
-abbrev pub AreWiped : List ℕ → ℕ → List (List (List ℕ)) → StoreView → StoreView → Type 0
-AreWiped logs t [] old new = Unit {0}
-AreWiped logs t (front ∷ fronts) old new = MayWipe (log_name logs t) (image_bytes front) old new × AreWiped logs (suc t) fronts old new
+-- What opening leaves of the file of a log: where the store tells it, it begins with these lines as before, and what follows is wiped in
+-- part or not. The file of a log without a head is as it was, or holds zeros alone.
+abbrev pub KeepsFront : List ℕ → List (List ℕ) → StoreView → StoreView → Type 0
+KeepsFront name [] old new = KeptOrZeros name old new
+KeepsFront name (line ∷ front) old new = MayWipe name (image_bytes (line ∷ front)) old new
+
+-- the same of each thread's, from thread t on
+abbrev pub KeepFronts : List ℕ → ℕ → List (List (List ℕ)) → StoreView → StoreView → Type 0
+KeepFronts logs t [] old new = Unit {0}
+KeepFronts logs t (front ∷ fronts) old new = KeepsFront (log_name logs t) front old new × KeepFronts logs (suc t) fronts old new

@@ -1,10 +1,12 @@
--- The files of logs that are begun, and that are kept.
+-- The files of logs that are kept.
 use Rattle.std.specs.Prelude.{ℕ, zero, suc, List, [], ◌∷◌, ◌≡◌, length, map, Result, Err}
 use Rattle.std.specs.List.{AllByRecursion}
 use Rattle.onll_pmem.specs.Pmem.{DeviceView}
-use Rattle.onll_outside.specs.Views.{StoreView, FaultsOf, Holds, KeepsDevice, MayKeep, SameFiles, image_bytes, with_zeros}
+use Rattle.onll_outside.specs.Views.{StoreView, FaultsOf, KeepsDevice, MayKeep, SameFiles}
 use Rattle.onll_outside.specs.declared.OutsideFault.{OutsideFault}
 use Rattle.onll_outside.specs.declared.store.FaultKind.TheVariants.{Keep}
+use Rattle.onll_trace.specs.declared.trace.Ended.{Ended}
+use Rattle.onll_shared.specs.Ends.{HasClosed}
 use Rattle.onll_shared.specs.Passes.{OnllView, PassView}
 use Rattle.onll_open.specs.declared.keeping.CloseFault.{CloseFault}
 use Rattle.onll_open.specs.declared.keeping.CloseFault.TheVariants.{NoMemory, NotKept}
@@ -12,11 +14,6 @@ use Rattle.onll_open.specs.Devices.{HandsEach}
 use Rattle.onll_open.specs.Files.{SameCounts}
 use Rattle.onll_open.specs.Locking.{AreFree}
 use Rattle.onll_open.specs.Names.{log_name, log_names}
-
--- each thread's file, from thread t on, is a line of zeros
-abbrev pub AreBegun : List ℕ → ℕ → ℕ → StoreView → Type 0
-AreBegun logs t zero store = Unit {0}
-AreBegun logs t (suc threads) store = Holds store (log_name logs t) (image_bytes (with_zeros [] 1)) × AreBegun logs (suc t) threads store
 
 -- each device was kept as its thread's file, from thread t on
 abbrev pub AreKept : List ℕ → ℕ → List DeviceView → StoreView → Type 0
@@ -53,6 +50,7 @@ CannotClose means onll passes logs old new (NoMemory unclosed) =
     (unclosed.object ≡ onll) × (unclosed.passes.items ≡ passes) × SameFiles old new × SameCounts old new
 CannotClose means onll passes logs old new (NotKept fault) =
     KeepFails logs (devices_in means passes) old new fault.thread fault.fault × HandsEach (devices_in means passes) old new
+    × ((trace : List Ended) × HasClosed onll.trace passes trace)
 
 -- the logs of an object that was closed are free; where it wasn't, they are locked as they were
 abbrev pub CloseLocks : {State Op Query Reply Device T : Type 0} → StoreView → List ℕ → List (List ℕ) → List (List ℕ)

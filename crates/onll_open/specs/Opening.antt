@@ -10,7 +10,7 @@ use Rattle.onll_merge.specs.declared.counts.LogCounts.{LogCounts}
 use Rattle.onll_merge.specs.Merge.{merge}
 use Rattle.onll_merge.specs.Recovered.{Recovered}
 use Rattle.onll_outside.specs.Views.{StoreView, SameFaults, SameDevices, counted}
-use Rattle.onll_outside.specs.declared.store.FaultKind.TheVariants.{Read, Reopen}
+use Rattle.onll_outside.specs.declared.store.FaultKind.TheVariants.{Read, Device, Reopen}
 use Rattle.onll_shared.specs.Found.{content_held, head_held}
 use Rattle.onll_shared.specs.Passes.{OnllView, PassView}
 use Rattle.onll_shared.specs.Starts.{AreLogs, HasBegun}
@@ -19,10 +19,10 @@ use Rattle.onll_run.specs.Outcomes.{HasRoomFor}
 use Rattle.onll_open.specs.declared.fault.FilesFault.{FilesFault}
 use Rattle.onll_open.specs.declared.fault.FilesFault.TheVariants as files
 use Rattle.onll_open.specs.declared.fault.OpenFault.{OpenFault}
-use Rattle.onll_open.specs.declared.fault.OpenFault.TheVariants.{Files, NoRoom, Full, NotReopened, HeaderFailed, NoMemory}
+use Rattle.onll_open.specs.declared.fault.OpenFault.TheVariants.{Files, NoRoom, Full, NotMade, NotReopened, HeaderFailed, NoMemory}
 use Rattle.onll_open.specs.Asking.{rooms_of, room_refused}
 use Rattle.onll_open.specs.Devices.{fronts_by}
-use Rattle.onll_open.specs.Files.{FilesHold, AreRead, AreWiped, LogCallFailed, SameCounts, SameLogs}
+use Rattle.onll_open.specs.Files.{FilesHold, AreRead, KeepFronts, LogCallFailed, SameCounts, SameLogs}
 use Rattle.onll_open.specs.Locking.{LockFailed}
 use Rattle.onll_open.specs.Misfits.{found_in}
 use Rattle.onll_open.specs.Rooms.{first_full}
@@ -107,8 +107,8 @@ module _ {State Op Query Reply : Type 0} (b : Behaviour State Op Query Reply) (s
     pub recovered : GivesRoom threads asked found
     pub on : GoesOn b means heads state found.nodes (rooms_of threads asked found) onll passes
 
-  -- why no object was opened: the files give nothing; or they do, and a thread has no room; or each has, and a file is not made a device
-  -- again, or the header of a log that has none is not made durable
+  -- why no object was opened: the files give nothing; or they do, and a thread has no room; or each has, and a log's device is not had,
+  -- or the header of a log that has none is not made durable
   abbrev pub CannotOpen : ℕ → Option (List ℕ) → OpenFault → Type 0
   CannotOpen threads asked (Files files.NoMemory) = ⊥
   CannotOpen threads asked (Files fault) = FilesRefuse fault
@@ -116,20 +116,22 @@ module _ {State Op Query Reply : Type 0} (b : Behaviour State Op Query Reply) (s
       (found : Recovered) × FilesGive (Ok found) × (room_refused threads asked found ≡ Some (NoRoom thread))
   CannotOpen threads asked (Full thread) =
       (found : Recovered) × FilesGive (Ok found) × (room_refused threads asked found ≡ Some (Full thread))
+  CannotOpen threads asked (NotMade thread) = (found : Recovered) × GivesRoom threads asked found
   CannotOpen threads asked (NotReopened thread) = (found : Recovered) × GivesRoom threads asked found
   CannotOpen threads asked (HeaderFailed thread) =
       (found : Recovered) × GivesRoom threads asked found × IsHeadless thread found.logs
   CannotOpen threads asked NoMemory = Unit {0}
 
-  -- Nothing that the logs hold is lost, whatever the answer: no thread's file changed; or the files give nodes, and each begins with the
-  -- lines that hold its log, as before, and what follows is wiped in part or not.
+  -- Nothing that the logs hold is lost, whatever the answer: no thread's file changed; or the files give nodes, and each that holds a log
+  -- with a head begins with the lines that hold it, as before, what follows being wiped in part or not; another is as it was or zeros.
   abbrev pub NothingLost : ℕ → Option (List ℕ) → StoreView → Type 0
   NothingLost threads asked new = SameLogs logs store new
       ⊎ ((lines : List (List (List ℕ))) × (found : Recovered) × HasFound threads lines found
-      × (room_refused threads asked found ≡ None) × AreWiped logs 0 (fronts_by found.logs lines) store new)
+      × (room_refused threads asked found ≡ None) × KeepFronts logs 0 (fronts_by found.logs lines) store new)
 
 -- why logs were not opened over what was found, where each thread has room
 abbrev pub CannotGoOn : Recovered → OpenFault → Type 0
+CannotGoOn found (NotMade thread) = Unit {0}
 CannotGoOn found (NotReopened thread) = Unit {0}
 CannotGoOn found (HeaderFailed thread) = IsHeadless thread found.logs
 CannotGoOn found NoMemory = Unit {0}
@@ -160,6 +162,7 @@ HeldFaults logs threads old new (Err (Files (files.NotRead thread))) =
 HeldFaults logs threads old new (Err (Files fault)) = SameCounts old new × SameLogs logs old new
 HeldFaults logs threads old new (Err (NoRoom thread)) = SameCounts old new × SameLogs logs old new
 HeldFaults logs threads old new (Err (Full thread)) = SameCounts old new × SameLogs logs old new
+HeldFaults logs threads old new (Err (NotMade thread)) = LogCallFailed Device logs threads thread old new
 HeldFaults logs threads old new (Err (NotReopened thread)) = LogCallFailed Reopen logs threads thread old new
 HeldFaults logs threads old new (Err (HeaderFailed thread)) =
     SameFaults old new × (new.device_faults ≡ counted old.device_faults 1)

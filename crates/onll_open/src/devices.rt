@@ -1,20 +1,18 @@
 //! The devices of an object's logs, over their files.
 
-ghost use Rattle.std.specs.Prelude.{◌≡◌, ◌≤◌, IsSome, length, map, reverse, string_bytes, All, IfOk, IfErr, OnOk};
+ghost use Rattle.std.specs.Prelude.{◌≡◌, ◌≤◌, ◌+◌, IsSome, length, map, reverse, string_bytes, All, IfOk, IfErr, OnOk};
 ghost use Rattle.std.specs.List.{AllByRecursion};
 ghost use Rattle.onll_model.specs.Limits.{most_threads};
 ghost use Rattle.onll_pmem.specs.Pmem.{words_of};
 ghost use Rattle.onll_log.specs.Grammar.{content_of};
 ghost use Rattle.onll_log.specs.Decoded.{content_in};
 ghost use Rattle.onll_merge.specs.Merge.{contents_in};
-ghost use Rattle.onll_outside.specs.Views.{SameFiles, SameFaults, SameDevices, SameOthers, FaultsOf, IsFresh, BeginsWith, MayWipe};
-ghost use Rattle.onll_outside.specs.Views.{with_zeros, image_bytes};
-ghost use Rattle.onll_outside.specs.declared.store.FaultKind.TheVariants as kinds;
+ghost use Rattle.onll_outside.specs.Views.{SameFiles, SameFaults, SameDevices, SameOthers, IsFresh, with_zeros};
 ghost use Rattle.onll_open.specs.Names.{log_name, log_names};
-ghost use Rattle.onll_open.specs.Files.{LogFaults, FilesBegin, AreWiped, SameBut, SameCounts};
+ghost use Rattle.onll_open.specs.Files.{BeginsAs, DeviceFaults, FilesBegin, KeepFronts, KeepsFront, SameBut, SameCounts};
 ghost use Rattle.onll_open.specs.Devices.{AreReopened, IsHeld, AreHeld, AreWithin, HandsEach, front_by, fronts_by};
 
-use crate::fault::{FileFault, fault_at};
+use crate::fault::DeviceFault;
 use crate::names::log_name;
 use onll_log::{DecodeFault, Decoded, TestedImage, decode};
 use onll_merge::LogCounts;
@@ -65,63 +63,70 @@ fn front_of(log: LogCounts, lines: &[Line]) -> &[Line]
     if log.head { lines } else { &lines[..0] }
 }
 
-/// The device of a thread's log, over a file that begins with these lines.
-fn reopen_device<S: Store>(
+/// The device of a thread's log, over a file that begins with these lines where there are any, and made anew where there are none.
+fn open_device<S: Store>(
     alloc: Global,
     store: &mut S,
     logs: &str,
     thread: u64,
     front: &[Line],
     lines: u64,
-) -> Result<S::Dev, OutsideFault>
+) -> Result<S::Dev, DeviceFault>
     requires front { length front.now ≤ lines }
     requires few { lines ≤ 1000000 }
-    requires begins { BeginsWith (S.seen store.old) (log_name logs.now thread) (image_bytes (words_of front.now)) }
+    requires begins { BeginsAs (S.seen store.old) (log_name logs.now thread) (words_of front.now) }
     ensures made { IfOk result (λ device. IsFresh (with_zeros (words_of front.now) lines) (S.Dev.means device)) }
     ensures counts { OnOk result (SameCounts (S.seen store.old) (S.seen store.new)) }
-    ensures faults { FaultsOf (record { kind = kinds.Reopen; name = log_name logs.now thread })
-        (S.seen store.old) (S.seen store.new) result }
-    ensures file { MayWipe (log_name logs.now thread) (image_bytes (words_of front.now)) (S.seen store.old) (S.seen store.new) }
+    ensures faults { DeviceFaults logs.now (thread + 1) (S.seen store.old) (S.seen store.new) result }
+    ensures file { KeepsFront (log_name logs.now thread) (words_of front.now) (S.seen store.old) (S.seen store.new) }
     ensures others { SameOthers (log_name logs.now thread) (S.seen store.old) (S.seen store.new) }
     ensures devices { SameDevices (S.seen store.old) (S.seen store.new) }
 {
-    let Ok(name) = log_name(alloc, logs, thread) else {
-        return Err(OutsideFault::NoMemory);
-    };
-    store.reopen(alloc, &name, front, lines)
+    let name = log_name(alloc, logs, thread)?;
+    if front.is_empty() {
+        match store.device(alloc, &name, lines) {
+            Ok(device) => Ok(device),
+            Err(OutsideFault::Failed) => Err(DeviceFault::NotMade { thread }),
+            Err(OutsideFault::NoMemory) => Err(DeviceFault::NoMemory),
+        }
+    } else {
+        match store.reopen(alloc, &name, front, lines) {
+            Ok(device) => Ok(device),
+            Err(OutsideFault::Failed) => Err(DeviceFault::NotReopened { thread }),
+            Err(OutsideFault::NoMemory) => Err(DeviceFault::NoMemory),
+        }
+    }
 }
 
-/// The device of each thread's log, in their order, over the file that its image was read from. Where one can't be reopened, those
-/// before it are given up.
-pub fn reopen_devices<S: Store>(
+/// The device of each thread's log, in their order: over the file that its image was read from, or made anew where the log has no head.
+/// Where one can't be had, those before it are given up.
+pub fn open_devices<S: Store>(
     alloc: Global,
     store: &mut S,
     logs: &str,
     held: &[LogCounts],
     images: &[TestedImage<'_>],
     lines: &[u64],
-) -> Result<Vec<S::Dev>, FileFault>
+) -> Result<Vec<S::Dev>, DeviceFault>
     requires few { length images.now ≤ most_threads }
     requires many { length held.now ≡ length images.now }
     requires short { All (λ n. n ≤ 1000000) lines.now }
     requires room { AreWithin images.now lines.now }
-    requires begins { FilesBegin logs.now 0 images.now (S.seen store.old) }
+    requires begins { FilesBegin logs.now 0 (fronts_by held.now images.now) (S.seen store.old) }
     ensures made { IfOk result (λ devices. AreReopened S.Dev.means (fronts_by held.now images.now) lines.now devices.items) }
     ensures counts { OnOk result (SameCounts (S.seen store.old) (S.seen store.new)) }
-    ensures faults { LogFaults kinds.Reopen logs.now (length images.now) (S.seen store.old) (S.seen store.new) result }
-    ensures files { AreWiped logs.now 0 (fronts_by held.now images.now) (S.seen store.old) (S.seen store.new) }
+    ensures faults { DeviceFaults logs.now (length images.now) (S.seen store.old) (S.seen store.new) result }
+    ensures files { KeepFronts logs.now 0 (fronts_by held.now images.now) (S.seen store.old) (S.seen store.new) }
     ensures others { SameBut (log_names logs.now 0 (length images.now)) (S.seen store.old) (S.seen store.new) }
 {
-    let Ok(mut devices) = Vec::with_capacity(alloc, images.len()) else {
-        return Err(FileFault::NoMemory);
-    };
+    let mut devices = Vec::with_capacity(alloc, images.len())?;
     for (thread, image) in images.iter().enumerate() {
         let front = front_of(held[thread], image.as_slice());
-        match reopen_device(alloc, store, logs, thread as u64, front, lines[thread]) {
+        match open_device(alloc, store, logs, thread as u64, front, lines[thread]) {
             Ok(device) => devices.push_reserved(device),
             Err(fault) => {
                 give_up_all(devices, store);
-                return Err(fault_at(thread as u64, fault));
+                return Err(fault);
             }
         }
     }

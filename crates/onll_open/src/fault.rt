@@ -1,7 +1,8 @@
 //! Why an object isn't opened over files, or isn't kept in them.
 
 ghost use Rattle.std.specs.Prelude.{◌≡◌};
-ghost use Rattle.onll_open.specs.Faults.{fault_at, of_files, of_read, of_reopen, of_state, refused_as};
+ghost use Rattle.onll_open.specs.Faults.{fault_at, of_device, of_files, of_read, of_state, refused_as};
+ghost use Rattle.onll_open.specs.declared.fault.DeviceFault.TheVariants.{NoMemory as DeviceOutOfMemory};
 ghost use Rattle.onll_open.specs.declared.fault.FilesFault.TheVariants.{NoMemory as OutOfMemory};
 ghost use Rattle.onll_open.specs.declared.fault.OpenFault.TheVariants.{NoMemory as OpenOutOfMemory};
 
@@ -11,12 +12,26 @@ use onll_words::NoMemory;
 use std::alloc::AllocError;
 use thiserror::Error;
 
-/// Why a call for the files of an object's logs was refused.
+/// Why the files of an object's logs were not read.
 #[derive(Clone, Copy, Debug, PartialEq, Eq, Error)]
 pub enum FileFault {
     /// The call for this thread's file failed.
     #[error("the file of thread {thread} failed")]
     Failed { thread: u64 },
+    /// Memory ran out.
+    #[error("out of memory")]
+    NoMemory,
+}
+
+/// Why the devices of an object's logs were not had.
+#[derive(Clone, Copy, Debug, PartialEq, Eq, Error)]
+pub enum DeviceFault {
+    /// The device of this thread's log, which is to begin, could not be made.
+    #[error("file {thread} could not be made")]
+    NotMade { thread: u64 },
+    /// The file of this thread's log could not be made a device again.
+    #[error("file {thread} could not be opened to be written")]
+    NotReopened { thread: u64 },
     /// Memory ran out.
     #[error("out of memory")]
     NoMemory,
@@ -50,7 +65,7 @@ pub enum FilesFault {
     /// The logs are those of one run, and this is the first place whose row is no operation of the object.
     #[error("place {place} is no operation")]
     NotOperation { place: u64 },
-    /// The file of this thread's log is not there, or could not be read.
+    /// The file of this thread's log could not be read.
     #[error("file {thread} could not be read")]
     NotRead { thread: u64 },
     /// Memory ran out.
@@ -70,6 +85,9 @@ pub enum OpenFault {
     /// The first thread whose log has no room for any update. Nothing was changed.
     #[error("thread {thread} has no room left")]
     Full { thread: u64 },
+    /// The log of this thread was to be begun, and its file could not be made.
+    #[error("file {thread} could not be made")]
+    NotMade { thread: u64 },
     /// The file of this thread's log could not be made a device.
     #[error("file {thread} could not be opened to be written")]
     NotReopened { thread: u64 },
@@ -145,14 +163,23 @@ impl From<NoMemory> for FilesFault {
     }
 }
 
-impl From<FileFault> for OpenFault {
-    ghost from_gives = { λ e fault. fault ≡ of_reopen e };
+impl From<DeviceFault> for OpenFault {
+    ghost from_gives = { λ e fault. fault ≡ of_device e };
 
-    fn from(e: FileFault) -> OpenFault {
+    fn from(e: DeviceFault) -> OpenFault {
         match e {
-            FileFault::Failed { thread } => OpenFault::NotReopened { thread },
-            FileFault::NoMemory => OpenFault::NoMemory,
+            DeviceFault::NotMade { thread } => OpenFault::NotMade { thread },
+            DeviceFault::NotReopened { thread } => OpenFault::NotReopened { thread },
+            DeviceFault::NoMemory => OpenFault::NoMemory,
         }
+    }
+}
+
+impl From<AllocError> for DeviceFault {
+    ghost from_gives = { λ _ fault. fault ≡ DeviceOutOfMemory };
+
+    fn from(_e: AllocError) -> DeviceFault {
+        DeviceFault::NoMemory
     }
 }
 

@@ -1,11 +1,10 @@
-//! The files of an object's logs: made, and kept when the object is closed.
+//! The files of an object's logs, kept when the object is closed.
 
 ghost use Rattle.std.specs.Prelude.{◌≡◌, ◌≤◌, true, false, List, [], length, map, vec_capacity, IfErr, OnOk};
 ghost use Rattle.std.specs.List.{AllByRecursion};
 ghost use Rattle.onll_model.specs.Limits.{most_threads};
 ghost use Rattle.onll_outside.specs.Directory.{is_locked};
-ghost use Rattle.onll_outside.specs.Views.{SameFaults, SameDevices, SameOthers, FaultsOf, Holds, KeepsDevice, HandsBack, MayKeep};
-ghost use Rattle.onll_outside.specs.Views.{image_bytes, with_zeros};
+ghost use Rattle.onll_outside.specs.Views.{SameFaults, SameOthers, FaultsOf, KeepsDevice, HandsBack, MayKeep};
 ghost use Rattle.onll_outside.specs.declared.store.FaultKind.TheVariants as kinds;
 ghost use Rattle.onll_trace.specs.Closing.{AreAll};
 ghost use Rattle.onll_trace.specs.declared.trace.Ended.{Ended as SomeEnded};
@@ -13,12 +12,12 @@ ghost use Rattle.onll_shared.specs.Passes.{IsTied, spot_of};
 ghost use Rattle.onll_shared.specs.Ends.{HasClosed};
 ghost use Rattle.onll_run.specs.Making.{device_of};
 ghost use Rattle.onll_open.specs.Names.{log_name, log_names};
-ghost use Rattle.onll_open.specs.Files.{LogFaults, SameBut};
+ghost use Rattle.onll_open.specs.Files.{SameBut};
 ghost use Rattle.onll_open.specs.Devices.{HandsEach};
-ghost use Rattle.onll_open.specs.Keeping.{AreBegun, AreKept, CannotClose, CloseLocks, KeepFails, devices_in};
+ghost use Rattle.onll_open.specs.Keeping.{AreKept, CannotClose, CloseLocks, KeepFails, devices_in};
 
 use crate::devices::give_up_all;
-use crate::fault::{FileFault, NotKept, fault_at};
+use crate::fault::NotKept;
 use crate::locking::unlock_logs;
 use crate::names::{log_lock_name, log_name};
 use onll_log::ThreadLog;
@@ -35,32 +34,6 @@ pub enum CloseFault<O: Object, P: Pmem> {
     NoMemory(Unclosed<O, P>),
     /// It was closed, and not every log was kept.
     NotKept(NotKept),
-}
-
-/// Makes the files of the logs of so many threads, each with a line of zeros, so that an object can be opened over them for the first
-/// time. What such files held is gone.
-pub fn make_files<S: Store>(
-    alloc: Global,
-    store: &mut S,
-    logs: &str,
-    threads: u64,
-) -> Result<(), FileFault>
-    requires { threads ≤ most_threads }
-    ensures made { OnOk result (AreBegun logs.now 0 threads (S.seen store.new)) }
-    ensures faults { LogFaults kinds.Write logs.now threads (S.seen store.old) (S.seen store.new) result }
-    ensures others { SameBut (log_names logs.now 0 threads) (S.seen store.old) (S.seen store.new) }
-    ensures devices { SameDevices (S.seen store.old) (S.seen store.new) }
-{
-    for thread in 0..threads {
-        let Ok(name) = log_name(alloc, logs, thread) else {
-            return Err(FileFault::NoMemory);
-        };
-        match store.write_lines(alloc, &name, &[], 1) {
-            Ok(()) => {}
-            Err(fault) => return Err(fault_at(thread, fault)),
-        }
-    }
-    Ok(())
 }
 
 /// The devices under logs, in their order, in a list with room for them.

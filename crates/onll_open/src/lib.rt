@@ -14,10 +14,10 @@ mod reading;
 mod recovery;
 mod rooms;
 
-pub use devices::{decode_logs, give_up_all, reopen_devices};
-pub use fault::{FileFault, FilesFault, NotKept, OpenFault};
+pub use devices::{decode_logs, give_up_all, open_devices};
+pub use fault::{DeviceFault, FileFault, FilesFault, NotKept, OpenFault};
 pub use heads::new_heads;
-pub use keeping::{CloseFault, close, keep_devices, make_files};
+pub use keeping::{CloseFault, close, keep_devices};
 pub use named::{NamedFilesFault, NamedNotKept, NamedOpenFault};
 pub use names::{log_lock_name, log_name};
 pub use onll_rows::Described;

@@ -82,6 +82,7 @@ impl fmt::Display for NamedOpenFault<'_> {
             OpenFault::Full { thread } => {
                 write!(f, "thread {thread} has no room left in {logs}.{thread}")
             }
+            OpenFault::NotMade { thread } => write!(f, "{logs}.{thread} could not be made"),
             OpenFault::NotReopened { thread } => {
                 write!(f, "{logs}.{thread} could not be opened to be written")
             }

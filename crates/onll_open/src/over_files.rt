@@ -7,14 +7,14 @@ ghost use Rattle.onll_outside.specs.Views.{SameDevices, SameFiles};
 ghost use Rattle.onll_open.specs.Names.{held_names, log_names};
 ghost use Rattle.onll_open.specs.Asking.{IsForAll, RoomRefused, asked_in, room_refused, rooms_of};
 ghost use Rattle.onll_open.specs.Devices.{fronts_by};
-ghost use Rattle.onll_open.specs.Files.{AreWiped, SameBut};
+ghost use Rattle.onll_open.specs.Files.{KeepFronts, SameBut};
 ghost use Rattle.onll_open.specs.Heads.{heads_of};
 ghost use Rattle.onll_open.specs.Locking.{OpenLocks};
 ghost use Rattle.onll_open.specs.Rooms.{first_full};
 ghost use Rattle.onll_open.specs.Opening.{AreOpenLogs, CannotGoOn, CannotOpen, FilesRefuse, GoesOn, HasFound, HasOpened, HasRoomIn};
 ghost use Rattle.onll_open.specs.Opening.{HeldFaults, NothingLost, OpenFaults, ReadFaults};
 
-use crate::devices::{decode_logs, give_up_all, reopen_devices};
+use crate::devices::{decode_logs, give_up_all, open_devices};
 use crate::fault::{FilesFault, OpenFault};
 use crate::heads::new_heads;
 use crate::locking::{lock_logs, unlock_logs};
@@ -51,7 +51,7 @@ pub struct FoundLogs {
 }
 
 /// What the files of the logs of so many threads hold, with which an object in this initial state goes on.
-pub fn find<O: Described + Drop, S: Store>(
+pub fn find<O: Described + Drop, S: Directory>(
     alloc: Global,
     store: &mut S,
     logs: &str,
@@ -125,7 +125,7 @@ fn open_all<O: Object, S: Store>(
     ensures logs { IfOk result (λ ls. AreOpenLogs S.Dev.means found.now.heads.items rooms.now found.now.recovery.nodes.items ls.items) }
     ensures refused { IfErr result (CannotGoOn (recovered_in found.now.recovery)) }
     ensures faults { HeldFaults logs.now (length rooms.now) (S.seen store.old) (S.seen store.new) result }
-    ensures kept { AreWiped logs.now 0 (fronts_by found.now.recovery.logs.items found.now.images.items)
+    ensures kept { KeepFronts logs.now 0 (fronts_by found.now.recovery.logs.items found.now.images.items)
         (S.seen store.old) (S.seen store.new) }
     ensures others { SameBut (log_names logs.now 0 (length rooms.now)) (S.seen store.old) (S.seen store.new) }
 {
@@ -135,7 +135,7 @@ fn open_all<O: Object, S: Store>(
     } = &found.recovery;
     let lines = lines_for(alloc, nodes, counts, rooms)?;
     let held = decode_logs(alloc, &found.images)?;
-    let devices = reopen_devices(alloc, store, logs, counts, &found.images, &lines)?;
+    let devices = open_devices(alloc, store, logs, counts, &found.images, &lines)?;
     match open_logs(alloc, &found.heads, &held, devices) {
         Ok(opened) => Ok(opened),
         Err(RunFault::NoMemory) => Err(OpenFault::NoMemory),
@@ -162,9 +162,10 @@ fn open_found<O: Object + Drop, S: Store>(
     ensures opened { IfOk result (λ o. GoesOn O.means S.Dev.means found.now.heads.items object found.now.recovery.nodes.items rooms.now
         o.onll o.passes.items) }
     ensures recovered { IfOk result (λ o. o.recovered ≡ length o.onll.trace.plan.base) }
+    ensures passes { IfOk result (λ o. length o.passes.items ≡ length rooms.now) }
     ensures refused { IfErr result (CannotGoOn (recovered_in found.now.recovery)) }
     ensures faults { HeldFaults logs.now (length rooms.now) (S.seen store.old) (S.seen store.new) result }
-    ensures kept { AreWiped logs.now 0 (fronts_by found.now.recovery.logs.items found.now.images.items)
+    ensures kept { KeepFronts logs.now 0 (fronts_by found.now.recovery.logs.items found.now.images.items)
         (S.seen store.old) (S.seen store.new) }
     ensures others { SameBut (log_names logs.now 0 (length rooms.now)) (S.seen store.old) (S.seen store.new) }
 {
@@ -180,7 +181,7 @@ fn open_found<O: Object + Drop, S: Store>(
 }
 
 /// An object that goes on from what the files of its logs hold, which are locked.
-fn open_held<O: Described + Drop, S: Store>(
+fn open_held<O: Described + Drop, S: Directory>(
     alloc: Global,
     store: &mut S,
     logs: &str,
@@ -194,6 +195,7 @@ fn open_held<O: Described + Drop, S: Store>(
     ensures opened { IfOk result (λ o. HasOpened O.means (S.seen store.old) logs.now (heads_of O.CODE (O.description object) threads)
         S.Dev.means object threads (asked_in asked) o.onll o.passes.items) }
     ensures recovered { IfOk result (λ o. o.recovered ≡ length o.onll.trace.plan.base) }
+    ensures passes { IfOk result (λ o. length o.passes.items ≡ threads) }
     ensures refused { IfErr result (CannotOpen O.means (S.seen store.old) logs.now (heads_of O.CODE (O.description object) threads)
         threads (asked_in asked)) }
     ensures faults { HeldFaults logs.now threads (S.seen store.old) (S.seen store.new) result }
@@ -221,6 +223,7 @@ fn open_asked<O: Described + Drop, S: Directory>(
     ensures opened { IfOk result (λ o. HasOpened O.means (S.seen store.old) logs.now (heads_of O.CODE (O.description object) threads)
         S.Dev.means object threads (asked_in asked) o.onll o.passes.items) }
     ensures recovered { IfOk result (λ o. o.recovered ≡ length o.onll.trace.plan.base) }
+    ensures passes { IfOk result (λ o. length o.passes.items ≡ threads) }
     ensures locks { OpenLocks (S.seen store.old) logs.now (S.locked store.old) (S.locked store.new) result }
     ensures refused { IfErr result (CannotOpen O.means (S.seen store.old) logs.now (heads_of O.CODE (O.description object) threads)
         threads (asked_in asked)) }
@@ -239,9 +242,9 @@ fn open_asked<O: Described + Drop, S: Directory>(
     }
 }
 
-/// Opens an object, which began in this state, over the files of the logs of so many threads. It goes on from what they hold; a file of
-/// zeros is a log that is begun. Each thread has a pass that may order as many updates as its log has left. Nobody else opens the logs
-/// until they are closed.
+/// Opens an object, which began in this state, over the files of the logs of so many threads. It goes on from what they hold; a file
+/// that is not there, or is empty, or holds zeros, is a log that is begun. Each thread has a pass that may order as many updates as its
+/// log has left. Nobody else opens the logs until they are closed.
 pub fn open<O: Described + Drop, S: Directory>(
     alloc: Global,
     store: &mut S,
@@ -254,6 +257,7 @@ pub fn open<O: Described + Drop, S: Directory>(
     ensures opened { IfOk result (λ o. HasOpened O.means (S.seen store.old) logs.now (heads_of O.CODE (O.description object) threads)
         S.Dev.means object threads None o.onll o.passes.items) }
     ensures recovered { IfOk result (λ o. o.recovered ≡ length o.onll.trace.plan.base) }
+    ensures passes { IfOk result (λ o. length o.passes.items ≡ threads) }
     ensures locks { OpenLocks (S.seen store.old) logs.now (S.locked store.old) (S.locked store.new) result }
     ensures refused { IfErr result (CannotOpen O.means (S.seen store.old) logs.now (heads_of O.CODE (O.description object) threads)
         threads None) }
@@ -279,6 +283,7 @@ pub fn open_with_rooms<O: Described + Drop, S: Directory>(
         (heads_of O.CODE (O.description object) (length rooms.now)) S.Dev.means object (length rooms.now) (Some rooms.now)
         o.onll o.passes.items) }
     ensures recovered { IfOk result (λ o. o.recovered ≡ length o.onll.trace.plan.base) }
+    ensures passes { IfOk result (λ o. length o.passes.items ≡ length rooms.now) }
     ensures locks { OpenLocks (S.seen store.old) logs.now (S.locked store.old) (S.locked store.new) result }
     ensures refused { IfErr result (CannotOpen O.means (S.seen store.old) logs.now
         (heads_of O.CODE (O.description object) (length rooms.now)) (length rooms.now) (Some rooms.now)) }

@@ -17,7 +17,7 @@ use crate::locking::{lock_logs, unlock_logs};
 use crate::misfits::recover_logs;
 use crate::reading::read_images;
 use onll_merge::Recovery;
-use onll_outside::{Directory, Store};
+use onll_outside::Directory;
 use onll_rows::Described;
 use std::alloc::Global;
 
@@ -29,7 +29,7 @@ pub struct RecoveredObject<O> {
 }
 
 /// The object as the files of its logs say it, which are locked.
-fn recover_held<O: Described + Drop, S: Store>(
+fn recover_held<O: Described + Drop, S: Directory>(
     alloc: Global,
     store: &mut S,
     logs: &str,
@@ -53,7 +53,7 @@ fn recover_held<O: Described + Drop, S: Store>(
 }
 
 /// The object, which began in this state, as the files of the logs of so many threads say it. They stay as they are, and nobody opens
-/// them meanwhile.
+/// them meanwhile. Where no file is there, it is the state that it began in.
 pub fn recover<O: Described + Drop, S: Directory>(
     alloc: Global,
     store: &mut S,

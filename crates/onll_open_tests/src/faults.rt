@@ -76,6 +76,11 @@ fn of_opening(rt: HostRuntime) -> Result<(), Fail> {
     let fault = OpenFault::Full { thread: 3 };
     let text = "thread 3 has no room left in shop.3";
     found.must(is_said_of_open(alloc, fault, text)?, "full");
+    let fault = OpenFault::NotMade { thread: 3 };
+    found.must(
+        is_said_of_open(alloc, fault, "shop.3 could not be made")?,
+        "made",
+    );
     let fault = OpenFault::NotReopened { thread: 3 };
     let text = "shop.3 could not be opened to be written";
     found.must(is_said_of_open(alloc, fault, text)?, "reopened");

@@ -11,9 +11,7 @@ ghost use Rattle.onll_counter.specs.Counter.{counter};
 use onll_counter::{Count, CounterOp};
 use onll_found::Found;
 use onll_log::LogHead;
-use onll_open::{
-    CloseFault, FilesFault, OpenFault, Opened, close, make_files, open, open_with_rooms, recover,
-};
+use onll_open::{CloseFault, FilesFault, OpenFault, Opened, close, open, open_with_rooms, recover};
 use onll_outside::{Directory, FenceAt, FileStore, FreeGate, MemStore, OutsideFault};
 use onll_pmem::Pmem;
 use onll_rows::Plain;
@@ -157,14 +155,14 @@ fn expect_in_use<R: Wait, S: Directory>(rt: &R, alloc: Global, store: &mut S, fo
     found.must(left_in(alloc, store, 2) == Ok(2), "given back");
 }
 
-/// Begun and gone on with.
+/// Begun where one file has no byte and the other is not there, and gone on with.
 fn expect_opened<R: Wait, S: Directory>(rt: &R, alloc: Global, store: &mut S, found: &mut Found) {
-    let first = refused(FilesFault::NotRead { thread: 0 });
-    found.must(count_two(rt, alloc, store) == first, "all missing");
-    found.must(make_files(alloc, store, NAME, 1).is_ok(), "one file");
-    let second = refused(FilesFault::NotRead { thread: 1 });
-    found.must(count_two(rt, alloc, store) == second, "one missing");
-    found.must(make_files(alloc, store, NAME, 2).is_ok(), "files");
+    found.must(left_in(alloc, store, 2) == Ok(0), "nothing to recover");
+    found.must(
+        store.size(alloc, FIRST) == Ok(None),
+        "no file made to recover",
+    );
+    found.must(store.write(alloc, FIRST, &[]).is_ok(), "a file of no byte");
     found.must(count_two(rt, alloc, store) == Went::OnFrom(0), "begun");
     found.must(count_two(rt, alloc, store) == Went::OnFrom(1), "gone on");
     found.must(left_in(alloc, store, 2) == Ok(2), "recovered");
@@ -217,16 +215,24 @@ fn expect_changed<R: Wait, S: Directory>(
         with_file(rt, alloc, store, FIRST, &[0; 64]) == gone,
         "replaced",
     );
-    let empty = refused(FilesFault::NotLog { log: 0 });
-    found.must(with_file(rt, alloc, store, FIRST, &[]) == empty, "emptied");
+    found.must(with_file(rt, alloc, store, FIRST, &[]) == gone, "emptied");
+    let none = refused(FilesFault::NotLog { log: 0 });
+    found.must(
+        with_file(rt, alloc, store, FIRST, &[7; 64]) == none,
+        "no log",
+    );
+    found.must(
+        with_file(rt, alloc, store, FIRST, &[0; 63]) == none,
+        "no whole line",
+    );
     let swapped = with_file(rt, alloc, store, FIRST, &second);
     found.must(is_not_one_run(swapped), "swapped");
     let back = with_file(rt, alloc, store, FIRST, &first);
     found.must(back == Went::OnFrom(2), "put back");
-    let other = refused(FilesFault::NotLog { log: 1 });
+    // The second log alone has entries, so nothing tells that they are gone.
     found.must(
-        with_file(rt, alloc, store, SECOND, &[]) == other,
-        "the other emptied",
+        with_file(rt, alloc, store, SECOND, &[]) == Went::OnFrom(0),
+        "the only one with entries emptied",
     );
     let older = with_file(rt, alloc, store, SECOND, &second);
     found.must(older == Went::OnFrom(2), "an older file put back");
@@ -274,7 +280,6 @@ fn header(rt: HostRuntime) -> Result<(), Fail> {
         },
     ]?;
     let mut store = MemStore::new(Vec::new(alloc), Vec::new(alloc), fences);
-    found.must(make_files(alloc, &mut store, NAME, 2).is_ok(), "files");
     let failed = Went::NotOpened(OpenFault::HeaderFailed { thread: 1 });
     found.must(count_two(&rt, alloc, &mut store) == failed, "header");
     found.must(
@@ -284,15 +289,48 @@ fn header(rt: HostRuntime) -> Result<(), Fail> {
     found.ended()
 }
 
+/// Of two threads an opening locks, asks for both sizes and makes both devices, and closing keeps both. Over logs that are begun each file
+/// is read after its size is told, and made a device again.
+#[test]
+fn devices(rt: HostRuntime) -> Result<(), Fail> {
+    let alloc = rt.alloc();
+    let mut found = Found::new();
+    let failing = vec![in alloc; 3, 7, 21]?;
+    let mut store = MemStore::new(Vec::new(alloc), failing, Vec::new(alloc));
+    let not_read = refused(FilesFault::NotRead { thread: 1 });
+    found.must(
+        count_two(&rt, alloc, &mut store) == not_read,
+        "the second size",
+    );
+    let not_made = Went::NotOpened(OpenFault::NotMade { thread: 0 });
+    found.must(
+        count_two(&rt, alloc, &mut store) == not_made,
+        "the first device",
+    );
+    found.must(
+        count_two(&rt, alloc, &mut store) == Went::OnFrom(0),
+        "begun",
+    );
+    let not_reopened = Went::NotOpened(OpenFault::NotReopened { thread: 1 });
+    found.must(
+        count_two(&rt, alloc, &mut store) == not_reopened,
+        "the second device",
+    );
+    found.must(
+        count_two(&rt, alloc, &mut store) == Went::OnFrom(1),
+        "gone on",
+    );
+    found.ended()
+}
+
 #[test]
 fn keep(rt: HostRuntime) -> Result<(), Fail> {
     let alloc = rt.alloc();
     let mut found = Found::new();
-    let mut store = MemStore::new(Vec::new(alloc), vec![in alloc; 9]?, Vec::new(alloc));
-    found.must(make_files(alloc, &mut store, NAME, 2).is_ok(), "files");
+    let mut store = MemStore::new(Vec::new(alloc), vec![in alloc; 7]?, Vec::new(alloc));
     found.must(
         count_two(&rt, alloc, &mut store) == Went::NotKept(1),
-        "the ninth call",
+        "the seventh call",
     );
     found.must(
         count_two(&rt, alloc, &mut store) == Went::OnFrom(0),

@@ -26,4 +26,5 @@ returns-in-Ok-end-clause-refused g c =
     let same = ap (map means) (c.devices_of-devices.ensures ∙ ap (map device_of) c.in-Ok-end.ensures.logs) ∙ devices_are means c.args.passes.items in (
       subst (λ ds. KeepFails c.args.logs.now ds old new fault.thread fault.fault) same c.in-Err-keep_and_unlock.ensures.failed,
       subst (λ ds. HandsEach ds old new) same c.in-Err-keep_and_unlock.ensures.handed,
+      c.in-Ok-end.ensures.closed,
     )

@@ -8,11 +8,11 @@ use Rattle.onll_merge.specs.Recovered.{log_counts, recovered_in}
 use Rattle.onll_outside.specs.Views.{counted}
 use Rattle.onll_run.specs.Making.{AllCanOpen, AreOpen, HeaderFailed}
 use Rattle.onll_open.specs.Devices.{AreHeld, AreReopened, AreWithin, fronts_by}
-use Rattle.onll_open.specs.Files.{AreWiped}
+use Rattle.onll_open.specs.Files.{FilesBegin, KeepFronts}
 use Rattle.onll_open.specs.Rooms.{lines_for}
-use Rattle.onll_open.proofs.Reopening.{fronts_begin, wiped_none, wiped_same}
-use Rattle.onll_open.proofs.Onwards.{reopen_cannot}
-use Rattle.onll_open.proofs.GivenLogs.{counts, are_logs, short, within, can, opened_logs}
+use Rattle.onll_open.proofs.Reopening.{keep_none, keep_same}
+use Rattle.onll_open.proofs.Onwards.{device_cannot, device_faults}
+use Rattle.onll_open.proofs.GivenLogs.{begin, counts, are_logs, short, within, can, opened_logs}
 use Rattle.onll_open.proofs.Handing.{faults_more}
 use Rattle.onll_open.proofs.HeaderFaults.{headless, one_risen}
 use Rattle.onll_open.specs.Opening.{IsHeadless}
@@ -30,8 +30,8 @@ decode_logs-requires g c =
     let h = c.requires.found in
     subst (AllByRecursion (λ image. IsSome (content_of image))) (sym c.deref-3.ensures.value) (are_logs b store c.args.logs.now heads rooms images found h)
 
-pub reopen_devices-requires-clause-short : goal.reopen_devices-requires-clause-short
-reopen_devices-requires-clause-short g c κs bounds =
+pub open_devices-requires-clause-short : goal.open_devices-requires-clause-short
+open_devices-requires-clause-short g c κs bounds =
     let b = g.O.Object.means in
     let means = g.S.Dev.Pmem.means in
     let store = g.S.Store.seen c.args.store.now in
@@ -45,8 +45,8 @@ reopen_devices-requires-clause-short g c κs bounds =
     let lines = c.deref-6.ensures.value ∙ (c.in_ok-lines.ensures ∙ ap (λ ls. lines_for (length rooms) ls rooms) c.deref-2.ensures.value) in
     subst (All (λ n. n ≤ 1000000)) (sym lines) (short b store c.args.logs.now heads rooms images found h)
 
-pub reopen_devices-requires-clause-room : goal.reopen_devices-requires-clause-room
-reopen_devices-requires-clause-room g c κs bounds =
+pub open_devices-requires-clause-room : goal.open_devices-requires-clause-room
+open_devices-requires-clause-room g c κs bounds =
     let b = g.O.Object.means in
     let means = g.S.Dev.Pmem.means in
     let store = g.S.Store.seen c.args.store.now in
@@ -60,6 +60,23 @@ reopen_devices-requires-clause-room g c κs bounds =
     let lines = c.deref-6.ensures.value ∙ (c.in_ok-lines.ensures ∙ ap (λ ls. lines_for (length rooms) ls rooms) c.deref-2.ensures.value) in
     subst (λ ls. AreWithin ls c.deref-6.result.now) (sym c.deref-5.ensures.value) (subst (AreWithin images) (sym lines) (within b store c.args.logs.now heads rooms images found h held is))
 
+pub open_devices-requires-clause-begins : goal.open_devices-requires-clause-begins
+open_devices-requires-clause-begins g c κs bounds =
+    let store = g.S.Store.seen c.args.store.now in
+    let images = c.args.found.now.images.items in
+    let found = recovered_in c.args.found.now.recovery in
+    let begins = begin g.O.Object.means store c.args.logs.now c.args.found.now.heads.items c.args.rooms.now images found c.requires.found in
+    subst (λ ls. FilesBegin c.args.logs.now 0 (fronts_by ls c.deref-5.result.now) store) (sym c.deref-4.ensures.value)
+    (subst (λ ls. FilesBegin c.args.logs.now 0 (fronts_by found.logs ls) store) (sym c.deref-5.ensures.value) begins)
+
+pub returns-in_err-devices-clause-faults : goal.returns-in_err-devices-clause-faults
+returns-in_err-devices-clause-faults g c =
+    let p = err_from_is_err_and c.from_residual-in_err-devices.result c.from_residual-in_err-devices.ensures.1 in
+    let old = g.S.Store.seen c.args.store.now in
+    let new = g.S.Store.seen c.open_devices.new.store in
+    let many = ap length c.deref-5.ensures.value ∙ c.requires.found.has.many in
+    rw (p.1, p.2) (device_faults (Unit {0}) (Unit {0}) c.args.logs.now (length c.args.rooms.now) (length c.deref-5.result.now) old new c.in_err-devices.field-0.0 many c.in_err-devices.ensures.faults)
+
 pub returns-in_err-devices-clause-kept : goal.returns-in_err-devices-clause-kept
 returns-in_err-devices-clause-kept g c =
     let b = g.O.Object.means in
@@ -70,9 +87,9 @@ returns-in_err-devices-clause-kept g c =
     let rooms = c.args.rooms.now in
     let found = recovered_in c.args.found.now.recovery in
     let h = c.requires.found in
-    let mid = g.S.Store.seen c.reopen_devices.new.store in
-    let wiped = subst (λ ls. AreWiped c.args.logs.now 0 (fronts_by found.logs ls) store mid) c.deref-5.ensures.value
-    (subst (λ ls. AreWiped c.args.logs.now 0 (fronts_by ls c.deref-5.result.now) store mid) c.deref-4.ensures.value c.reopen_devices.ensures.files) in
+    let mid = g.S.Store.seen c.open_devices.new.store in
+    let wiped = subst (λ ls. KeepFronts c.args.logs.now 0 (fronts_by found.logs ls) store mid) c.deref-5.ensures.value
+    (subst (λ ls. KeepFronts c.args.logs.now 0 (fronts_by ls c.deref-5.result.now) store mid) c.deref-4.ensures.value c.open_devices.ensures.files) in
     wiped
 
 pub open_logs-requires : goal.open_logs-requires
@@ -126,9 +143,9 @@ returns-in-Ok-clause-kept g c =
     let rooms = c.args.rooms.now in
     let found = recovered_in c.args.found.now.recovery in
     let h = c.requires.found in
-    let mid = g.S.Store.seen c.reopen_devices.new.store in
-    let wiped = subst (λ ls. AreWiped c.args.logs.now 0 (fronts_by found.logs ls) store mid) c.deref-5.ensures.value
-    (subst (λ ls. AreWiped c.args.logs.now 0 (fronts_by ls c.deref-5.result.now) store mid) c.deref-4.ensures.value c.reopen_devices.ensures.files) in
+    let mid = g.S.Store.seen c.open_devices.new.store in
+    let wiped = subst (λ ls. KeepFronts c.args.logs.now 0 (fronts_by found.logs ls) store mid) c.deref-5.ensures.value
+    (subst (λ ls. KeepFronts c.args.logs.now 0 (fronts_by ls c.deref-5.result.now) store mid) c.deref-4.ensures.value c.open_devices.ensures.files) in
     wiped
 
 pub returns-in-Err-NoMemory-clause-kept : goal.returns-in-Err-NoMemory-clause-kept
@@ -141,29 +158,29 @@ returns-in-Err-NoMemory-clause-kept g c =
     let rooms = c.args.rooms.now in
     let found = recovered_in c.args.found.now.recovery in
     let h = c.requires.found in
-    let mid = g.S.Store.seen c.reopen_devices.new.store in
-    let wiped = subst (λ ls. AreWiped c.args.logs.now 0 (fronts_by found.logs ls) store mid) c.deref-5.ensures.value
-    (subst (λ ls. AreWiped c.args.logs.now 0 (fronts_by ls c.deref-5.result.now) store mid) c.deref-4.ensures.value c.reopen_devices.ensures.files) in
+    let mid = g.S.Store.seen c.open_devices.new.store in
+    let wiped = subst (λ ls. KeepFronts c.args.logs.now 0 (fronts_by found.logs ls) store mid) c.deref-5.ensures.value
+    (subst (λ ls. KeepFronts c.args.logs.now 0 (fronts_by ls c.deref-5.result.now) store mid) c.deref-4.ensures.value c.open_devices.ensures.files) in
     wiped
 
 pub returns-in_err-devices-clause-refused : goal.returns-in_err-devices-clause-refused
 returns-in_err-devices-clause-refused g c =
     let p = err_from_is_err_and c.from_residual-in_err-devices.result c.from_residual-in_err-devices.ensures.1 in
-    rw (p.1, p.2) (reopen_cannot (recovered_in c.args.found.now.recovery) c.in_err-devices.field-0.0)
+    rw (p.1, p.2) (device_cannot (recovered_in c.args.found.now.recovery) c.in_err-devices.field-0.0)
 
 pub returns-in_err-lines-clause-kept : goal.returns-in_err-lines-clause-kept
 returns-in_err-lines-clause-kept g c =
     let store = g.S.Store.seen c.args.store.now in
-    let found = c.args.found.now in
-    wiped_none c.args.logs.now 0 (fronts_by found.recovery.logs.items found.images.items) store
-    (fronts_begin c.args.logs.now 0 found.recovery.logs.items found.images.items store c.requires.found.has.read.begin)
+    let found = recovered_in c.args.found.now.recovery in
+    let images = c.args.found.now.images.items in
+    keep_none c.args.logs.now 0 (fronts_by found.logs images) store (begin g.O.Object.means store c.args.logs.now c.args.found.now.heads.items c.args.rooms.now images found c.requires.found)
 
 pub returns-in_err-held-clause-kept : goal.returns-in_err-held-clause-kept
 returns-in_err-held-clause-kept g c =
     let store = g.S.Store.seen c.args.store.now in
-    let found = c.args.found.now in
-    wiped_none c.args.logs.now 0 (fronts_by found.recovery.logs.items found.images.items) store
-    (fronts_begin c.args.logs.now 0 found.recovery.logs.items found.images.items store c.requires.found.has.read.begin)
+    let found = recovered_in c.args.found.now.recovery in
+    let images = c.args.found.now.images.items in
+    keep_none c.args.logs.now 0 (fronts_by found.logs images) store (begin g.O.Object.means store c.args.logs.now c.args.found.now.heads.items c.args.rooms.now images found c.requires.found)
 
 pub returns-clause-refused : goal.returns-clause-refused
 returns-clause-refused g c =
@@ -186,7 +203,7 @@ returns-clause-refused g c =
 pub returns-clause-faults : goal.returns-clause-faults
 returns-clause-faults g c =
     let old = g.S.Store.seen c.args.store.now in
-    let mid = g.S.Store.seen c.reopen_devices.new.store in
+    let mid = g.S.Store.seen c.open_devices.new.store in
     let new = g.S.Store.seen c.give_up_all.new.store in
     let before = c.in_ok-devices.ensures.counts in
     let failed : HeaderFailed g.S.Dev.Pmem.means c.deref-7.result.now (contents_in c.deref-8.result.now) c.in_ok-devices.devices.items c.in-Err-HeaderFailed.thread c.in-Err-HeaderFailed.devices.items =
@@ -204,7 +221,7 @@ returns-clause-kept g c =
     let rooms = c.args.rooms.now in
     let found = recovered_in c.args.found.now.recovery in
     let h = c.requires.found in
-    let mid = g.S.Store.seen c.reopen_devices.new.store in
-    let wiped = subst (λ ls. AreWiped c.args.logs.now 0 (fronts_by found.logs ls) store mid) c.deref-5.ensures.value
-    (subst (λ ls. AreWiped c.args.logs.now 0 (fronts_by ls c.deref-5.result.now) store mid) c.deref-4.ensures.value c.reopen_devices.ensures.files) in
-    wiped_same c.args.logs.now 0 (fronts_by found.logs images) store mid (g.S.Store.seen c.give_up_all.new.store) c.give_up_all.ensures.files wiped
+    let mid = g.S.Store.seen c.open_devices.new.store in
+    let wiped = subst (λ ls. KeepFronts c.args.logs.now 0 (fronts_by found.logs ls) store mid) c.deref-5.ensures.value
+    (subst (λ ls. KeepFronts c.args.logs.now 0 (fronts_by ls c.deref-5.result.now) store mid) c.deref-4.ensures.value c.open_devices.ensures.files) in
+    keep_same c.args.logs.now 0 (fronts_by found.logs images) store mid (g.S.Store.seen c.give_up_all.new.store) c.give_up_all.ensures.files wiped

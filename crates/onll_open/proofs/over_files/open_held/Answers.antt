@@ -1,4 +1,4 @@
-use Rattle.std.proofs.Common.{ℕ, ◌≡◌, ◌∙◌, Ok, Some, None, length, inl, inr, sym, ap, subst}
+use Rattle.std.proofs.Common.{◌≡◌, ◌∙◌, None, length, inl, inr, sym, ap, subst}
 use Rattle.onll_open.specs.Asking.{asked_in}
 use Rattle.std.proofs.lemmas.Result.{IfOk-weaker, IfErr-weaker, err_from_is_err_and}
 use Rattle.onll_merge.specs.Recovered.{recovered_in}
@@ -10,7 +10,7 @@ use Rattle.onll_open.specs.Rooms.{first_full}
 use Rattle.onll_open.specs.Opening.{CannotGoOn, CannotOpen, GoesOn, HasFound, HasOpened, HeldFaults}
 use Rattle.onll_open.proofs.GivenLogs.{gives_found}
 use Rattle.onll_open.proofs.Locked.{logs_of_files}
-use Rattle.onll_open.proofs.Onwards.{cannot_of, faults_of, found_here, go_on_cannot, held_faults, others_there, room_cannot, room_faults, wiped_there}
+use Rattle.onll_open.proofs.Onwards.{cannot_of, faults_of, found_here, go_on_cannot, held_faults, others_there, room_cannot, room_faults, keep_there}
 use Rattle.onll_open.proofs.over_files.open_held.Goals as goal
 
 pub returns-in_err-found-clause-refused : goal.returns-in_err-found-clause-refused
@@ -199,7 +199,7 @@ returns-clause-kept g c =
     let has = subst (λ hs. HasFound b old logs hs threads kept.images.items found) c.in_ok-found.ensures.heads c.in_ok-found.ensures.found in
     let gives = gives_found b old logs heads threads kept.images.items found has in
     let new = g.S.Store.seen c.open_found.new.store in
-    inr (kept.images.items, found, has, c.in_ok-rooms.ensures.given, wiped_there logs 0 (fronts_by found.logs kept.images.items) old mid new same c.open_found.ensures.kept)
+    inr (kept.images.items, found, has, c.in_ok-rooms.ensures.given, keep_there logs 0 (fronts_by found.logs kept.images.items) old mid new same c.open_found.ensures.kept)
 
 pub returns-clause-others : goal.returns-clause-others
 returns-clause-others g c =

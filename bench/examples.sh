@@ -175,7 +175,7 @@ head -c 100 "$folder/sales" > "$folder/part"
 ends 4 'stream log 0 not of this run' follow examples/crash/bank 2 part 1
 ends 4 'log 0 not a log' ship examples/crash/bad 1 sales
 ends 3 'refused resumed 1 bad line' audit examples/tickets/hall resumed examples/tickets/door examples/tickets/online
-ends 3 'refused run 6 bad line' audit examples/tickets/hall run examples/tickets/door
+ends 3 'refused run 7 bad line' audit examples/tickets/hall run examples/tickets/door
 ends 6 'write fault examples/none/sales' ship examples/tickets/out 2 examples/none/sales
 ends 5 'read fault none.0' restore examples/office/hall office none 1
 ends 6 'write fault examples/none/k.0' areas examples/none/k

@@ -9,8 +9,8 @@ until it has begun. Each command is killed by signal 9 at a moment between its s
 each, `restore` must answer 0, and hold every update that was acknowledged: those that the report of a run which ended has told, with the
 replies and the places told there, and those that `restore` gave before. Its place never goes back. Of each thread what a run added are
 the first updates of its script in their order, as many as its log has gained entries, or one more, which another thread has logged; and
-the state is that of all updates, by the rules of objects.py, which share no code with the program. A checkpoint changes neither the place nor
-the state: after it `restore` gives what it gave before, or the next era with logs of no entry, and the next era's text is then its
+the state is that of all updates, by the rules of objects.py, which share no code with the program. A checkpoint changes neither the place
+nor the state: after it `restore` gives what it gave before, or the next era with logs of no entry, and the next era's text is then its
 initial state. Where the first run is killed before every log has a line, `restore` may find no file or no log, which is counted apart,
 and the logs are begun anew.
 
@@ -33,8 +33,6 @@ THREADS, UPDATES, ERAS = 4, 150, 6
 TRIES = 12
 # Beyond the time of a whole command, so that some of them end.
 LATEST = 2.0
-
-
 # How many accounts, pairs, items and resources an object has room for.
 ROOMS = {"bank": THREADS, "map": 8, "queue": 8, "lease": THREADS}
 

@@ -10,9 +10,8 @@ entries of two threads; two threads add by turns, two times each.
   more exactly where the entry of an add was written whole and no line says so.
 - Each call fails with EIO, and each write with ENOSPC. While the counter is opened the run says which file failed, ends with 1 and has
   added nothing; a length that can't be had is no fault where it only says how much memory to take (the second of a file's two). A failed
-  write or sync of an add
-  breaks its thread alone, whose adds are refused from then on: the one that failed is found later exactly where the other thread has added
-  after it, whose entry has it too. A sync that fails when the logs are kept says which file, and all is found.
+  write or sync of an add breaks its thread alone, whose adds are refused from then on: the one that failed is found later exactly where the
+  other thread has added after it, whose entry has it too. A sync that fails when the logs are kept says which file, and all is found.
 - Each sync fails, and the process is killed before each later call or not at all, or it ends and the process that goes on is; then the
   power fails, which takes all that was written since the last good sync of its file. All that was acknowledged is found.
 - Files that are cut, emptied, replaced, swapped, removed or made longer are refused by name, or found whole; a second process is refused
@@ -246,7 +245,8 @@ def main():
     with tempfile.TemporaryDirectory() as work:
         outside = Outside(program, work)
         begun, two, other = made(outside, 0), made(outside, 3), made(outside, 5)
-        starts = {"no files": ({}, 0), "zeros": (ZEROS, 0), "begun": (begun, 0), "a log without a header": ({**begun, "k.1": bytes(64)}, 0), "entries": (two, 6)}
+        headless = {**begun, "k.1": bytes(64)}
+        starts = {"no files": ({}, 0), "zeros": (ZEROS, 0), "begun": (begun, 0), "a log without a header": (headless, 0), "entries": (two, 6)}
         for start, (files, base) in starts.items():
             outside.put(files)
             whole = outside.run(ADD)

@@ -75,6 +75,13 @@ impl<O: Object, P: Pmem> Pass<O, P> {
         self.spot.ordered()
     }
 
+    /// How many updates the pass may order in all.
+    pub fn room(&self) -> u64
+        ensures { result ≡ self.now.room }
+    {
+        self.room
+    }
+
     /// The place of the update whose fence failed.
     pub fn broken(&self) -> Option<u64>
         ensures { result ≡ self.now.broken }

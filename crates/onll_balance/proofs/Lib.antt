@@ -1,0 +1,4 @@
+pub mod Placing
+pub mod Nodes
+pub mod Standing
+pub mod Balancing

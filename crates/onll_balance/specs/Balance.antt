@@ -1,0 +1,27 @@
+-- The measure of an object is balanced over any legal history, and over whatever is recovered of one.
+use Rattle.std.specs.Prelude.{List, length, take, ◌≡◌, ◌≤◌}
+use Rattle.std.specs.List.{AllByRecursion}
+use Rattle.onll_model.specs.Object.{Behaviour}
+use Rattle.onll_model.specs.declared.node.Node.{Node}
+use Rattle.onll_model.specs.declared.call.Call.{Call}
+use Rattle.onll_model.specs.declared.call.CallEnd.{CallEnd}
+use Rattle.onll_model.specs.Trace.{state_after}
+use Rattle.onll_model.specs.Legal.{IsLegal}
+use Rattle.onll_run.specs.Outcomes.{StandsIn}
+use Rattle.onll_balance.specs.Measure.{Measure, IsBalanced}
+
+module _ {State Op Query Reply : Type 0} (b : Behaviour State Op Query Reply) (m : Measure b) where
+  -- Threads go on from a base. These nodes are a front of all that they did, with the base and every answered call. Then the measure is
+  -- balanced over the threads, from the base to these nodes.
+  abbrev pub FrontBalanceLaw : Type 0
+  FrontBalanceLaw = (first : State) (base : List Node) (scripts : List (List (Call State Op Query Reply))) (trace : List Node)
+      (ends : List (List (CallEnd State Op Query Reply))) (nodes : List Node) → IsLegal b first base scripts trace ends
+      → take (length nodes) trace ≡ nodes → length base ≤ length nodes
+      → AllByRecursion (λ (es : List (CallEnd State Op Query Reply)). AllByRecursion (StandsIn (length nodes)) es) ends
+      → IsBalanced m (state_after b first base) scripts ends (state_after b first nodes)
+
+  -- So it is over all that they did.
+  abbrev pub WholeBalanceLaw : Type 0
+  WholeBalanceLaw = (first : State) (base : List Node) (scripts : List (List (Call State Op Query Reply))) (trace : List Node)
+      (ends : List (List (CallEnd State Op Query Reply))) → IsLegal b first base scripts trace ends
+      → IsBalanced m (state_after b first base) scripts ends (state_after b first trace)

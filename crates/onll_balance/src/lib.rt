@@ -1,0 +1,6 @@
+//! What is left of a measure of an object, over the calls of threads and over crashes.
+#![tactic(auto)]
+
+mod laws;
+
+pub use laws::balance_law;

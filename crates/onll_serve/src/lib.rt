@@ -1,0 +1,10 @@
+//! A service in one call: an object is opened over its files, works are done on it in threads, and it is closed.
+#![tactic(auto)]
+
+mod fault;
+mod laws;
+mod service;
+
+pub use fault::{NamedServeFault, NotServed, ServeFault};
+pub use laws::{fronts_law, life_law};
+pub use service::{Served, serve};

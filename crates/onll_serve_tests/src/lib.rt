@@ -1,0 +1,7 @@
+//! Tests of services, with a counter as the object. There is nothing here to be called.
+#![tactic(auto)]
+
+#[cfg(test)]
+mod faults;
+#[cfg(test)]
+mod served;

@@ -1,0 +1,4 @@
+pub mod Acting
+pub mod Sitting
+pub mod Jobs
+pub mod Ending

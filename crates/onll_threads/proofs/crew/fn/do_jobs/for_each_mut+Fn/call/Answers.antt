@@ -1,0 +1,5 @@
+use denote.Param.Send.{sendable}
+use Rattle.onll_threads.proofs.crew.fn.do_jobs.for_each_mut+Fn.call.Goals as goal
+
+pub for_each_mut-requires : goal.for_each_mut-requires
+for_each_mut-requires g c = let b = c.requires in search (sendable, b)

@@ -1,0 +1,4 @@
+pub mod Acts
+pub mod Seats
+pub mod Crews
+pub mod Ended

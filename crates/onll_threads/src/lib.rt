@@ -1,0 +1,16 @@
+//! Threads that share an object, each of which decides its next call after the last reply.
+#![tactic(auto)]
+
+mod acts;
+mod crew;
+mod job;
+mod laws;
+mod seat;
+mod stop;
+mod work;
+
+pub use crew::{Space, Worked, reserve, run_works};
+pub use laws::works_law;
+pub use seat::{Begun, Place, Seat};
+pub use stop::Stop;
+pub use work::Work;

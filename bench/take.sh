@@ -1,5 +1,6 @@
 #!/bin/sh
-# Copies crates, and all that they stand on, into a repository of one's own, with their lines of crates.txt.
+# Copies crates, and all that they stand on, into a repository of one's own, with their lines of crates.txt, and the scripts that build a
+# program without proofs and check a function before the crates below are proved.
 # Usage: bench/take.sh FOLDER CRATE..
 # FOLDER is the top of that repository. A crate that stands there is replaced. Must-fail edits, and what was built, stay here.
 set -eu
@@ -25,4 +26,8 @@ for crate in $(awk -F': *' -v names="$*" '
     done
     grep -q "^$crate:" "$to/crates.txt" || grep "^$crate:" "$top/crates.txt" >> "$to/crates.txt"
     echo "$crate"
+done
+mkdir -p "$to/bench"
+for script in unproved.py check_ahead.py toolchain.py; do
+    cp "$top/bench/$script" "$to/bench/$script"
 done

@@ -33,11 +33,11 @@ use Rattle.onll_run.proofs.Merging.{SameEntries, merge_filled}
 use Rattle.onll_open.specs.Names.{log_name}
 use Rattle.onll_open.specs.Files.{FilesHold, StandsFor, StandFor, FilesBegin, AreRead, SameLogs, front_in}
 use Rattle.onll_open.specs.Devices.{AreHeld, AreReopened, AreWithin, fronts_by}
-use Rattle.onll_open.specs.Rooms.{lines_with, lines_for}
+use Rattle.onll_open.specs.Rooms.{lines_with, lines_for, most_lines}
 use Rattle.onll_open.specs.declared.fault.FilesFault.{FilesFault}
 use Rattle.onll_open.specs.declared.fault.FilesFault.TheVariants as files
 use Rattle.onll_open.specs.Misfits.{head_in, head_of_content, has_entries, content_has_entries, is_old, other_number, first_old, other_threads, have_entries, first_headless, first_gone, misfit, with_misfit, found_in}
-use Rattle.onll_open.specs.Opening.{FilesGive, FilesRefuse, HasFound, HasRoomIn, AreOpenLogs, HaveLines, IsRoomy}
+use Rattle.onll_open.specs.Opening.{FilesGive, FilesRefuse, HasFound, HasRoomIn, AreOpenLogs, HaveLines, IsRoomy, IsShort}
 use Rattle.onll_open.proofs.ReadImages.{begins_there, holds_there, stand_long}
 use Rattle.onll_open.proofs.RoomSteps.{HaveRoom, have_room}
 use Rattle.onll_open.proofs.Reopening.{AreSound, are_sound, are_within, AreReady, can_open, fronts_as}
@@ -140,11 +140,12 @@ by_operations b (Ok x) found e = ap Ok (by_test (length (operations_front b x.no
     by_test true e = cc
     by_test false e = absurd (cc)
 
-record Parts (heads : List LogHead) (c : Result (List Content) ImagesFault) (found : Recovered) : Type 0 where
-  logs : List Content
-  contents : c ≡ Ok logs
-  merged_is : merge heads logs ≡ Ok found.nodes
-  counts : found.logs ≡ map log_counts logs
+-- the logs of images that give this
+pub record Parts (heads : List LogHead) (c : Result (List Content) ImagesFault) (found : Recovered) : Type 0 where
+  pub logs : List Content
+  pub contents : c ≡ Ok logs
+  pub merged_is : merge heads logs ≡ Ok found.nodes
+  pub counts : found.logs ≡ map log_counts logs
 
 by_merged : (heads : List LogHead) (c : Result (List Content) ImagesFault) (found : Recovered) → merged heads c ≡ Ok found → Parts heads c found
 by_merged heads (Err fault) found e = absurd (cc)
@@ -162,13 +163,18 @@ before_ok i None r logs e = absurd (cc)
 before_ok i (Some c) (Err fault) logs e = absurd (cc)
 before_ok i (Some c) (Ok cs) logs e = (c, cs, refl, refl, (cc))
 
-contents_are : (i : ℕ) (images : List (List (List ℕ))) (logs : List Content) → contents_from i images ≡ Ok logs → map content_of images ≡ map Some logs
+pub contents_are : (i : ℕ) (images : List (List (List ℕ))) (logs : List Content) → contents_from i images ≡ Ok logs → map content_of images ≡ map Some logs
 contents_are i [] logs e = let none : [] ≡ logs = (cc) in ap (map Some) none
 contents_are i (image ∷ images) logs e =
     let x = before_ok i (content_of image) (contents_from (i + 1) images) logs e in
     let rest = contents_are (i + 1) images x.1 x.3 in
     let here = x.2 in
     (λ j. here j ∷ rest j) ∙ ap (map Some) (sym x.4)
+
+pub found_parts : {State Op Query Reply : Type 0} (b : Behaviour State Op Query Reply) (heads : List LogHead) (images : List (List (List ℕ))) (found : Recovered) → found_in b heads images ≡ Ok found
+    → Parts heads (contents_from 0 images) found
+found_parts b heads images found e =
+    by_merged heads (contents_from 0 images) found (by_operations b (merged heads (contents_from 0 images)) found (by_misfit (misfit (length heads) images) (state_recovered b heads images) found e))
 
 some_there : {A : Type 0} (o : Option A) (x : A) → o ≡ Some x → IsSome o
 some_there o x e = subst (λ (p : Option _). IsSome p) (sym e) refl
@@ -278,11 +284,27 @@ module _ {Device : Type 0} (means : Device → DeviceView) where
         lines_left threads heads befores rooms devices logs (omega (arith, many)) r.1 a.1,
       )
 
+  -- no device has more lines than a log can have
+  short_left : (threads t : ℕ) (nodes : List Node) (heads : List LogHead) (befores : List Content) (rooms : List ℕ) (devices : List Device) (logs : List (LogState Device)) → length rooms ≡ length befores
+      → HaveRoom threads nodes t (map log_counts befores) rooms → AreReady means befores (lines_for threads (map log_counts befores) rooms) devices → AreOpen means heads befores devices logs → AllByRecursion (IsShort means) logs
+  short_left threads t nodes heads befores rooms devices [] many room r a = tt
+  short_left threads t nodes [] [] rooms [] (l ∷ logs) many room r a = absurd a
+  short_left threads t nodes [] [] rooms (d ∷ devices) (l ∷ logs) many room r a = absurd a
+  short_left threads t nodes [] (b ∷ befores) rooms devices (l ∷ logs) many room r a = absurd a
+  short_left threads t nodes (h ∷ heads) [] rooms devices (l ∷ logs) many room r a = absurd a
+  short_left threads t nodes (h ∷ heads) (b ∷ befores) rooms [] (l ∷ logs) many room r a = absurd a
+  short_left threads t nodes (h ∷ heads) (b ∷ befores) [] (d ∷ devices) (l ∷ logs) many room r a = absurd (omega (arith, many))
+  short_left threads t nodes (h ∷ heads) (b ∷ befores) (room ∷ rooms) (d ∷ devices) (l ∷ logs) many has r a =
+      let lines = opened_lines means b.head h d l.device a.0.on in
+      let long = r.0.many in
+      let most = has.1 in
+      (subst (λ n. n ≤ most_lines) (sym (lines ∙ long)) most, short_left threads (t + 1) nodes heads befores rooms devices logs (omega (arith, many)) has.2 r.1 a.1)
+
 -- ---- what was found, and the logs that are opened of it
 module _ {State Op Query Reply : Type 0} (b : Behaviour State Op Query Reply) (store : StoreView) (logs : List ℕ) (heads : List LogHead) (rooms : List ℕ) (lines : List (List (List ℕ))) (found : Recovered)
     (h : HasRoomIn b store logs heads rooms lines found) where
   parts : Parts heads (contents_from 0 lines) found
-  parts = by_merged heads (contents_from 0 lines) found (by_operations b (merged heads (contents_from 0 lines)) found (by_misfit (misfit (length heads) lines) (state_recovered b heads lines) found h.has.gives))
+  parts = found_parts b heads lines found h.has.gives
 
   contents : map content_of lines ≡ map Some parts.logs
   contents = contents_are 0 lines parts.logs parts.contents
@@ -344,6 +366,8 @@ module _ {State Op Query Reply : Type 0} (b : Behaviour State Op Query Reply) (s
             heads_are = hs;
             merged = ap (λ (x : List LogHead). merge x (map content_held begun)) hs ∙ merge_filled heads held (map content_held begun) found.nodes e.0 e.1 merged_is;
             lines = lines_left means (length rooms) heads held rooms devices begun held_many both.1 a;
+            short = short_left means (length rooms) 0 found.nodes heads held rooms devices begun held_many
+                (subst (λ (ls : List LogCounts). HaveRoom (length rooms) found.nodes 0 ls rooms) counts (have_room (length rooms) found.nodes 0 found.logs rooms h.room)) both.1 a;
           }
 
 -- ---- passes that have begun

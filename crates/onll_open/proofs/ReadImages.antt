@@ -1,6 +1,7 @@
 -- The images of files are read, one thread after the other.
-use Rattle.std.proofs.Common.{ℕ, suc, Bool, true, false, List, [], ◌∷◌, ◌++◌, ◌≡◌, ◌+◌, ◌-◌, ◌<◌, ◌≤◌, inl, inr, length, map, take, drop, Option, Some, None, refl, sym, ap, ◌∙◌, subst, append_assoc, arith}
-use Rattle.std.specs.Option.{is_some, option_map}
+use Rattle.std.proofs.Common.{ℕ, suc, Bool, true, false, List, [], ◌∷◌, ◌++◌, ◌≡◌, ◌+◌, ◌-◌, ◌≤◌, inl, inr, length, map, take, drop, Option, Some, None, refl, sym, ap, ◌∙◌, subst, append_assoc, arith}
+use Rattle.std.specs.Option.{is_some}
+use Rattle.std.specs.List.{AllByRecursion}
 use Rattle.std.proofs.lemmas.Grind.{flat_map-append}
 use Rattle.std.proofs.lemmas.List.{take-append-drop, length-take}
 use Rattle.onll_words.specs.Lines.{bytes_of_words}
@@ -10,8 +11,7 @@ use Rattle.onll_log.specs.ImageFile.{longest_image}
 use Rattle.onll_log.specs.Tested.{used_in}
 use Rattle.onll_log.proofs.Deciding.{is_cut, content_zeros}
 use Rattle.onll_outside.specs.Views.{StoreView, SameFiles, BeginsWith, with_zeros, image_bytes}
-use Rattle.onll_outside.specs.Directory.{SizeOf}
-use Rattle.onll_outside.specs.LineFiles.{FrontHasLines, GivesLines}
+use Rattle.onll_outside.specs.LineFiles.{FrontHasLines, GivesLines, IsWholeLine}
 use Rattle.onll_open.specs.Names.{log_name}
 use Rattle.onll_open.specs.Devices.{front_by}
 use Rattle.onll_open.specs.Files.{is_made, IsMade, HasLogLines, HoldsLogImage, FilesHold, StandsFor, StandFor, BeginsAs, FilesBegin, IsRead, AreRead, front_in}
@@ -93,6 +93,7 @@ lines_there a b name image tells file h = record {
   made = made_there a b name true tells file h.made;
   front = h.front;
   count = h.count;
+  each = h.each;
   gives = λ on. subst (λ o. FrontHasLines longest_image o h.front h.count) (sym file) (h.gives (sym tells ∙ on));
   image_is = h.image_is;
 }
@@ -113,54 +114,20 @@ read_same store mid name lines same r = record {
   begins = begins_there mid store name (front_in lines) (sym same.tells) (sym (same.file name)) r.begins;
 }
 
--- ---- whether a file is made
-some_made : (o : Option (List ℕ)) (size : ℕ) → 0 < size → Some size ≡ option_map length o → is_made o ≡ true
-some_made None size low e = absurd (cc)
-some_made (Some []) size low e = let is : size ≡ 0 = (cc) in absurd (omega (arith, is, low))
-some_made (Some (byte ∷ bytes)) size low e = refl
-
-none_made : (o : Option (List ℕ)) → None ≡ option_map length o → is_made o ≡ false
-none_made None e = refl
-none_made (Some bytes) e = absurd (cc)
-
-empty_made : (o : Option (List ℕ)) → Some 0 ≡ option_map length o → is_made o ≡ false
-empty_made None e = absurd (cc)
-empty_made (Some []) e = refl
-empty_made (Some (byte ∷ bytes)) e = let is : 0 ≡ suc (length bytes) = (cc) in absurd (omega (arith, is))
-
-pub size_made : (store : StoreView) (name : List ℕ) (size : ℕ) → 0 < size → SizeOf store name (Some size) → IsMade store name true
-size_made store name size low h on = some_made (store.file name) size low (h on)
-
-pub size_unmade : (store : StoreView) (name : List ℕ) (size : ℕ) → size ≡ 0 → SizeOf store name (Some size) → IsMade store name false
-size_unmade store name size none h on = empty_made (store.file name) (ap Some (sym none) ∙ h on)
-
-pub not_there : (store : StoreView) (name : List ℕ) → SizeOf store name None → IsMade store name false
-not_there store name h on = none_made (store.file name) (h on)
-
 -- ---- the lines of one file
 begins_by : (head : Bool) (store : StoreView) (name : List ℕ) (lines : List (List ℕ)) → BeginsWith store name (image_bytes lines) → BeginsAs store name (front_by head lines)
 begins_by false store name lines h = tt
 begins_by true store name [] h = tt
 begins_by true store name (line ∷ lines) h = h
 
-pub made_read : (store : StoreView) (name : List ℕ) (lines front : List (List ℕ)) (count : ℕ) → IsMade store name true → (front ≡ [] → count ≡ 0) → GivesLines store name longest_image front count
+pub made_read : (store : StoreView) (name : List ℕ) (lines front : List (List ℕ)) (count : ℕ) → IsMade store name true → AllByRecursion IsWholeLine front → (front ≡ [] → count ≡ 0) → GivesLines store name longest_image front count
     → lines ≡ take (used_in (content_of front)) front → IsRead store name lines
-made_read store name lines front count made empty gives is = record {
+made_read store name lines front count made each empty gives is = record {
   image = with_zeros front count;
-  holds = inl (record { made = made; front = front; count = count; gives = gives; image_is = refl });
+  holds = inl (record { made = made; front = front; count = count; each = each; gives = gives; image_is = refl });
   stands = stands_front lines front count empty is;
   begins = begins_by (is_some (head_in lines)) store name lines (file_begins lines front (used_in (content_of front)) count longest_image name store is gives);
 }
-
-zeros_stand : StandsFor (zero_lines 1) (zero_lines 1)
-zeros_stand = record { content = refl; few = omega arith }
-
--- a log that is not begun
-unmade_read : (store : StoreView) (name : List ℕ) → IsMade store name false → IsRead store name (zero_lines 1)
-unmade_read store name none = record { image = zero_lines 1; holds = inr (none, refl); stands = zeros_stand; begins = tt }
-
-pub empty_read : (store : StoreView) (name : List ℕ) (lines : List (List ℕ)) → IsMade store name false → lines ≡ zero_lines 1 → IsRead store name lines
-empty_read store name lines none is = subst (IsRead store name) (sym is) (unmade_read store name none)
 
 pub read_none : (logs : List ℕ) (all : List (List (List ℕ))) (store : StoreView) → all ≡ [] → AreRead logs all store
 read_none logs all store none = subst (λ ls. AreRead logs ls store) (sym none) (record { images = []; hold = tt; stand = tt; begin = tt })

@@ -5,7 +5,7 @@ use Rattle.std.specs.List.{AllByRecursion}
 use Rattle.onll_log.specs.Grammar.{content_of}
 use Rattle.onll_log.specs.ImageFile.{longest_image}
 use Rattle.onll_log.specs.Tested.{used_in}
-use Rattle.onll_outside.specs.LineFiles.{GivesLines}
+use Rattle.onll_outside.specs.LineFiles.{GivesLines, IsWholeLine}
 use Rattle.onll_outside.specs.Views.{StoreView, SameFaults, SameDevices, SameFiles, BeginsWith, KeptOrZeros, MayWipe, Rose}
 use Rattle.onll_outside.specs.Views.{image_bytes, with_zeros}
 use Rattle.onll_pmem.specs.Device.{zero_lines}
@@ -70,11 +70,12 @@ is_made (Some (byte ∷ bytes)) = true
 abbrev pub IsMade : StoreView → List ℕ → Bool → Type 0
 IsMade store name made = store.tells ≡ true → is_made (store.file name) ≡ made
 
--- where the store tells its files, these are the lines of the file of this name, up to the limit of an image
+-- where the store tells its files, these are the lines of the file of this name, of eight words each, up to the limit of an image
 pub record HasLogLines (store : StoreView) (name : List ℕ) (image : List (List ℕ)) : Type 0 where
   pub made : IsMade store name true
   pub front : List (List ℕ)
   pub count : ℕ
+  pub each : AllByRecursion IsWholeLine front
   pub gives : GivesLines store name longest_image front count
   pub image_is : image ≡ with_zeros front count
 

@@ -2,6 +2,7 @@
 use Rattle.std.specs.Prelude.{ℕ, zero, suc, List, [], ◌∷◌, ◌≡◌, length, map, Result, Err}
 use Rattle.std.specs.List.{AllByRecursion}
 use Rattle.onll_pmem.specs.Pmem.{DeviceView}
+use Rattle.onll_outside.specs.LineFiles.{IsWholeLine}
 use Rattle.onll_outside.specs.Views.{StoreView, FaultsOf, KeepsDevice, MayKeep, SameFiles}
 use Rattle.onll_outside.specs.declared.OutsideFault.{OutsideFault}
 use Rattle.onll_outside.specs.declared.store.FaultKind.TheVariants.{Keep}
@@ -19,6 +20,10 @@ use Rattle.onll_open.specs.Names.{log_name, log_names}
 abbrev pub AreKept : List ℕ → ℕ → List DeviceView → StoreView → Type 0
 AreKept logs t [] store = Unit {0}
 AreKept logs t (d ∷ ds) store = KeepsDevice store (log_name logs t) d × AreKept logs (suc t) ds store
+
+-- each line of these devices has eight words of 64 bits, so that the bytes of a file say them
+abbrev pub AreWhole : List DeviceView → Type 0
+AreWhole ds = AllByRecursion (λ (d : DeviceView). AllByRecursion IsWholeLine d.read) ds
 
 -- each thread's file, from thread t on, is as it was
 abbrev pub AreAsBefore : List ℕ → ℕ → ℕ → StoreView → StoreView → Type 0

@@ -25,7 +25,7 @@ use Rattle.onll_open.specs.Devices.{fronts_by}
 use Rattle.onll_open.specs.Files.{FilesHold, AreRead, KeepFronts, LogCallFailed, SameCounts, SameLogs}
 use Rattle.onll_open.specs.Locking.{LockFailed}
 use Rattle.onll_open.specs.Misfits.{found_in}
-use Rattle.onll_open.specs.Rooms.{first_full}
+use Rattle.onll_open.specs.Rooms.{first_full, most_lines}
 
 -- the pass has nodes, and lines for any window, for all the updates that it may order
 abbrev pub IsRoomy : {State Device : Type 0} → (Device → DeviceView) → OnllView State → PassView State Device → Type 0
@@ -38,7 +38,11 @@ HaveLines means threads (room ∷ rooms) (log ∷ logs) =
     ((threads + 1) * room ≤ free_of (length (means log.device).read) log.entries) × HaveLines means threads rooms logs
 HaveLines means threads rooms logs = ⊥
 
--- The logs of all threads are open, with these heads; they hold these nodes, and have lines for the updates to come.
+-- the log's device has no more lines than a log can have, so whoever opens the log next reads all of them
+abbrev pub IsShort : {Device : Type 0} → (Device → DeviceView) → LogState Device → Type 0
+IsShort means log = length (means log.device).read ≤ most_lines
+
+-- The logs of all threads are open, with these heads; they hold these nodes, and have lines for the updates to come, and not too many.
 pub record AreOpenLogs {Device : Type 0} (means : Device → DeviceView) (heads : List LogHead) (rooms : List ℕ) (nodes : List Node)
     (logs : List (LogState Device)) : Type 0 where
   pub many : length logs ≡ length rooms
@@ -46,6 +50,7 @@ pub record AreOpenLogs {Device : Type 0} (means : Device → DeviceView) (heads 
   pub heads_are : map head_held logs ≡ heads
   pub merged : merge (map head_held logs) (map content_held logs) ≡ Ok nodes
   pub lines : HaveLines means (length rooms) rooms logs
+  pub short : AllByRecursion (IsShort means) logs
 
 -- the log of this thread has no head
 abbrev pub IsHeadless : ℕ → List LogCounts → Type 0
@@ -64,6 +69,7 @@ module _ {State Op Query Reply Device : Type 0} (b : Behaviour State Op Query Re
     pub heads_are : map head_held opened ≡ heads
     pub begun : HasBegun b means onll opened rooms passes
     pub roomy : AllByRecursion (IsRoomy means onll) passes
+    pub short : AllByRecursion (IsShort means) opened
 
 module _ {State Op Query Reply : Type 0} (b : Behaviour State Op Query Reply) (store : StoreView) (logs : List ℕ)
     (heads : List LogHead) where

@@ -4,6 +4,7 @@ ghost use Rattle.std.specs.Prelude.{◌≡◌, ◌≤◌, true, false, List, [],
 ghost use Rattle.std.specs.List.{AllByRecursion};
 ghost use Rattle.onll_model.specs.Limits.{most_threads};
 ghost use Rattle.onll_outside.specs.Directory.{is_locked};
+ghost use Rattle.onll_outside.specs.LineFiles.{IsWholeLine};
 ghost use Rattle.onll_outside.specs.Views.{SameFaults, SameOthers, FaultsOf, KeepsDevice, HandsBack, MayKeep};
 ghost use Rattle.onll_outside.specs.declared.store.FaultKind.TheVariants as kinds;
 ghost use Rattle.onll_trace.specs.Closing.{AreAll};
@@ -14,7 +15,7 @@ ghost use Rattle.onll_run.specs.Making.{device_of};
 ghost use Rattle.onll_open.specs.Names.{log_name, log_names};
 ghost use Rattle.onll_open.specs.Files.{SameBut};
 ghost use Rattle.onll_open.specs.Devices.{HandsEach};
-ghost use Rattle.onll_open.specs.Keeping.{AreKept, CannotClose, CloseLocks, KeepFails, devices_in};
+ghost use Rattle.onll_open.specs.Keeping.{AreKept, AreWhole, CannotClose, CloseLocks, KeepFails, devices_in};
 
 use crate::devices::give_up_all;
 use crate::fault::NotKept;
@@ -25,6 +26,7 @@ use onll_model::Object;
 use onll_outside::{Directory, OutsideFault, Store};
 use onll_pmem::Pmem;
 use onll_shared::{Onll, Pass, Unclosed};
+use onll_words::Line;
 use std::alloc::Global;
 
 /// Why an object wasn't closed.
@@ -46,6 +48,29 @@ fn devices_of<P: Pmem + Drop>(mut logs: Vec<ThreadLog<P>>, mut devices: Vec<P>) 
         devices.push_reserved(log.into_device());
     }
     devices
+}
+
+/// A line has eight words of 64 bits.
+fn whole_line(line: Line)
+    ensures { IsWholeLine line.w }
+{}
+
+/// So has each line of a device.
+fn whole_lines<P: Pmem>(device: &P)
+    ensures { AllByRecursion IsWholeLine (P.means device.now).read }
+{
+    for line in 0..device.lines() {
+        whole_line(device.read(line));
+    }
+}
+
+/// So has each line of each device.
+fn whole_devices<P: Pmem>(devices: &[P])
+    ensures { AreWhole (map P.means devices.now) }
+{
+    for device in devices {
+        whole_lines(device);
+    }
 }
 
 /// Keeps the device of a thread's log as its file.
@@ -134,6 +159,7 @@ pub fn close<O: Object + Drop, S: Directory>(
     requires tied { AllByRecursion (IsTied O.means S.Dev.means onll) passes.items }
     ensures closed { OnOk result ((trace : List SomeEnded) × HasClosed onll.trace passes.items trace) }
     ensures kept { OnOk result (AreKept logs.now 0 (devices_in S.Dev.means passes.items) (S.seen store.new)) }
+    ensures whole { OnOk result (AreWhole (devices_in S.Dev.means passes.items)) }
     ensures handed { OnOk result (HandsEach (devices_in S.Dev.means passes.items) (S.seen store.old) (S.seen store.new)) }
     ensures faults { OnOk result (SameFaults (S.seen store.old) (S.seen store.new)) }
     ensures locks { CloseLocks (S.seen store.old) logs.now (S.locked store.old) (S.locked store.new) result }
@@ -155,6 +181,7 @@ pub fn close<O: Object + Drop, S: Directory>(
     match onll.end(alloc, passes) {
         Ok(closed) => {
             let devices = devices_of(closed, devices);
+            whole_devices(&devices);
             match keep_and_unlock(alloc, store, logs, &lock, devices) {
                 Ok(()) => Ok(()),
                 Err(fault) => Err(CloseFault::NotKept(fault)),

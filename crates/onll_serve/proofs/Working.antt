@@ -1,28 +1,29 @@
 -- Works that were done at an object that was open, once it is closed.
 use Rattle.std.proofs.Common.{arith, ℕ, List, ◌≡◌, length, map, None, Result, Ok, Err, OnOk, IfErr, refl, sym, ap, ◌∙◌, subst}
+use Rattle.std.specs.List.{AllByRecursion}
 use Rattle.std.proofs.lemmas.List.{length-map}
 use Rattle.onll_model.specs.declared.call.Call.{Call}
 use Rattle.onll_model.specs.declared.call.CallEnd.{CallEnd}
-use Rattle.onll_model.specs.declared.node.Node.{Node}
 use Rattle.onll_model.specs.Object.{Behaviour}
 use Rattle.onll_pmem.specs.Pmem.{DeviceView}
 use Rattle.onll_log.specs.declared.head.LogHead.{LogHead}
 use Rattle.onll_outside.specs.Views.{StoreView, SameFaults}
 use Rattle.onll_trace.specs.declared.trace.Ended.{Ended}
 use Rattle.onll_shared.specs.Ends.{HasClosed}
+use Rattle.onll_shared.specs.Found.{head_held}
 use Rattle.onll_shared.specs.Passes.{OnllView, PassView}
 use Rattle.onll_run.specs.Ended.{RunLaw, after_of}
 use Rattle.onll_open.specs.declared.keeping.CloseFault.{CloseFault}
 use Rattle.onll_open.specs.declared.keeping.CloseFault.TheVariants.{NoMemory, NotKept}
 use Rattle.onll_open.specs.declared.fault.OpenFault.{OpenFault}
 use Rattle.onll_open.specs.Files.{SameBut, SameCounts}
-use Rattle.onll_open.specs.Keeping.{AreKept, CannotClose, CloseLocks, devices_in}
+use Rattle.onll_open.specs.Keeping.{AreKept, AreWhole, CannotClose, CloseLocks, devices_in}
 use Rattle.onll_open.specs.Names.{held_names, log_names}
-use Rattle.onll_open.specs.Opening.{CannotOpen, GoesOn, GivesRoom, HasOpened, NothingLost, OpenFaults}
+use Rattle.onll_open.specs.Opening.{CannotOpen, GivesRoom, HasOpened, IsShort, NothingLost, OpenFaults}
 use Rattle.onll_threads.specs.Ended.{HaveEnded, before_of}
 use Rattle.onll_serve.specs.declared.fault.ServeFault.TheVariants.{NotOpened}
 use Rattle.onll_serve.specs.declared.service.Served.{Served}
-use Rattle.onll_serve.specs.Serving.{AreBegun, CannotServe, ClosedSo, GivenBack, HasHistory, HasServed, WorksWereDone, base_of}
+use Rattle.onll_serve.specs.Serving.{CannotServe, ClosedSo, GivenBack, HasHistory, HasServed, WorksWereDone, base_of}
 
 module _ {State Op Query Reply Device Work Answer : Type 0} (b : Behaviour State Op Query Reply) (means : Device → DeviceView)
     (promise : Work → Work → List (Call State Op Query Reply) → List (CallEnd State Op Query Reply) → Answer → Type 0)
@@ -39,12 +40,13 @@ module _ {State Op Query Reply Device Work Answer : Type 0} (b : Behaviour State
   pub closed_so : (logs : List ℕ) (old new : StoreView) (kept : Result (Unit {0}) (CloseFault State Device Op Query Reply))
       → OnOk kept ((trace : List Ended) × HasClosed onll.trace afters trace)
       → OnOk kept (AreKept logs 0 (devices_in means afters) new) → OnOk kept (SameFaults old new)
+      → OnOk kept (AreWhole (devices_in means afters))
       → IfErr kept (CannotClose means onll afters logs old new)
       → ClosedSo b means onll e.runs afters logs old new kept
-  closed_so logs old new (Ok x) closed are faults refused = (history closed, are, faults)
-  closed_so logs old new (Err (NotKept fault)) closed are faults refused =
+  closed_so logs old new (Ok x) closed are faults whole refused = (history closed, are, faults, whole)
+  closed_so logs old new (Err (NotKept fault)) closed are faults whole refused =
       (history refused.2, refused.0)
-  closed_so logs old new (Err (NoMemory unclosed)) closed are faults refused = refused
+  closed_so logs old new (Err (NoMemory unclosed)) closed are faults whole refused = refused
 
 module _ {State Op Query Reply Device Work Answer : Type 0} (b : Behaviour State Op Query Reply) (means : Device → DeviceView)
     (promise : Work → Work → List (Call State Op Query Reply) → List (CallEnd State Op Query Reply) → Answer → Type 0) where
@@ -56,12 +58,6 @@ module _ {State Op Query Reply Device Work Answer : Type 0} (b : Behaviour State
       let a = ap length e.afters_are in
       let c = ap length e.befores_are in
       omega (arith, a, c, length-map e.runs after_of, length-map e.runs before_of)
-
-  -- the passes with which an object goes on are its first
-  pub are_first : (heads : List LogHead) (state : State) (nodes : List Node) (rooms : List ℕ) (onll : OnllView State)
-      (passes : List (PassView State Device)) → GoesOn b means heads state nodes rooms onll passes → AreBegun b means onll passes
-  are_first heads state nodes rooms onll passes g =
-      record { opened = g.opened; logs_are = g.logs_are; rooms = rooms; begun = g.begun }
 
   pub served : (store : StoreView) (logs : List ℕ) (head : ℕ → List LogHead) (state : State) (works : List Work)
       (opened new : StoreView) (onll : OnllView State) (passes : List (PassView State Device)) (count before : ℕ)
@@ -78,6 +74,8 @@ module _ {State Op Query Reply Device Work Answer : Type 0} (b : Behaviour State
     first = o.on.first;
     base = o.on.base;
     befores = passes;
+    heads_are = ap (map head_held) o.on.begun.logs_are ∙ (o.on.heads_are ∙ ap head n);
+    short = subst (AllByRecursion (IsShort means)) (sym o.on.begun.logs_are) o.on.short;
     opened = opened;
     kept = subst (λ (k : ℕ). NothingLost b store logs (head k) k None opened) n lost;
     counts = counts;

@@ -1,2 +1,4 @@
 pub mod Serving
 pub mod Lives
+pub mod Linking
+pub mod Moments

@@ -2,18 +2,20 @@
 use Rattle.std.specs.Prelude.{ℕ, List, [], ◌∷◌, ◌≡◌, ◌≤◌, length, map, take}
 use Rattle.std.specs.List.{AllByRecursion}
 use Rattle.onll_model.specs.declared.node.Node.{Node}
+use Rattle.onll_model.specs.declared.call.Call.{Call}
 use Rattle.onll_model.specs.declared.call.CallEnd.{CallEnd}
 use Rattle.onll_model.specs.Object.{Behaviour}
 use Rattle.onll_pmem.specs.Pmem.{DeviceView}
 use Rattle.onll_shared.specs.Passes.{OnllView}
-use Rattle.onll_run.specs.Ended.{ThreadRun, ends_of, left_of, plan_of}
+use Rattle.onll_run.specs.Ended.{ThreadRun, ends_of, left_of, plan_of, script_of}
 use Rattle.onll_run.specs.Left.{Recovers, AreLeft}
 use Rattle.onll_run.specs.Outcomes.{StandsIn}
 use Rattle.onll_serve.specs.Serving.{HasHistory, base_of}
 
--- the nodes from which threads went on, the trace that they left, and what became of each thread's calls
+-- the nodes from which threads went on, the calls of each, the trace that they left, and what became of each thread's calls
 pub record ServedGeneration (State Op Query Reply : Type 0) : Type 0 where
   pub base : List Node
+  pub scripts : List (List (Call State Op Query Reply))
   pub trace : List Node
   pub ends : List (List (CallEnd State Op Query Reply))
 
@@ -53,7 +55,12 @@ module _ {State Op Query Reply Device : Type 0} (b : Behaviour State Op Query Re
     (onll : OnllView State) (runs : List (ThreadRun State Op Query Reply Device)) (h : HasHistory b means onll runs) where
   -- what threads did at an object that was closed, as a generation
   abbrev pub generation_of : ServedGeneration State Op Query Reply
-  generation_of = record { base = onll.trace.plan.base; trace = h.closed.ended.frame.trace; ends = map ends_of runs }
+  generation_of = record {
+    base = onll.trace.plan.base;
+    scripts = map script_of runs;
+    trace = h.closed.ended.frame.trace;
+    ends = map ends_of runs;
+  }
 
   -- whatever images of the devices a crash leaves at its end, they recover to a front of it
   abbrev pub LeavesFronts : Type 0

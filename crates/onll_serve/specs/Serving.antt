@@ -1,5 +1,6 @@
 -- What a service did: an object was opened over files, works were done at it in threads, and it was closed.
 use Rattle.std.specs.Prelude.{ℕ, List, [], ◌≡◌, ◌<◌, length, map, Result, Ok, Err, None}
+use Rattle.std.specs.List.{AllByRecursion}
 use Rattle.onll_model.specs.Limits.{most_threads}
 use Rattle.onll_model.specs.declared.call.Call.{Call}
 use Rattle.onll_model.specs.declared.call.CallEnd.{CallEnd}
@@ -11,16 +12,17 @@ use Rattle.onll_merge.specs.Recovered.{Recovered}
 use Rattle.onll_outside.specs.Views.{StoreView, SameFiles, SameFaults}
 use Rattle.onll_trace.specs.declared.trace.Ended.{Ended}
 use Rattle.onll_shared.specs.Ends.{HasClosed}
-use Rattle.onll_shared.specs.Passes.{OnllView, PassView}
+use Rattle.onll_shared.specs.Found.{head_held}
+use Rattle.onll_shared.specs.Passes.{OnllView, PassView, log_of}
 use Rattle.onll_shared.specs.Starts.{AreLogs, HasBegun}
 use Rattle.onll_run.specs.Ended.{ThreadRun, IsWhole, after_of}
 use Rattle.onll_run.specs.Left.{Base}
 use Rattle.onll_open.specs.declared.keeping.CloseFault.{CloseFault}
 use Rattle.onll_open.specs.declared.keeping.CloseFault.TheVariants.{NoMemory, NotKept}
 use Rattle.onll_open.specs.Files.{SameCounts}
-use Rattle.onll_open.specs.Keeping.{AreKept, KeepFails, devices_in}
+use Rattle.onll_open.specs.Keeping.{AreKept, AreWhole, KeepFails, devices_in}
 use Rattle.onll_open.specs.Locking.{AreFree, OpenLocks}
-use Rattle.onll_open.specs.Opening.{CannotOpen, GivesRoom, NothingLost, OpenFaults}
+use Rattle.onll_open.specs.Opening.{CannotOpen, GivesRoom, IsShort, NothingLost, OpenFaults}
 use Rattle.onll_threads.specs.Ended.{HaveEnded}
 use Rattle.onll_serve.specs.declared.fault.NotServed.{NotServed}
 use Rattle.onll_serve.specs.declared.fault.ServeFault.{ServeFault}
@@ -52,7 +54,7 @@ module _ {State Op Query Reply Device : Type 0} (b : Behaviour State Op Query Re
   abbrev pub ClosedSo : List (ThreadRun State Op Query Reply Device) → List (PassView State Device) → List ℕ → StoreView → StoreView
       → Result (Unit {0}) (CloseFault State Device Op Query Reply) → Type 0
   ClosedSo runs afters logs old new (Ok x) =
-      HasHistory runs × AreKept logs 0 (devices_in means afters) new × SameFaults old new
+      HasHistory runs × AreKept logs 0 (devices_in means afters) new × SameFaults old new × AreWhole (devices_in means afters)
   ClosedSo runs afters logs old new (Err (NotKept fault)) =
       HasHistory runs × KeepFails logs (devices_in means afters) old new fault.thread fault.fault
   ClosedSo runs afters logs old new (Err (NoMemory unclosed)) =
@@ -78,6 +80,8 @@ module _ {State Op Query Reply Device Work Answer : Type 0} (b : Behaviour State
     pub first : onll.first ≡ state
     pub base : onll.trace.plan.base ≡ found.nodes
     pub befores : List (PassView State Device)
+    pub heads_are : map head_held (map log_of befores) ≡ heads
+    pub short : AllByRecursion (IsShort means) (map log_of befores)
     pub opened : StoreView
     pub kept : NothingLost b store logs heads (length works) None opened
     pub counts : SameCounts store opened

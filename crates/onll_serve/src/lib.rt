@@ -6,5 +6,5 @@ mod laws;
 mod service;
 
 pub use fault::{NamedServeFault, NotServed, ServeFault};
-pub use laws::{fronts_law, life_law};
+pub use laws::{files_law, files_life_law, fronts_law, life_law, moment_law, next_law};
 pub use service::{Served, serve};

@@ -1,13 +1,2 @@
-pub mod Placing
+pub mod Dealing
 pub mod Selling
-pub mod Heading
-pub mod Rows
-pub mod Recovering
-pub mod Shops
-pub mod Short
-pub mod Files
-pub mod Reading
-pub mod Keeping
-pub mod Reopening
-pub mod Resuming
-pub mod Goings

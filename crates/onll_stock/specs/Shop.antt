@@ -1,54 +1,64 @@
--- What a shop sells over a whole run, and what a crash leaves of it.
-
-use Rattle.std.specs.Prelude.{ℕ, List, length, ◌≡◌, Result, Ok, MatchResult}
+-- That no item is sold twice, in what customers did, in whatever a crash leaves of it, and over all generations.
+use Rattle.std.specs.Prelude.{ℕ, List, [], ◌∷◌, ◌≡◌, ◌+◌, ◌≤◌}
 use Rattle.std.specs.List.{AllByRecursion}
-use Rattle.onll_model.specs.Trace.{state_after}
 use Rattle.onll_log.specs.declared.head.LogHead.{LogHead}
-use Rattle.onll_merge.specs.declared.fault.StateFault.{StateFault}
-use Rattle.onll_merge.specs.declared.fault.StateFault.TheVariants.{NoMemory}
-use Rattle.onll_merge.specs.Recovered.{Recovered, state_recovered}
-use Rattle.onll_run.specs.Outcomes.{StandsIn}
-use Rattle.onll_run.specs.Left.{Plan, Left, AreLeft, HasRun}
-use Rattle.onll_run.specs.Ran.{anew}
-use Rattle.onll_stock.specs.declared.operation.StockOp.{StockOp}
-use Rattle.onll_stock.specs.declared.operation.StockQuery.{StockQuery}
-use Rattle.onll_stock.specs.declared.operation.StockReply.{StockReply}
-use Rattle.onll_stock.specs.Object.{stock}
-use Rattle.onll_stock.specs.Sales.{StockCall, StockEnd, NoneOversold}
+use Rattle.onll_model.specs.declared.node.Node.{Node}
+use Rattle.onll_model.specs.Trace.{state_after}
+use Rattle.onll_outside.specs.Views.{StoreView}
+use Rattle.onll_pmem.specs.Pmem.{DeviceView}
+use Rattle.onll_rows.specs.Sketch.{behaviour_of}
+use Rattle.onll_balance.specs.Measure.{back_by, out_by}
+use Rattle.onll_keeps.specs.Accounts.{IsSoOnceClosed, ServesEvenly}
+use Rattle.onll_keeps.specs.Lifetimes.{IsLegalGeneration, tally_in_life}
+use Rattle.onll_keeps.specs.Tallies.{sum_of}
+use Rattle.onll_serve.specs.declared.service.Served.{Served}
+use Rattle.onll_serve.specs.Lives.{IsLife, ServedGeneration}
+use Rattle.onll_serve.specs.Serving.{HasServed}
+use Rattle.onll_stock.specs.declared.customer.Customer.{Customer}
+use Rattle.onll_stock.specs.declared.customer.Deal.{Deal}
+use Rattle.onll_stock.specs.declared.stock.Stock.{Stock}
+use Rattle.onll_stock.specs.declared.stock.StockOp.{StockOp}
+use Rattle.onll_stock.specs.declared.stock.StockQuery.{StockQuery}
+use Rattle.onll_stock.specs.declared.stock.StockReply.{StockReply}
+use Rattle.onll_stock.specs.Sales.{dealt_by, items_left, most_put_in, put_in, says_dealt, taken}
+use Rattle.onll_stock.specs.Stock.{stock, stock_at_first}
 
--- how many calls a short script has at most, and how many lines are enough for its log, whatever the number of threads
-abbrev pub short_calls : ℕ
-short_calls = 100
+-- how many items these nodes leave of so many at first
+abbrev pub left_after : ℕ → List Node → ℕ
+left_after items nodes = (state_after (behaviour_of stock) (stock_at_first items) nodes).left
 
-abbrev pub short_lines : ℕ
-short_lines = 1701
+-- how many customers say that they bought, and how many that they brought back
+abbrev pub all_bought : List Deal → ℕ
+all_bought deals = sum_of (λ (deal : Deal). deal.bought) deals
 
--- scripts on a stock, with their logs, and what they go on from
-abbrev pub ShopPlan : Type 0
-ShopPlan = Plan ℕ StockOp StockQuery StockReply
+abbrev pub all_back : List Deal → ℕ
+all_back deals = sum_of (λ (deal : Deal). deal.back) deals
 
-abbrev pub ShopLeft : Type 0
-ShopLeft = Left ℕ StockOp StockQuery StockReply
+-- Generations of customers, killed or ended, over a stock of so many items at first: each went on from what the one before left, and the
+-- last left these nodes.
+abbrev pub IsShopLife : ℕ → List (ServedGeneration Stock StockOp StockQuery StockReply) → List Node → Type 0
+IsShopLife items [] nodes = nodes ≡ []
+IsShopLife items (g ∷ more) nodes = (g.base ≡ []) × IsLife (g ∷ more) nodes
+    × AllByRecursion (IsLegalGeneration (behaviour_of stock) (stock_at_first items)) (g ∷ more)
 
--- the items that there were when the scripts began
-abbrev pub had_by : ShopPlan → ℕ
-had_by plan = state_after stock plan.state plan.base.nodes
+-- Whatever generations there were before: what they took, what these customers say that they bought, and what is left, are no more than
+-- the items at first, what they put in, and what these say that they brought back.
+abbrev pub NoneOversold : ℕ → List Node → List Deal → List Node → Type 0
+NoneOversold items base deals nodes =
+    (before : List (ServedGeneration Stock StockOp StockQuery StockReply)) → IsShopLife items before base
+    → tally_in_life (out_by taken) before + all_bought deals + left_after items nodes
+    ≤ items + tally_in_life (back_by put_in most_put_in) before + all_back deals
 
--- Images of a shop's logs give a stock: every answered call is counted in it, and no item was sold twice.
-pub record RecoversShop (plan : ShopPlan) (ends : List (List StockEnd)) (images : List (List (List ℕ))) : Type 0 where
-  pub found : Recovered
-  pub recovered : state_recovered stock plan.heads images ≡ Ok found
-  pub answered : AllByRecursion (λ (es : List StockEnd). AllByRecursion (StandsIn (length found.nodes)) es) ends
-  pub none_oversold : NoneOversold (had_by plan) plan.scripts ends (state_after stock plan.state found.nodes)
+module _ {R Device : Type 0} (means : Device → DeviceView) (store : StoreView) (logs : List ℕ) (heads : List LogHead) (items : ℕ)
+    (customers : List (Customer R)) (new : StoreView) (served : Served Stock Device (Customer R) Deal StockOp StockQuery StockReply) where
+  -- In whatever way customers were served: what they say that they bought, and what is left, are no more than what the files left and what
+  -- they say that they brought back; also of whatever a crash leaves, with all that was said. So no item is sold twice.
+  abbrev pub ServesOnce : Type 0
+  ServesOnce = ServesEvenly items_left says_dealt means dealt_by store logs heads (stock_at_first items) customers new served
 
--- Threads sold no item twice: neither as the run left the stock, nor as any crash of its devices would.
-pub record NeverOversells (plan : ShopPlan) (left : ShopLeft) : Type 0 where
-  pub now : NoneOversold (had_by plan) plan.scripts left.ends (state_after stock plan.state left.nodes)
-  pub crash : (images : List (List (List ℕ))) → AreLeft left.logs left.ends images → RecoversShop plan left.ends images
-
--- Whatever run of a shop that had so many items a crash left these images of: none was sold twice of what is found to be left, and
--- recovery is refused for want of memory alone.
-abbrev pub CountsEverySale : ℕ → List LogHead → List (List (List ℕ)) → Result ℕ StateFault → Type 0
-CountsEverySale had heads images result = (scripts : List (List StockCall)) (left : ShopLeft)
-    → HasRun stock (anew had heads scripts) left → AreLeft left.logs left.ends images
-    → MatchResult result (λ n. NoneOversold had scripts left.ends n) (λ e. e ≡ NoMemory)
+  -- and so over all generations that there were before
+  abbrev pub NeverOversells : Type 0
+  NeverOversells =
+      (h : HasServed (behaviour_of stock) means says_dealt store logs heads (stock_at_first items) customers new served)
+      → IsSoOnceClosed (behaviour_of stock) means h.onll (NoneOversold items h.found.nodes served.answers.items)
+      h.worked.ended.runs h.worked.afters logs h.opened new served.kept h.worked.closed

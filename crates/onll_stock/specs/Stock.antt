@@ -1,42 +1,54 @@
--- A stock is the number of the items that are left; it has room for one kind of item.
-
-use Rattle.std.specs.Prelude.{ℕ, List, [], ◌∷◌, ◌+◌, ◌-◌, ◌^◌, Option, Some, None, if◌then◌else◌, nat_lt, ◌==◌, ◌&&◌}
-use Rattle.onll_words.specs.declared.line.OpRow.{OpRow}
-use Rattle.onll_stock.specs.declared.operation.StockOp.{StockOp}
-use Rattle.onll_stock.specs.declared.operation.StockOp.TheVariants.{Sell, Restock}
-use Rattle.onll_stock.specs.declared.operation.StockQuery.{StockQuery}
-use Rattle.onll_stock.specs.declared.operation.StockReply.{StockReply}
-use Rattle.onll_stock.specs.declared.operation.StockReply.TheVariants.{Sold, TooFew, Restocked, TooMany, Items}
+-- A stock is as many items as are left.
+use Rattle.std.proofs.Common.{ℕ, List, [], ◌∷◌, ◌≡◌, ◌+◌, ◌-◌, ◌^◌, ◌++◌, ◌==◌, Option, Some, if◌then◌else◌, nat_lt}
+use Rattle.std.proofs.Common.{get_or, codes, decimal, refl}
+use Rattle.onll_log.specs.declared.head.LogHead.{LogHead}
+use Rattle.onll_open.specs.Heads.{heads_of}
+use Rattle.onll_rows.specs.Sketch.{Coding, Sketch, row_words}
+use Rattle.onll_stock.specs.declared.stock.Stock.{Stock}
+use Rattle.onll_stock.specs.declared.stock.StockOp.{StockOp}
+use Rattle.onll_stock.specs.declared.stock.StockOp.TheVariants.{Sell, Restock}
+use Rattle.onll_stock.specs.declared.stock.StockQuery.{StockQuery}
+use Rattle.onll_stock.specs.declared.stock.StockReply.{StockReply}
+use Rattle.onll_stock.specs.declared.stock.StockReply.TheVariants.{Sold, TooFew, Restocked, TooMany, Items}
 
 -- the greatest number of items
 abbrev pub most_items : ℕ
 most_items = 2 ^ 64 - 1
 
 -- all items are sold, or none where fewer are left; all are put in, or none where there would be too many
-abbrev pub stock_reply : ℕ → StockOp → StockReply
-stock_reply left (Sell n) = if nat_lt left n then TooFew else Sold
-stock_reply left (Restock n) = if nat_lt most_items (left + n) then TooMany else Restocked
+abbrev pub reply : Stock → StockOp → StockReply
+reply s (Sell n) = if nat_lt s.left n then TooFew else Sold
+reply s (Restock n) = if nat_lt most_items (s.left + n) then TooMany else Restocked
 
-abbrev pub stock_next : ℕ → StockOp → ℕ
-stock_next left (Sell n) = if nat_lt left n then left else left - n
-stock_next left (Restock n) = if nat_lt most_items (left + n) then left else left + n
+abbrev pub next : Stock → StockOp → Stock
+next s (Sell n) = if nat_lt s.left n then s else record { left = s.left - n }
+next s (Restock n) = if nat_lt most_items (s.left + n) then s else record { left = s.left + n }
 
--- the only query asks how many are left
-abbrev pub stock_answer : ℕ → StockQuery → StockReply
-stock_answer left query = Items left
+-- how many items an operation is of
+abbrev pub items_of : StockOp → ℕ
+items_of (Sell n) = n
+items_of (Restock n) = n
 
--- the row of an operation: its code, its count, and zeros
-abbrev pub stock_row : StockOp → OpRow
-stock_row (Sell n) = record { w = 1 ∷ n ∷ 0 ∷ 0 ∷ 0 ∷ 0 ∷ 0 ∷ [] }
-stock_row (Restock n) = record { w = 2 ∷ n ∷ 0 ∷ 0 ∷ 0 ∷ 0 ∷ 0 ∷ [] }
+abbrev pub words : StockOp → List ℕ
+words (Sell n) = 1 ∷ n ∷ []
+words (Restock n) = 2 ∷ n ∷ []
 
--- the operation of a row's words, where they are those of one
-abbrev pub op_of_words : List ℕ → Option StockOp
-op_of_words (k ∷ n ∷ b ∷ c ∷ d ∷ e ∷ f ∷ []) =
-    if k == 1 && (b == 0) && (c == 0) && (d == 0) && (e == 0) && (f == 0) then Some (Sell n)
-    else (if k == 2 && (b == 0) && (c == 0) && (d == 0) && (e == 0) && (f == 0) then Some (Restock n)
-    else None)
-op_of_words _ = None
+-- the operation of these words, where they are those of one
+abbrev pub op_of : List ℕ → Option StockOp
+op_of ws = if get_or ws 0 0 == 1 then Some (Sell (get_or ws 1 0)) else Some (Restock (get_or ws 1 0))
 
-abbrev pub stock_op_at : OpRow → Option StockOp
-stock_op_at row = op_of_words row.w
+pub reads : (op : StockOp) → op_of (row_words (words op)) ≡ Some op
+reads (Sell n) = refl
+reads (Restock n) = refl
+
+abbrev pub stock : Sketch Stock StockOp StockQuery StockReply
+stock = let rows : Coding StockOp = record { words = words; op_of = op_of; reads = reads } in
+    record { next = next; reply = reply; answer = λ s q. Items s.left; rows = rows; text = λ s. codes "stock " ++ decimal s.left }
+
+-- so many items
+abbrev pub stock_at_first : ℕ → Stock
+stock_at_first items = record { left = items }
+
+-- the heads of the logs of a shop of so many items and customers
+abbrev pub shop_heads : ℕ → ℕ → List LogHead
+shop_heads items customers = heads_of 4 (stock.text (stock_at_first items)) customers

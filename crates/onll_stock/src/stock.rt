@@ -1,57 +1,59 @@
-//! The stock of a shop.
+//! The stock of a shop: items of one kind, which are sold and put back.
 
-ghost use Rattle.std.specs.Prelude.{◌≡◌, ℕ, ◌^◌, ◌<◌};
-ghost use Rattle.std.proofs.Common.{rules};
-ghost use Rattle.onll_stock.specs.Object.{stock};
+ghost use Rattle.std.specs.Prelude.{◌≡◌};
+ghost use Rattle.onll_stock.specs.Stock.{items_of, stock};
 
-use crate::operation::{StockOp, StockQuery, StockReply};
-use onll_model::Object;
-use onll_words::{NoMemory, OpRow};
-use std::alloc::Global;
-use std::marker::Model;
+use onll_rows::PlainState;
+use std::alloc::{AllocError, Global};
 
-/// How many items of one kind a shop has. It is seen as their number.
-#[derive(Drop)]
+/// What changes a stock.
+#[derive(Clone, Copy, Debug, PartialEq, Eq)]
+pub enum StockOp {
+    /// Sells so many items, all or none.
+    Sell { count: u64 },
+    /// Puts so many items into the stock, all or none.
+    Restock { count: u64 },
+}
+
+impl StockOp {
+    /// How many items it is of.
+    pub fn items(self) -> u64
+        ensures { result ≡ items_of self }
+    {
+        match self {
+            StockOp::Sell { count } | StockOp::Restock { count } => count,
+        }
+    }
+}
+
+/// What a stock is asked: how many items are left.
+#[derive(Clone, Copy, Debug, PartialEq, Eq)]
+pub struct StockQuery;
+
+/// What a stock replies. There are at most `2^64 - 1` items.
+#[derive(Clone, Copy, Debug, PartialEq, Eq)]
+pub enum StockReply {
+    Sold,
+    TooFew,
+    Restocked,
+    TooMany,
+    Items(u64),
+}
+
+/// The items that are left.
+#[derive(Clone, Copy)]
 pub struct Stock {
-    left: u64,
+    pub left: u64,
 }
 
-impl Model for Stock {
-    ghost use Rattle.std.specs.Prelude.{ℕ};
-
-    ghost Value = { ℕ };
-
-    ghost view = { λ s. s.left };
-}
-
-impl Stock {
-    /// A stock of so many items.
-    pub fn of(items: u64) -> Stock
-        ensures { result ≡ items }
-    {
-        Stock { left: items }
-    }
-
-    /// How many items are left.
-    pub fn left(&self) -> u64
-        ensures { result ≡ self.now }
-    {
-        self.left
-    }
-}
-
-impl Object for Stock {
+impl PlainState for Stock {
     type Op = StockOp;
 
     type Query = StockQuery;
 
     type Reply = StockReply;
 
-    const CODE: u64 = 1;
-
-    ghost CODE = { 1 };
-
-    ghost means = { stock };
+    ghost sketch = { stock };
 
     fn apply(&mut self, op: StockOp) -> StockReply {
         match op {
@@ -76,34 +78,22 @@ impl Object for Stock {
         StockReply::Items(self.left)
     }
 
-    fn op_row(op: StockOp) -> OpRow {
-        let w = match op {
+    fn op_words(op: StockOp) -> [u64; 7] {
+        match op {
             StockOp::Sell { count } => [1, count, 0, 0, 0, 0, 0],
             StockOp::Restock { count } => [2, count, 0, 0, 0, 0, 0],
-        };
-        OpRow { w }
-    }
-
-    fn op_of_row(row: OpRow) -> Option<StockOp> {
-        let [code, count, b, c, d, e, f] = row.w;
-        match code {
-            1 if b == 0 && c == 0 && d == 0 && e == 0 && f == 0 => Some(StockOp::Sell { count }),
-            2 if b == 0 && c == 0 && d == 0 && e == 0 && f == 0 => Some(StockOp::Restock { count }),
-            _ => None,
         }
     }
 
-    fn copy(&self, _alloc: Global) -> Result<Self, NoMemory> {
-        Ok(Stock { left: self.left })
+    fn op_of(words: [u64; 7]) -> Option<StockOp> {
+        let count = words[1];
+        match words[0] {
+            1 => Some(StockOp::Sell { count }),
+            _ => Some(StockOp::Restock { count }),
+        }
     }
 
-    fn restore(&mut self, from: &Self) {
-        self.left = from.left;
+    fn describe(&self, alloc: Global) -> Result<String, AllocError> {
+        format!(in alloc; "stock {}", self.left)
     }
-
-    fn capacity(&self) -> u64 {
-        1
-    }
-
-    ghost code_in_range = { Prim.search rules };
 }

@@ -32,11 +32,6 @@ fn ended<D: Display + Drop>(rt: &HostRuntime, said: D, status: u8) -> io::Result
     Ok(ExitCode::from(status))
 }
 
-/// Whether each buyer has what it wanted, or all tickets are sold.
-fn all_content(bought: &[Bought]) -> bool {
-    bought.iter().all(|it| it.ending.is_good())
-}
-
 /// Says what each buyer did.
 fn report(rt: &HostRuntime, before: u64, bought: &[Bought]) -> io::Result<()> {
     println!(rt; "went on from {before}")?;
@@ -78,8 +73,9 @@ fn run_sale<R: Threads + Wait + Sync + Print>(
             },
         ) => {
             report(rt, before, &answers)?;
+            let good = answers.iter().all(|it| it.ending.is_good());
             match kept {
-                Ok(()) => ended(rt, "kept", if all_content(&answers) { 0 } else { 1 }),
+                Ok(()) => ended(rt, "kept", if good { 0 } else { 1 }),
                 Err(CloseFault::NotKept(fault)) => ended(rt, fault.named(sale.name), 1),
                 Err(CloseFault::NoMemory(_)) => ended(rt, "out of memory", 1),
             }

@@ -8,7 +8,7 @@ ghost use Rattle.onll_tickets.specs.Tickets.{sale_heads, tickets, tickets_at_fir
 
 use crate::buyer::{Bought, Buyer};
 use crate::tickets::Tickets;
-use onll_balance::balance_law;
+use onll_keeps::account_law;
 use onll_outside::Directory;
 use onll_rows::Plain;
 use onll_serve::{NotServed, Served, serve};
@@ -33,7 +33,7 @@ pub fn sell<'a, R: Threads + Wait + Sync + Print, S: Directory>(
     ensures refused { IfErr result (λ e. CannotServe (behaviour_of tickets) name.now (sale_heads count (length buyers.entry.items))
         (length buyers.entry.items) (S.seen store.old) (S.seen store.new) e.fault) }
 {
-    balance_law::<Plain<Tickets>>();
+    account_law::<Plain<Tickets>, S::Dev, Buyer<'a, R>>();
     let object = Plain::of(Tickets { left: count });
     serve(rt, alloc, store, name, object, buyers)
 }

@@ -1,7 +1,7 @@
 use Rattle.std.proofs.Common.{map, ap, ◌∙◌, subst}
 use Rattle.onll_open.specs.Devices.{HandsEach}
 use Rattle.onll_run.specs.Making.{device_of}
-use Rattle.onll_open.specs.Keeping.{AreKept, KeepFails}
+use Rattle.onll_open.specs.Keeping.{AreKept, AreWhole, KeepFails}
 use Rattle.onll_open.proofs.Kept.{devices_are}
 use Rattle.onll_open.proofs.keeping.close.Goals as goal
 
@@ -16,6 +16,12 @@ returns-in-Ok-keep_and_unlock-clause-handed g c =
     let means = g.S.Dev.Pmem.means in
     let same = ap (map means) (c.devices_of-devices.ensures ∙ ap (map device_of) c.in-Ok-end.ensures.logs) ∙ devices_are means c.args.passes.items in
     subst (λ ds. HandsEach ds (g.S.Store.seen c.args.store.now) (g.S.Store.seen c.keep_and_unlock.new.store)) same c.in-Ok-keep_and_unlock.ensures.handed
+
+pub returns-in-Ok-keep_and_unlock-clause-whole : goal.returns-in-Ok-keep_and_unlock-clause-whole
+returns-in-Ok-keep_and_unlock-clause-whole g c =
+    let means = g.S.Dev.Pmem.means in
+    let same = ap (map means) (c.devices_of-devices.ensures ∙ ap (map device_of) c.in-Ok-end.ensures.logs) ∙ devices_are means c.args.passes.items in
+    subst AreWhole (ap (map means) c.deref.ensures.value ∙ same) c.whole_devices.ensures
 
 pub returns-in-Ok-end-clause-refused : goal.returns-in-Ok-end-clause-refused
 returns-in-Ok-end-clause-refused g c =

@@ -31,6 +31,7 @@ returns-in-Ok-clause-opened g c =
       heads_are = all.heads_are;
       begun = c.in-Ok.ensures.passes;
       roomy = all_roomy b means c.in-Ok.onll opened c.args.rooms.now c.in-Ok.passes.items all.many c.in-Ok.ensures.passes all.lines;
+      short = all.short;
     }
 
 pub resume-requires-clause-rooms : goal.resume-requires-clause-rooms

@@ -41,7 +41,8 @@ returns-clause-worked g c =
       closed = closed_so g.O.Object.means g.S.Dev.Pmem.means g.W.Work.promise c.args.opened.onll c.args.crew.works.items
           c.args.opened.passes.items r.works.items r.passes.items r.answers.items (c.run_law.ensures c.args.opened.onll) ended
           c.args.name.now (g.S.Store.seen c.args.store.now) (g.S.Store.seen c.close-kept.new.store) c.close-kept.result
-          c.close-kept.ensures.closed c.close-kept.ensures.kept c.close-kept.ensures.faults c.close-kept.ensures.refused;
+          c.close-kept.ensures.closed c.close-kept.ensures.kept c.close-kept.ensures.faults c.close-kept.ensures.whole
+          c.close-kept.ensures.refused;
     }
 
 pub returns-clause-others : goal.returns-clause-others

@@ -1,0 +1,5 @@
+pub mod Locks
+pub mod Laws
+pub mod Requests
+pub mod Clerks
+pub mod Serving

@@ -115,8 +115,8 @@ def run_chain(program, chance):
     customers = chance.randint(1, 4)
     with tempfile.TemporaryDirectory() as folder:
         kills = chance.randint(1, 4)
-        generations = [Generation(program, folder, customers, chance.randint(1, chance.choice((60, ITEMS // customers))),
-                                  chance.randint(1, 20), chance.uniform(0.002, 0.06)) for _ in range(kills)]
+        generations = [Generation(program, folder, customers, chance.randint(1, chance.choice((20, ITEMS // customers))),
+                                  chance.randint(1, 20), chance.uniform(0.002, chance.choice((0.06, 0.4)))) for _ in range(kills)]
         return [*generations, Generation(program, folder, customers, ITEMS, chance.randint(1, 20), None)]
 
 

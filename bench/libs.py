@@ -1,0 +1,47 @@
+#!/usr/bin/env python3
+"""Gives this checkout the libraries that a gate on this machine has proved of these very files, so that `rt check` and
+bench/check_ahead.py take them as they are.
+Usage: bench/libs.py CRATE..
+For each crate, those below it and itself, lowest first; one that no gate has proved, and what stands on it, is named."""
+import os
+import sys
+
+from toolchain import module
+
+TOP = os.path.dirname(os.path.dirname(os.path.abspath(__file__)))
+
+
+def wanted(every, names):
+    """The crates of these names and those below them, lowest first."""
+    below = {it.name for crate in every if crate.name in names for it in crate.below()}
+    return [crate for crate in every if (crate.name in below or crate.name in names) and not crate.is_program]
+
+
+def is_given(kept, crate, missing):
+    """Whether the crate's library stands in its folder now, as a gate proved it."""
+    if any(it.name in missing for it in crate.deps):
+        return False
+    os.makedirs(f"{crate.folder}/out", exist_ok=True)
+    return kept.give(crate, False, kept.key(crate))
+
+
+def main():
+    rt = module("rt")
+    os.chdir(TOP)
+    rt.Crate.cuts_libraries = True
+    rt.Crate.allowed = rt.handles_of(TOP)
+    every = rt.crates_of(TOP)
+    kept = rt.Kept(every)
+    missing = set()
+    for crate in wanted(every, sys.argv[1:]):
+        if not is_given(kept, crate, missing):
+            missing.add(crate.name)
+            print(f"not proved yet: {crate.name}")
+            continue
+        kept.is_built(crate)
+        with open(f"{crate.folder}/out/rlib/stamp", "w") as file:
+            file.write(rt.rtlib.Crate(crate.folder, TOP, {}).stamp())
+    return bool(missing)
+
+
+sys.exit(main())

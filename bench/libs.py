@@ -4,6 +4,7 @@ bench/check_ahead.py take them as they are.
 Usage: bench/libs.py CRATE..
 For each crate, those below it and itself, lowest first; one that no gate has proved, and what stands on it, is named."""
 import os
+import shutil
 import sys
 
 from toolchain import module
@@ -27,6 +28,8 @@ def is_given(kept, crate, missing):
 
 def main():
     rt = module("rt")
+    # (a file that is linked would change what is kept, where a check makes it anew in its place)
+    rt.link_or_copy = shutil.copyfile
     os.chdir(TOP)
     rt.Crate.cuts_libraries = True
     rt.Crate.allowed = rt.handles_of(TOP)

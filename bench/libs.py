@@ -18,10 +18,26 @@ def wanted(every, names):
     return [crate for crate in every if (crate.name in below or crate.name in names) and not crate.is_program]
 
 
-def is_given(kept, crate, missing):
-    """Whether the crate's library stands in its folder now, as a gate proved it."""
+def stamp_at(folder):
+    return f"{folder}/out/rlib/stamp"
+
+
+def is_there(rt, crate):
+    """Whether the crate's library is that of its sources already, over libraries that are."""
+    if not os.path.isfile(stamp_at(crate.folder)):
+        return False
+    with open(stamp_at(crate.folder)) as file:
+        return file.read() == rt.rtlib.Crate(crate.folder, TOP, {}).stamp()
+
+
+def is_given(rt, kept, crate, missing):
+    """Whether the crate's library stands in its folder now, as a gate or a check proved it. What is there from before is never given over itself:
+    that would drop it where it is kept."""
     if any(it.name in missing for it in crate.deps):
         return False
+    if is_there(rt, crate):
+        return True
+    shutil.rmtree(f"{crate.folder}/out/rlib", ignore_errors=True)
     os.makedirs(f"{crate.folder}/out", exist_ok=True)
     return kept.give(crate, False, kept.key(crate))
 
@@ -37,12 +53,12 @@ def main():
     kept = rt.Kept(every)
     missing = set()
     for crate in wanted(every, sys.argv[1:]):
-        if not is_given(kept, crate, missing):
+        if not is_given(rt, kept, crate, missing):
             missing.add(crate.name)
             print(f"not proved yet: {crate.name}")
             continue
         kept.is_built(crate)
-        with open(f"{crate.folder}/out/rlib/stamp", "w") as file:
+        with open(stamp_at(crate.folder), "w") as file:
             file.write(rt.rtlib.Crate(crate.folder, TOP, {}).stamp())
     return bool(missing)
 

@@ -1,4 +1,5 @@
--- The measure of an object is balanced in any legal history, up to any place with every answered call.
+-- What rises by what operations put in, and falls by what they take out, is balanced in any legal history, up to any place with every
+-- answered call.
 
 use Rattle.std.proofs.Common.{ℕ, zero, suc, ◌≡◌, ◌+◌, ◌-◌, ◌<◌, ◌≤◌, Bool, true, false, if◌then◌else◌, nat_lt, List, [], ◌∷◌, length, take, drop, Option, Some, None, refl, sym, ap, ◌∙◌, subst, arith}
 use Rattle.std.specs.List.{AllByRecursion, slice_get}
@@ -15,8 +16,9 @@ use Rattle.onll_model.specs.Trace.{state_after, after_row, reply_after}
 use Rattle.onll_model.specs.Legal.{placed_updates, EachEnd, HasReply, AreLegalThreads, IsLegal}
 use Rattle.onll_model.proofs.Lists.{all_drop}
 use Rattle.onll_run.specs.Outcomes.{StandsIn}
-use Rattle.onll_balance.specs.Measure.{IsBalanced, Measure, tally_of, tally, out_by, back_by}
-use Rattle.onll_balance.specs.Balance.{FrontBalanceLaw, WholeBalanceLaw}
+use Rattle.onll_balance.specs.Floor.{Floor}
+use Rattle.onll_balance.specs.Measure.{Measure, tally_of, tally, out_by, back_by}
+use Rattle.onll_balance.specs.Balance.{FrontBalanceLaw, FrontFloorLaw, WholeBalanceLaw, WholeFloorLaw}
 use Rattle.onll_balance.proofs.Placing.{over_placed, over_nodes, over_threads, threads_all}
 use Rattle.onll_balance.proofs.Nodes.{fits, length_dropped, get_dropped, next_state}
 use Rattle.onll_balance.proofs.Standing.{all_in}
@@ -49,8 +51,19 @@ none_above w k below (n ∷ ns) low =
     let rest = none_above w k (below + 1) ns (omega (arith, low)) in
     omega (arith, here, rest)
 
-module _ {State Op Query Reply : Type 0} (b : Behaviour State Op Query Reply) (m : Measure b) where
-  step_row : (s : State) (o : Option Op) → m.left (after_row b s o) + on_row (λ op. m.out op (b.reply s op)) o ≤ m.left s + on_row (λ op. m.back op (b.reply s op)) o
+-- A measure and a floor at once: `up` is what is left, and `down` is nothing; or the other way round.
+record Drift {State Op Query Reply : Type 0} (b : Behaviour State Op Query Reply) : Type 0 where
+  up : State → ℕ
+  down : State → ℕ
+  out : Op → Reply → ℕ
+  back : Op → Reply → ℕ
+  most : Op → ℕ
+  within : (op : Op) (reply : Reply) → back op reply ≤ most op
+  step : (s : State) (op : Op) → up (b.next s op) + down s + out op (b.reply s op) ≤ up s + down (b.next s op) + back op (b.reply s op)
+
+module _ {State Op Query Reply : Type 0} (b : Behaviour State Op Query Reply) (m : Drift b) where
+  step_row : (s : State) (o : Option Op) → m.up (after_row b s o) + m.down s + on_row (λ op. m.out op (b.reply s op)) o
+      ≤ m.up s + m.down (after_row b s o) + on_row (λ op. m.back op (b.reply s op)) o
   step_row s None = omega arith
   step_row s (Some op) = m.step s op
 
@@ -74,12 +87,14 @@ module _ {State Op Query Reply : Type 0} (b : Behaviour State Op Query Reply) (m
       backs_to row place = cut k place (backs row place)
 
       balance : (j below : ℕ) (ns : List Node) → Follows below ns → j ≤ length ns → below + j ≡ k
-          → m.left (at k) + over_nodes outs_to below ns ≤ m.left (at below) + over_nodes backs_to below ns
+          → m.up (at k) + m.down (at below) + over_nodes outs_to below ns ≤ m.up (at below) + m.down (at k) + over_nodes backs_to below ns
       balance zero below ns f low e =
           let none_out = none_above outs k below ns (omega (arith, e)) in
           let none_back = none_above backs k below ns (omega (arith, e)) in
-          let same : m.left (at k) ≡ m.left (at below) = ap (λ (p : ℕ). m.left (at p)) (let z : k ≡ below = omega (arith, e) in z) in
-          omega (arith, none_out, none_back, same)
+          let here : k ≡ below = omega (arith, e) in
+          let same_up : m.up (at k) ≡ m.up (at below) = ap (λ (p : ℕ). m.up (at p)) here in
+          let same_down : m.down (at k) ≡ m.down (at below) = ap (λ (p : ℕ). m.down (at p)) here in
+          omega (arith, none_out, none_back, same_up, same_down)
       balance (suc j) below [] f low e = absurd (omega (arith, low))
       balance (suc j) below (n ∷ ns) f low e =
           let rest = balance j (below + 1) ns f.1 (omega (arith, low)) (omega (arith, e)) in
@@ -89,8 +104,9 @@ module _ {State Op Query Reply : Type 0} (b : Behaviour State Op Query Reply) (m
           let o_is = ap (λ (p : ℕ). on_row (λ op. m.out op (b.reply (at p) op)) (b.op_at n.row)) z in
           let b_is = ap (λ (p : ℕ). on_row (λ op. m.back op (b.reply (at p) op)) (b.op_at n.row)) z in
           let count = step_row (at below) (b.op_at n.row) in
-          let next = ap m.left f.0 in
-          omega (arith, rest, o_in, b_in, o_is, b_is, count, next)
+          let up_next = ap m.up f.0 in
+          let down_next = ap m.down f.0 in
+          omega (arith, rest, o_in, b_in, o_is, b_is, count, up_next, down_next)
 
   module _ (first : State) (trace : List Node) where
     abbrev state_at : ℕ → State
@@ -174,11 +190,15 @@ module _ {State Op Query Reply : Type 0} (b : Behaviour State Op Query Reply) (m
             let rest = back_threads (u + 1) scripts ends h.1 in
             omega (arith, here, places, rest)
 
+  abbrev Drifts : State → List (List (Call State Op Query Reply)) → List (List (CallEnd State Op Query Reply)) → State → Type 0
+  Drifts before scripts ends after = tally (out_by m.out) scripts ends + m.up after + m.down before
+      ≤ m.up before + m.down after + tally (back_by m.back m.most) scripts ends
+
   to_place : (first : State) (base : List Node) (scripts : List (List (Call State Op Query Reply))) (trace : List Node)
       (ends : List (List (CallEnd State Op Query Reply))) (k : ℕ) → IsLegal b first base scripts trace ends
       → length base ≤ k → k ≤ length trace
       → AllByRecursion (λ (es : List (CallEnd State Op Query Reply)). AllByRecursion (StandsIn k) es) ends
-      → IsBalanced m (state_after b first base) scripts ends (state_after b first (take k trace))
+      → Drifts (state_after b first base) scripts ends (state_after b first (take k trace))
   to_place first base scripts trace ends k legal low high within =
       let n = length base in
       let long = length_dropped n trace (omega (arith, low, high)) in
@@ -189,17 +209,65 @@ module _ {State Op Query Reply : Type 0} (b : Behaviour State Op Query Reply) (m
       let out_all = threads_all (out_at first trace k) (length scripts) n ns threads in
       let back_all = threads_all (back_at first trace k) (length scripts) n ns threads in
       let even = balance (state_at first trace) k (k - n) n ns (follows first trace n ns (λ i x e. sym (get_dropped n trace i) ∙ e)) (omega (arith, low, high, long)) (omega (arith, low)) in
-      let begins = ap (λ (l : List Node). m.left (state_after b first l)) legal.begins in
-      omega (arith, all_out, all_back, out_all, back_all, even, begins)
+      let up_begins = ap (λ (l : List Node). m.up (state_after b first l)) legal.begins in
+      let down_begins = ap (λ (l : List Node). m.down (state_after b first l)) legal.begins in
+      omega (arith, all_out, all_back, out_all, back_all, even, up_begins, down_begins)
 
-  pub over_fronts : FrontBalanceLaw b m
-  over_fronts first base scripts trace ends nodes legal front low within =
-      subst (λ (l : List Node). IsBalanced m (state_after b first base) scripts ends (state_after b first l)) front
+  front_drifts : (first : State) (base : List Node) (scripts : List (List (Call State Op Query Reply))) (trace : List Node)
+      (ends : List (List (CallEnd State Op Query Reply))) (nodes : List Node) → IsLegal b first base scripts trace ends
+      → take (length nodes) trace ≡ nodes → length base ≤ length nodes
+      → AllByRecursion (λ (es : List (CallEnd State Op Query Reply)). AllByRecursion (StandsIn (length nodes)) es) ends
+      → Drifts (state_after b first base) scripts ends (state_after b first nodes)
+  front_drifts first base scripts trace ends nodes legal front low within =
+      subst (λ (l : List Node). Drifts (state_after b first base) scripts ends (state_after b first l)) front
       (to_place first base scripts trace ends (length nodes) legal low (fits nodes trace front) within)
 
-  pub over_whole : WholeBalanceLaw b m
-  over_whole first base scripts trace ends legal =
+  trace_drifts : (first : State) (base : List Node) (scripts : List (List (Call State Op Query Reply))) (trace : List Node)
+      (ends : List (List (CallEnd State Op Query Reply))) → IsLegal b first base scripts trace ends
+      → Drifts (state_after b first base) scripts ends (state_after b first trace)
+  trace_drifts first base scripts trace ends legal =
       let low : length base ≤ length trace = fits base trace legal.begins in
-      subst (λ (l : List Node). IsBalanced m (state_after b first base) scripts ends (state_after b first l)) (take_all (length trace) trace (omega arith))
+      subst (λ (l : List Node). Drifts (state_after b first base) scripts ends (state_after b first l)) (take_all (length trace) trace (omega arith))
       (to_place first base scripts trace ends (length trace) legal low (omega arith)
       (all_in b first (length base) trace low 0 scripts ends legal.outcomes))
+
+module _ {State Op Query Reply : Type 0} (b : Behaviour State Op Query Reply) where
+  abbrev rises : Measure b → Drift b
+  rises m = record {
+    up = m.left;
+    down = λ s. 0;
+    out = m.out;
+    back = m.back;
+    most = m.most;
+    within = m.within;
+    step = λ s op. (let here = m.step s op in omega (arith, here));
+  }
+
+  abbrev falls : Floor b → Drift b
+  falls f = record {
+    up = λ s. 0;
+    down = f.left;
+    out = f.put;
+    back = f.out;
+    most = f.most;
+    within = f.within;
+    step = λ s op. (let here = f.step s op in omega (arith, here));
+  }
+
+  module _ (m : Measure b) where
+    pub over_fronts : FrontBalanceLaw b m
+    over_fronts first base scripts trace ends nodes legal front low within =
+        let here = front_drifts b (rises m) first base scripts trace ends nodes legal front low within in omega (arith, here)
+
+    pub over_whole : WholeBalanceLaw b m
+    over_whole first base scripts trace ends legal =
+        let here = trace_drifts b (rises m) first base scripts trace ends legal in omega (arith, here)
+
+  module _ (f : Floor b) where
+    pub floor_of_fronts : FrontFloorLaw b f
+    floor_of_fronts first base scripts trace ends nodes legal front low within =
+        let here = front_drifts b (falls f) first base scripts trace ends nodes legal front low within in omega (arith, here)
+
+    pub floor_of_whole : WholeFloorLaw b f
+    floor_of_whole first base scripts trace ends legal =
+        let here = trace_drifts b (falls f) first base scripts trace ends legal in omega (arith, here)

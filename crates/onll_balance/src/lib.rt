@@ -3,4 +3,4 @@
 
 mod laws;
 
-pub use laws::balance_law;
+pub use laws::{balance_law, exact_law, floor_law};

@@ -1,5 +1,5 @@
 -- How much the calls count that a work made at its seat, one call after the other, and what all works say of theirs.
-use Rattle.std.proofs.Common.{ℕ, List, [], ◌∷◌, ◌++◌, ◌≡◌, ◌+◌, ◌≤◌, length, map, Option, Result, Ok, Err, refl, ◌∙◌, arith}
+use Rattle.std.proofs.Common.{ℕ, List, [], ◌∷◌, ◌++◌, ◌≡◌, ◌+◌, length, Option, Result, Ok, Err, refl, sym, ◌∙◌, subst, arith}
 use Rattle.onll_model.specs.declared.call.Call.{Call}
 use Rattle.onll_model.specs.declared.call.Call.TheVariants.{Update, Ask}
 use Rattle.onll_model.specs.declared.call.CallEnd.{CallEnd}
@@ -11,7 +11,7 @@ use Rattle.onll_shared.specs.declared.calls.UpdateFault.TheVariants as faults
 use Rattle.onll_balance.specs.Measure.{back_by, out_by, tally_of}
 use Rattle.onll_threads.specs.Acts.{SeatView, calls_of, ends_of}
 use Rattle.onll_threads.specs.Seats.{ActsAt, Did, KeepsPromise}
-use Rattle.onll_keeps.specs.Tallies.{HasTallied, back_of, out_of}
+use Rattle.onll_keeps.specs.Tallies.{HasTallied, SaysBoth, back_of, out_of}
 
 module _ (State Query : Type 0) {Op Reply : Type 0} where
   -- what an update counts is what its reply says that it took out
@@ -100,3 +100,62 @@ module _ {State Op Query Reply Device : Type 0} {b : Behaviour State Op Query Re
       {now : SeatView State Device} {n : ℕ} (answer : Answer) → n ≡ said answer → HasTallied b means first count n now
       → KeepsPromise b means first (λ calls ends a. tally_of count calls ends ≡ said a) now answer
   says_tally said answer e h = record { calls = h.calls; ends = h.ends; did = h.did; kept = h.sum_is ∙ e }
+
+-- What an answer says of two tallies that a work keeps beside each other: what its calls took out, and what they put in.
+module _ {State Op Query Reply Device : Type 0} {b : Behaviour State Op Query Reply} {means : Device → DeviceView}
+    {first : Option (SeatView State Device)} {Answer : Type 0} (out back : Op → Reply → ℕ) (most : Op → ℕ) (outs backs : Answer → ℕ) where
+  -- these calls count too
+  both_on : {calls : List (Call State Op Query Reply)} {ends : List (CallEnd State Op Query Reply)} {old new : SeatView State Device}
+      (answer next : Answer) → ActsAt b means first calls ends old new → outs answer + tally_of (out_by out) calls ends ≡ outs next
+      → backs answer + tally_of (back_by back most) calls ends ≡ backs next
+      → KeepsPromise b means first (SaysBoth out back most outs backs) old answer
+      → KeepsPromise b means first (SaysBoth out back most outs backs) new next
+  both_on {calls} {ends} answer next acts taken put h = record {
+    calls = h.calls ++ calls;
+    ends = h.ends ++ ends;
+    did = acts h.calls h.ends h.did;
+    kept = (let many = h.did.acted.many in
+        let out_sum = tally_on (out_by out) h.calls calls h.ends ends many in
+        let back_sum = tally_on (back_by back most) h.calls calls h.ends ends many in
+        let said = h.kept.0 in
+        let returned = h.kept.1 in
+        (omega (arith, out_sum, said, taken), omega (arith, back_sum, returned, put)));
+  }
+
+  -- an update counts what its reply says, or at most what it may have put in
+  pub both_updated : {old new : SeatView State Device} {answer next : Answer} (op : Op) (place : ℕ) (r : Result Reply UpdateFault)
+      → ActsAt b means first (calls_of op r) (ends_of place r) old new → outs next ≡ outs answer + out_of out op r
+      → backs next ≡ backs answer + back_of back most op r
+      → KeepsPromise b means first (SaysBoth out back most outs backs) old answer
+      → KeepsPromise b means first (SaysBoth out back most outs backs) new next
+  both_updated {answer = answer} {next = next} op place r acts taken put h =
+      let out_sum = out_counted State Query out op place r in
+      let back_sum = back_counted State Query back most op place r in
+      both_on answer next acts (omega (arith, out_sum, taken)) (omega (arith, back_sum, put)) h
+
+  -- a read takes nothing out and puts nothing in
+  pub both_read : {query : Query} {end : CallEnd State Op Query Reply} {old new : SeatView State Device} {answer : Answer}
+      → ActsAt b means first (Ask query ∷ []) (end ∷ []) old new
+      → KeepsPromise b means first (SaysBoth out back most outs backs) old answer
+      → KeepsPromise b means first (SaysBoth out back most outs backs) new answer
+  both_read {answer = answer} acts h = both_on answer answer acts (omega arith) (omega arith) h
+
+  -- nothing counts yet
+  pub none_both : {now : SeatView State Device} {answer : Answer} → outs answer ≡ 0 → backs answer ≡ 0 → Did b means first [] [] now
+      → KeepsPromise b means first (SaysBoth out back most outs backs) now answer
+  none_both taken put did = record { calls = []; ends = []; did = did; kept = (sym taken, sym put) }
+
+  -- an answer that says the same
+  pub both_again : {now : SeatView State Device} (answer : Answer) {next : Answer} → outs answer ≡ outs next → backs answer ≡ backs next
+      → KeepsPromise b means first (SaysBoth out back most outs backs) now answer
+      → KeepsPromise b means first (SaysBoth out back most outs backs) now next
+  both_again answer taken put h =
+      record { calls = h.calls; ends = h.ends; did = h.did; kept = (h.kept.0 ∙ taken, h.kept.1 ∙ put) }
+
+-- what was done at a seat, where a loop or a branch gives it another name
+module _ {State Op Query Reply Device Answer : Type 0} {b : Behaviour State Op Query Reply} {means : Device → DeviceView}
+    {first : Option (SeatView State Device)}
+    {promise : List (Call State Op Query Reply) → List (CallEnd State Op Query Reply) → Answer → Type 0} where
+  pub at_seat : {now new : SeatView State Device} {answer : Answer} → now ≡ new → KeepsPromise b means first promise new answer
+      → KeepsPromise b means first promise now answer
+  at_seat {answer = answer} e h = subst (λ (s : SeatView State Device). KeepsPromise b means first promise s answer) (sym e) h

@@ -1,5 +1,7 @@
 pub mod Tallies
 pub mod Accounts
-pub mod Lifetimes
 pub mod Facts
+pub mod Lifetimes
 pub mod Orders
+pub mod Served
+pub mod Beginning

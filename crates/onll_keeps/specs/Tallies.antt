@@ -6,7 +6,7 @@ use Rattle.onll_model.specs.Object.{Behaviour}
 use Rattle.onll_pmem.specs.Pmem.{DeviceView}
 use Rattle.onll_shared.specs.declared.calls.UpdateFault.{UpdateFault}
 use Rattle.onll_shared.specs.declared.calls.UpdateFault.TheVariants as faults
-use Rattle.onll_balance.specs.Measure.{tally_of}
+use Rattle.onll_balance.specs.Measure.{back_by, out_by, tally_of}
 use Rattle.onll_threads.specs.Acts.{SeatView}
 use Rattle.onll_threads.specs.Seats.{Did}
 
@@ -23,6 +23,12 @@ module _ {State Op Query Reply Device : Type 0} (b : Behaviour State Op Query Re
 abbrev pub SaysTally : {State Op Query Reply Work Answer : Type 0} → (Call State Op Query Reply → CallEnd State Op Query Reply → ℕ)
     → (Answer → ℕ) → Work → Work → List (Call State Op Query Reply) → List (CallEnd State Op Query Reply) → Answer → Type 0
 SaysTally count said old new calls ends answer = tally_of count calls ends ≡ said answer
+
+-- An answer says two numbers: what the calls took out, and what they put in, or may have put in where a fence failed.
+abbrev pub SaysBoth : {State Op Query Reply Answer : Type 0} → (Op → Reply → ℕ) → (Op → Reply → ℕ) → (Op → ℕ) → (Answer → ℕ)
+    → (Answer → ℕ) → List (Call State Op Query Reply) → List (CallEnd State Op Query Reply) → Answer → Type 0
+SaysBoth out back most outs backs calls ends answer =
+    (tally_of (out_by out) calls ends ≡ outs answer) × (tally_of (back_by back most) calls ends ≡ backs answer)
 
 -- what an update took out by its reply
 abbrev pub out_of : {Op Reply : Type 0} → (Op → Reply → ℕ) → Op → Result Reply UpdateFault → ℕ

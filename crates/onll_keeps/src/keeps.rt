@@ -1,8 +1,10 @@
 //! The trait of an object that keeps a fact.
 
+ghost use Rattle.std.specs.Prelude.{◌≡◌, true, false};
 ghost use Rattle.onll_keeps.specs.Facts.{FactLaw, ToldLaw};
 
 use onll_model::Object;
+use onll_rows::{Plain, PlainState};
 
 /// An object of which a fact is so in every state, as "no two hold one lock", and what that makes of each reply.
 pub trait Keeps: Object {
@@ -12,9 +14,46 @@ pub trait Keeps: Object {
     /// What is so of an operation and its reply.
     ghost says: { Self.Op → Self.Reply → Type 0 };
 
+    /// Whether the fact is so of the object, so that it may begin.
+    fn may_begin(&self) -> bool
+        ensures so { result ≡ true → holds self.now }
+        ensures not_so { result ≡ false → holds self.now → ⊥ };
+
     ghost stays: { (s : Self) (op : Self.Op) → holds s → holds (Self.Object.means.next s op) };
 
     ghost told: { (s : Self) (op : Self.Op) → holds s → says op (Self.Object.means.reply s op) };
+}
+
+/// A plain state of which a fact is so, however it changes: its object keeps the fact.
+pub trait PlainKeeps: PlainState {
+    /// What is so of every state.
+    ghost holds: { Self → Type 0 };
+
+    /// What is so of an operation and its reply.
+    ghost says: { Self.Op → Self.Reply → Type 0 };
+
+    /// Whether the fact is so of the object, so that it may begin.
+    fn may_begin(object: &Plain<Self>) -> bool
+        ensures so { result ≡ true → holds object.now }
+        ensures not_so { result ≡ false → holds object.now → ⊥ };
+
+    ghost stays: { (s : Self) (op : Self.Op) → holds s → holds (Self.PlainState.sketch.next s op) };
+
+    ghost told: { (s : Self) (op : Self.Op) → holds s → says op (Self.PlainState.sketch.reply s op) };
+}
+
+impl<S: PlainKeeps> Keeps for Plain<S> {
+    ghost holds = { S.holds };
+
+    ghost says = { S.says };
+
+    fn may_begin(&self) -> bool {
+        S::may_begin(self)
+    }
+
+    ghost stays = { S.stays };
+
+    ghost told = { S.told };
 }
 
 /// The members of the trait that say what is so. It does nothing when called.

@@ -1,10 +1,11 @@
 //! What works say of their calls is even, over a service and over a life.
 
+ghost use Rattle.onll_balance.specs.Floor.{Floor};
 ghost use Rattle.onll_balance.specs.Measure.{Measure};
 ghost use Rattle.onll_keeps.specs.Accounts.{Account, ServesEvenly};
-ghost use Rattle.onll_keeps.specs.Lifetimes.{LifeBalanceLaw};
+ghost use Rattle.onll_keeps.specs.Lifetimes.{LifeBalanceLaw, LifeFloorLaw};
 
-use onll_balance::balance_law;
+use onll_balance::{balance_law, floor_law};
 use onll_model::Object;
 use onll_pmem::Pmem;
 use onll_threads::Work;
@@ -23,4 +24,11 @@ pub fn life_balance_law<O: Object>()
     ensures { (first : _) (m : Measure O.means) → LifeBalanceLaw O.means first m }
 {
     balance_law::<O>();
+}
+
+/// Over all generations nothing is lost: what there was and what was put in is taken out or still there. It does nothing when called.
+pub fn life_floor_law<O: Object>()
+    ensures { (first : _) (f : Floor O.means) → LifeFloorLaw O.means first f }
+{
+    floor_law::<O>();
 }

@@ -1,5 +1,5 @@
 -- What a service did: an object was opened over files, works were done at it in threads, and it was closed.
-use Rattle.std.specs.Prelude.{ℕ, List, [], ◌≡◌, ◌<◌, length, map, Result, Ok, Err, None}
+use Rattle.std.specs.Prelude.{ℕ, Bool, false, List, [], ◌∷◌, ◌≡◌, ◌<◌, ◌==◌, ◌||◌, length, map, Result, Ok, Err, None, is_some}
 use Rattle.std.specs.List.{AllByRecursion}
 use Rattle.onll_model.specs.Limits.{most_threads}
 use Rattle.onll_model.specs.declared.call.Call.{Call}
@@ -32,6 +32,15 @@ use Rattle.onll_serve.specs.declared.service.Served.{Served}
 -- the nodes from which an object goes on; what each log held is not said
 abbrev pub base_of : {State : Type 0} → OnllView State → Base
 base_of onll = record { nodes = onll.trace.plan.base; logs = [] }
+
+-- A pass can order no more updates: it has ordered as many as it may, that is, its log is full, or a fence of it failed.
+abbrev pub is_spent : {State Device : Type 0} → PassView State Device → Bool
+is_spent pass = (length pass.spot.me.own == pass.room) || is_some pass.broken
+
+-- one of them can order no more
+abbrev pub any_spent : {State Device : Type 0} → List (PassView State Device) → Bool
+any_spent [] = false
+any_spent (pass ∷ passes) = is_spent pass || any_spent passes
 
 module _ {State Op Query Reply Device : Type 0} (b : Behaviour State Op Query Reply) (means : Device → DeviceView)
     (onll : OnllView State) where
@@ -67,6 +76,7 @@ module _ {State Op Query Reply Device Work Answer : Type 0} (b : Behaviour State
       (old new : StoreView) (served : Served State Device Work Answer Op Query Reply) : Type 0 where
     pub afters : List (PassView State Device)
     pub ended : HaveEnded b means promise onll works befores served.works.items afters served.answers.items
+    pub spent_is : served.spent ≡ any_spent afters
     pub closed : ClosedSo b means onll ended.runs afters logs old new served.kept
 
   -- An object in this state went on from exactly what the files held. Each work made calls of its own choice, of which its promise is so;

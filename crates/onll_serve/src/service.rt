@@ -7,7 +7,7 @@ ghost use Rattle.onll_open.specs.Files.{SameBut};
 ghost use Rattle.onll_open.specs.Names.{held_names, log_names};
 ghost use Rattle.onll_open.specs.Keeping.{CloseLocks};
 ghost use Rattle.onll_threads.specs.Crews.{HasSpace};
-ghost use Rattle.onll_serve.specs.Serving.{AreBegun, CannotServe, HasServed, WorksWereDone, ServeLocks};
+ghost use Rattle.onll_serve.specs.Serving.{AreBegun, CannotServe, HasServed, WorksWereDone, ServeLocks, any_spent, is_spent};
 
 use crate::fault::{NotServed, ServeFault};
 use onll_model::{MOST_THREADS, Object};
@@ -16,6 +16,7 @@ use onll_outside::Directory;
 use onll_pmem::Pmem;
 use onll_rows::Described;
 use onll_run::run_law;
+use onll_shared::Pass;
 use onll_threads::{Place, Space, Stop, Work, Worked, reserve, run_works, works_law};
 use std::alloc::Global;
 use std::thread::Threads;
@@ -29,6 +30,8 @@ pub struct Served<O: Object, P: Pmem, W, A> {
     pub works: Vec<W>,
     /// What each of them gave back.
     pub answers: Vec<A>,
+    /// Whether a seat can order no more updates: its log is full, or a fence of it failed.
+    pub spent: bool,
     /// Whether all logs were kept as their files. Where there was no memory to close the object it is handed back, to be closed again.
     pub kept: Result<(), CloseFault<O, P>>,
 }
@@ -38,6 +41,25 @@ pub struct Served<O: Object, P: Pmem, W, A> {
 struct Crew<'a, O: Object, P: Pmem, W, A> {
     works: Vec<W>,
     space: Space<'a, O, P, W, A>,
+}
+
+/// Whether a pass can order no more updates.
+fn is_spent<O: Object, P: Pmem>(pass: &Pass<O, P>) -> bool
+    ensures { result ≡ is_spent pass.now }
+{
+    pass.ordered() == pass.room() || pass.broken().is_some()
+}
+
+/// Whether one of the passes can order no more updates.
+fn any_spent<O: Object, P: Pmem>(passes: &[Pass<O, P>]) -> bool
+    ensures { result ≡ any_spent passes.now }
+{
+    for pass in passes {
+        if is_spent(pass) {
+            return true;
+        }
+    }
+    false
 }
 
 /// Does works at an object that was opened, and closes it.
@@ -80,6 +102,7 @@ fn serve_opened<
         answers,
     } = run_works(rt, &place, works, passes, space);
     let Place { onll, stop: _ } = place;
+    let spent = any_spent(&passes);
     works_law::<O, S::Dev, W>();
     let kept = close(alloc, store, name, onll, passes);
     run_law::<O, S::Dev>();
@@ -87,6 +110,7 @@ fn serve_opened<
         before: recovered,
         works,
         answers,
+        spent,
         kept,
     }
 }

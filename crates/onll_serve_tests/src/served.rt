@@ -85,11 +85,13 @@ impl<'a, R: Wait + Sync> Work<Counter> for Adder<'a, R> {
 /// How it went.
 #[derive(Clone, Copy, Debug, PartialEq, Eq)]
 enum Went {
-    /// It went on from so many updates, all works met, so many updates were answered in all, so many works broke, and all was kept.
+    /// It went on from so many updates, all works met, so many updates were answered in all, so many works broke, a seat was spent or none,
+    /// and all was kept.
     Kept {
         before: u64,
         added: u64,
         broken: u64,
+        spent: bool,
     },
     /// A work didn't meet the others.
     Alone,
@@ -99,7 +101,7 @@ enum Went {
 }
 
 /// What adders did in all.
-fn sum_up(before: u64, all: &[Added]) -> Went {
+fn sum_up(before: u64, spent: bool, all: &[Added]) -> Went {
     let mut added: u64 = 0;
     let mut broken: u64 = 0;
     for it in all {
@@ -115,6 +117,7 @@ fn sum_up(before: u64, all: &[Added]) -> Went {
         before,
         added,
         broken,
+        spent,
     }
 }
 
@@ -142,11 +145,12 @@ fn count_on<R: Threads + Wait + Sync, S: Directory>(
             Served {
                 before,
                 answers,
+                spent,
                 kept,
                 ..
             },
         ) => match kept {
-            Ok(()) => Ok(sum_up(before, &answers)),
+            Ok(()) => Ok(sum_up(before, spent, &answers)),
             Err(CloseFault::NotKept(fault)) => Ok(Went::NotKept(fault.thread)),
             Err(CloseFault::NoMemory(_)) => Ok(Went::NoMemory),
         },
@@ -165,6 +169,7 @@ fn gone_on(rt: HostRuntime) -> Result<(), Fail> {
             before,
             added: 15,
             broken: 0,
+            spent: false,
         };
         let went = count_on(&rt, alloc, &mut store, 0, 3)?;
         found.must(went == all, "all kept");
@@ -188,6 +193,7 @@ fn refused(rt: HostRuntime) -> Result<(), Fail> {
                 before: 0,
                 added: 10,
                 broken: 0,
+                spent: false,
             },
         "two works",
     );
@@ -235,6 +241,7 @@ fn failing(rt: HostRuntime) -> Result<(), Fail> {
         before: 0,
         added: 6,
         broken: 1,
+        spent: true,
     };
     let went = count_on(&rt, alloc, &mut store, 0, 2)?;
     found.must(went == broken, "broken");

@@ -2,3 +2,4 @@ pub mod Acting
 pub mod Sitting
 pub mod Jobs
 pub mod Ending
+pub mod Hearing

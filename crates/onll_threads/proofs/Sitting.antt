@@ -4,7 +4,7 @@ use Rattle.onll_model.specs.declared.call.Call.{Call}
 use Rattle.onll_model.specs.declared.call.CallEnd.{CallEnd}
 use Rattle.onll_model.specs.Object.{Behaviour}
 use Rattle.onll_pmem.specs.Pmem.{DeviceView}
-use Rattle.onll_shared.specs.Passes.{OnllView, PassView, IsTied}
+use Rattle.onll_shared.specs.Passes.{OnllView, PassView}
 use Rattle.onll_threads.specs.Acts.{Acts, HasActed, IsUnused, SeatView, seat_of}
 use Rattle.onll_threads.specs.Crews.{WasDone}
 use Rattle.onll_threads.specs.Seats.{ActsAt, Did, HasCalled, KeepsPromise}
@@ -14,9 +14,6 @@ some_same x y e = (cc)
 
 module _ {State Op Query Reply Device : Type 0} (b : Behaviour State Op Query Reply) (means : Device → DeviceView)
     (first : Option (SeatView State Device)) where
-  pub tied_at : (now : SeatView State Device) → HasCalled b means first now → IsTied b means now.onll now.pass
-  tied_at now h = h.did.acted.tied
-
   acted_at : (calls : List (Call State Op Query Reply)) (ends : List (CallEnd State Op Query Reply)) (onll : OnllView State)
       (old new : PassView State Device) → Acts b means onll calls ends old new
       → ActsAt b means first calls ends (seat_of onll old) (seat_of onll new)

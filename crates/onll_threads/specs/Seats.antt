@@ -1,10 +1,16 @@
 -- What was done at a thread's seat.
-use Rattle.std.specs.Prelude.{List, ◌++◌, ◌≡◌, Option, Some}
+use Rattle.std.specs.Prelude.{ℕ, List, [], ◌∷◌, ◌++◌, ◌≡◌, Option, Some, None, if◌then◌else◌, nat_le}
 use Rattle.onll_model.specs.declared.call.Call.{Call}
+use Rattle.onll_model.specs.declared.call.Call.TheVariants.{Ask}
 use Rattle.onll_model.specs.declared.call.CallEnd.{CallEnd}
+use Rattle.onll_model.specs.declared.call.CallEnd.TheVariants.{Answered}
 use Rattle.onll_model.specs.Object.{Behaviour}
 use Rattle.onll_pmem.specs.Pmem.{DeviceView}
-use Rattle.onll_threads.specs.Acts.{SeatView, HasActed}
+use Rattle.onll_threads.specs.Acts.{SeatView, HasActed, HasReadSo, seen_in}
+
+-- a reply of a seat that has seen so far, where that is not before this place
+abbrev pub reply_from : {Reply : Type 0} → ℕ → ℕ → Reply → Option Reply
+reply_from place seen reply = if nat_le place seen then Some reply else None
 
 module _ {State Op Query Reply Device : Type 0} (b : Behaviour State Op Query Reply) (means : Device → DeviceView)
     (first : Option (SeatView State Device)) where
@@ -36,3 +42,10 @@ module _ {State Op Query Reply Device : Type 0} (b : Behaviour State Op Query Re
       → SeatView State Device → Type 0
   ActsAt calls ends old new = (before : List (Call State Op Query Reply)) (befores : List (CallEnd State Op Query Reply))
       → Did before befores old → Did (before ++ calls) (befores ++ ends) new
+
+  -- A query was answered at the newest place that is durable, and the reply is given exactly where that is not before this place.
+  pub record HasHeard (place : ℕ) (query : Query) (old new : SeatView State Device) (heard : Option Reply) : Type 0 where
+    pub reply : Reply
+    pub read : HasReadSo b means old.onll query old.pass new.pass reply
+    pub acts : ActsAt (Ask query ∷ []) (Answered reply (seen_in new.pass) ∷ []) old new
+    pub heard_is : heard ≡ reply_from place (seen_in new.pass) reply

@@ -5,7 +5,7 @@ ghost use Rattle.onll_model.specs.declared.call.Call.TheVariants.{Ask as AskCall
 ghost use Rattle.onll_model.specs.declared.call.CallEnd.TheVariants.{Answered as AnsweredEnd};
 ghost use Rattle.onll_shared.specs.Calls.{HasUpdated};
 ghost use Rattle.onll_threads.specs.Acts.{HasReadSo, calls_of, ends_of, received, seen_in};
-ghost use Rattle.onll_threads.specs.Seats.{ActsAt, HasCalled};
+ghost use Rattle.onll_threads.specs.Seats.{ActsAt, HasCalled, HasHeard};
 
 use crate::acts::{read_on, update_on};
 use crate::stop::Stop;
@@ -74,6 +74,21 @@ impl<'a, O: Object, P: Pmem, B: Begun<O, P>> Seat<'a, O, P, B> {
             self.old self.new }
     {
         read_on(self.at, &mut self.pass, query)
+    }
+
+    /// Answers a query as `read` does, and gives the reply where it was answered at this place or after it; nothing where the place is
+    /// not durable yet. Either way the seat has seen where it was answered, and its later calls stand there or after. So who is told a
+    /// place by another thread hears it, and each call that follows stands after what that thread did.
+    pub fn hear(&mut self, place: u64, query: O::Query) -> Option<O::Reply>
+        ensures same { self.new.onll ≡ self.old.onll }
+        ensures heard { HasHeard O.means P.means B.first place query self.old self.new result }
+    {
+        let reply = self.read(query);
+        if place <= self.place() {
+            Some(reply)
+        } else {
+            None
+        }
     }
 
     /// The greatest place that the thread has seen: after a call that was answered, the place of its answer.

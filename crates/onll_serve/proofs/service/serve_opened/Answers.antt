@@ -1,7 +1,8 @@
-use Rattle.std.proofs.Common.{◌≤◌, sym, ◌∙◌, subst}
+use Rattle.std.proofs.Common.{◌≡◌, ◌≤◌, rules, sym, ap, ◌∙◌, subst}
 use Rattle.onll_model.specs.Limits.{most_threads}
 use Rattle.onll_open.specs.Files.{SameBut}
 use Rattle.onll_open.specs.Names.{log_names}
+use Rattle.onll_serve.specs.Serving.{any_spent}
 use Rattle.onll_serve.proofs.Working.{as_many, closed_so}
 use Rattle.onll_serve.proofs.service.serve_opened.Goals as goal
 
@@ -35,9 +36,11 @@ returns-clause-worked g c =
     let r = c.run_works-works.result in
     let ended = c.works_law.ensures c.args.opened.onll first.opened first.rooms c.args.crew.works.items c.args.opened.passes.items
     r.works.items r.passes.items r.answers.items first.logs_are first.begun c.run_works-works.ensures in
+    let same : c.deref.result.now ≡ r.passes.items = search rules in
     record {
       afters = r.passes.items;
       ended = ended;
+      spent_is = c.any_spent-spent.ensures ∙ ap any_spent same;
       closed = closed_so g.O.Object.means g.S.Dev.Pmem.means g.W.Work.promise c.args.opened.onll c.args.crew.works.items
           c.args.opened.passes.items r.works.items r.passes.items r.answers.items (c.run_law.ensures c.args.opened.onll) ended
           c.args.name.now (g.S.Store.seen c.args.store.now) (g.S.Store.seen c.close-kept.new.store) c.close-kept.result

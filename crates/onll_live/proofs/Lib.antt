@@ -1,0 +1,13 @@
+pub mod Newest
+pub mod Apart
+pub mod Changes
+pub mod Saves
+pub mod Cleared
+pub mod Areas
+pub mod Settled
+pub mod FaultSteps
+pub mod Begins
+pub mod Follows
+pub mod Serves
+pub mod Turning
+pub mod Locks

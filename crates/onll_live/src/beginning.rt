@@ -1,0 +1,153 @@
+//! The next era of an object: its state is saved, and its logs begin anew.
+
+ghost use Rattle.std.specs.Prelude.{◌≡◌, ◌+◌, ◌⊎◌, ◌%◌, ◌≤◌, ◌^◌, length, IfOk, IfErr, OnOk};
+ghost use Rattle.onll_model.specs.Limits.{most_threads};
+ghost use Rattle.onll_live.specs.Eras.{IsInEra, area_name, era_logs};
+ghost use Rattle.onll_areas.specs.Keeping.{OthersStay};
+ghost use Rattle.onll_open.specs.Files.{SameBut};
+ghost use Rattle.onll_open.specs.Names.{log_names};
+ghost use Rattle.onll_live.specs.Refusals.{of_keep};
+ghost use Rattle.onll_live.specs.Beginning.{AreCleared, BeginFaults, BeginsEra, ClearFaults, IsNextEra, OthersOfEra};
+ghost use Rattle.onll_live.specs.Beginning.{SaveFaults, SavesEra, StaysOrBegins};
+
+use crate::era::Era;
+use crate::fault::NextFault;
+use crate::names::{area_name, era_logs};
+use crate::saved::Saved;
+use onll_areas::{KeepFault, area_laws, keep_checkpoint};
+use onll_checkpoint::Checkpoint;
+use onll_merge::Recovery;
+use onll_open::{FilesFault, RecoveredObject, log_name, recover};
+use onll_outside::{Directory, OutsideFault, Store};
+use onll_words::NoMemory;
+use std::alloc::Global;
+
+/// Empties the files of the logs of so many threads, so that they are not begun.
+fn clear_logs<S: Store>(
+    alloc: Global,
+    store: &mut S,
+    logs: &str,
+    threads: u64,
+) -> Result<(), NextFault>
+    ensures cleared { OnOk result (AreCleared (S.seen store.new) logs.now threads) }
+    ensures faults { ClearFaults logs.now threads (S.seen store.old) (S.seen store.new) result }
+    ensures others { SameBut (log_names logs.now 0 threads) (S.seen store.old) (S.seen store.new) }
+{
+    for thread in 0..threads {
+        let file = log_name(alloc, logs, thread)?;
+        match store.write(alloc, &file, &[]) {
+            Ok(()) => {}
+            Err(OutsideFault::Failed) => return Err(NextFault::NotCleared { thread }),
+            Err(OutsideFault::NoMemory) => return Err(NextFault::NoMemory),
+        }
+    }
+    Ok(())
+}
+
+/// Why the next era wasn't begun where its area could not be kept so.
+fn not_kept(area: u64, fault: KeepFault) -> NextFault
+    ensures { result ≡ of_keep area fault }
+{
+    match fault {
+        KeepFault::FenceFailed => NextFault::FenceFailed { area },
+        KeepFault::Outside(OutsideFault::Failed) => NextFault::NotKept { area },
+        KeepFault::Outside(OutsideFault::NoMemory) => NextFault::NoMemory,
+    }
+}
+
+/// Saves the state of an era in its area.
+fn save_era<O: Saved + Drop, S: Store>(
+    alloc: Global,
+    store: &mut S,
+    name: &str,
+    era: &Era<O>,
+) -> Result<(), NextFault>
+    requires { 1 ≤ era.now.number }
+    ensures saved { SavesEra O.read_of (S.seen store.old) (S.seen store.new) name.now era.now result }
+    ensures faults { SaveFaults name.now (era.now.number % 2) (S.seen store.old) (S.seen store.new) result }
+    ensures others { OthersStay (era_logs name.now era.now.number) (S.seen store.old) (S.seen store.new) }
+{
+    let text = era.state.save(alloc)?;
+    let checkpoint = Checkpoint::of(era.number, era.place, text);
+    let area = era.number % 2;
+    let file = area_name(alloc, name, area)?;
+    area_laws();
+    match keep_checkpoint(alloc, &file, &checkpoint, store) {
+        Ok(()) => Ok(()),
+        Err(fault) => Err(not_kept(area, fault)),
+    }
+}
+
+/// How many updates were recovered.
+fn updates_in(recovery: &Recovery) -> u64
+    ensures { result ≡ length recovery.now.nodes.items }
+{
+    recovery.nodes.len() as u64
+}
+
+/// The era after this one, with the state that so many updates have left.
+fn next_era<O: Drop>(number: u64, place: u64, updates: u64, state: O) -> Result<Era<O>, NextFault>
+    ensures next { IfOk result (λ e. e ≡ record { number = number + 1; place = place + updates; state = state }) }
+    ensures refused { IfErr result (λ fault. (fault ≡ NextFault.AtItsEnd) × ((2 ^ 64 ≤ number + 1) ⊎ (2 ^ 64 ≤ place + updates))) }
+{
+    let (Some(number), Some(place)) = (number.checked_add(1), place.checked_add(updates)) else {
+        return Err(NextFault::AtItsEnd);
+    };
+    Ok(Era {
+        number,
+        place,
+        state,
+    })
+}
+
+/// Empties the files of an era's logs, and then saves its state in its area: from there on it has begun.
+fn begin<O: Saved + Drop, S: Store>(
+    alloc: Global,
+    store: &mut S,
+    name: &str,
+    era: &Era<O>,
+    threads: u64,
+) -> Result<(), NextFault>
+    requires { 1 ≤ era.now.number }
+    ensures begun { BeginsEra O.read_of (S.seen store.old) (S.seen store.new) name.now threads era.now result }
+    ensures faults { BeginFaults name.now era.now.number threads (S.seen store.old) (S.seen store.new) result }
+    ensures others { OthersOfEra (era_logs name.now era.now.number) threads (S.seen store.old) (S.seen store.new) }
+{
+    let logs = era_logs(alloc, name, era.number)?;
+    if let Err(fault) = clear_logs(alloc, store, &logs, threads) {
+        return Err(fault);
+    }
+    match save_era(alloc, store, name, era) {
+        Ok(()) => Ok(()),
+        Err(fault) => Err(fault),
+    }
+}
+
+/// Begins the next era of an object, whose logs are closed: it empties the files of the next logs, and saves the state that the logs of
+/// this one give. Until the state is saved the era is as it was.
+pub fn begin_next<O: Saved + Drop, S: Directory>(
+    alloc: Global,
+    store: &mut S,
+    name: &str,
+    era: Era<O>,
+    threads: u64,
+) -> Result<Era<O>, NextFault>
+    requires few { threads ≤ most_threads }
+    ensures begun { IfOk result (λ next. (first : O) → IsInEra O.read_of first (S.seen store.old) name.now era
+        → IsNextEra O.means O.CODE O.description O.read_of first name.now threads (S.seen store.old) (S.seen store.new) era next) }
+    ensures refused { IfErr result (λ fault. (first : O) → IsInEra O.read_of first (S.seen store.old) name.now era
+        → StaysOrBegins O.means O.CODE O.description O.read_of first name.now threads (S.seen store.old) (S.seen store.new) era) }
+{
+    let Era {
+        number,
+        place,
+        state,
+    } = era;
+    let logs = era_logs(alloc, name, number)?;
+    let RecoveredObject { object, recovery } = recover(alloc, store, &logs, threads, state)?;
+    let next = next_era(number, place, updates_in(&recovery), object)?;
+    match begin(alloc, store, name, &next, threads) {
+        Ok(()) => Ok(next),
+        Err(fault) => Err(fault),
+    }
+}

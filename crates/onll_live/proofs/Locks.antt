@@ -1,5 +1,5 @@
 -- An object that is locked, worked on, and given back.
-use Rattle.std.proofs.Common.{ℕ, List, [], ◌∷◌, ◌++◌, ◌≡◌, sym, ◌∙◌, inl, inr}
+use Rattle.std.proofs.Common.{◌⊎◌, ℕ, List, [], ◌∷◌, ◌++◌, ◌≡◌, sym, subst, ◌∙◌, inl, inr}
 use Rattle.std.specs.Prelude.{Option, codes}
 use Rattle.onll_model.specs.declared.call.Call.{Call}
 use Rattle.onll_model.specs.declared.call.CallEnd.{CallEnd}
@@ -17,10 +17,10 @@ use Rattle.onll_live.specs.declared.fault.LiveFault.{LiveFault}
 use Rattle.onll_live.specs.declared.fault.LiveFault.TheVariants as faults
 use Rattle.onll_live.specs.declared.fault.NotLived.{NotLived}
 use Rattle.onll_live.specs.declared.living.Lived.{Lived}
-use Rattle.onll_live.specs.Beginning.{SameAreaFile}
+use Rattle.onll_live.specs.Beginning.{EntersEra, IsNextEra, SameAreaFile}
 use Rattle.onll_live.specs.Eras.{AreasGive, IsInEra, area_name, era_lock, number_of}
 use Rattle.onll_live.specs.Faults.{CannotFind}
-use Rattle.onll_live.specs.Living.{CannotServeEra, CannotLiveBy, HasLived, IsLockFault, StopsLater}
+use Rattle.onll_live.specs.Living.{CannotServeEra, CannotLiveBy, HasLived, IsLockFault, StopsInEra, StopsLater}
 use Rattle.onll_live.proofs.Changes.{number_is, same_area, same_era}
 
 -- ---- areas
@@ -84,6 +84,25 @@ only_locked name old new same = record { tells = same.tells; file = λ other d. 
 pub lock_others : (name : List ℕ) (old new : StoreView) → SameOthers (era_lock name) old new → SameBut (era_lock name ∷ []) old new
 lock_others name old new same = record { tells = same.tells; file = λ other d. same.file other d.0 }
 
+-- where no file changed the object is in its era
+pub era_of_files : {State : Type 0} (read_of : List ℕ → Option State) (first : State) (name : List ℕ) (old new : StoreView) (era : Era State)
+    → SameFiles old new → IsInEra read_of first old name era → IsInEra read_of first new name era
+era_of_files read_of first name old new era same i =
+    same_era read_of first old new name era (areas_of_files old new name 0 same) (areas_of_files old new name 1 same) i
+
+-- an era that is entered is the one in which the object then is
+pub entered_in : {State Op Query Reply : Type 0} (b : Behaviour State Op Query Reply) (code : ℕ) (description : State → List ℕ)
+    (read_of : List ℕ → Option State) (first : State) (name : List ℕ) (threads : ℕ) (old new : StoreView) (era next : Era State)
+    → EntersEra b code description read_of first name threads old new era next → IsInEra read_of first old name era
+    → IsInEra read_of first new name next
+entered_in {State} b code description read_of first name threads old new era next h i = at h.2
+  where
+    at : ((new ≡ h.0) × (next ≡ era)) ⊎ IsNextEra b code description read_of first name threads h.0 new era next → IsInEra read_of first new name next
+    at (inl s) =
+        subst (λ (store : StoreView). IsInEra read_of first store name next) (sym s.0)
+        (subst (λ (e : Era State). IsInEra read_of first h.0 name e) (sym s.1) (era_of_files read_of first name old h.0 era h.1 i))
+    at (inr n) = n.in_next
+
 -- ---- the whole
 module _ {State Op Query Reply Device Work Answer : Type 0} (b : Behaviour State Op Query Reply) (means : Device → DeviceView)
     (promise : Work → Work → List (Call State Op Query Reply) → List (CallEnd State Op Query Reply) → Answer → Type 0)
@@ -97,6 +116,9 @@ module _ {State Op Query Reply Device Work Answer : Type 0} (b : Behaviour State
     start = h.start;
     others = lock_first name old mid h.start locked h.others;
     in_era = h.in_era;
+    begin = h.begin;
+    first_era = h.first_era;
+    enters = h.enters;
     end = h.end;
     served = h.served;
     same = files_more h.end end new h.same given;
@@ -110,9 +132,27 @@ module _ {State Op Query Reply Device Work Answer : Type 0} (b : Behaviour State
     start = h.start;
     others = lock_first name old mid h.start locked h.others;
     in_era = h.in_era;
+    begin = h.begin;
+    first_era = h.first_era;
+    enters = h.enters;
     end = h.end;
     back = h.back;
     same = files_more h.end end new h.same given;
+  }
+
+  stops_in_era : (e : NotLived Work) → StopsInEra b means promise code description read_of first name mid end works e
+      → StopsInEra b means promise code description read_of first name old new works e
+  stops_in_era e h = record {
+    era = h.era;
+    found = era_unlocked read_of first name old mid h.era locked h.found;
+    start = h.start;
+    others = lock_first name old mid h.start locked h.others;
+    in_era = h.in_era;
+    end = h.end;
+    left = h.left;
+    same = files_more h.end end new h.same given;
+    works_are = h.works_are;
+    eras_are = h.eras_are;
   }
 
   alone : SameBut (era_lock name ∷ []) mid end → SameBut (era_lock name ∷ []) old new
@@ -126,7 +166,8 @@ module _ {State Op Query Reply Device Work Answer : Type 0} (b : Behaviour State
   cannot_live (faults.NotSettled fault) e h =
       (then_same (era_lock name ∷ area_name name 0 ∷ area_name name 1 ∷ []) old end new (lock_first name old mid end locked h.0) given, h.1, h.2)
   cannot_live (faults.NotServed fault) e h = stops_later e h
-  cannot_live (faults.NotBegun fault) e h = stops_later e h
+  cannot_live (faults.NotBegun fault) e (inl h) = inl (stops_in_era e h)
+  cannot_live (faults.NotBegun fault) e (inr h) = inr (stops_later e h)
   cannot_live faults.NoMemory e (inl h) = inl (alone h.0, h.1, h.2)
   cannot_live faults.NoMemory e (inr h) = inr (stops_later e h)
 
@@ -144,7 +185,7 @@ module _ {State Op Query Reply Device Work Answer : Type 0} (b : Behaviour State
   stops_by (faults.NotFound fault) e from to next left c s = absurd c
   stops_by (faults.NotSettled fault) e from to next left c s = absurd c
   stops_by (faults.NotServed fault) e from to next left c s = s
-  stops_by (faults.NotBegun fault) e from to next left c s = s
+  stops_by (faults.NotBegun fault) e from to next left c s = inr s
   stops_by faults.NoMemory e from to next left c s = inr s
 
   -- where it wasn't locked

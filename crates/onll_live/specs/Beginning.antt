@@ -5,7 +5,7 @@ use Rattle.onll_model.specs.declared.node.Node.{Node}
 use Rattle.onll_model.specs.Object.{Behaviour}
 use Rattle.onll_model.specs.Trace.{state_after}
 use Rattle.onll_merge.specs.Recovered.{Recovered}
-use Rattle.onll_outside.specs.Views.{StoreView, Holds, Rose, SameFaults}
+use Rattle.onll_outside.specs.Views.{StoreView, Holds, Rose, SameFaults, SameFiles}
 use Rattle.onll_outside.specs.declared.store.FaultKind.TheVariants as kinds
 use Rattle.onll_areas.specs.Newest.{AreaHolds}
 use Rattle.onll_open.specs.Files.{LogCallFailed}
@@ -47,11 +47,19 @@ module _ {State Op Query Reply : Type 0} (b : Behaviour State Op Query Reply) (c
     pub in_next : IsInEra read_of first new name next
     pub empty : AreCleared new (era_logs name next.number) threads
 
+  -- an era is entered: it is the one that was found, or the next one has begun
+  abbrev pub EntersEra : StoreView → StoreView → Era State → Era State → Type 0
+  EntersEra old new era next = (mid : StoreView) × SameFiles old mid × (((new ≡ mid) × (next ≡ era)) ⊎ IsNextEra mid new era next)
+
   -- The next era was to begin, and that was refused: the object is still in its era, with the same logs; or, where the area could not be
   -- kept and holds the checkpoint all the same, in the next.
   abbrev pub StaysOrBegins : StoreView → StoreView → Era State → Type 0
   StaysOrBegins old new era = (IsInEra read_of first new name era × LogsStay (era_logs name era.number) old new)
       ⊎ ((next : Era State) × IsNextEra old new era next)
+
+  -- none was entered
+  abbrev pub MissesEra : StoreView → StoreView → Era State → Type 0
+  MissesEra old new era = (mid : StoreView) × SameFiles old mid × StaysOrBegins mid new era
 
 -- a log's file could not be emptied exactly where that is the answer
 abbrev pub ClearFaults : List ℕ → ℕ → StoreView → StoreView → Result (Unit {0}) NextFault → Type 0

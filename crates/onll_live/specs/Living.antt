@@ -17,7 +17,7 @@ use Rattle.onll_live.specs.declared.fault.NotLived.{NotLived}
 use Rattle.onll_live.specs.declared.living.Lived.{Lived}
 use Rattle.onll_live.specs.declared.living.Turn.{Turn}
 use Rattle.onll_live.specs.declared.living.Turn.TheVariants.{Last, Next, HandedBack}
-use Rattle.onll_live.specs.Beginning.{IsNextEra, StaysOrBegins}
+use Rattle.onll_live.specs.Beginning.{EntersEra, IsNextEra, MissesEra, StaysOrBegins}
 use Rattle.onll_live.specs.Faults.{CannotFind}
 use Rattle.onll_live.specs.Eras.{IsInEra, area_name, era_heads, era_lock, era_logs}
 
@@ -116,16 +116,19 @@ module _ {State Op Query Reply Device Work Answer : Type 0} (b : Behaviour State
       × (served.kept ≡ Ok tt)
   TurnsOut old new era works (HandedBack e) = (e.works.items ≡ works) × CannotServeEra old new era works e.fault
 
-  -- The object was found in an era over its files, which was made durable; works were served in it and those after it; and the object was
-  -- given back.
+  -- The object was found in an era over its files, which was made durable; where a log of it was full the next one was begun; works were
+  -- served in it and those after it; and the object was given back.
   pub record HasLived (old new : StoreView) (works : List Work) (lived : Lived State Device Work Answer Op Query Reply) : Type 0 where
     pub era : Era State
     pub found : IsInEra read_of first old name era
     pub start : StoreView
     pub others : SameBut (era_lock name ∷ area_name name 0 ∷ area_name name 1 ∷ []) old start
     pub in_era : IsInEra read_of first start name era
+    pub begin : StoreView
+    pub first_era : Era State
+    pub enters : EntersEra b code description read_of first name (length works) start begin era first_era
     pub end : StoreView
-    pub served : WereServed start end era works lived
+    pub served : WereServed begin end first_era works lived
     pub same : SameFiles end new
 
   -- The object was found in an era over its files, which was made durable, and works were handed back some eras later.
@@ -135,9 +138,25 @@ module _ {State Op Query Reply Device Work Answer : Type 0} (b : Behaviour State
     pub start : StoreView
     pub others : SameBut (era_lock name ∷ area_name name 0 ∷ area_name name 1 ∷ []) old start
     pub in_era : IsInEra read_of first start name era
+    pub begin : StoreView
+    pub first_era : Era State
+    pub enters : EntersEra b code description read_of first name (length works) start begin era first_era
     pub end : StoreView
-    pub back : WereHandedBack start end era works e
+    pub back : WereHandedBack begin end first_era works e
     pub same : SameFiles end new
+
+  -- The object was found in an era of which a log was full, and the next one wasn't begun.
+  pub record StopsInEra (old new : StoreView) (works : List Work) (e : NotLived Work) : Type 0 where
+    pub era : Era State
+    pub found : IsInEra read_of first old name era
+    pub start : StoreView
+    pub others : SameBut (era_lock name ∷ area_name name 0 ∷ area_name name 1 ∷ []) old start
+    pub in_era : IsInEra read_of first start name era
+    pub end : StoreView
+    pub left : MissesEra b code description read_of first name (length works) start end era
+    pub same : SameFiles end new
+    pub works_are : e.works.items ≡ works
+    pub eras_are : e.eras ≡ 0
 
   -- nothing was done, and no file changed but perhaps these
   abbrev pub StopsAtOnce : List (List ℕ) → StoreView → StoreView → List Work → NotLived Work → Type 0
@@ -152,7 +171,7 @@ module _ {State Op Query Reply Device Work Answer : Type 0} (b : Behaviour State
   CannotLiveBy (faults.NotSettled fault) old new works e =
       StopsAtOnce (era_lock name ∷ area_name name 0 ∷ area_name name 1 ∷ []) old new works e
   CannotLiveBy (faults.NotServed fault) old new works e = StopsLater old new works e
-  CannotLiveBy (faults.NotBegun fault) old new works e = StopsLater old new works e
+  CannotLiveBy (faults.NotBegun fault) old new works e = StopsInEra old new works e ⊎ StopsLater old new works e
   CannotLiveBy faults.NoMemory old new works e = StopsAtOnce (era_lock name ∷ []) old new works e ⊎ StopsLater old new works e
 
   abbrev pub CannotLive : StoreView → StoreView → List Work → NotLived Work → Type 0

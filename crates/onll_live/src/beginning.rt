@@ -1,13 +1,14 @@
 //! The next era of an object: its state is saved, and its logs begin anew.
 
-ghost use Rattle.std.specs.Prelude.{◌≡◌, ◌+◌, ◌⊎◌, ◌%◌, ◌≤◌, ◌^◌, length, IfOk, IfErr, OnOk};
+ghost use Rattle.std.specs.Prelude.{◌≡◌, false, ◌+◌, ◌⊎◌, ◌%◌, ◌≤◌, ◌^◌, length, IfOk, IfErr, OnOk};
 ghost use Rattle.onll_model.specs.Limits.{most_threads};
+ghost use Rattle.onll_outside.specs.Views.{SameFiles};
 ghost use Rattle.onll_live.specs.Eras.{IsInEra, area_name, era_logs};
 ghost use Rattle.onll_areas.specs.Keeping.{OthersStay};
 ghost use Rattle.onll_open.specs.Files.{SameBut};
 ghost use Rattle.onll_open.specs.Names.{log_names};
 ghost use Rattle.onll_live.specs.Refusals.{of_keep};
-ghost use Rattle.onll_live.specs.Beginning.{AreCleared, BeginFaults, BeginsEra, ClearFaults, IsNextEra, OthersOfEra};
+ghost use Rattle.onll_live.specs.Beginning.{AreCleared, BeginFaults, BeginsEra, ClearFaults, EntersEra, IsNextEra, MissesEra, OthersOfEra};
 ghost use Rattle.onll_live.specs.Beginning.{SaveFaults, SavesEra, StaysOrBegins};
 
 use crate::era::Era;
@@ -17,7 +18,8 @@ use crate::saved::Saved;
 use onll_areas::{KeepFault, area_laws, keep_checkpoint};
 use onll_checkpoint::Checkpoint;
 use onll_merge::Recovery;
-use onll_open::{FilesFault, RecoveredObject, log_name, recover};
+use onll_model::MOST_THREADS;
+use onll_open::{FilesFault, RecoveredObject, find, first_empty, log_name, recover, rooms_left};
 use onll_outside::{Directory, OutsideFault, Store};
 use onll_words::NoMemory;
 use std::alloc::Global;
@@ -148,6 +150,58 @@ pub fn begin_next<O: Saved + Drop, S: Directory>(
     let next = next_era(number, place, updates_in(&recovery), object)?;
     match begin(alloc, store, name, &next, threads) {
         Ok(()) => Ok(next),
+        Err(fault) => Err(fault),
+    }
+}
+
+/// Whether each log of an era has room for an update. Where that can't be told it is taken to be so.
+fn has_room<O: Saved + Drop, S: Directory>(
+    alloc: Global,
+    store: &mut S,
+    name: &str,
+    era: &Era<O>,
+    threads: u64,
+) -> bool
+    ensures few { result ≡ false → threads ≤ most_threads }
+    ensures same { SameFiles (S.seen store.old) (S.seen store.new) }
+{
+    if MOST_THREADS < threads {
+        return true;
+    }
+    let Ok(logs) = era_logs(alloc, name, era.number) else {
+        return true;
+    };
+    let Ok(found) = find(alloc, store, &logs, &era.state, threads) else {
+        return true;
+    };
+    let Recovery { logs, nodes } = &found.recovery;
+    if logs.len() as u64 != threads {
+        return true;
+    }
+    match rooms_left(alloc, nodes, logs, threads) {
+        Ok(rooms) => first_empty(&rooms).is_none(),
+        Err(_) => true,
+    }
+}
+
+/// The era, where each of its logs has room, and else the next one: a service that was killed may have left a log that is full.
+pub(crate) fn roomy_era<O: Saved + Drop, S: Directory>(
+    alloc: Global,
+    store: &mut S,
+    name: &str,
+    era: Era<O>,
+    threads: u64,
+) -> Result<Era<O>, NextFault>
+    ensures entered { IfOk result (λ next. (first : O) → IsInEra O.read_of first (S.seen store.old) name.now era
+        → EntersEra O.means O.CODE O.description O.read_of first name.now threads (S.seen store.old) (S.seen store.new) era next) }
+    ensures refused { IfErr result (λ fault. (first : O) → IsInEra O.read_of first (S.seen store.old) name.now era
+        → MissesEra O.means O.CODE O.description O.read_of first name.now threads (S.seen store.old) (S.seen store.new) era) }
+{
+    if has_room(alloc, store, name, &era, threads) {
+        return Ok(era);
+    }
+    match begin_next(alloc, store, name, era, threads) {
+        Ok(next) => Ok(next),
         Err(fault) => Err(fault),
     }
 }

@@ -5,7 +5,7 @@ ghost use Rattle.onll_outside.specs.Views.{SameOthers};
 ghost use Rattle.onll_live.specs.Eras.{IsInEra, era_lock};
 ghost use Rattle.onll_live.specs.Living.{CannotLive, HasLived, IsLockFault, TurnsOut, WereHandedBack, WereServed};
 
-use crate::beginning::begin_next;
+use crate::beginning::{begin_next, roomy_era};
 use crate::era::Era;
 use crate::fault::{LiveFault, NextFault, NotLived};
 use crate::finding::find_era;
@@ -196,7 +196,15 @@ fn live_locked<
     if let Err(fault) = settle(alloc, store, name, era.number) {
         return Err(NotLived::of(works, LiveFault::NotSettled(fault)));
     }
-    serve_eras(rt, alloc, store, name, era, works)
+    let threads = count_of(&works);
+    match roomy_era(alloc, store, name, era, threads) {
+        Ok(era) => serve_eras(rt, alloc, store, name, era, works),
+        Err(fault) => Err(NotLived {
+            works,
+            eras: 0,
+            fault: LiveFault::NotBegun(fault),
+        }),
+    }
 }
 
 /// Works on an object, which began in this state, over the files of this name, in one era after the other. It goes on from what they hold.

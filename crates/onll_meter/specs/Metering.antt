@@ -1,5 +1,5 @@
 -- What clerks did over eras.
-use Rattle.std.specs.Prelude.{ℕ, List, []}
+use Rattle.std.specs.Prelude.{ℕ, List}
 use Rattle.onll_rows.specs.Sketch.{behaviour_of}
 use Rattle.onll_outside.specs.Views.{StoreView}
 use Rattle.onll_pmem.specs.Pmem.{DeviceView}

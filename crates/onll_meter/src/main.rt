@@ -5,8 +5,6 @@
 mod clerk;
 mod meter;
 mod metering;
-#[cfg(test)]
-mod tests;
 
 use crate::clerk::{Clerk, Ending, Tally};
 use crate::meter::Meter;

@@ -5,8 +5,12 @@ one, by what the environment says.
     KILL=N            the process is killed before the N-th call
     CUT=N             so it is, after the N-th call has written half of its bytes, where these are more than a line
     FAIL=N ERRNO=E    the N-th call is not made, and fails with this error
+    THEN=N            so does this later one
     DISK=FOLDER       this folder has what a loss of power would leave of the files: a sync that is done makes the bytes that were written
-                      since the last try durable; of one that fails they are lost, until they are written again"""
+                      since the last try durable; of one that fails they are lost, until they are written again
+    NAMES=FOLDER      which names there are is durable by a sync of their folder alone: until then what a file's own sync made durable
+                      stands in this folder, and is lost with the power. Without it a name is durable at once
+    OWN=1             a file's own sync makes its name durable too, as most file systems do"""
 import os
 import shutil
 import subprocess
@@ -15,6 +19,7 @@ from memory import make_library
 
 LIBRARY = r"""
 #define _GNU_SOURCE
+#include <dirent.h>
 #include <errno.h>
 #include <fcntl.h>
 #include <signal.h>
@@ -42,12 +47,13 @@ static int refused(const char *call, const char *name) {
     calls++;
     if (notes >= 0) syscall(SYS_write, notes, note, snprintf(note, sizeof note, "%s %s\n", call, name));
     if (calls == number("KILL")) die();
-    if (calls != number("FAIL")) return 0;
+    if (calls != number("FAIL") && calls != number("THEN")) return 0;
     errno = number("ERRNO");
     return 1;
 }
 
 static void written(const char *name, off_t from, off_t to) {
+    if (!*name) return;
     if (many == 65536) abort();
     strcpy(waiting[many].name, name);
     waiting[many].from = from;
@@ -59,11 +65,99 @@ static off_t length_of(int fd) {
     return fstat(fd, &data) ? 0 : data.st_size;
 }
 
+static int is_there(const char *path) { return !syscall(SYS_access, path, F_OK); }
+
+/* The path of this name in the folder that a variable names; none where it names none. */
+static int path_in(const char *variable, const char *name, char path[600]) {
+    const char *folder = getenv(variable);
+    snprintf(path, 600, "%s/%s", folder ? folder : "", name);
+    return folder != NULL;
+}
+
+/* Where that stands of the file of this name which is durable, or is but for the name. */
+static void path_of(const char *name, char path[600]) {
+    char beside[600];
+    path_in("DISK", name, path);
+    if (path_in("NAMES", name, beside) && (is_there(beside) || !is_there(path))) strcpy(path, beside);
+}
+
+/* Does this for each name in a folder. */
+static void each_in(const char *path, void (*one)(const char *)) {
+    DIR *folder = opendir(path);
+    for (struct dirent *found; folder && (found = readdir(folder));) if (*found->d_name != '.') one(found->d_name);
+    if (folder) closedir(folder);
+}
+
+/* A name that there is becomes durable. */
+static void keep_name(const char *name) {
+    char path[600], beside[600];
+    path_in("DISK", name, path);
+    if (path_in("NAMES", name, beside) && is_there(beside)) syscall(SYS_rename, beside, path);
+    else if (!is_there(path)) close(syscall(SYS_openat, AT_FDCWD, path, O_WRONLY | O_CREAT, 0644));
+}
+
+/* A durable name of which there is no file any more is lost. */
+static void lose_name(const char *name) {
+    char path[600];
+    path_in("DISK", name, path);
+    if (!is_there(name)) syscall(SYS_unlink, path);
+}
+
+/* What a sync of the folder does that is done. */
+static void synced_names(void) {
+    if (!getenv("NAMES")) return;
+    each_in(".", keep_name);
+    each_in(getenv("DISK"), lose_name);
+}
+
+/* What waits for a sync under one name waits under another one, or no more. */
+static void move_waiting(const char *from, const char *to) {
+    int kept = 0;
+    for (int i = 0; i < many; i++) {
+        int moved = !strcmp(waiting[i].name, from);
+        if (!strcmp(waiting[i].name, to) || (moved && !*to)) continue;
+        waiting[kept] = waiting[i];
+        if (moved) strcpy(waiting[kept].name, to);
+        kept++;
+    }
+    many = kept;
+}
+
+/* What is durable has the new name only in NAMES, where there is that folder. */
+static void renamed(const char *from, const char *to) {
+    char old[600], fresh[600], beside[600];
+    for (int fd = 0; fd < 1024; fd++) {
+        if (!strcmp(names[fd], to)) *names[fd] = 0;
+        else if (!strcmp(names[fd], from)) snprintf(names[fd], sizeof names[fd], "%s", to);
+    }
+    move_waiting(from, to);
+    if (!getenv("DISK")) return;
+    path_in("DISK", from, old);
+    path_in("DISK", to, fresh);
+    if (!path_in("NAMES", to, beside)) { syscall(SYS_rename, old, fresh); return; }
+    syscall(SYS_unlink, beside);
+    syscall(SYS_link, old, beside);
+    path_in("NAMES", from, old);
+    if (is_there(old)) syscall(SYS_rename, old, beside);
+    if (!is_there(beside)) close(syscall(SYS_openat, AT_FDCWD, beside, O_WRONLY | O_CREAT, 0644));
+}
+
+/* What is durable is there until the folder is synced, where names wait for that. */
+static void removed(const char *name) {
+    char path[600];
+    for (int fd = 0; fd < 1024; fd++) if (!strcmp(names[fd], name)) *names[fd] = 0;
+    move_waiting(name, "");
+    if (!getenv("DISK")) return;
+    path_in(getenv("NAMES") ? "NAMES" : "DISK", name, path);
+    syscall(SYS_unlink, path);
+}
+
 /* What a sync does that is done, or fails, for the file of this name. */
 static void synced(const char *name, int done) {
     char path[600], bytes[65536];
-    if (!getenv("DISK") || !strcmp(name, ".")) return;
-    snprintf(path, sizeof path, "%s/%s", getenv("DISK"), name);
+    if (!getenv("DISK") || !*name) return;
+    if (!strcmp(name, ".")) { if (done) synced_names(); return; }
+    path_of(name, path);
     int file = syscall(SYS_openat, AT_FDCWD, name, O_RDONLY), kept = 0, disk = -1;
     if (done) disk = syscall(SYS_openat, AT_FDCWD, path, O_WRONLY | O_CREAT, 0644);
     for (int i = 0; i < many; i++) {
@@ -78,6 +172,7 @@ static void synced(const char *name, int done) {
     }
     many = kept;
     if (done) { syscall(SYS_ftruncate, disk, length_of(file)); close(disk); }
+    if (done && number("OWN")) keep_name(name);
     close(file);
 }
 
@@ -135,7 +230,18 @@ int fsync(int fd) {
     return done;
 }
 int fdatasync(int fd) { return fsync(fd); }
-int rename(const char *from, const char *to) { return refused("rename", to) ? -1 : syscall(SYS_rename, from, to); }
+int rename(const char *from, const char *to) {
+    if (refused("rename", to)) return -1;
+    int done = syscall(SYS_rename, from, to);
+    if (!done) renamed(from, to);
+    return done;
+}
+int unlink(const char *name) {
+    if (refused("remove", name)) return -1;
+    int done = syscall(SYS_unlink, name);
+    if (!done) removed(name);
+    return done;
+}
 int flock(int fd, int how) { return refused("lock", name_of(fd)) ? -1 : syscall(SYS_flock, fd, how); }
 """
 
@@ -145,7 +251,7 @@ class Outside:
 
     def __init__(self, program, work):
         self.program, self.library = program, make_library(work, "failing", LIBRARY)
-        self.files, self.disk, self.noted = (os.path.join(work, name) for name in ("files", "disk", "calls"))
+        self.files, self.disk, self.names, self.noted = (os.path.join(work, name) for name in ("files", "disk", "names", "calls"))
 
     def put(self, files, folder=None):
         """Makes these the files, and no other."""

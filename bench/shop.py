@@ -27,7 +27,7 @@ from proved import TOP
 
 ITEMS = 3000
 UPDATE = re.compile(r"(\d+): customer (\d+): (Sold|TooFew|Restocked|TooMany) (\d+)$")
-DEAL = re.compile(r"customer (\d+) bought (\d+) and brought back (\d+): (.*)$")
+DEAL = re.compile(r"customer (\d+): bought (\d+), brought back (\d+), (.*)$")
 
 
 class Generation:

@@ -1,6 +1,6 @@
 #!/bin/sh
 # Copies crates, and all that they stand on, into a repository of one's own, with their lines of crates.txt, and the scripts that build a
-# program without proofs and check a function before the crates below are proved.
+# program without proofs, take libraries that this machine has proved, and check a function before the crates below are proved.
 # Usage: bench/take.sh FOLDER CRATE..
 # FOLDER is the top of that repository. A crate that stands there is replaced. Must-fail edits, and what was built, stay here.
 set -eu
@@ -28,6 +28,6 @@ for crate in $(awk -F': *' -v names="$*" '
     echo "$crate"
 done
 mkdir -p "$to/bench"
-for script in unproved.py check_ahead.py toolchain.py; do
+for script in unproved.py check_ahead.py libs.py toolchain.py; do
     cp "$top/bench/$script" "$to/bench/$script"
 done

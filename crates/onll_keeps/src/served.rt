@@ -14,6 +14,7 @@ use onll_rows::Described;
 use onll_serve::{NotServed, ServeFault, Served, serve};
 use onll_threads::Work;
 use std::alloc::Global;
+use std::sync::Wait;
 use std::thread::Threads;
 use thiserror::Error;
 
@@ -38,7 +39,7 @@ pub struct NotBegun<W> {
 /// Serves an object of which a fact is so at first, as `serve` does: the fact is so of what the files held, of all that was done, and of
 /// whatever a crash leaves of it; and each update that was answered has with its reply what the fact makes of it.
 pub fn serve_kept<
-    R: Threads + Sync,
+    R: Threads + Wait + Sync,
     O: Keeps + Described + Drop + Send + Sync,
     S: Directory,
     W: Work<O> + Send + Drop,

@@ -1,13 +1,15 @@
 -- Faults of calls that come one after the other.
 use Rattle.std.proofs.Common.{ℕ, List, inl, inr, Err, Option, ◌∙◌, subst}
 use Rattle.onll_outside.specs.Views.{StoreView, SameFaults, Rose}
+use Rattle.onll_outside.specs.declared.OutsideFault.{OutsideFault}
+use Rattle.onll_outside.specs.declared.OutsideFault.TheVariants.{Failed, NoMemory}
 use Rattle.onll_outside.specs.declared.store.FaultKind.{FaultKind}
 use Rattle.onll_outside.specs.declared.store.FaultKind.TheVariants as kinds
 use Rattle.onll_checkpoint.specs.Checkpoint.{CheckpointState}
 use Rattle.onll_live.specs.declared.fault.EraFault.{EraFault}
 use Rattle.onll_live.specs.declared.fault.EraFault.TheVariants as eras
 use Rattle.onll_live.specs.Eras.{AreasGive}
-use Rattle.onll_live.specs.Faults.{AreaCallFailed, CannotFind, EraFaults, IsBadState}
+use Rattle.onll_live.specs.Faults.{AreaCallFailed, CannotFind, EraFaults, IsBadState, IsSettleFault, not_read, not_settled}
 
 -- ---- a call that failed
 call_since : (kind : FaultKind) (name : List ℕ) (area : ℕ) (old mid new : StoreView) → SameFaults old mid → AreaCallFailed kind name area mid new → AreaCallFailed kind name area old new
@@ -29,3 +31,12 @@ module _ {State : Type 0} (read_of : List ℕ → Option State) (store : StoreVi
   bad_refused newest (eras.NotRead area) given h = tt
   bad_refused newest (eras.NotSettled area) given h = absurd h
   bad_refused newest eras.NoMemory given h = tt
+
+-- ---- settling
+pub unread_settles : (area : ℕ) (fault : OutsideFault) → IsSettleFault (not_read area fault)
+unread_settles area Failed = tt
+unread_settles area NoMemory = tt
+
+pub unkept_settles : (area : ℕ) (fault : OutsideFault) → IsSettleFault (not_settled area fault)
+unkept_settles area Failed = tt
+unkept_settles area NoMemory = tt

@@ -21,10 +21,10 @@ module _ {State Op Query Reply : Type 0} (b : Behaviour State Op Query Reply) wh
 
   module _ (code : ℕ) (description : State → List ℕ) (read_of : List ℕ → Option State) (first : State) (name : List ℕ) (threads : ℕ) (old new : StoreView)
       (era next : Era State) (found : Recovered) (given : FilesGive b old (era_logs name era.number) (era_heads code description threads era.state) (Ok found))
-      (next_is : next ≡ next_of b era found.nodes) where
+      (next_is : next ≡ next_of b era found.nodes) (tells : new.tells ≡ old.tells) where
     pub begun_so : IsInEra read_of first new name next → AreCleared new (era_logs name next.number) threads
         → IsNextEra b code description read_of first name threads old new era next
-    begun_so i empty = record { found = found; given = given; next_is = next_is; in_next = i; empty = empty }
+    begun_so i empty = record { found = found; given = given; next_is = next_is; in_next = i; empty = empty; tells = tells }
 
     pub refused_so : (IsInEra read_of first new name era × LogsStay (era_logs name era.number) old new)
         ⊎ (IsInEra read_of first new name next × AreCleared new (era_logs name next.number) threads)

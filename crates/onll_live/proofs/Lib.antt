@@ -8,6 +8,12 @@ pub mod Settled
 pub mod FaultSteps
 pub mod Begins
 pub mod Follows
+pub mod Causes
 pub mod Serves
 pub mod Turning
 pub mod Locks
+pub mod Emptied
+pub mod Lifetime
+pub mod Balances
+pub mod LiveCauses
+pub mod Cuts

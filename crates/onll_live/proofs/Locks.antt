@@ -53,7 +53,7 @@ module _ {State : Type 0} (read_of : List ℕ → Option State) (first : State) 
         era_is = at_mid.era_is;
       }
 
-  era_unlocked : (old new : StoreView) (era : Era State) → SameOthers (era_lock name) old new → IsInEra read_of first new name era → IsInEra read_of first old name era
+  pub era_unlocked : (old new : StoreView) (era : Era State) → SameOthers (era_lock name) old new → IsInEra read_of first new name era → IsInEra read_of first old name era
   era_unlocked old new era same i = same_era read_of first new old name era (area_unlocked old new name 0 same) (area_unlocked old new name 1 same) i
 
   find_unlocked : (old new : StoreView) (fault : EraFault) → SameOthers (era_lock name) old new → CannotFind read_of new name fault → CannotFind read_of old name fault
@@ -68,7 +68,7 @@ pub with_lock : (name : List ℕ) (old mid new : StoreView) → SameFiles old mi
     → SameBut (era_lock name ∷ area_name name 0 ∷ area_name name 1 ∷ []) old new
 with_lock name old mid new same others = record { tells = others.tells ∙ same.tells; file = λ other d. others.file other d.1 ∙ same.file other }
 
-lock_first : (name : List ℕ) (old mid new : StoreView) → SameOthers (era_lock name) old mid → SameBut (era_lock name ∷ area_name name 0 ∷ area_name name 1 ∷ []) mid new
+pub lock_first : (name : List ℕ) (old mid new : StoreView) → SameOthers (era_lock name) old mid → SameBut (era_lock name ∷ area_name name 0 ∷ area_name name 1 ∷ []) mid new
     → SameBut (era_lock name ∷ area_name name 0 ∷ area_name name 1 ∷ []) old new
 lock_first name old mid new first then_ = record { tells = then_.tells ∙ first.tells; file = λ other d. then_.file other d ∙ first.file other d.0 }
 

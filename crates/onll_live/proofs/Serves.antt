@@ -1,7 +1,6 @@
 -- A service in an era.
-use Rattle.std.proofs.Common.{ℕ, List, ◌≡◌, ◌%◌, ◌<◌, false, refl, subst, arith, length}
-use Rattle.std.specs.Prelude.{Option, Result, Ok, Err}
-use Rattle.std.specs.Result.{is_err}
+use Rattle.std.proofs.Common.{ℕ, List, ◌≡◌, ◌%◌, ◌<◌, Bool, true, false, refl, subst, arith, length}
+use Rattle.std.specs.Prelude.{◌&&◌, Option, Result, Ok, Err, is_ok}
 use Rattle.onll_model.specs.declared.call.Call.{Call}
 use Rattle.onll_model.specs.declared.call.CallEnd.{CallEnd}
 use Rattle.onll_model.specs.Object.{Behaviour}
@@ -22,10 +21,11 @@ use Rattle.onll_live.proofs.Changes.{same_era}
 even_or_odd : (n : ℕ) → n % 2 < 2
 even_or_odd n = omega arith
 
--- what isn't refused was done
-pub was_kept : {E : Type 0} (result : Result (Unit {0}) E) → is_err result ≡ false → result ≡ Ok tt
-was_kept (Ok tt) e = refl
-was_kept (Err fault) e = absurd (cc)
+-- where the next era is to begin, the logs were kept
+pub was_kept : {E : Type 0} (spent : Bool) (kept : Result (Unit {0}) E) → spent && is_ok kept ≡ true → kept ≡ Ok tt
+was_kept true (Ok tt) e = refl
+was_kept true (Err fault) e = absurd (cc)
+was_kept false kept e = absurd (cc)
 
 -- a service over an era's logs leaves the areas
 pub served_era : {State : Type 0} (read_of : List ℕ → Option State) (first : State) (name : List ℕ) (era : Era State) (threads : ℕ) (old new : StoreView)
@@ -42,10 +42,11 @@ module _ {State Op Query Reply Device Work Answer : Type 0} (b : Behaviour State
     (code : ℕ) (description : State → List ℕ) (read_of : List ℕ → Option State) (first : State) (name : List ℕ) where
   pub is_service : (era : Era State) (works : List Work) (before after : StoreView) (served : Served State Device Work Answer Op Query Reply)
       (logs : List ℕ) (state : State) → logs ≡ era_logs name era.number → state ≡ era.state → IsInEra read_of first before name era
-      → HasServed b means promise before logs (heads_of code (description state) (length works)) state works after served
+      → after.tells ≡ before.tells → HasServed b means promise before logs (heads_of code (description state) (length works)) state works after served
       → IsEraService b means promise code description read_of first name (record { era = era; works = works; before = before; after = after; served = served })
-  is_service era works before after served logs state logs_are state_is i h = record {
+  is_service era works before after served logs state logs_are state_is i tells h = record {
     in_era = i;
+    tells = tells;
     served =
         subst (λ (s : State). HasServed b means promise before (era_logs name era.number) (heads_of code (description s) (length works)) s works after served) state_is
         (subst (λ (n : List ℕ). HasServed b means promise before n (heads_of code (description state) (length works)) state works after served) logs_are h);

@@ -1,6 +1,6 @@
 -- Services in one era after the other.
 use Rattle.std.proofs.Common.{ℕ, List, [], ◌∷◌, ◌≡◌, ◌+◌, refl, sym, subst, arith, length}
-use Rattle.std.specs.Prelude.{Option, Ok}
+use Rattle.std.specs.Prelude.{true, Option, Ok}
 use Rattle.onll_model.specs.declared.call.Call.{Call}
 use Rattle.onll_model.specs.declared.call.CallEnd.{CallEnd}
 use Rattle.onll_model.specs.Object.{Behaviour}
@@ -11,7 +11,7 @@ use Rattle.onll_live.specs.declared.era.Era.{Era}
 use Rattle.onll_live.specs.declared.living.Lived.{Lived}
 use Rattle.onll_live.specs.declared.fault.LiveFault.{LiveFault}
 use Rattle.onll_live.specs.Beginning.{IsNextEra}
-use Rattle.onll_live.specs.Living.{AreEraServices, BeganWith, CannotServeEra, ComesTo, EndsEra, EraService, HaveComeTo, IsEraService, WereServed}
+use Rattle.onll_live.specs.Living.{AreEraServices, BeganWith, CannotServeEra, ComesTo, EndsEra, EraService, HaveComeTo, IsEraService, WereServed, goes_on}
 
 module _ {State Op Query Reply Device Work Answer : Type 0} (b : Behaviour State Op Query Reply) (means : Device → DeviceView)
     (promise : Work → Work → List (Call State Op Query Reply) → List (CallEnd State Op Query Reply) → Answer → Type 0)
@@ -44,18 +44,18 @@ module _ {State Op Query Reply Device Work Answer : Type 0} (b : Behaviour State
         → AreEraServices b means promise code description read_of first name (service ∷ services)
         × BeganWith b means promise code description read_of first name start first_era first_works (service ∷ services)
     one_more [] are began comes is = (is, comes)
-    one_more (t ∷ earlier) are began comes is = ((is, record { begun = comes.0; works = comes.1; kept = comes.2 }, are), began)
+    one_more (t ∷ earlier) are began comes is = ((is, record { begun = comes.0; works = comes.1; kept = comes.2; on = comes.3 }, are), began)
 
     module _ (h : HaveComeTo b means promise code description read_of first name start now first_era era first_works works)
         (is : IsEraService b means promise code description read_of first name service) where
       pub next_come : (new : StoreView) (next : Era State) (more : List Work)
           → IsNextEra b code description read_of first name (length works) after new era next → more ≡ served.works.items
-          → served.kept ≡ Ok tt → (eras : ℕ) → length h.services ≡ eras
+          → served.kept ≡ Ok tt → goes_on served ≡ true → (eras : ℕ) → length h.services ≡ eras
           → (n : HaveComeTo b means promise code description read_of first name start new first_era next first_works more)
           × (length n.services ≡ eras + 1)
-      next_come new next more begun same kept eras many =
+      next_come new next more begun same kept on eras many =
           let now_ = one_more h.services h.are h.began h.comes is in
-          (record { services = service ∷ h.services; are = now_.0; began = now_.1; comes = (begun, same, kept) }, omega (arith, many))
+          (record { services = service ∷ h.services; are = now_.0; began = now_.1; comes = (begun, same, kept, on) }, omega (arith, many))
 
       pub last_served : (new : StoreView) (lived : Lived State Device Work Answer Op Query Reply) → lived.served ≡ served
           → lived.era ≡ era.number → lived.place ≡ era.place → EndsEra b means promise code description read_of first name service lived.fault new

@@ -46,6 +46,7 @@ module _ {State Op Query Reply : Type 0} (b : Behaviour State Op Query Reply) (c
     pub next_is : next ≡ next_of b era found.nodes
     pub in_next : IsInEra read_of first new name next
     pub empty : AreCleared new (era_logs name next.number) threads
+    pub tells : new.tells ≡ old.tells
 
   -- an era is entered: it is the one that was found, or the next one has begun
   abbrev pub EntersEra : StoreView → StoreView → Era State → Era State → Type 0

@@ -15,6 +15,10 @@ use Rattle.onll_open.specs.Opening.{FilesGive}
 use Rattle.onll_live.specs.declared.era.Era.{Era}
 
 -- ---- names
+-- the name with which those of an object's files begin
+abbrev pub era_base : List ℕ → List ℕ
+era_base name = name ++ codes ".era"
+
 -- the name of the file of area 0 or 1
 abbrev pub area_name : List ℕ → ℕ → List ℕ
 area_name name area = log_name (name ++ codes ".era") area

@@ -48,6 +48,11 @@ IsReadFault area (NotRead other) = other ≡ area
 IsReadFault area (NotSettled other) = ⊥
 IsReadFault area NoMemory = Unit {0}
 
+-- an area was not read or not settled, or there was no memory
+abbrev pub IsSettleFault : EraFault → Type 0
+IsSettleFault (BadState area) = ⊥
+IsSettleFault fault = Unit {0}
+
 module _ {State : Type 0} (read_of : List ℕ → Option State) where
   -- the checkpoint begins no era, since its text is no state
   pub record IsNoState (newest : Option CheckpointState) (area : ℕ) : Type 0 where

@@ -2,6 +2,11 @@ pub mod Eras
 pub mod Faults
 pub mod Settled
 pub mod Beginning
+pub mod Causes
 pub mod Living
+pub mod Lifetime
+pub mod Balances
+pub mod LiveCauses
 pub mod Refusals
 pub mod Plain
+pub mod Cuts

@@ -1,5 +1,5 @@
 -- What works did at an object over eras.
-use Rattle.std.specs.Prelude.{ℕ, List, [], ◌∷◌, ◌≡◌, ◌⊎◌, length, Option, Some, None, Ok}
+use Rattle.std.specs.Prelude.{ℕ, Bool, true, false, List, [], ◌∷◌, ◌≡◌, ◌⊎◌, ◌&&◌, length, Option, Some, None, Ok, Err, is_ok}
 use Rattle.onll_model.specs.declared.call.Call.{Call}
 use Rattle.onll_model.specs.declared.call.CallEnd.{CallEnd}
 use Rattle.onll_model.specs.Object.{Behaviour}
@@ -18,6 +18,7 @@ use Rattle.onll_live.specs.declared.living.Lived.{Lived}
 use Rattle.onll_live.specs.declared.living.Turn.{Turn}
 use Rattle.onll_live.specs.declared.living.Turn.TheVariants.{Last, Next, HandedBack}
 use Rattle.onll_live.specs.Beginning.{EntersEra, IsNextEra, MissesEra, StaysOrBegins}
+use Rattle.onll_live.specs.Causes.{NextCause, NextFaults, NextFences}
 use Rattle.onll_live.specs.Faults.{CannotFind}
 use Rattle.onll_live.specs.Eras.{IsInEra, area_name, era_heads, era_lock, era_logs}
 
@@ -29,6 +30,10 @@ pub record EraService (State Device Work Answer Op Query Reply : Type 0) : Type 
   pub after : StoreView
   pub served : Served State Device Work Answer Op Query Reply
 
+-- the next era is to begin after a service: a seat was spent, and the logs were kept
+abbrev pub goes_on : {State Device Work Answer Op Query Reply : Type 0} → Served State Device Work Answer Op Query Reply → Bool
+goes_on served = served.spent && is_ok served.kept
+
 module _ {State Op Query Reply Device Work Answer : Type 0} (b : Behaviour State Op Query Reply) (means : Device → DeviceView)
     (promise : Work → Work → List (Call State Op Query Reply) → List (CallEnd State Op Query Reply) → Answer → Type 0)
     (code : ℕ) (description : State → List ℕ) (read_of : List ℕ → Option State) (first : State) (name : List ℕ) where
@@ -37,12 +42,14 @@ module _ {State Op Query Reply Device Work Answer : Type 0} (b : Behaviour State
     pub in_era : IsInEra read_of first s.before name s.era
     pub served : HasServed b means promise s.before (era_logs name s.era.number)
         (era_heads code description (length s.works) s.era.state) s.era.state s.works s.after s.served
+    pub tells : s.after.tells ≡ s.before.tells
 
   -- one service in the era after another's, whose logs were kept, with the same works
   pub record GoesOnFrom (s t : EraService State Device Work Answer Op Query Reply) : Type 0 where
     pub begun : IsNextEra b code description read_of first name (length s.works) s.after t.before s.era t.era
     pub works : t.works ≡ s.served.works.items
     pub kept : s.served.kept ≡ Ok tt
+    pub on : goes_on s.served ≡ true
 
   -- services in eras, the newest first
   abbrev pub AreEraServices : List (EraService State Device Work Answer Op Query Reply) → Type 0
@@ -56,10 +63,18 @@ module _ {State Op Query Reply Device Work Answer : Type 0} (b : Behaviour State
   BeganWith start era works (s ∷ []) = (s.before ≡ start) × (s.era ≡ era) × (s.works ≡ works)
   BeganWith start era works (t ∷ (s ∷ earlier)) = BeganWith start era works (s ∷ earlier)
 
-  -- What is left after a service: no file changed, or the next era was to begin, and that was refused.
+  -- The next era was to begin after a service, and that was refused, for this cause.
+  pub record RefusesNext (s : EraService State Device Work Answer Op Query Reply) (fault : NextFault) (new : StoreView) : Type 0 where
+    pub on : goes_on s.served ≡ true
+    pub left : StaysOrBegins b code description read_of first name (length s.works) s.after new s.era
+    pub cause : NextCause b code description name (length s.works) {T = Era State} s.after s.era (Err fault)
+    pub faults : NextFaults {T = Era State} name s.era.number (length s.works) s.after new (Err fault)
+    pub fences : NextFences {T = Era State} s.after.device_faults new.device_faults (Err fault)
+
+  -- What is left after the last service: no next era was to begin, and no file changed; or it was, and was refused.
   abbrev pub EndsEra : EraService State Device Work Answer Op Query Reply → Option NextFault → StoreView → Type 0
-  EndsEra s None new = new ≡ s.after
-  EndsEra s (Some fault) new = StaysOrBegins b code description read_of first name (length s.works) s.after new s.era
+  EndsEra s None new = (new ≡ s.after) × (goes_on s.served ≡ false)
+  EndsEra s (Some fault) new = RefusesNext s fault new
 
   -- Works were served in one era after the other, from this one on, until no seat of theirs was spent.
   pub record WereServed (start new : StoreView) (era : Era State) (works : List Work)
@@ -79,7 +94,7 @@ module _ {State Op Query Reply Device Work Answer : Type 0} (b : Behaviour State
   ComesTo [] start now first_era era first_works works = (now ≡ start) × (era ≡ first_era) × (works ≡ first_works)
   ComesTo (s ∷ earlier) start now first_era era first_works works =
       IsNextEra b code description read_of first name (length s.works) s.after now s.era era × (works ≡ s.served.works.items)
-      × (s.served.kept ≡ Ok tt)
+      × (s.served.kept ≡ Ok tt) × (goes_on s.served ≡ true)
 
   -- Works have come so far over eras, from this one on, and are to be served in another.
   pub record HaveComeTo (start now : StoreView) (first_era era : Era State) (first_works works : List Work) : Type 0 where
@@ -113,7 +128,7 @@ module _ {State Op Query Reply Device Work Answer : Type 0} (b : Behaviour State
   TurnsOut old new era works (Next next more) = (after : StoreView) × (served : Served State Device Work Answer Op Query Reply)
       × IsEraService (record { era = era; works = works; before = old; after = after; served = served })
       × IsNextEra b code description read_of first name (length works) after new era next × (more.items ≡ served.works.items)
-      × (served.kept ≡ Ok tt)
+      × (served.kept ≡ Ok tt) × (goes_on served ≡ true)
   TurnsOut old new era works (HandedBack e) = (e.works.items ≡ works) × CannotServeEra old new era works e.fault
 
   -- The object was found in an era over its files, which was made durable; where a log of it was full the next one was begun; works were

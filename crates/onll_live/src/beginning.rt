@@ -1,15 +1,17 @@
 //! The next era of an object: its state is saved, and its logs begin anew.
 
-ghost use Rattle.std.specs.Prelude.{◌≡◌, false, ◌+◌, ◌⊎◌, ◌%◌, ◌≤◌, ◌^◌, length, IfOk, IfErr, OnOk};
+ghost use Rattle.std.specs.Prelude.{◌≡◌, false, ◌+◌, ◌⊎◌, ◌%◌, ◌≤◌, ◌<◌, ◌^◌, length, IfOk, IfErr, OnOk};
 ghost use Rattle.onll_model.specs.Limits.{most_threads};
-ghost use Rattle.onll_outside.specs.Views.{SameFiles};
+ghost use Rattle.onll_outside.specs.Views.{SameDevices, SameFiles, SameOthers};
 ghost use Rattle.onll_live.specs.Eras.{IsInEra, area_name, era_logs};
 ghost use Rattle.onll_areas.specs.Keeping.{OthersStay};
-ghost use Rattle.onll_open.specs.Files.{SameBut};
+ghost use Rattle.onll_open.specs.Files.{SameBut, SameCounts};
 ghost use Rattle.onll_open.specs.Names.{log_names};
 ghost use Rattle.onll_live.specs.Refusals.{of_keep};
 ghost use Rattle.onll_live.specs.Beginning.{AreCleared, BeginFaults, BeginsEra, ClearFaults, EntersEra, IsNextEra, MissesEra, OthersOfEra};
 ghost use Rattle.onll_live.specs.Beginning.{SaveFaults, SavesEra, StaysOrBegins};
+ghost use Rattle.onll_live.specs.Causes.{NextCause, NextFaults, NextFences, NextLocks, era_files, next_files};
+ghost use Rattle.onll_live.specs.LiveCauses.{CannotFollow, IsFull};
 
 use crate::era::Era;
 use crate::fault::NextFault;
@@ -33,6 +35,7 @@ fn clear_logs<S: Store>(
 ) -> Result<(), NextFault>
     ensures cleared { OnOk result (AreCleared (S.seen store.new) logs.now threads) }
     ensures faults { ClearFaults logs.now threads (S.seen store.old) (S.seen store.new) result }
+    ensures devices { SameDevices (S.seen store.old) (S.seen store.new) }
     ensures others { SameBut (log_names logs.now 0 threads) (S.seen store.old) (S.seen store.new) }
 {
     for thread in 0..threads {
@@ -67,7 +70,9 @@ fn save_era<O: Saved + Drop, S: Store>(
     requires { 1 ≤ era.now.number }
     ensures saved { SavesEra O.read_of (S.seen store.old) (S.seen store.new) name.now era.now result }
     ensures faults { SaveFaults name.now (era.now.number % 2) (S.seen store.old) (S.seen store.new) result }
+    ensures fences { NextFences (S.seen store.old).device_faults (S.seen store.new).device_faults result }
     ensures others { OthersStay (era_logs name.now era.now.number) (S.seen store.old) (S.seen store.new) }
+    ensures alone { SameOthers (era_logs name.now era.now.number) (S.seen store.old) (S.seen store.new) }
 {
     let text = era.state.save(alloc)?;
     let checkpoint = Checkpoint::of(era.number, era.place, text);
@@ -90,6 +95,7 @@ fn updates_in(recovery: &Recovery) -> u64
 /// The era after this one, with the state that so many updates have left.
 fn next_era<O: Drop>(number: u64, place: u64, updates: u64, state: O) -> Result<Era<O>, NextFault>
     ensures next { IfOk result (λ e. e ≡ record { number = number + 1; place = place + updates; state = state }) }
+    ensures fits { OnOk result ((number + 1 < 2 ^ 64) × (place + updates < 2 ^ 64)) }
     ensures refused { IfErr result (λ fault. (fault ≡ NextFault.AtItsEnd) × ((2 ^ 64 ≤ number + 1) ⊎ (2 ^ 64 ≤ place + updates))) }
 {
     let (Some(number), Some(place)) = (number.checked_add(1), place.checked_add(updates)) else {
@@ -113,7 +119,9 @@ fn begin<O: Saved + Drop, S: Store>(
     requires { 1 ≤ era.now.number }
     ensures begun { BeginsEra O.read_of (S.seen store.old) (S.seen store.new) name.now threads era.now result }
     ensures faults { BeginFaults name.now era.now.number threads (S.seen store.old) (S.seen store.new) result }
+    ensures fences { NextFences (S.seen store.old).device_faults (S.seen store.new).device_faults result }
     ensures others { OthersOfEra (era_logs name.now era.now.number) threads (S.seen store.old) (S.seen store.new) }
+    ensures files { SameBut (era_files name.now era.now.number threads) (S.seen store.old) (S.seen store.new) }
 {
     let logs = era_logs(alloc, name, era.number)?;
     if let Err(fault) = clear_logs(alloc, store, &logs, threads) {
@@ -139,6 +147,11 @@ pub fn begin_next<O: Saved + Drop, S: Directory>(
         → IsNextEra O.means O.CODE O.description O.read_of first name.now threads (S.seen store.old) (S.seen store.new) era next) }
     ensures refused { IfErr result (λ fault. (first : O) → IsInEra O.read_of first (S.seen store.old) name.now era
         → StaysOrBegins O.means O.CODE O.description O.read_of first name.now threads (S.seen store.old) (S.seen store.new) era) }
+    ensures cause { NextCause O.means O.CODE O.description name.now threads (S.seen store.old) era result }
+    ensures faults { NextFaults name.now era.number threads (S.seen store.old) (S.seen store.new) result }
+    ensures fences { NextFences (S.seen store.old).device_faults (S.seen store.new).device_faults result }
+    ensures locks { NextLocks (S.seen store.old) (era_logs name.now era.number) (S.locked store.old) (S.locked store.new) result }
+    ensures others { SameBut (next_files name.now era.number threads) (S.seen store.old) (S.seen store.new) }
 {
     let Era {
         number,
@@ -163,6 +176,8 @@ fn has_room<O: Saved + Drop, S: Directory>(
     threads: u64,
 ) -> bool
     ensures few { result ≡ false → threads ≤ most_threads }
+    ensures full { result ≡ false → IsFull O.means O.CODE O.description name.now threads (S.seen store.old) era.now }
+    ensures counts { result ≡ false → SameCounts (S.seen store.old) (S.seen store.new) }
     ensures same { SameFiles (S.seen store.old) (S.seen store.new) }
 {
     if MOST_THREADS < threads {
@@ -196,6 +211,7 @@ pub(crate) fn roomy_era<O: Saved + Drop, S: Directory>(
         → EntersEra O.means O.CODE O.description O.read_of first name.now threads (S.seen store.old) (S.seen store.new) era next) }
     ensures refused { IfErr result (λ fault. (first : O) → IsInEra O.read_of first (S.seen store.old) name.now era
         → MissesEra O.means O.CODE O.description O.read_of first name.now threads (S.seen store.old) (S.seen store.new) era) }
+    ensures cause { IfErr result (CannotFollow O.means O.CODE O.description name.now threads (S.seen store.old) (S.seen store.new) era) }
 {
     if has_room(alloc, store, name, &era, threads) {
         return Ok(era);

@@ -3,12 +3,15 @@
 ghost use Rattle.std.specs.Prelude.{◌≡◌, length, string_bytes, IfOk, IfErr};
 ghost use Rattle.onll_outside.specs.Views.{SameOthers};
 ghost use Rattle.onll_live.specs.Eras.{IsInEra, era_lock};
-ghost use Rattle.onll_live.specs.Living.{CannotLive, HasLived, IsLockFault, TurnsOut, WereHandedBack, WereServed};
+ghost use Rattle.onll_live.specs.Lifetime.{LifeAddsUp};
+ghost use Rattle.onll_live.specs.Living.{CannotLive, HasLived, IsLockFault, TurnsOut, WereHandedBack, WereServed, goes_on};
+ghost use Rattle.onll_live.specs.LiveCauses.{HeldCause, LiveCause, LiveLocks, LockObjectFaults, LocksObject, StopsServing, TurnsBack};
 
 use crate::beginning::{begin_next, roomy_era};
 use crate::era::Era;
 use crate::fault::{LiveFault, NextFault, NotLived};
 use crate::finding::find_era;
+use crate::laws::eras_law;
 use crate::names::{era_lock, era_logs};
 use crate::saved::Saved;
 use crate::settling::settle;
@@ -18,6 +21,7 @@ use onll_pmem::Pmem;
 use onll_serve::{NotServed, ServeFault, Served, serve};
 use onll_threads::Work;
 use std::alloc::Global;
+use std::sync::Wait;
 use std::thread::Threads;
 
 /// What works did over eras.
@@ -49,6 +53,8 @@ fn lock_object<S: Directory>(alloc: Global, store: &mut S, name: &str) -> Result
     ensures lock { IfOk result (λ lock. string_bytes lock ≡ era_lock name.now) }
     ensures others { SameOthers (era_lock name.now) (S.seen store.old) (S.seen store.new) }
     ensures refused { IfErr result IsLockFault }
+    ensures locks { LocksObject (S.seen store.old) name.now (S.locked store.old) (S.locked store.new) result }
+    ensures faults { LockObjectFaults name.now (S.seen store.old) (S.seen store.new) result }
 {
     let Ok(lock) = era_lock(alloc, name) else {
         return Err(LiveFault::NoMemory);
@@ -61,6 +67,13 @@ fn lock_object<S: Directory>(alloc: Global, store: &mut S, name: &str) -> Result
     }
 }
 
+/// Whether the next era is to begin after a service.
+fn goes_on<O: Object, P: Pmem, W, A>(served: &Served<O, P, W, A>) -> bool
+    ensures { result ≡ goes_on served.now }
+{
+    served.spent && served.kept.is_ok()
+}
+
 /// How many works there are.
 fn count_of<W>(works: &Vec<W>) -> u64
     ensures { result ≡ length works.now.items }
@@ -70,7 +83,7 @@ fn count_of<W>(works: &Vec<W>) -> u64
 
 /// Serves works in an era, and begins the next one where a seat of theirs is spent.
 fn serve_era<
-    R: Threads + Sync,
+    R: Threads + Wait + Sync,
     O: Saved + Drop + Send + Sync,
     S: Directory,
     W: Work<O> + Send + Drop,
@@ -82,8 +95,9 @@ fn serve_era<
     era: Era<O>,
     works: Vec<W>,
 ) -> Turn<O, S::Dev, W, W::Answer>
-    ensures { (first : O) → IsInEra O.read_of first (S.seen store.old) name.now era → TurnsOut O.means S.Dev.means W.promise O.CODE
+    ensures turns { (first : O) → IsInEra O.read_of first (S.seen store.old) name.now era → TurnsOut O.means S.Dev.means W.promise O.CODE
         O.description O.read_of first name.now (S.seen store.old) (S.seen store.new) era works.items result }
+    ensures back { TurnsBack result }
 {
     let threads = count_of(&works);
     if MOST_THREADS < threads {
@@ -103,7 +117,7 @@ fn serve_era<
             return Turn::HandedBack(NotLived::of(works, LiveFault::NotServed(fault)));
         }
     };
-    if !served.spent || served.kept.is_err() {
+    if !goes_on(&served) {
         return Turn::Last(Lived {
             era: number,
             place,
@@ -127,7 +141,7 @@ fn serve_era<
 
 /// Serves works in one era after the other, until no seat of theirs is spent.
 fn serve_eras<
-    R: Threads + Sync,
+    R: Threads + Wait + Sync,
     O: Saved + Drop + Send + Sync,
     S: Directory,
     W: Work<O> + Send + Drop,
@@ -145,6 +159,7 @@ fn serve_eras<
     ensures refused { IfErr result (λ e. (first : O) → IsInEra O.read_of first (S.seen store.old) name.now era
         → WereHandedBack O.means S.Dev.means W.promise O.CODE O.description O.read_of first name.now (S.seen store.old) (S.seen store.new)
         era works.items e) }
+    ensures stops { IfErr result (λ e. StopsServing e.fault e.eras) }
 {
     let mut era = era;
     let mut works = works;
@@ -172,7 +187,7 @@ fn serve_eras<
 
 /// Works on an object that is locked.
 fn live_locked<
-    R: Threads + Sync,
+    R: Threads + Wait + Sync,
     O: Saved + Drop + Send + Sync,
     S: Directory,
     W: Work<O> + Send + Drop,
@@ -188,6 +203,8 @@ fn live_locked<
         (S.seen store.old) (S.seen store.new) works.items) }
     ensures refused { IfErr result (CannotLive O.means S.Dev.means W.promise O.CODE O.description O.read_of object name.now
         (S.seen store.old) (S.seen store.new) works.items) }
+    ensures cause { IfErr result (λ e. HeldCause O.means O.CODE O.description name.now (length works.items) O.read_of object
+        (S.seen store.old) (S.seen store.new) e.fault e.eras) }
 {
     let era = match find_era(alloc, store, name, object) {
         Ok(era) => era,
@@ -212,7 +229,7 @@ fn live_locked<
 /// works are called again: one that has done all returns at once. It ends when no seat was spent. Nobody else works on the object
 /// meanwhile.
 pub fn live<
-    R: Threads + Sync,
+    R: Threads + Wait + Sync,
     O: Saved + Drop + Send + Sync,
     S: Directory,
     W: Work<O> + Send + Drop,
@@ -228,7 +245,13 @@ pub fn live<
         (S.seen store.old) (S.seen store.new) works.items) }
     ensures refused { IfErr result (CannotLive O.means S.Dev.means W.promise O.CODE O.description O.read_of object name.now
         (S.seen store.old) (S.seen store.new) works.items) }
+    ensures adds_up { IfOk result (LifeAddsUp O.means S.Dev.means W.promise O.CODE O.description O.read_of object name.now
+        (S.seen store.old) (S.seen store.new) works.items) }
+    ensures cause { IfErr result (λ e. LiveCause O.means O.CODE O.description name.now (length works.items) O.read_of object
+        (S.seen store.old) (S.seen store.new) e.fault e.eras) }
+    ensures locks { LiveLocks name.now (S.seen store.old) (S.seen store.new) (S.locked store.old) (S.locked store.new) result }
 {
+    eras_law::<O, S, W>();
     let lock = match lock_object(alloc, store, name) {
         Ok(lock) => lock,
         Err(fault) => return Err(NotLived::of(works, fault)),

@@ -1,13 +1,13 @@
 //! The newest area, made durable again before anybody goes on in its era.
 
-ghost use Rattle.std.specs.Prelude.{◌≡◌, ◌∷◌, ◌≤◌, ◌<◌, [], true, false, length, is_some, Option, None, IfOk, OnOk};
+ghost use Rattle.std.specs.Prelude.{◌≡◌, ◌∷◌, ◌≤◌, ◌<◌, [], true, false, length, is_some, Option, None, IfOk, IfErr, OnOk};
 ghost use Rattle.onll_pmem.specs.Pmem.{words_of};
 ghost use Rattle.onll_outside.specs.Views.{BeginsWith, FaultsOf, Holds, SameFiles, SameOthers, image_bytes, with_zeros};
 ghost use Rattle.onll_outside.specs.declared.store.FaultKind.TheVariants as kinds;
 ghost use Rattle.onll_areas.specs.Keeping.{StaysOrZeros};
 ghost use Rattle.onll_open.specs.Files.{SameBut};
 ghost use Rattle.onll_live.specs.Eras.{AreaGives, AreasGive, area_name, number_of};
-ghost use Rattle.onll_live.specs.Faults.{AreaDeviceFaults, EraFaults, not_settled};
+ghost use Rattle.onll_live.specs.Faults.{AreaDeviceFaults, EraFaults, IsSettleFault, not_settled};
 ghost use Rattle.onll_live.specs.Settled.{IsRewritten, AreasSettled, IsUntorn, KeepsArea, KeepsCheckpoint};
 
 use crate::fault::EraFault;
@@ -23,7 +23,7 @@ use std::alloc::Global;
 const LONGEST_AREA: u64 = 1_048_640;
 
 /// A device tells its fenced words by its type.
-fn told_law<P: Pmem>()
+pub(crate) fn told_law<P: Pmem>()
     ensures { (device : P) → is_some (P.means device).told ≡ P.tells }
 {}
 
@@ -110,6 +110,7 @@ fn settle_newest<S: Directory>(
     ensures rewritten { OnOk result (IsRewritten (S.seen store.old) (S.seen store.new) (area_name name.now area)) }
     ensures kept { KeepsCheckpoint (S.seen store.old) (S.seen store.new) (area_name name.now area) }
     ensures faults { EraFaults name.now (S.seen store.old) (S.seen store.new) result }
+    ensures refused { IfErr result IsSettleFault }
     ensures others { SameOthers (area_name name.now area) (S.seen store.old) (S.seen store.new) }
 {
     let file = area_name(alloc, name, area)?;
@@ -135,6 +136,7 @@ fn settle_other<S: Directory>(
     ensures untorn { OnOk result (IsUntorn (S.seen store.new) (area_name name.now area)) }
     ensures kept { KeepsArea (S.seen store.old) (S.seen store.new) (area_name name.now area) }
     ensures faults { EraFaults name.now (S.seen store.old) (S.seen store.new) result }
+    ensures refused { IfErr result IsSettleFault }
     ensures others { SameOthers (area_name name.now area) (S.seen store.old) (S.seen store.new) }
 {
     let file = area_name(alloc, name, area)?;
@@ -161,6 +163,7 @@ pub fn settle<S: Directory>(
     ensures kept { (newest : Option _) → AreasGive (S.seen store.old) name.now newest → number_of newest ≡ number
         → AreasGive (S.seen store.new) name.now newest }
     ensures faults { EraFaults name.now (S.seen store.old) (S.seen store.new) result }
+    ensures refused { IfErr result IsSettleFault }
     ensures others { SameBut (area_name name.now 0 ∷ area_name name.now 1 ∷ []) (S.seen store.old) (S.seen store.new) }
 {
     if number == 0 {

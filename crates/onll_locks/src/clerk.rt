@@ -7,6 +7,7 @@ use crate::locks::{LockOp, LockQuery, LockReply, Locks};
 use crate::request::{Asked, Request, read_request};
 use onll_pmem::Pmem;
 use onll_rows::Plain;
+use onll_serve::Outcome;
 use onll_shared::UpdateFault;
 use onll_threads::{Begun, Seat, Work};
 use std::alloc::Global;
@@ -39,9 +40,8 @@ pub enum Ending {
     NotSaid,
 }
 
-impl Ending {
-    /// Whether all requests were answered.
-    pub fn is_good(self) -> bool {
+impl Outcome for Ending {
+    fn is_good(&self) -> bool {
         matches!(self, Ending::NoMore)
     }
 }

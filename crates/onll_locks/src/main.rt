@@ -8,35 +8,14 @@ mod locks;
 mod request;
 mod service;
 
-use crate::clerk::{Clerk, Desk, Ending};
+use crate::clerk::{Clerk, Desk};
 use crate::service::serve_locks;
-use onll_open::CloseFault;
 use onll_outside::FileStore;
-use onll_serve::{NotServed, Served};
-use std::fmt::Display;
+use onll_serve::report;
 use std::process::ExitCode;
 use std::sync::Wait;
 use std::thread::Threads;
 use std::{env, io};
-
-/// Says this last, and ends with this status.
-fn ended<D: Display + Drop>(rt: &HostRuntime, said: D, status: u8) -> io::Result<ExitCode> {
-    println!(rt; "{said}")?;
-    Ok(ExitCode::from(status))
-}
-
-/// Says how each clerk ended, and gives the status: 0 where all requests were answered.
-fn report(rt: &HostRuntime, before: u64, endings: &[Ending]) -> io::Result<u8> {
-    println!(rt; "went on from {before}")?;
-    for (thread, ending) in endings.iter().enumerate() {
-        println!(rt; "clerk {thread}: {ending}")?;
-    }
-    Ok(if endings.iter().all(|it| it.is_good()) {
-        0
-    } else {
-        1
-    })
-}
 
 /// Lets so many clerks answer, and says how they ended.
 fn run_service<R: Threads + Wait + Sync + Print>(
@@ -54,24 +33,8 @@ fn run_service<R: Threads + Wait + Sync + Print>(
         })?;
     }
     let mut store = FileStore::new(rt);
-    match serve_locks(threads, rt.alloc(), &mut store, name, clerks) {
-        Ok(
-            Served {
-                before,
-                answers,
-                kept,
-                ..
-            },
-        ) => {
-            let status = report(rt, before, &answers)?;
-            match kept {
-                Ok(()) => ended(rt, "kept", status),
-                Err(CloseFault::NotKept(fault)) => ended(rt, fault.named(name), 1),
-                Err(CloseFault::NoMemory(_)) => ended(rt, "out of memory", 1),
-            }
-        }
-        Err(NotServed { fault, .. }) => ended(rt, fault.named(name), 1),
-    }
+    let served = serve_locks(threads, rt.alloc(), &mut store, name, clerks);
+    report(rt, name, "clerk", &served)
 }
 
 /// Does what the words say. Where that can't be said, the process ends with 1.
@@ -85,5 +48,6 @@ fn main(rt: HostRuntime) -> io::Result<ExitCode> {
             return run_service(&rt, &rt, name, threads);
         }
     }
-    ended(&rt, "usage: onll_locks NAME THREADS", 2)
+    println!(&rt; "usage: onll_locks NAME THREADS")?;
+    Ok(ExitCode::from(2))
 }

@@ -45,11 +45,13 @@ pub struct Tally {
     pub ending: Ending,
 }
 
-/// Who counts things, one at a time. It knows how many it has still to count, so that it goes on in the next era.
+/// Who counts things, one at a time. It knows how many it has still to count, so that it goes on in the next era, and whether it could not
+/// say one, so that it doesn't.
 #[derive(Drop)]
 pub struct Clerk<'a, R: Wait> {
     pub rt: &'a R,
     pub left: u64,
+    pub silent: bool,
 }
 
 /// How much was counted with this count.
@@ -95,6 +97,9 @@ impl<'a, R: Print + Wait> Clerk<'a, R> {
         requires { HasCounted P.means B.first 0 seat.old }
         ensures { HasCountedOff P.means B.first self.old.left self.new.left seat.new }
     {
+        if self.silent {
+            return Ending::NotSaid;
+        }
         let left = self.left;
         for counted in 0..left {
             let total = match count_one(self.rt, seat) {
@@ -104,6 +109,7 @@ impl<'a, R: Print + Wait> Clerk<'a, R> {
             self.left = left - counted - 1;
             let thread = seat.thread();
             if println!(self.rt; "counted {thread} {total}").is_err() {
+                self.silent = true;
                 return Ending::NotSaid;
             }
         }

@@ -86,6 +86,7 @@ fn run_meter<R: Threads + Wait + Sync + Print>(
         clerks.push(Clerk {
             rt: threads,
             left: each,
+            silent: false,
         })?;
     }
     let mut store = FileStore::new(rt);

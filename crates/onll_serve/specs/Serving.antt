@@ -1,5 +1,5 @@
 -- What a service did: an object was opened over files, works were done at it in threads, and it was closed.
-use Rattle.std.specs.Prelude.{ℕ, Bool, false, List, [], ◌∷◌, ◌≡◌, ◌<◌, ◌==◌, ◌||◌, length, map, Result, Ok, Err, None, is_some}
+use Rattle.std.specs.Prelude.{ℕ, Bool, false, List, [], ◌∷◌, ◌≡◌, ◌<◌, ◌≤◌, ◌==◌, ◌||◌, length, map, Result, Ok, Err, None, is_some}
 use Rattle.std.specs.List.{AllByRecursion}
 use Rattle.onll_model.specs.Limits.{most_threads}
 use Rattle.onll_model.specs.declared.call.Call.{Call}
@@ -102,6 +102,7 @@ module _ {State Op Query Reply : Type 0} (b : Behaviour State Op Query Reply) (l
   abbrev pub CannotServe : ℕ → StoreView → StoreView → ServeFault → Type 0
   CannotServe works old new faults.NoWork = (works ≡ 0) × (new ≡ old)
   CannotServe works old new (faults.TooManyWorks were) = (were ≡ works) × (most_threads < works) × (new ≡ old)
+  CannotServe works old new (faults.NoThread thread) = (1 ≤ thread) × (thread < works) × (new ≡ old)
   CannotServe works old new (faults.NotOpened fault) =
       CannotOpen b old logs heads works None fault × OpenFaults {T = Unit {0}} logs works old new (Err fault)
       × NothingLost b old logs heads works None new

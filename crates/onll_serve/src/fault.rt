@@ -13,6 +13,9 @@ pub enum ServeFault {
     /// There are more works than an object has threads. Nothing was changed.
     #[error("there are {works} works")]
     TooManyWorks { works: u64 },
+    /// This thread can't be had beside those before it. No work was begun, and nothing was changed.
+    #[error("thread {thread} can't be had")]
+    NoThread { thread: u64 },
     /// The object wasn't opened over its files.
     #[error("{0}")]
     NotOpened(OpenFault),

@@ -17,8 +17,11 @@ use onll_pmem::Pmem;
 use onll_rows::Described;
 use onll_run::run_law;
 use onll_shared::Pass;
-use onll_threads::{Place, Space, Stop, Work, Worked, reserve, run_works, works_law};
+use onll_threads::{
+    Place, Space, Stop, Work, Worked, missing_thread, reserve, run_works, works_law,
+};
 use std::alloc::Global;
+use std::sync::Wait;
 use std::thread::Threads;
 
 /// What a service did.
@@ -116,10 +119,11 @@ fn serve_opened<
 }
 
 /// Opens an object, which began in this state, over the files of its logs, one for each work; does the works, each in a thread of its
-/// own; and closes the object, which keeps the logs. It goes on from what the files hold. Where a thread can't be had, its work is done
-/// after another. No memory is taken once a work has begun but to close the object.
+/// own; and closes the object, which keeps the logs. It goes on from what the files hold. It asks first whether so many threads can be had
+/// at once; where the system takes one back until its work begins, that work is done after another. No memory is taken once a work has
+/// begun but to close the object.
 pub fn serve<
-    R: Threads + Sync,
+    R: Threads + Wait + Sync,
     O: Described + Drop + Send + Sync,
     S: Directory,
     W: Work<O> + Send + Drop,
@@ -150,6 +154,12 @@ pub fn serve<
         return Err(NotServed {
             works,
             fault: ServeFault::TooManyWorks { works: count },
+        });
+    }
+    if let Some(thread) = missing_thread(rt, count) {
+        return Err(NotServed {
+            works,
+            fault: ServeFault::NoThread { thread },
         });
     }
     let Ok(space) = reserve(alloc, works.len()) else {

@@ -8,6 +8,7 @@ ghost use Rattle.onll_stock.specs.Stock.{items_of};
 use crate::stock::{Stock, StockOp, StockQuery, StockReply};
 use onll_pmem::Pmem;
 use onll_rows::Plain;
+use onll_serve::Outcome;
 use onll_shared::UpdateFault;
 use onll_threads::{Begun, Seat, Work};
 use std::sync::Wait;
@@ -30,19 +31,19 @@ pub enum Ending {
     NotSaid,
 }
 
-impl Ending {
-    /// Whether the customer has what it needs, or no item was left.
-    pub fn is_good(self) -> bool {
-        matches!(self, Ending::Content | Ending::SoldOut)
-    }
-}
-
 /// What a customer did: how many items it bought, and brought back, those of a fence that failed among them, which may be lost.
-#[derive(Clone, Copy, Debug, PartialEq, Eq)]
+#[derive(Clone, Copy, Debug, PartialEq, Eq, Error)]
+#[error("bought {bought}, brought back {back}, {ending}")]
 pub struct Deal {
     pub bought: u64,
     pub back: u64,
     pub ending: Ending,
+}
+
+impl Outcome for Deal {
+    fn is_good(&self) -> bool {
+        matches!(self.ending, Ending::Content | Ending::SoldOut)
+    }
 }
 
 /// Who buys boxes of so many items until it has what it needs, or none is left, and brings back what it has too much.
@@ -83,17 +84,17 @@ impl<'a, R: Print + Wait> Customer<'a, R> {
         requires { HasDealt P.means B.first deal.old seat.old }
         ensures { HasDealt P.means B.first deal.new seat.new }
     {
-        let count = op.items();
+        let (StockOp::Sell { count } | StockOp::Restock { count }) = op;
         if count > u64::MAX - deal.bought || count > u64::MAX - deal.back {
             return Err(Ending::NotCounted);
         }
         let done = seat.update(self.rt, op);
         deal.count(op, done);
         let (reply, thread, place) = (done?, seat.thread(), seat.place());
-        match println!(self.rt; "{place}: customer {thread}: {reply:?} {count}") {
-            Ok(()) => Ok(reply),
-            Err(_) => Err(Ending::NotSaid),
-        }
+        println!(self.rt; "{place}: customer {thread}: {reply:?} {count}").or(Err(
+            Ending::NotSaid,
+        ))?;
+        Ok(reply)
     }
 
     /// Buys until it has what it needs, each time a box, or what is left where that is less; and brings back what is too much.
@@ -108,13 +109,10 @@ impl<'a, R: Print + Wait> Customer<'a, R> {
         let mut count = self.of_box;
         for _turn in 0..u64::MAX {
             let has = deal.bought.saturating_sub(deal.back);
-            let op = if has < self.needs {
-                StockOp::Sell { count }
-            } else if has > self.needs {
-                let count = has - self.needs;
-                StockOp::Restock { count }
-            } else {
-                return Ok(());
+            let op = match has.checked_sub(self.needs) {
+                None => StockOp::Sell { count },
+                Some(0) => return Ok(()),
+                Some(count) => StockOp::Restock { count },
             };
             match self.change(seat, deal, op)? {
                 StockReply::TooFew => match seat.read(StockQuery) {

@@ -1,7 +1,6 @@
 //! The stock of a shop: items of one kind, which are sold and put back.
 
-ghost use Rattle.std.specs.Prelude.{◌≡◌};
-ghost use Rattle.onll_stock.specs.Stock.{items_of, stock};
+ghost use Rattle.onll_stock.specs.Stock.{stock};
 
 use onll_rows::PlainState;
 use std::alloc::{AllocError, Global};
@@ -13,17 +12,6 @@ pub enum StockOp {
     Sell { count: u64 },
     /// Puts so many items into the stock, all or none.
     Restock { count: u64 },
-}
-
-impl StockOp {
-    /// How many items it is of.
-    pub fn items(self) -> u64
-        ensures { result ≡ items_of self }
-    {
-        match self {
-            StockOp::Sell { count } | StockOp::Restock { count } => count,
-        }
-    }
 }
 
 /// What a stock is asked: how many items are left.
@@ -57,17 +45,13 @@ impl PlainState for Stock {
 
     fn apply(&mut self, op: StockOp) -> StockReply {
         match op {
+            StockOp::Sell { count } if self.left < count => StockReply::TooFew,
             StockOp::Sell { count } => {
-                if self.left < count {
-                    return StockReply::TooFew;
-                }
                 self.left -= count;
                 StockReply::Sold
             }
+            StockOp::Restock { count } if count > u64::MAX - self.left => StockReply::TooMany,
             StockOp::Restock { count } => {
-                if count > u64::MAX - self.left {
-                    return StockReply::TooMany;
-                }
                 self.left += count;
                 StockReply::Restocked
             }
@@ -86,10 +70,9 @@ impl PlainState for Stock {
     }
 
     fn op_of(words: [u64; 7]) -> Option<StockOp> {
-        let count = words[1];
         match words[0] {
-            1 => Some(StockOp::Sell { count }),
-            _ => Some(StockOp::Restock { count }),
+            1 => Some(StockOp::Sell { count: words[1] }),
+            _ => Some(StockOp::Restock { count: words[1] }),
         }
     }
 

@@ -5,12 +5,14 @@ mod acts;
 mod crew;
 mod job;
 mod laws;
+mod missing;
 mod seat;
 mod stop;
 mod work;
 
 pub use crew::{Space, Worked, reserve, run_works};
 pub use laws::works_law;
+pub use missing::missing_thread;
 pub use seat::{Begun, Place, Seat};
 pub use stop::Stop;
 pub use work::Work;

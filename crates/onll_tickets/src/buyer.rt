@@ -6,6 +6,7 @@ ghost use Rattle.onll_tickets.specs.Sales.{HasDrawn, one_drawn, took};
 use crate::tickets::{TicketOp, TicketReply, Tickets};
 use onll_pmem::Pmem;
 use onll_rows::Plain;
+use onll_serve::Outcome;
 use onll_shared::UpdateFault;
 use onll_threads::{Begun, Seat, Work};
 use std::fmt;
@@ -26,13 +27,6 @@ pub enum Ending {
     NotSaid,
 }
 
-impl Ending {
-    /// Whether the buyer has what it wanted, or there was no ticket left.
-    pub fn is_good(self) -> bool {
-        matches!(self, Ending::Bought | Ending::SoldOut)
-    }
-}
-
 impl fmt::Display for Ending {
     fn fmt<W: fmt::Write>(&self, f: &mut fmt::Formatter<W>) -> fmt::Result {
         f.write_str(match self {
@@ -50,6 +44,18 @@ impl fmt::Display for Ending {
 pub struct Bought {
     pub drawn: u64,
     pub ending: Ending,
+}
+
+impl fmt::Display for Bought {
+    fn fmt<W: fmt::Write>(&self, f: &mut fmt::Formatter<W>) -> fmt::Result {
+        write!(f, "drew {}, {}", self.drawn, self.ending)
+    }
+}
+
+impl Outcome for Bought {
+    fn is_good(&self) -> bool {
+        matches!(self.ending, Ending::Bought | Ending::SoldOut)
+    }
 }
 
 /// Who draws tickets, one at a time, so many at most.

@@ -6,12 +6,10 @@ mod buyer;
 mod market;
 mod tickets;
 
-use crate::buyer::{Bought, Buyer};
+use crate::buyer::Buyer;
 use crate::market::sell;
-use onll_open::CloseFault;
 use onll_outside::FileStore;
-use onll_serve::{NotServed, Served};
-use std::fmt::Display;
+use onll_serve::report;
 use std::process::ExitCode;
 use std::sync::Wait;
 use std::thread::Threads;
@@ -26,62 +24,28 @@ struct Sale<'a> {
     tickets: u64,
 }
 
-/// Says this last, and ends with this status.
-fn ended<D: Display + Drop>(rt: &HostRuntime, said: D, status: u8) -> io::Result<ExitCode> {
-    println!(rt; "{said}")?;
-    Ok(ExitCode::from(status))
-}
-
-/// Says what each buyer did.
-fn report(rt: &HostRuntime, before: u64, bought: &[Bought]) -> io::Result<()> {
-    println!(rt; "went on from {before}")?;
-    for (thread, Bought { drawn, ending }) in bought.iter().enumerate() {
-        println!(rt; "buyer {thread} drew {drawn}: {ending}")?;
-    }
-    Ok(())
-}
-
 /// Lets so many buyers draw, and says what they did.
 fn run_sale<R: Threads + Wait + Sync + Print>(
     rt: &HostRuntime,
     threads: &R,
     sale: Sale<'_>,
 ) -> io::Result<ExitCode> {
+    let Sale {
+        name,
+        buyers: count,
+        each,
+        tickets,
+    } = sale;
     let mut buyers = Vec::new(rt.alloc());
-    for _ in 0..sale.buyers {
+    for _ in 0..count {
         buyers.push(Buyer {
             rt: threads,
-            most: sale.each,
+            most: each,
         })?;
     }
     let mut store = FileStore::new(rt);
-    let sold = sell(
-        threads,
-        rt.alloc(),
-        &mut store,
-        sale.name,
-        sale.tickets,
-        buyers,
-    );
-    match sold {
-        Ok(
-            Served {
-                before,
-                answers,
-                kept,
-                ..
-            },
-        ) => {
-            report(rt, before, &answers)?;
-            let good = answers.iter().all(|it| it.ending.is_good());
-            match kept {
-                Ok(()) => ended(rt, "kept", if good { 0 } else { 1 }),
-                Err(CloseFault::NotKept(fault)) => ended(rt, fault.named(sale.name), 1),
-                Err(CloseFault::NoMemory(_)) => ended(rt, "out of memory", 1),
-            }
-        }
-        Err(NotServed { fault, .. }) => ended(rt, fault.named(sale.name), 1),
-    }
+    let sold = sell(threads, rt.alloc(), &mut store, name, tickets, buyers);
+    report(rt, name, "buyer", &sold)
 }
 
 /// Does what the words say. Where that can't be said, the process ends with 1.
@@ -105,5 +69,6 @@ fn main(rt: HostRuntime) -> io::Result<ExitCode> {
             return run_sale(&rt, &rt, sale);
         }
     }
-    ended(&rt, "usage: onll_tickets NAME BUYERS EACH TICKETS", 2)
+    println!(&rt; "usage: onll_tickets NAME BUYERS EACH TICKETS")?;
+    Ok(ExitCode::from(2))
 }

@@ -1,7 +1,7 @@
 use Rattle.std.proofs.Common.{ℕ, List, [], ◌≡◌, ◌∙◌, subst, arith}
 use Rattle.onll_outside.specs.Views.{Holds, SameOthers}
 use Rattle.onll_open.specs.Names.{log_name}
-use Rattle.onll_open.proofs.Handing.{faults_more, others_on}
+use Rattle.onll_open.proofs.Handing.{devices_more, faults_more, others_on}
 use Rattle.onll_live.proofs.Cleared.{cleared_next}
 use Rattle.onll_live.proofs.beginning.clear_logs.Goals as goal
 
@@ -22,4 +22,5 @@ loop-thread-preserved g c =
       cleared_next mid new c.args.logs.now t (omega arith) c.loop-thread.invariant.0 (subst (λ (n : List ℕ). Holds new n []) name c.in-Ok.ensures.written) others,
       faults_more old mid new c.loop-thread.invariant.1 c.in-Ok.ensures.faults,
       others_on old mid new c.args.logs.now c.args.threads t (omega arith) c.loop-thread.invariant.2 others,
+      devices_more old mid new c.loop-thread.invariant.3 c.write.ensures.devices,
     )

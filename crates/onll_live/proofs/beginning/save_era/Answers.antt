@@ -6,7 +6,9 @@ use Rattle.onll_checkpoint.specs.Text.{lines_for}
 use Rattle.onll_areas.specs.Keeping.{HasKeptLines, KeepEnds}
 use Rattle.onll_live.specs.declared.fault.NextFault.{NextFault}
 use Rattle.onll_live.specs.Beginning.{SaveFaults}
+use Rattle.onll_live.specs.Causes.{NextFences}
 use Rattle.onll_live.specs.Eras.{era_logs}
+use Rattle.onll_live.proofs.Causes.{keep_fences}
 use Rattle.onll_live.proofs.Saves.{left_by, save_faults, saves_so}
 use Rattle.onll_live.proofs.beginning.save_era.Goals as goal
 
@@ -35,3 +37,9 @@ returns-clause-faults g c =
     let area = c.args.era.now.number % 2 in
     subst (λ (f : NextFault). SaveFaults c.args.name.now area old new (Err f)) (sym c.not_kept.ensures)
     (save_faults c.in-Err.fault c.args.name.now c.deref.result.now area _ old new (c.deref.ensures ∙ c.in_ok-file.ensures) c.in-Err.ensures.ends)
+
+pub returns-clause-fences : goal.returns-clause-fences
+returns-clause-fences g c =
+    let old = g.S.Store.seen c.args.store.now in let new = g.S.Store.seen c.keep_checkpoint.new.store in
+    subst (λ (f : NextFault). NextFences {T = Unit {0}} old.device_faults new.device_faults (Err f)) (sym c.not_kept.ensures)
+    (keep_fences c.in-Err.fault (c.args.era.now.number % 2) c.deref.result.now _ old new c.in-Err.ensures.ends)

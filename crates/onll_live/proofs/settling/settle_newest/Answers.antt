@@ -1,6 +1,8 @@
-use Rattle.std.proofs.Common.{Some, ◌∙◌, ap}
+use Rattle.std.proofs.Common.{Some, sym, ◌∙◌, ap, subst}
 use Rattle.onll_pmem.specs.Pmem.{words_of}
 use Rattle.onll_live.specs.Eras.{area_name}
+use Rattle.onll_live.specs.Faults.{IsSettleFault}
+use Rattle.onll_live.proofs.FaultSteps.{unkept_settles, unread_settles}
 use Rattle.onll_live.proofs.Areas.{same_keeps}
 use Rattle.onll_live.proofs.Settled.{lines_alone, lines_keep, read_begins}
 use Rattle.onll_live.proofs.settling.settle_newest.Goals as goal
@@ -38,3 +40,9 @@ returns-in-Ok-rewrite-clause-rewritten g c =
     lines_alone (seen c.args.store.now) (seen c.read_lines.new.self) r.same (area_name c.args.name.now c.args.area) c.deref.result.now c.deref-2.result.now
     (c.deref.ensures ∙ c.in_ok-file.ensures) (c.deref-2.ensures ∙ c.in_ok-file.ensures) (words_of c.in-Ok.read.front.items) (words_of c.deref-3.result.now) c.in-Ok.read.count
     (ap words_of c.deref-3.ensures.value ∙ c.in_ok-lines.ensures.lines) r.lines r.front r.few (seen c.rewrite.new.store) w.others w.begins w.alone
+
+pub returns-in-Err-clause-refused : goal.returns-in-Err-clause-refused
+returns-in-Err-clause-refused g c = subst IsSettleFault (sym c.not_read.ensures) (unread_settles c.args.area c.in-Err.fault)
+
+pub returns-clause-refused : goal.returns-clause-refused
+returns-clause-refused g c = subst IsSettleFault (sym c.not_settled.ensures) (unkept_settles c.args.area c.in-Err-rewrite.fault)

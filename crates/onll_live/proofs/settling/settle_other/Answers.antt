@@ -1,5 +1,7 @@
-use Rattle.std.proofs.Common.{rules, ◌∙◌, subst}
+use Rattle.std.proofs.Common.{rules, sym, ◌∙◌, subst}
 use Rattle.onll_live.specs.Eras.{area_name}
+use Rattle.onll_live.specs.Faults.{IsSettleFault}
+use Rattle.onll_live.proofs.FaultSteps.{unkept_settles, unread_settles}
 use Rattle.onll_live.proofs.Areas.{same_keeps}
 use Rattle.onll_live.proofs.Settled.{untorn_there, zeros_keep}
 use Rattle.onll_live.specs.Settled.{IsUntorn}
@@ -30,3 +32,9 @@ returns-in-Ok-false-clause-untorn g c =
 
 pub returns-in-Ok-clause-untorn : goal.returns-in-Ok-clause-untorn
 returns-in-Ok-clause-untorn g c = subst (λ n. IsUntorn (g.S.Store.seen c.wipe.new.store) n) (c.deref-2.ensures ∙ c.in_ok-file.ensures) c.in-Ok.ensures.wiped
+
+pub returns-in-Err-clause-refused : goal.returns-in-Err-clause-refused
+returns-in-Err-clause-refused g c = subst IsSettleFault (sym c.not_read.ensures) (unread_settles c.args.area c.in-Err.fault)
+
+pub returns-clause-refused : goal.returns-clause-refused
+returns-clause-refused g c = subst IsSettleFault (sym c.not_settled.ensures) (unkept_settles c.args.area c.in-Err-wipe.fault)

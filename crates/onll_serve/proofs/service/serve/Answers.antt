@@ -1,4 +1,5 @@
-use Rattle.std.proofs.Common.{◌≡◌, length, arith}
+use Rattle.std.proofs.Common.{◌≡◌, length, arith, subst}
+use Rattle.onll_threads.specs.Crews.{HasSpace}
 use Rattle.onll_open.specs.Heads.{heads_of}
 use Rattle.onll_serve.proofs.Working.{cannot_open, given_back, others_kept, served}
 use Rattle.onll_serve.proofs.service.serve.Goals as goal
@@ -36,3 +37,8 @@ returns-in-Err-clause-refused g c =
     cannot_open g.O.Object.means c.args.name.now (heads_of g.O.Object.CODE (g.O.Described.description c.args.object))
     c.len-count.result (length c.args.works.items) (g.S.Store.seen c.args.store.now) (g.S.Store.seen c.open.new.store) c.in-Err.fault
     many e.refused e.faults e.kept
+
+pub serve_opened-requires-clause-space : goal.serve_opened-requires-clause-space
+serve_opened-requires-clause-space g c κs within =
+    let many : c.len.result ≡ length c.args.works.items = omega arith in
+    subst (λ n. HasSpace n c.in-Ok.space) many c.in-Ok.ensures

@@ -13,6 +13,7 @@ import subprocess
 import sys
 import tempfile
 
+from memory import files_of
 from proved import TOP
 
 USER = 54321
@@ -30,21 +31,13 @@ def drawn(program, folder, buyers, most):
     return run.stdout.decode().split("\n")[:-1], run.returncode
 
 
-def files_in(folder):
-    found = {}
-    for name in sorted(os.listdir(folder)):
-        with open(os.path.join(folder, name), "rb") as file:
-            found[name] = file.read()
-    return found
-
-
 def is_right(program, folder, buyers, most):
     """Whether a run with so many threads at most does as it should."""
-    before = files_in(folder)
+    before = files_of(folder)
     said, status = drawn(program, folder, buyers, most)
     if most < buyers:
-        return said == [f"thread {most} can't be had"] and status == 1 and files_in(folder) == before
-    return said[-1:] == ["kept"] and status == 0 and len(files_in(folder)) >= buyers
+        return said == [f"thread {most} can't be had"] and status == 1 and files_of(folder) == before
+    return said[-1:] == ["kept"] and status == 0 and len(files_of(folder)) >= buyers
 
 
 def main():

@@ -221,13 +221,16 @@ where
     Ok(file)
 }
 
-/// Whether this is the file of that name.
+/// Whether this is the file of that name. Where the system does not tell, its error: another file's is never assumed.
 fn is_named<R: Files>(files: &R, name: &str, file: &R::File) -> io::Result<bool> {
-    let Ok(named) = fs::metadata(files, name) else {
-        return Ok(false);
-    };
-    let own = file.metadata()?;
-    Ok(own.dev() == named.dev() && own.ino() == named.ino())
+    match fs::metadata(files, name) {
+        Ok(named) => {
+            let own = file.metadata()?;
+            Ok(own.dev() == named.dev() && own.ino() == named.ino())
+        }
+        Err(e) if e.kind() == ErrorKind::NotFound => Ok(false),
+        Err(e) => Err(e),
+    }
 }
 
 /// Whether a file may take this name: none is there, or a regular one.

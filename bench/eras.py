@@ -29,6 +29,7 @@ from objects import GREATEST, KINDS
 from proved import proved_program
 
 THREADS, UPDATES, ERAS = 4, 150, 6
+SCRIPTS = [f"script{thread}" for thread in range(THREADS)]
 # A checkpoint is killed at most so many times in one era.
 TRIES = 12
 # Beyond the time of a whole command, so that some of them end.
@@ -126,16 +127,17 @@ class Times:
     def __init__(self):
         self.least, self.kills, self.ends = {}, {}, {}
 
-    def command(self, program, kind, words, rng):
-        """Whether this command, whose report goes into the file `report`, ends before it is killed; with no random choices it isn't."""
+    def command(self, program, kind, words, rng, wanted=0):
+        """Whether this command, whose report goes into the file `report`, ends before it is killed, with the status that is wanted; with no
+        random choices it isn't killed."""
         key = (kind, words[0])
         begin = time.monotonic()
         with open("report", "w") as report:
             run = subprocess.Popen([program, *words], stdout=report)
-        if rng and killed(run, rng.uniform(0, LATEST * self.least[key])):
+        if rng and killed(run, rng.uniform(0, LATEST * self.least[key]), wanted):
             self.kills[words[0]] = self.kills.get(words[0], 0) + 1
             return False
-        assert run.wait() == 0, (words, run.returncode)
+        assert run.wait() == wanted, (words, run.returncode)
         if not rng:
             self.least[key] = min(self.least.get(key, GREATEST), time.monotonic() - begin)
         self.ends[words[0]] = self.ends.get(words[0], 0) + 1
@@ -145,6 +147,11 @@ class Times:
 def report_lines():
     with open("report") as file:
         return file.read().splitlines()
+
+
+def files_of_era(era):
+    """Its initial state and its logs."""
+    return (f"ckpt.{era % 2}.init", f"ckpt.{era % 2}") if era else ("init", "log")
 
 
 class Chain:
@@ -158,10 +165,7 @@ class Chain:
 
     def init_and_logs(self):
         """The initial state and the logs of the era that was restored last."""
-        if not self.last or self.last.era == 0:
-            return "init", "log"
-        area = f"ckpt.{self.last.era % 2}"
-        return f"{area}.init", area
+        return files_of_era(self.last.era if self.last else 0)
 
     def log_names(self):
         return [f"{self.init_and_logs()[1]}.{thread}" for thread in range(THREADS)]
@@ -187,25 +191,33 @@ class Chain:
 
     def scripts(self):
         scripts = [[UPDATE_OF[self.kind](self.rng) for _ in range(UPDATES)] for _ in range(THREADS)]
-        for thread, script in enumerate(scripts):
-            write_text(f"script{thread}", script)
+        for name, script in zip(SCRIPTS, scripts):
+            write_text(name, script)
         return scripts
+
+    def command(self, words, killing):
+        """Whether a command ends before it is killed."""
+        return self.times.command(self.program, self.kind, words, killing)
 
     def run(self):
         """One run more in the era, and what is restored then."""
         scripts = self.scripts()
-        init, logs = self.init_and_logs()
-        words = ["resume" if self.last else "run", init, logs, *(f"script{thread}" for thread in range(THREADS))]
-        ended = self.times.command(self.program, self.kind, words, self.killing)
+        self.go_on(["resume" if self.last else "run", *self.init_and_logs(), *SCRIPTS], scripts)
+
+    def go_on(self, words, scripts):
+        """These scripts by one command more in the era, and what is restored then."""
+        self.expect_gone_on(self.command(words, self.killing), scripts)
+
+    def expect_gone_on(self, ended, scripts):
         if not ended and not self.last and not all(has_first_line(log) for log in self.log_names()):
             if self.restore()[0] != 0:
-                return self.expect_early()
+                self.expect_early()
+                return
         found = self.restored()
         self.expect_added(found, scripts)
         if ended:
             self.expect_told(found, scripts)
         self.last = found
-        return None
 
     def expect_early(self):
         """Where a log has no line yet nothing was acknowledged. The logs are removed."""
@@ -234,19 +246,23 @@ class Chain:
 
     def expect_told(self, found, scripts):
         """A run that ended has told a reply and a place for each of its updates, and each is there with them."""
-        told = [line for line in report_lines() if line.startswith("call ")]
-        calls = [(thread, number, call) for thread, script in enumerate(scripts) for number, call in enumerate(script, 1)]
-        assert len(told) == len(calls), told[-1:]
-        for line, (thread, number, call) in zip(told, calls):
-            said, answer = line.split(" -> ")
-            reply, place = answer.rsplit(" at ", 1)
-            assert said == f"call {thread} {number} {call}", line
-            assert found.nodes[int(place) - 1] == (thread, call) and self.replies[int(place) - 1] == reply, line
+        told = [line.split(" -> ") for line in report_lines() if line.startswith("call ")]
+        calls = [f"call {thread} {number} {call}" for thread, script in enumerate(scripts) for number, call in enumerate(script, 1)]
+        assert [call for call, _ in told] == calls, told[-1:]
+        for call, answer in told:
+            self.expect_answered(found, call, answer)
+
+    def expect_answered(self, found, call, answer):
+        """The update of a call line that tells a reply and a place is there with them."""
+        _, thread, _, update = call.split(maxsplit=3)
+        reply, place = answer.rsplit(" at ", 1)
+        at = int(place) - 1
+        assert found.nodes[at:at + 1] == [(int(thread), update)] and self.replies[at] == reply, (call, answer)
 
     def checkpoint(self, killing):
         """A checkpoint, and whether the next era has begun by it."""
         words = ["checkpoint", "init", "log", "ckpt", str(THREADS)]
-        ended = self.times.command(self.program, self.kind, words, killing)
+        ended = self.command(words, killing)
         found, last = self.restored(), self.last
         assert (found.place, found.state) == (last.place, last.state), (found.place, last.place)
         if ended:

@@ -1,8 +1,9 @@
 #!/usr/bin/env python3
-"""Measures an object that runs for ever beside what a user would take instead: the meter over eras, with as many updates by SQLite, LMDB, a
-lock and a log, and bare syncs.
+"""Measures an object that runs for ever beside what a user would take instead: the meter over eras, with as many updates by SQLite, LMDB,
+a lock and a log, and bare syncs.
 Usage: bench/ever.py [--program PATH] [--peers FOLDER] [--dir DIR] [--threads T,T..] [--each N] [--reps R]
-Build the program first, by `./prove`. FOLDER has the baselines of the yardsticks (`make -C baselines BIN=FOLDER`); DIR has to be on a real disk.
+Build the program first, by `rt run` in crates/onll_meter. FOLDER has the baselines of the yardsticks (`make -C baselines BIN=FOLDER`);
+DIR has to be on a real disk.
 
 All programs of a row make N updates on each of T threads over files, one program after the other in an order that turns with the
 repetition. Printed are updates in a second by the median time, the least and greatest, and the ratio to bare syncs as the median of the
@@ -140,6 +141,8 @@ def main():
         for threads in (int(word) for word in asked.threads.split(",")):
             row(programs, threads, asked.each, asked.reps, folder)
             changes = pauses(program, threads, asked.each, folder)
+            if not changes:
+                sys.exit("no era changed: N has to be more than a log's room")
             least, most, middle = (f"{of(changes) * 1000:.1f}" for of in (min, max, statistics.median))
             print(f"{threads:3} pause of an era's change: {middle} ms ({least} to {most}, of {len(changes)})", flush=True)
         took = [sqlite_pause(ROOM, folder) for _ in range(asked.reps)]

@@ -4,8 +4,9 @@ one, by what the environment says.
     CALLS=FILE        each call is noted in this file, as its name and the name of what it is for
     KILL=N            the process is killed before the N-th call
     CUT=N             so it is, after the N-th call has written half of its bytes, where these are more than a line
+    SHORT=N           the N-th call, a read or a write, does half of its bytes, and says so
     FAIL=N ERRNO=E    the N-th call is not made, and fails with this error
-    THEN=N            so does this later one
+    LACKS=N           the N-th call is not made, and says that no file has this name
     DISK=FOLDER       this folder has what a loss of power would leave of the files: a sync that is done makes the bytes that were written
                       since the last try durable; of one that fails they are lost, until they are written again
     NAMES=FOLDER      which names there are is durable by a sync of their folder alone: until then what a file's own sync made durable
@@ -47,8 +48,8 @@ static int refused(const char *call, const char *name) {
     calls++;
     if (notes >= 0) syscall(SYS_write, notes, note, snprintf(note, sizeof note, "%s %s\n", call, name));
     if (calls == number("KILL")) die();
-    if (calls != number("FAIL") && calls != number("THEN")) return 0;
-    errno = number("ERRNO");
+    if (calls != number("FAIL") && calls != number("LACKS")) return 0;
+    errno = calls == number("LACKS") ? ENOENT : number("ERRNO");
     return 1;
 }
 
@@ -179,6 +180,9 @@ static void synced(const char *name, int done) {
 /* How much of its bytes a write writes: the last one some whole words, and no part of a line alone, which is within a sector. */
 static long cut(long count, int last) { return !last ? count : count > 64 ? (count / 2 + 8) & ~7L : 0; }
 
+/* How much of its bytes a call does that isn't the last. */
+static size_t some(size_t count) { return calls == number("SHORT") ? (count + 1) / 2 : count; }
+
 int open(const char *name, int flags, ...) {
     va_list rest;
     va_start(rest, flags);
@@ -197,12 +201,12 @@ int statx(int folder, const char *name, int flags, unsigned wanted, struct statx
     return syscall(SYS_statx, folder, name, flags, wanted, found);
 }
 ssize_t read(int fd, void *bytes, size_t count) {
-    return refused("read", name_of(fd)) ? -1 : syscall(SYS_read, fd, bytes, count);
+    return refused("read", name_of(fd)) ? -1 : syscall(SYS_read, fd, bytes, some(count));
 }
 ssize_t write(int fd, const void *bytes, size_t count) {
     if (refused("write", name_of(fd))) return -1;
     int last = calls == number("CUT");
-    long done = syscall(SYS_write, fd, bytes, cut(count, last));
+    long done = syscall(SYS_write, fd, bytes, cut(some(count), last));
     if (done > 0 && fd > 2) written(names[fd], lseek(fd, 0, SEEK_CUR) - done, lseek(fd, 0, SEEK_CUR));
     if (last) die();
     return done;
@@ -210,7 +214,7 @@ ssize_t write(int fd, const void *bytes, size_t count) {
 ssize_t pwrite(int fd, const void *bytes, size_t count, off_t at) {
     if (refused("write", name_of(fd))) return -1;
     int last = calls == number("CUT");
-    long done = syscall(SYS_pwrite64, fd, bytes, cut(count, last), at);
+    long done = syscall(SYS_pwrite64, fd, bytes, cut(some(count), last), at);
     if (done > 0) written(names[fd], at, at + done);
     if (last) die();
     return done;

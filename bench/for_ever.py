@@ -1,6 +1,6 @@
 #!/usr/bin/env python3
 """Kills `onll_meter` at random moments, again and again, also while an era changes, until it has counted so much, and compares what it said.
-Usage: bench/for_ever.py [--program PATH] [--clerks N] [--updates N] [--kills N] [--minutes N] [--seed S]
+Usage: bench/for_ever.py [--program PATH] [--clerks N] [--vary] [--updates N] [--kills N] [--minutes N] [--seed S]
 Build the program first, by `rt run` in crates/onll_meter; or name another one of the same words. It ends at the first of: so many updates
 and so many kills, or the minutes.
 
@@ -31,8 +31,8 @@ ROOM, LINE, BEFORE = 4096, 64, 64
 class Chain:
     """Starts over one set of files, and what they acknowledged."""
 
-    def __init__(self, program, clerks, chance, folder):
-        self.program, self.clerks, self.chance, self.folder = os.path.abspath(program), clerks, chance, folder
+    def __init__(self, program, clerks, vary, chance, folder):
+        self.program, self.clerks, self.vary, self.chance, self.folder = os.path.abspath(program), clerks, vary, chance, folder
         self.said, self.greatest, self.kills, self.changing, self.starts, self.eras, self.size = set(), 0, 0, 0, 0, 0, 0
         self.wrong = []
 
@@ -51,8 +51,9 @@ class Chain:
         """One start, which is killed by `killed`, a function that waits for the moment; or isn't, where there is none."""
         self.starts += 1
         out = os.path.join(self.folder, "said")
+        clerks = self.chance.randint(1, self.clerks) if self.vary else self.clerks
         with open(out, "wb") as file:
-            with subprocess.Popen([self.program, "m", str(self.clerks), str(each)], cwd=self.folder, stdout=file) as run:
+            with subprocess.Popen([self.program, "m", str(clerks), str(each)], cwd=self.folder, stdout=file) as run:
                 if killed:
                     killed(run)
                     run.send_signal(signal.SIGKILL)
@@ -159,7 +160,7 @@ def number_in(path):
 def run_chain(asked, folder):
     """Starts until there is enough, and a last one that isn't killed."""
     chance = random.Random(asked.seed)
-    chain = Chain(asked.program, asked.clerks, chance, folder)
+    chain = Chain(asked.program, asked.clerks, asked.vary, chance, folder)
     until = time.time() + 60 * asked.minutes
     while not chain.wrong and time.time() < until and (chain.kills < asked.kills or chain.greatest < asked.updates):
         moment = chain.kill_at_change() if chance.random() < 0.4 else chain.kill_after(chance.uniform(0.001, asked.longest))
@@ -173,6 +174,7 @@ def main():
     ask = argparse.ArgumentParser()
     ask.add_argument("--program", default=os.path.join(TOP, "crates/onll_meter/out/onll_meter"))
     ask.add_argument("--clerks", type=int, default=3)
+    ask.add_argument("--vary", action="store_true", help="each start has a random number of clerks, up to so many")
     ask.add_argument("--updates", type=int, default=200_000)
     ask.add_argument("--kills", type=int, default=200)
     ask.add_argument("--minutes", type=float, default=10)

@@ -64,12 +64,12 @@ def whole_time(program, command, scripts):
     return time.monotonic() - begin
 
 
-def killed(run, seconds):
-    """Whether a run is killed after so many seconds, and has not ended before, which it does with 0 alone."""
+def killed(run, seconds, wanted=0):
+    """Whether a run is killed after so many seconds, and has not ended before, which it does with this status alone."""
     time.sleep(seconds)
     run.kill()
     status = run.wait()
-    assert status in (0, -9), status
+    assert status in (wanted, -9), status
     return status == -9
 
 

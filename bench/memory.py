@@ -121,16 +121,20 @@ class Runs:
         self.program, self.work, self.library = program, work, make_refuser(work)
         self.counted = os.path.join(work, "counted")
 
-    def once(self, row, number):
-        """One run of a row in which this call for memory is refused: its status, what it printed, its files and how often it called."""
-        words, names = ROWS[row]
+    def prepare(self, row):
+        """The folder with the files of a row."""
         folder = os.path.join(self.work, "files")
         shutil.rmtree(folder, ignore_errors=True)
         os.mkdir(folder)
-        for name, source in names.items():
+        for name, source in ROWS[row][1].items():
             shutil.copyfile(os.path.join(EXAMPLES, source) if source else os.devnull, os.path.join(folder, name))
         if row in BEFORE:
             subprocess.run([self.program, *BEFORE[row]], cwd=folder, stdout=subprocess.DEVNULL, check=True, timeout=60)
+        return folder
+
+    def once(self, row, number):
+        """One run of a row in which this call for memory is refused: its status, what it printed, its files and how often it called."""
+        words, folder = ROWS[row][0], self.prepare(row)
         environment = {"LD_PRELOAD": self.library, "REFUSE": str(number), "COUNTED": self.counted}
         if os.path.exists(self.counted):
             os.remove(self.counted)

@@ -5,11 +5,12 @@ Usage: bench/renewing.py [--program PATH] [--only CASE] [--chains N] [--seed S] 
 Build the program first, by `rt run` in crates/onll_meter; or name another one of the same words. It wants a C compiler (`cc`).
 
 There is one clerk. The cases are files of which the log of the first, second or third era is nearly full, files of a full log, files of a
-full log and of an area whose save was cut off, and files of an era that has just begun. In each case one start is made, in which the era
-changes, but for the last case:
+full log and of an area whose save was cut off, files of an era that has just begun, files of an era of two clerks, and files of the era
+after it, nearly full, beside the two logs of the one before. In each case one start is made, in which the era changes, but where it has
+just begun:
 - It is killed before each call, and in the midst of each write.
 - Each call fails with EIO, and each write, sync, truncation, and opening of a file with ENOSPC. The start goes on, or says why it didn't.
-- Where nothing can be known of a name, a log or an area is copied beside and then takes it; of this each step is killed or fails too.
+- Where the system says that a name isn't there, a log or an area is copied beside and then takes it; of this each step is killed or fails.
 - Each sync fails, and this start is killed before each later call, or the next one before each of its calls; then the power fails.
 After each of the first three the next start is over the files as they are, and over what a loss of power leaves of them; it counts two, the
 power fails, and one more start looks. Each of these ends with 0 and `kept`. What the next start finds is what was acknowledged, with one
@@ -36,10 +37,11 @@ from failing import Outside
 from memory import files_of
 from proved import TOP
 
-# The updates of a log, the bytes of a sector, and the most bytes that each file takes: a log has a line, and two for each update.
+# The updates of a log, the bytes of a sector, and the most bytes that each file takes: a log has a line, and for each update one more than
+# there are clerks, of whom there were two at most.
 ROOM, SECTOR = 4096, 512
 SIZES = {"m.era.lock": 0, **{name: size for era in (0, 1) for name, size in (
-    (f"m.era.{era}.lock", 0), (f"m.era.{era}", 128), (f"m.era.{era}.0", 64 * (1 + 2 * ROOM)))}}
+    (f"m.era.{era}.lock", 0), (f"m.era.{era}", 128), *((f"m.era.{era}.{clerk}", 64 * (1 + 3 * ROOM)) for clerk in (0, 1)))}}
 
 # The files, what a loss of power leaves of them, and what it would leave too if the names were durable.
 State = collections.namedtuple("State", "files disk names")
@@ -107,13 +109,13 @@ class Meter:
         self.starts, self.runs, self.wrong, self.found_more = 0, collections.Counter(), collections.Counter(), 0
         self.kind, self.bound, self.own, self.last_wrong, self.faults = "", 0, 0, 0, 0
 
-    def run(self, state, each, **asked):
+    def run(self, state, each, clerks=1, **asked):
         """A start over this state: what it said, and the state that it leaves."""
         outside = self.outside
         for files, folder in zip(state, (outside.files, outside.disk, outside.names)):
             outside.put(files, folder)
         try:
-            status, lines = outside.run(["m", "1", str(each)], DISK=outside.disk, NAMES=outside.names, OWN=self.own, **asked)
+            status, lines = outside.run(["m", str(clerks), str(each)], DISK=outside.disk, NAMES=outside.names, OWN=self.own, **asked)
         except subprocess.TimeoutExpired:
             status, lines = None, []
         self.starts += 1
@@ -224,32 +226,35 @@ def fails(meter, case):
 
 
 def copies(meter, case):
-    """Where a length can't be had when a file is kept, it is copied: each step of this is killed, or fails too."""
+    """Where the name is said not to be there when a file is kept, it is copied: each step of this is killed, or fails."""
     for n, call in enumerate(case.calls, 1):
         if not call.startswith("stat "):
             continue
-        lacking = {"FAIL": n, "ERRNO": errno.EIO}
+        lacking = {"LACKS": n, "ERRNO": errno.EIO}
         ran, _ = meter.run(case.state, case.each, **lacking)
         renamed = [at for at, call in enumerate(ran.calls, 1) if call.startswith("rename ")]
         if not renamed:
             continue
         for later in (at for at in steps(ran.calls, n + 1) if at <= renamed[0] + 3):
-            for how in ("KILL", "CUT", "THEN") if ran.calls[later - 1].startswith("write ") else ("KILL", "THEN"):
+            for how in ("KILL", "CUT", "FAIL") if ran.calls[later - 1].startswith("write ") else ("KILL", "FAIL"):
                 copy(meter, case, lacking, ran, later, how)
+    if not any(kind.startswith(f"{case.name}, a copy") for kind in meter.runs):
+        meter.begin(f"{case.name}, a copy")
+        meter.expect(False, case.state, "none was made")
 
 
 def copy(meter, case, lacking, whole, later, how):
     """One of these: what was said before is found."""
     meter.begin(f"{case.name}, a copy, {how}")
-    text = f"{lacking['FAIL']} fails, call {later}, {whole.calls[later - 1]}"
+    text = f"{lacking['LACKS']} finds no file, call {later}, {whole.calls[later - 1]}"
     ran, left = meter.run(case.state, case.each, **lacking, **{how: later})
     meter.expect_totals(case, ran, case.base, 0, text)
-    if how == "THEN":
+    if how == "FAIL":
         meter.expect_end(case, ran, text)
     else:
         meter.expect(ran.status == -9, case.state, text, ran[:3])
     found = case.base + len(ran.totals)
-    meter.bound, meter.own = int(how != "THEN"), int(not meter.strict)
+    meter.bound, meter.own = int(how != "FAIL"), int(not meter.strict)
     meter.both(case, left, (found, found), (found, found), text)
     meter.bound = meter.own = 0
 
@@ -314,8 +319,9 @@ def prepared(meter):
     full = meter.run(third, 3, KILL=last + 1)[1]
     torn = meter.run(full, 1, KILL=numbers_of("write m.era.1", meter.run(full, 1)[0].calls)[2])[1]
     begun = meter.run(third, 5)[1]
+    pair = meter.run(NOTHING, 7, clerks=2)[1]
     return {"first era": (first, 5), "second era": (second, 5), "third era": (third, 5), "full log": (full, 2), "torn area": (torn, 2),
-            "era begun": (begun, 2)}
+            "era begun": (begun, 2), "two clerks": (pair, 5), "logs of two": (meter.run(pair, ROOM - 3)[1], 5)}
 
 
 def main():

@@ -1,8 +1,8 @@
 #!/usr/bin/env python3
 """Runs the tickets with fewer threads than buyers, as the system's limit has it, and looks at what they say and leave.
 Usage: bench/threads.py [--program PATH] [--buyers N]
-Build the program first, by `./prove`; it wants to be called by the system's first user, since each run is by a user of its own, whose
-threads are limited.
+Build the program first, by `rt run` in crates/onll_tickets; it wants to be called by the system's first user, since each run is by a user
+of its own, whose threads are limited.
 
 For each number of buyers up to N and each limit up to N + 1: where there are fewer threads than buyers the program ends with 1, says which
 thread can't be had, and makes no file or leaves those of an earlier sale as they are; else all buyers draw and the logs are kept."""
@@ -50,7 +50,7 @@ def main():
     for buyers in range(1, asked.buyers + 1):
         with tempfile.TemporaryDirectory() as folder:
             os.chmod(folder, 0o777)
-            # Over no files, then over those of a sale, then over no files once more where that was refused.
+            # Too few threads come first over no files, and last over those of the sales between.
             for most in [*range(1, asked.buyers + 2), *range(1, buyers)]:
                 runs, refused = runs + 1, refused + (most < buyers)
                 if not is_right(program, folder, buyers, most):

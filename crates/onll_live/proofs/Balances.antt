@@ -14,7 +14,7 @@ use Rattle.onll_balance.specs.Measure.{IsBalanced, Measure, back_by, out_by}
 use Rattle.onll_serve.specs.Lives.{generation_of}
 use Rattle.onll_live.specs.declared.era.Era.{Era}
 use Rattle.onll_live.specs.Living.{EraService}
-use Rattle.onll_live.specs.Lifetime.{BeganAfter, BeginAnew, Give, IsFrontOf, WasServed, in_order}
+use Rattle.onll_live.specs.Lifetime.{BeganAfter, BeginAnew, Give, IsServiceFront, WasServed, in_order}
 use Rattle.onll_live.specs.Balances.{ErasBalanceLaw, ErasFloorLaw, WereAllServed, state_at_first, tally_over}
 
 module _ {State Op Query Reply Device Work Answer : Type 0} (b : Behaviour State Op Query Reply) (means : Device → DeviceView)
@@ -34,7 +34,7 @@ module _ {State Op Query Reply Device Work Answer : Type 0} (b : Behaviour State
     state_then first =
         ap (λ (x : State). state_after b x h.onll.trace.plan.base) first ∙ ap (λ (ns : List Node). state_after b s.era.state ns) h.base
 
-    balanced : (m : Measure b) → FrontBalanceLaw b m → (nodes : List Node) → IsFrontOf b means promise code description name s h nodes
+    balanced : (m : Measure b) → FrontBalanceLaw b m → (nodes : List Node) → IsServiceFront b means promise code description name s h nodes
         → IsBalanced m (state_after b s.era.state h.found.nodes) (map script_of h.worked.ended.runs) (map ends_of h.worked.ended.runs)
         (state_after b s.era.state nodes)
     balanced m law nodes f =
@@ -47,7 +47,7 @@ module _ {State Op Query Reply Device Work Answer : Type 0} (b : Behaviour State
         f.front.answered in
         omega (arith, low, before, after)
 
-    lost_none : (f : Floor b) → FrontFloorLaw b f → (nodes : List Node) → IsFrontOf b means promise code description name s h nodes
+    lost_none : (f : Floor b) → FrontFloorLaw b f → (nodes : List Node) → IsServiceFront b means promise code description name s h nodes
         → LosesNone f (state_after b s.era.state h.found.nodes) (map script_of h.worked.ended.runs) (map ends_of h.worked.ended.runs)
         (state_after b s.era.state nodes)
     lost_none f law nodes is =

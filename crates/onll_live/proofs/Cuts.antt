@@ -4,6 +4,7 @@ use Rattle.std.proofs.Common.{refl, sym, ap, ◌∙◌, ◌⊎◌, inl, inr}
 use Rattle.std.specs.Prelude.{Option, Some, None, Result, Ok, replicate}
 use Rattle.std.specs.Option.{option_or, option_map}
 use Rattle.onll_model.specs.declared.node.Node.{Node}
+use Rattle.onll_model.specs.Limits.{most_threads}
 use Rattle.onll_model.specs.Object.{Behaviour}
 use Rattle.onll_pmem.specs.Device.{zero_lines}
 use Rattle.onll_log.specs.declared.head.LogHead.{LogHead}
@@ -16,15 +17,15 @@ use Rattle.onll_merge.specs.Recovered.{with_logs, with_operations}
 use Rattle.onll_outside.specs.Views.{StoreView}
 use Rattle.onll_open.specs.declared.fault.FilesFault.{FilesFault}
 use Rattle.onll_open.specs.declared.fault.FilesFault.TheVariants.{Gone, OldFormat, Threads}
-use Rattle.onll_open.specs.Files.{FilesHold, is_made}
+use Rattle.onll_open.specs.Files.{FilesHold}
 use Rattle.onll_open.specs.Heads.{heads_from, heads_of}
 use Rattle.onll_open.specs.Misfits.{first_gone, first_headless, first_old, found_in, have_entries, misfit, other_threads, with_misfit}
 use Rattle.onll_open.specs.Opening.{FilesGive}
 use Rattle.onll_open.proofs.GivenLogs.{give_same}
 use Rattle.onll_serve.proofs.Holding.{one_each}
 use Rattle.onll_live.specs.declared.era.Era.{Era}
-use Rattle.onll_live.specs.Beginning.{AreCleared, IsNextEra, LogsStay, StaysOrBegins, next_of}
-use Rattle.onll_live.specs.Cuts.{CutLaw, IsCut, StandsLaw}
+use Rattle.onll_live.specs.Beginning.{AreCleared, LogsAreEmpty, IsNextEra, LogsStay, StaysOrBegins, next_of}
+use Rattle.onll_live.specs.Cuts.{EraCutLaw, IsEraCut, EraStandsLaw}
 use Rattle.onll_live.specs.Eras.{HoldObject, IsInEra, era_heads, era_logs}
 use Rattle.onll_live.proofs.Begins.{stays_or_begins}
 
@@ -93,11 +94,11 @@ module _ {State Op Query Reply : Type 0} (b : Behaviour State Op Query Reply) wh
       ∙ (ap (λ (c : Result (List Content) ImagesFault). with_misfit None (with_operations b (merged heads c))) (contents_blank 0 n)
       ∙ ap (λ (m : Result (List Node) RecoverFault). with_misfit None (with_operations b (with_logs logs m))) (merge_blank heads n))
 
-  hold_blank : (store : StoreView) (logs : List ℕ) (threads t n : ℕ) → AreCleared store logs threads → t + n ≤ threads
+  hold_blank : (store : StoreView) (logs : List ℕ) (threads t n : ℕ) → LogsAreEmpty store logs threads → t + n ≤ threads
       → FilesHold logs t (replicate n (zero_lines 1)) store
   hold_blank store logs threads t zero empty low = tt
   hold_blank store logs threads t (suc n) empty low =
-      (inr (λ on. ap is_made (empty t (omega (arith, low)) on), refl), hold_blank store logs threads (suc t) n empty (omega (arith, low)))
+      (inr (empty t (omega (arith, low)), refl), hold_blank store logs threads (suc t) n empty (omega (arith, low)))
 
   blanks_many : (count object : ℕ) (init : List ℕ) (t n : ℕ)
       → length (replicate n (zero_lines 1)) ≡ length (heads_from count object init t n)
@@ -105,12 +106,12 @@ module _ {State Op Query Reply : Type 0} (b : Behaviour State Op Query Reply) wh
   blanks_many count object init t (suc n) = ap suc (blanks_many count object init (suc t) n)
 
   -- logs that were emptied give no update
-  give_none : (store : StoreView) (logs : List ℕ) (code : ℕ) (init : List ℕ) (threads : ℕ) → AreCleared store logs threads
+  give_none : (store : StoreView) (logs : List ℕ) (code : ℕ) (init : List ℕ) (threads : ℕ) → AreCleared store logs → threads ≤ most_threads
       → FilesGive b store logs (heads_of code init threads) (Ok (recovered_with (replicate threads blank) []))
-  give_none store logs code init threads empty = record {
+  give_none store logs code init threads empty few = record {
     images = replicate threads (zero_lines 1);
     many = blanks_many threads code init 0 threads;
-    hold = hold_blank store logs threads 0 threads empty (omega arith);
+    hold = hold_blank store logs most_threads 0 threads empty (omega (arith, few));
     gives = found_blank (heads_of code init threads) threads;
   }
 
@@ -129,6 +130,7 @@ module _ {State Op Query Reply : Type 0} (b : Behaviour State Op Query Reply) wh
     in_same : IsInEra read_of first new name h.era → LogsStay (era_logs name h.era.number) old new
         → HoldObject b code description read_of first name threads new place state
     in_same i stay = record {
+      few = h.few;
       era = h.era;
       in_era = i;
       found = h.found;
@@ -140,28 +142,29 @@ module _ {State Op Query Reply : Type 0} (b : Behaviour State Op Query Reply) wh
 
     -- or in the next one
     in_next : (next : Era State) → next ≡ next_of b h.era h.found.nodes → IsInEra read_of first new name next
-        → AreCleared new (era_logs name next.number) threads → HoldObject b code description read_of first name threads new place state
+        → AreCleared new (era_logs name next.number) → HoldObject b code description read_of first name threads new place state
     in_next next is i empty = record {
+      few = h.few;
       era = next;
       in_era = i;
       found = recovered_with (replicate threads blank) [];
-      given = give_none new (era_logs name next.number) code (description next.state) threads empty;
+      given = give_none new (era_logs name next.number) code (description next.state) threads empty h.few;
       place_is = let here = ap (λ (e : Era State). e.place) is in let before = h.place_is in omega (arith, here, before);
       state_is = h.state_is ∙ sym (ap (λ (e : Era State). e.state) is);
     }
 
     in_either : (next : Era State) → next ≡ next_of b h.era h.found.nodes
         → (IsInEra read_of first new name h.era × LogsStay (era_logs name h.era.number) old new)
-        ⊎ (IsInEra read_of first new name next × AreCleared new (era_logs name next.number) threads)
+        ⊎ (IsInEra read_of first new name next × AreCleared new (era_logs name next.number))
         → HoldObject b code description read_of first name threads new place state
     in_either next is (inl stays) = in_same stays.0 stays.1
     in_either next is (inr begun) = in_next next is begun.0 begun.1
 
-    cut_stands : IsCut read_of name threads old new h.era (next_of b h.era h.found.nodes)
+    cut_stands : IsEraCut read_of name old new h.era (next_of b h.era h.found.nodes)
         → HoldObject b code description read_of first name threads new place state
     cut_stands c =
         let next = next_of b h.era h.found.nodes in
-        in_either next refl (stays_or_begins read_of first name threads old c.locked new h.era next refl c.lock c.others h.in_era c.area)
+        in_either next refl (stays_or_begins read_of first name old c.locked new h.era next refl c.lock c.others h.in_era c.area)
 
     next_stands : (next : Era State) → IsNextEra b code description read_of first name threads old new h.era next
         → HoldObject b code description read_of first name threads new place state
@@ -177,8 +180,8 @@ module _ {State Op Query Reply : Type 0} (b : Behaviour State Op Query Reply) wh
     answer_stands (inr (inl stays)) = in_same stays.0 stays.1
     answer_stands (inr (inr n)) = next_stands n.0 n.1
 
-  pub cut_law : CutLaw b
-  cut_law = cut_stands
+  pub era_cut_law : EraCutLaw b
+  era_cut_law = cut_stands
 
-  pub stands_law : StandsLaw b
+  pub stands_law : EraStandsLaw b
   stands_law = answer_stands

@@ -12,25 +12,25 @@ use Rattle.onll_log.specs.Survey.{top_in_log}
 use Rattle.onll_merge.specs.declared.fault.RecoverFault.{RecoverFault}
 use Rattle.onll_merge.specs.Merge.{nodes_to, refusal, top_of, unless}
 use Rattle.onll_merge.specs.Recovered.{Recovered}
-use Rattle.onll_outside.specs.Views.{Holds, StoreView}
-use Rattle.onll_open.specs.Files.{FilesHold, HoldsLogImage, is_made}
+use Rattle.onll_outside.specs.Views.{StoreView}
+use Rattle.onll_open.specs.Files.{FilesHold, HoldsLogImage, IsMade, is_made}
 use Rattle.onll_open.specs.Heads.{heads_from, heads_of}
 use Rattle.onll_open.specs.Names.{log_name}
 use Rattle.onll_open.specs.Opening.{FilesGive}
 use Rattle.onll_open.proofs.GivenLogs.{contents_are, found_parts}
-use Rattle.onll_live.specs.Beginning.{AreCleared}
+use Rattle.onll_live.specs.Beginning.{LogsAreEmpty}
 
 -- what is held of the file of a log that was emptied
-empty_image : (store : StoreView) (file : List ℕ) (image : List (List ℕ)) → store.tells ≡ true → Holds store file []
+empty_image : (store : StoreView) (file : List ℕ) (image : List (List ℕ)) → store.tells ≡ true → IsMade store file false
     → HoldsLogImage store file image → image ≡ zero_lines 1
 empty_image store file image on empty (inl h) =
     let made : is_made (store.file file) ≡ true = h.made on in
-    let none : is_made (store.file file) ≡ false = ap is_made (empty on) in
+    let none : is_made (store.file file) ≡ false = empty on in
     absurd (cc)
 empty_image store file image on empty (inr h) = h.1
 
 empty_images : (store : StoreView) (logs : List ℕ) (threads t : ℕ) (images : List (List (List ℕ))) → store.tells ≡ true
-    → AreCleared store logs threads → t + length images ≤ threads → FilesHold logs t images store
+    → LogsAreEmpty store logs threads → t + length images ≤ threads → FilesHold logs t images store
     → AllByRecursion (λ (image : List (List ℕ)). image ≡ zero_lines 1) images
 empty_images store logs threads t [] on empty low h = tt
 empty_images store logs threads t (image ∷ images) on empty low h = (
@@ -69,7 +69,7 @@ heads_many count object init t (suc n) = ap suc (heads_many count object init (s
 
 -- the logs of so many threads give none, where so many were emptied
 pub emptied : {State Op Query Reply : Type 0} (b : Behaviour State Op Query Reply) (store : StoreView) (logs : List ℕ)
-    (code : ℕ) (init : List ℕ) (threads : ℕ) (found : Recovered) → store.tells ≡ true → AreCleared store logs threads
+    (code : ℕ) (init : List ℕ) (threads : ℕ) (found : Recovered) → store.tells ≡ true → LogsAreEmpty store logs threads
     → FilesGive b store logs (heads_of code init threads) (Ok found) → found.nodes ≡ []
 emptied b store logs code init threads found on empty gives =
     let heads = heads_of code init threads in

@@ -1,10 +1,11 @@
 -- Services in one era after the other add up to the newest era.
-use Rattle.std.proofs.Common.{ℕ, suc, List, [], ◌∷◌, ◌++◌, ◌≡◌, ◌+◌, true, length, inl, inr, refl, sym, ap, subst, ◌∙◌, arith}
+use Rattle.std.proofs.Common.{ℕ, suc, List, [], ◌∷◌, ◌++◌, ◌≡◌, ◌+◌, ◌≤◌, true, length, inl, inr, refl, sym, ap, subst, ◌∙◌, arith}
 use Rattle.std.specs.Prelude.{Option, is_some}
 use Rattle.std.proofs.lemmas.List.{append-nil, append_assoc, length-append}
 use Rattle.onll_model.specs.declared.node.Node.{Node}
 use Rattle.onll_model.specs.declared.call.Call.{Call}
 use Rattle.onll_model.specs.declared.call.CallEnd.{CallEnd}
+use Rattle.onll_model.specs.Limits.{most_threads}
 use Rattle.onll_model.specs.Object.{Behaviour}
 use Rattle.onll_model.specs.Trace.{state_after}
 use Rattle.onll_model.proofs.Lists.{all_map}
@@ -17,10 +18,10 @@ use Rattle.onll_serve.specs.Linking.{NextLaw}
 use Rattle.onll_serve.proofs.Linking.{next_law}
 use Rattle.onll_live.specs.declared.era.Era.{Era}
 use Rattle.onll_live.specs.declared.living.Lived.{Lived}
-use Rattle.onll_live.specs.Beginning.{AreCleared, EntersEra, next_of}
+use Rattle.onll_live.specs.Beginning.{LogsAreEmpty, EntersEra, next_of}
 use Rattle.onll_live.specs.Eras.{era_heads, era_logs}
 use Rattle.onll_live.specs.Living.{AreEraServices, BeganWith, EraService, GoesOnFrom, IsEraService}
-use Rattle.onll_live.specs.Lifetime.{AddsUp, BeginsAnew, ErasLaw, Gave, IsCounted, LifeAddsUp, in_order}
+use Rattle.onll_live.specs.Lifetime.{AddsUp, BeginsAnew, ErasLaw, Gave, IsServiceCounted, LifeAddsUp, in_order}
 use Rattle.onll_live.proofs.Emptied.{emptied}
 
 -- ---- the next era
@@ -57,8 +58,8 @@ module _ {State Op Query Reply Device Work Answer : Type 0} (b : Behaviour State
   module _ (code : ℕ) (description : State → List ℕ) (name : List ℕ) where
     -- what is counted in nodes is counted in more
     counted_in_more : (from : Era State) (made more : List Node) (s : EraService State Device Work Answer Op Query Reply)
-        → IsCounted b means promise code description name from made s
-        → IsCounted b means promise code description name from (made ++ more) s
+        → IsServiceCounted b means promise code description name from made s
+        → IsServiceCounted b means promise code description name from (made ++ more) s
     counted_in_more from made more s c = record {
       earlier = c.earlier;
       given = c.given;
@@ -95,7 +96,8 @@ module _ {State Op Query Reply Device Work Answer : Type 0} (b : Behaviour State
           let e = is.served.worked.ended in
           let many : length s.works ≡ length t.works =
           as_many s.works s.served.works.items e.runs s.served.answers.items e.promised ∙ ap length (sym g.works) in
-          let empty = subst (λ (n : ℕ). AreCleared t.before (era_logs name t.era.number) n) many g.begun.empty in
+          let few : length t.works ≤ most_threads = subst (λ (n : ℕ). n ≤ most_threads) many g.begun.few in
+          let empty : LogsAreEmpty t.before (era_logs name t.era.number) (length t.works) = λ thread low. g.begun.empty thread (omega (arith, low, few)) in
           emptied b t.before (era_logs name t.era.number) code (description t.era.state) (length t.works) found on empty gives
 
       module _ (next : NextLaw b means (λ (v : StoreView). v) promise) where
@@ -158,8 +160,8 @@ module _ {State Op Query Reply Device Work Answer : Type 0} (b : Behaviour State
                   state_is = a.begins.state_is;
                   gave = here;
                 },
-                all_map (IsCounted b means promise code description name from made)
-                    (IsCounted b means promise code description name from (made ++ nodes)) earlier (counted_in_more from made nodes) a.counted,
+                all_map (IsServiceCounted b means promise code description name from made)
+                    (IsServiceCounted b means promise code description name from (made ++ nodes)) earlier (counted_in_more from made nodes) a.counted,
               );
             }
 
@@ -177,7 +179,7 @@ module _ {State Op Query Reply Device Work Answer Files : Type 0} (b : Behaviour
     entered_tells : (threads : ℕ) (old new : StoreView) (era next : Era State)
         → EntersEra b code description read_of first name threads old new era next → new.tells ≡ old.tells
     entered_tells threads old new era next (mid, same, inl is) = ap (λ (v : StoreView). v.tells) is.0 ∙ same.tells
-    entered_tells threads old new era next (mid, same, inr begun) = begun.tells ∙ same.tells
+    entered_tells threads old new era next (mid, same, inr (were, ends, begun)) = begun.tells ∙ same.tells
 
     pub life_adds_up : ErasLaw b means seen promise → (files : Files) (new : StoreView) (works : List Work)
         (lived : Lived State Device Work Answer Op Query Reply)

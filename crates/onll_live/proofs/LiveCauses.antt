@@ -1,17 +1,22 @@
 -- Why an object didn't go on, by what the calls below refused.
-use Rattle.std.proofs.Common.{ℕ, Bool, false, true≢false, List, ◌≡◌, not, sym, ap, ◌∙◌, subst, refl, inl, inr}
-use Rattle.std.specs.Prelude.{Option, Some, None, Result, Ok, Err, IfErr, is_some}
+use Rattle.std.proofs.Common.{ℕ, false, List, ◌≡◌, ◌<◌, ◌≤◌, ◌⊎◌, sym, ap, ◌∙◌, subst, inl, inr, arith}
+use Rattle.std.specs.Prelude.{Option, Some, None, Result, Ok, Err, IfErr}
 use Rattle.std.specs.Option.{option_map}
+use Rattle.std.proofs.lemmas.Bool.{cases_lt}
+use Rattle.std.proofs.lemmas.Bool.Decides.{nat_tests}
+use Rattle.onll_model.specs.Limits.{most_threads}
 use Rattle.onll_model.specs.Object.{Behaviour}
 use Rattle.onll_merge.specs.Recovered.{Recovered}
 use Rattle.onll_outside.specs.declared.store.FaultKind.{FaultKind}
 use Rattle.onll_outside.specs.declared.store.FaultKind.TheVariants as kinds
 use Rattle.onll_outside.specs.Directory.{Unlocks, is_locked}
-use Rattle.onll_outside.specs.Views.{StoreView, Rose, SameFaults, SameOthers}
+use Rattle.onll_outside.specs.Views.{StoreView, Rose, SameDevices, SameFaults, SameOthers}
 use Rattle.onll_open.specs.declared.fault.OpenFault.TheVariants.{Full}
-use Rattle.onll_open.specs.Files.{SameStore}
+use Rattle.onll_open.specs.declared.fault.FilesFault.{FilesFault}
+use Rattle.onll_open.specs.declared.fault.FilesFault.TheVariants as files
+use Rattle.onll_open.specs.Files.{SameCounts, SameStore}
 use Rattle.onll_open.specs.Locking.{AreFree}
-use Rattle.onll_open.specs.Opening.{FilesGive}
+use Rattle.onll_open.specs.Opening.{FilesGive, FilesRefuse, ReadFaults}
 use Rattle.onll_open.specs.Rooms.{first_empty, rooms_left}
 use Rattle.onll_open.proofs.Handing.{counts_more, faults_more, files_more}
 use Rattle.onll_open.proofs.Locked.{locked_no_more}
@@ -22,9 +27,10 @@ use Rattle.onll_live.specs.declared.fault.LiveFault.{LiveFault}
 use Rattle.onll_live.specs.declared.fault.LiveFault.TheVariants as faults
 use Rattle.onll_live.specs.declared.fault.NextFault.{NextFault}
 use Rattle.onll_live.specs.declared.fault.NotLived.{NotLived}
+use Rattle.onll_live.specs.Beginning.{EndsBy, HasRoomLeft, HasFullLog, ToldBy, threads_told}
 use Rattle.onll_live.specs.Eras.{era_base, era_heads, era_lock, era_logs}
 use Rattle.onll_live.specs.Faults.{AreaCallFailed, EraFaults}
-use Rattle.onll_live.specs.LiveCauses.{HeldCause, IsFull, IsServing, LiveCause, LiveLocks, LockObjectFaults, LocksObject, MissesNext, RefusalLocks, StopsServing}
+use Rattle.onll_live.specs.LiveCauses.{HeldCause, IsServeFault, LiveCause, LiveLocks, LockObjectFaults, LocksObject, MissesNext, RefusalLocks, StopsServing}
 use Rattle.onll_live.proofs.FaultSteps.{era_fault_since}
 use Rattle.onll_live.proofs.Locks.{era_unlocked, lock_first}
 
@@ -44,18 +50,44 @@ era_fault_until name old mid new eras.NoMemory h last = faults_more old mid new 
 store_more : (old mid new : StoreView) → SameStore old mid → SameStore mid new → SameStore old new
 store_more old mid new first then_ = record { files = files_more old mid new first.files then_.files; counts = counts_more old mid new first.counts then_.counts }
 
--- ---- a log that is full
-full_at : (o : Option ℕ) (none : Bool) → is_some o ≡ not none → none ≡ false → (thread : ℕ) × (option_map Full o ≡ Some (Full thread))
-full_at None none e some = absurd (true≢false (sym (e ∙ ap not some)))
-full_at (Some thread) none e some = (thread, refl)
-
+-- ---- an era that is to end
 module _ {State Op Query Reply : Type 0} (b : Behaviour State Op Query Reply) (code : ℕ) (description : State → List ℕ) (name : List ℕ) (threads : ℕ) where
-  pub full_so : (store : StoreView) (era : Era State) (found : Recovered) → FilesGive b store (era_logs name era.number) (era_heads code description threads era.state) (Ok found)
-      → (first : Option ℕ) (none : Bool) → first ≡ first_empty 0 (rooms_left threads found.nodes 0 found.logs) → is_some first ≡ not none → none ≡ false
-      → IsFull b code description name threads store era
-  full_so store era found given first none is e some =
-      let at = full_at first none e some in
-      record { found = found; given = given; thread = at.0; full = subst (λ (o : Option ℕ). option_map Full o ≡ Some (Full at.0)) is at.1 }
+  module _ (store : StoreView) (era : Era State) (found : Recovered)
+      (given : FilesGive b store (era_logs name era.number) (era_heads code description threads era.state) (Ok found)) where
+    pub full_so : (thread : ℕ) → Some thread ≡ first_empty 0 (rooms_left threads found.nodes 0 found.logs) → HasFullLog b code description name threads store era
+    full_so thread is = record { found = found; given = given; thread = thread; full = ap (option_map Full) (sym is) }
+
+    pub room_so : None ≡ first_empty 0 (rooms_left threads found.nodes 0 found.logs) → HasRoomLeft b code description name threads store era
+    room_so is = record { found = found; given = given; room = ap (option_map Full) (sym is) }
+
+  module _ (old new : StoreView) (era : Era State) where
+    -- logs of another number of threads
+    others_end : (were : ℕ) (told : Option ℕ) → FilesRefuse b old (era_logs name era.number) (era_heads code description threads era.state) (files.Threads were)
+        → SameCounts old new → told ≡ threads_told were → EndsBy b code description name threads old new era told
+    others_end were told refused counts is = subst (EndsBy b code description name threads old new era) (sym is) (at (cases_lt most_threads were))
+      where
+        at : (most_threads < were) ⊎ (were ≤ most_threads) → EndsBy b code description name threads old new era (threads_told were)
+        at (inl more) =
+            let none : threads_told were ≡ None = grind (arith, nat_tests) in
+            subst (EndsBy b code description name threads old new era) (sym none) (inr (inl (files.Threads were, more, refused)))
+        at (inr few) =
+            let some : threads_told were ≡ Some were = grind (arith, nat_tests) in
+            subst (EndsBy b code description name threads old new era) (sym some) (inr refused, few, counts)
+
+    -- whether an era is to end whose logs are refused
+    pub refused_so : (fault : FilesFault) (told : Option ℕ) → FilesRefuse b old (era_logs name era.number) (era_heads code description threads era.state) fault
+        → ReadFaults {T = Unit {0}} (era_logs name era.number) threads old new (Err fault) → SameDevices old new → ToldBy fault told
+        → EndsBy b code description name threads old new era told
+    refused_so files.InUse told h f d is = absurd f
+    refused_so files.NotLocked told h f d is = absurd f
+    refused_so (files.NotLog log) told h f d is = subst (EndsBy b code description name threads old new era) (sym is) (inr (inl (files.NotLog log, tt, h)))
+    refused_so (files.OldFormat log) told h f d is = subst (EndsBy b code description name threads old new era) (sym is) (inr (inl (files.OldFormat log, tt, h)))
+    refused_so (files.Threads were) told h f d is = others_end were told h (f, d) is
+    refused_so (files.Gone log) told h f d is = subst (EndsBy b code description name threads old new era) (sym is) (inr (inl (files.Gone log, tt, h)))
+    refused_so (files.NotOneRun fault) told h f d is = subst (EndsBy b code description name threads old new era) (sym is) (inr (inl (files.NotOneRun fault, tt, h)))
+    refused_so (files.NotOperation place) told h f d is = subst (EndsBy b code description name threads old new era) (sym is) (inr (inl (files.NotOperation place, tt, h)))
+    refused_so (files.NotRead thread) told h f d is = subst (EndsBy b code description name threads old new era) (sym is) (inr (inr (inl (thread, f))))
+    refused_so files.NoMemory told h f d is = absurd is
 
   module _ (read_of : List ℕ → Option State) (first : State) where
     -- why works were handed back after eras
@@ -133,7 +165,7 @@ module _ {State Op Query Reply : Type 0} (b : Behaviour State Op Query Reply) (c
         held_locks old mid end new locked after e.fault e.eras cause free (unlocked end new at after lock is tells h)
 
 -- works that are handed back in some era
-pub serving_stops : (fault : LiveFault) (n : ℕ) → IsServing fault → StopsServing fault n
+pub serving_stops : (fault : LiveFault) (n : ℕ) → IsServeFault fault → StopsServing fault n
 serving_stops faults.InUse n h = absurd h
 serving_stops faults.NotLocked n h = absurd h
 serving_stops (faults.NotFound fault) n h = absurd h

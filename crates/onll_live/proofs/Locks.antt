@@ -17,7 +17,7 @@ use Rattle.onll_live.specs.declared.fault.LiveFault.{LiveFault}
 use Rattle.onll_live.specs.declared.fault.LiveFault.TheVariants as faults
 use Rattle.onll_live.specs.declared.fault.NotLived.{NotLived}
 use Rattle.onll_live.specs.declared.living.Lived.{Lived}
-use Rattle.onll_live.specs.Beginning.{EntersEra, IsNextEra, SameAreaFile}
+use Rattle.onll_live.specs.Beginning.{EntersEra, IsNextEra, IsToEnd, IsToGoOn, SameAreaFile}
 use Rattle.onll_live.specs.Eras.{AreasGive, IsInEra, area_name, era_lock, number_of}
 use Rattle.onll_live.specs.Faults.{CannotFind}
 use Rattle.onll_live.specs.Living.{CannotServeEra, CannotLiveBy, HasLived, IsLockFault, StopsInEra, StopsLater}
@@ -97,11 +97,13 @@ pub entered_in : {State Op Query Reply : Type 0} (b : Behaviour State Op Query R
     → IsInEra read_of first new name next
 entered_in {State} b code description read_of first name threads old new era next h i = at h.2
   where
-    at : ((new ≡ h.0) × (next ≡ era)) ⊎ IsNextEra b code description read_of first name threads h.0 new era next → IsInEra read_of first new name next
+    at : ((new ≡ h.0) × (next ≡ era) × IsToGoOn b code description name threads old h.0 era)
+        ⊎ ((were : ℕ) × IsToEnd b code description name threads old era were × IsNextEra b code description read_of first name were h.0 new era next)
+        → IsInEra read_of first new name next
     at (inl s) =
         subst (λ (store : StoreView). IsInEra read_of first store name next) (sym s.0)
         (subst (λ (e : Era State). IsInEra read_of first h.0 name e) (sym s.1) (era_of_files read_of first name old h.0 era h.1 i))
-    at (inr n) = n.in_next
+    at (inr n) = n.2.in_next
 
 -- ---- the whole
 module _ {State Op Query Reply Device Work Answer : Type 0} (b : Behaviour State Op Query Reply) (means : Device → DeviceView)
@@ -164,7 +166,9 @@ module _ {State Op Query Reply Device Work Answer : Type 0} (b : Behaviour State
   cannot_live faults.NotLocked e h = (alone h.0, h.1, h.2)
   cannot_live (faults.NotFound fault) e h = ((alone h.0.0, h.0.1, h.0.2), find_unlocked read_of first name old mid fault locked h.1)
   cannot_live (faults.NotSettled fault) e h =
-      (then_same (era_lock name ∷ area_name name 0 ∷ area_name name 1 ∷ []) old end new (lock_first name old mid end locked h.0) given, h.1, h.2)
+      let others = then_same (era_lock name ∷ area_name name 0 ∷ area_name name 1 ∷ []) old end new (lock_first name old mid end locked h.0.0) given in
+      let era = h.1.0 in
+      ((others, h.0.1, h.0.2), (era, era_unlocked read_of first name old mid era locked h.1.1, era_of_files read_of first name end new era given h.1.2))
   cannot_live (faults.NotServed fault) e h = stops_later e h
   cannot_live (faults.NotBegun fault) e (inl h) = inl (stops_in_era e h)
   cannot_live (faults.NotBegun fault) e (inr h) = inr (stops_later e h)

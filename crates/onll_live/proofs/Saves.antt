@@ -1,5 +1,5 @@
 -- What is left of an area in which an era was to be saved.
-use Rattle.std.proofs.Common.{ℕ, ◌≡◌, List, true, false, refl, sym, ap, ◌∙◌, subst, ◌⊎◌, inl, inr, length}
+use Rattle.std.proofs.Common.{ℕ, ◌≡◌, ◌%◌, List, true, false, refl, sym, ap, ◌∙◌, subst, ◌⊎◌, inl, inr, length}
 use Rattle.std.specs.Prelude.{Option, Some, None, Err}
 use Rattle.std.proofs.lemmas.Bool.{cases_Bool}
 use Rattle.onll_outside.specs.Views.{StoreView, AreZeros, image_bytes}
@@ -14,7 +14,7 @@ use Rattle.onll_areas.specs.Keeping.{KeepEnds, MayKeepLines, StaysOrZeros}
 use Rattle.onll_areas.specs.Laws.{BlankAreaLaw, WholeAreaLaw}
 use Rattle.onll_areas.specs.Newest.{AreaHolds}
 use Rattle.onll_live.specs.declared.era.Era.{Era}
-use Rattle.onll_live.specs.Beginning.{AreaSaves, SameAreaFile, SaveFaults}
+use Rattle.onll_live.specs.Beginning.{AreaSaves, EraStands, NoneSaved, SameAreaFile, SaveFaults}
 use Rattle.onll_live.specs.Eras.{area_name, era_logs}
 use Rattle.onll_live.specs.Refusals.{of_keep}
 
@@ -37,16 +37,23 @@ module _ {State : Type 0} (read_of : List ℕ → Option State) (name : List ℕ
   abbrev pub IsLeft : List ℕ → Type 0
   IsLeft file = SameAreaFile store after file ⊎ AreaHolds after file None ⊎ AreaSaves read_of after name era
 
-  pub stays_or_zeros : (file : List ℕ) → BlankAreaLaw → StaysOrZeros store after file → IsLeft file
-  stays_or_zeros file blank left = at (cases_Bool store.tells)
+  zeros_or_none : (file : List ℕ) → BlankAreaLaw → StaysOrZeros store after file → NoneSaved store after file
+  zeros_or_none file blank left = at (cases_Bool store.tells)
     where
-      by : (after.file file ≡ store.file file) ⊎ ((bytes : List ℕ) × (after.file file ≡ Some bytes) × AreZeros bytes) → IsLeft file
+      by : (after.file file ≡ store.file file) ⊎ ((bytes : List ℕ) × (after.file file ≡ Some bytes) × AreZeros bytes) → NoneSaved store after file
       by (inl e) = inl (same, λ t. e)
-      by (inr z) = inr (inl (holds_none after file z.0 blank (λ t. z.1) z.2))
+      by (inr z) = inr (holds_none after file z.0 blank (λ t. z.1) z.2)
 
-      at : (store.tells ≡ true) ⊎ (store.tells ≡ false) → IsLeft file
+      at : (store.tells ≡ true) ⊎ (store.tells ≡ false) → NoneSaved store after file
       at (inl t) = by (left t)
       at (inr f) = inl (same, λ t. absurd (let q : true ≡ false = sym t ∙ f in (cc)))
+
+  none_left : (file : List ℕ) → NoneSaved store after file → IsLeft file
+  none_left file (inl h) = inl h
+  none_left file (inr h) = inr (inl h)
+
+  stays_or_zeros : (file : List ℕ) → BlankAreaLaw → StaysOrZeros store after file → IsLeft file
+  stays_or_zeros file blank left = none_left file (zeros_or_none file blank left)
 
   module _ (this : CheckpointState) (text : List ℕ) (reads : read_of text ≡ Some era.state)
       (this_is : this ≡ record { number = era.number; place = era.place; text = text }) (fits : FitsCheckpoint this) where
@@ -76,6 +83,14 @@ module _ {State : Type 0} (read_of : List ℕ → Option State) (name : List ℕ
         at : (store.tells ≡ true) ⊎ (store.tells ≡ false) → IsLeft file
         at (inl t) = by t (left.file t)
         at (inr f) = inl (same, λ t. absurd (let q : true ≡ false = sym t ∙ f in (cc)))
+
+    -- where a fence failed
+    pub none_by : (fault : KeepFault) → BlankAreaLaw
+        → KeepEnds store after (era_logs name era.number) (checkpoint_image this (lines_for (length this.text))) 2 (Err fault)
+        → EraStands (of_keep (era.number % 2) fault) → NoneSaved store after (era_logs name era.number)
+    none_by (Outside Failed) blank d h = absurd h
+    none_by (Outside NoMemory) blank d h = absurd h
+    none_by FenceFailed blank d h = zeros_or_none (era_logs name era.number) blank d.file
 
     -- whatever was answered where it wasn't kept
     pub left_by : (fault : KeepFault) → BlankAreaLaw → WholeAreaLaw

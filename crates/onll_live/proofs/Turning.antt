@@ -11,7 +11,7 @@ use Rattle.onll_live.specs.declared.era.Era.{Era}
 use Rattle.onll_live.specs.declared.living.Lived.{Lived}
 use Rattle.onll_live.specs.declared.fault.LiveFault.{LiveFault}
 use Rattle.onll_live.specs.Beginning.{IsNextEra}
-use Rattle.onll_live.specs.Living.{AreEraServices, BeganWith, CannotServeEra, ComesTo, EndsEra, EraService, HaveComeTo, IsEraService, WereServed, goes_on}
+use Rattle.onll_live.specs.Living.{AreEraServices, BeganWith, CannotServeEra, ComesTo, EndsEra, EraService, HaveComeTo, IsEraService, WereServed, wants_next}
 
 module _ {State Op Query Reply Device Work Answer : Type 0} (b : Behaviour State Op Query Reply) (means : Device → DeviceView)
     (promise : Work → Work → List (Call State Op Query Reply) → List (CallEnd State Op Query Reply) → Answer → Type 0)
@@ -50,7 +50,7 @@ module _ {State Op Query Reply Device Work Answer : Type 0} (b : Behaviour State
         (is : IsEraService b means promise code description read_of first name service) where
       pub next_come : (new : StoreView) (next : Era State) (more : List Work)
           → IsNextEra b code description read_of first name (length works) after new era next → more ≡ served.works.items
-          → served.kept ≡ Ok tt → goes_on served ≡ true → (eras : ℕ) → length h.services ≡ eras
+          → served.kept ≡ Ok tt → wants_next served ≡ true → (eras : ℕ) → length h.services ≡ eras
           → (n : HaveComeTo b means promise code description read_of first name start new first_era next first_works more)
           × (length n.services ≡ eras + 1)
       next_come new next more begun same kept on eras many =

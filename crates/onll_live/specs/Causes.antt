@@ -1,28 +1,33 @@
 -- Why the next era of an object wasn't begun, which call of the outside failed, and what a refusal leaves of counts, locks and files.
-use Rattle.std.specs.Prelude.{ℕ, List, ◌∷◌, ◌≡◌, ◌+◌, ◌%◌, ◌<◌, ◌≤◌, ◌^◌, ◌⊎◌, length, Result, Ok, Err}
+use Rattle.std.specs.Prelude.{ℕ, List, [], ◌∷◌, ◌≡◌, ◌+◌, ◌%◌, ◌<◌, ◌≤◌, ◌^◌, ◌⊎◌, length, Result, Ok, Err}
+use Rattle.onll_model.specs.Limits.{most_threads}
 use Rattle.onll_model.specs.Object.{Behaviour}
 use Rattle.onll_merge.specs.Recovered.{Recovered}
 use Rattle.onll_outside.specs.Views.{StoreView, SameFaults, counted}
-use Rattle.onll_outside.specs.declared.store.FaultKind.TheVariants as kinds
 use Rattle.onll_open.specs.declared.fault.FilesFault.TheVariants as files
-use Rattle.onll_open.specs.Files.{LogCallFailed}
 use Rattle.onll_open.specs.Locking.{AreFree, GivesBack}
 use Rattle.onll_open.specs.Names.{log_lock_name, log_names}
 use Rattle.onll_open.specs.Opening.{FilesGive, FilesRefuse, RecoverFaults}
 use Rattle.onll_live.specs.declared.era.Era.{Era}
 use Rattle.onll_live.specs.declared.fault.NextFault.{NextFault}
 use Rattle.onll_live.specs.declared.fault.NextFault.TheVariants as faults
-use Rattle.onll_live.specs.Beginning.{AreaNotKept}
+use Rattle.onll_live.specs.Beginning.{AreaNotKept, LogNotCleared}
 use Rattle.onll_live.specs.Eras.{era_heads, era_logs}
 
 -- ---- files
 -- the files that the beginning of an era of this number may change: that of its area, and those of its logs
-abbrev pub era_files : List ℕ → ℕ → ℕ → List (List ℕ)
-era_files name number threads = era_logs name number ∷ log_names (era_logs name number) 0 threads
+abbrev pub files_of_era : List ℕ → ℕ → List (List ℕ)
+files_of_era name number = era_logs name number ∷ log_names (era_logs name number) 0 most_threads
 
 -- those that the beginning of the next era may change: the lock of the logs of this one, and the files of that one
-abbrev pub next_files : List ℕ → ℕ → ℕ → List (List ℕ)
-next_files name number threads = log_lock_name (era_logs name number) ∷ era_files name (number + 1) threads
+abbrev pub next_files : List ℕ → ℕ → List (List ℕ)
+next_files name number = log_lock_name (era_logs name number) ∷ files_of_era name (number + 1)
+
+-- Those that it may have changed, by its answer: where the era's own logs refuse it, or none is left to begin, the lock alone.
+abbrev pub changed_files : {T : Type 0} → List ℕ → ℕ → Result T NextFault → List (List ℕ)
+changed_files name number (Err faults.AtItsEnd) = log_lock_name (era_logs name number) ∷ []
+changed_files name number (Err (faults.Files fault)) = log_lock_name (era_logs name number) ∷ []
+changed_files name number result = next_files name number
 
 -- ---- why
 module _ {State Op Query Reply : Type 0} (b : Behaviour State Op Query Reply) (code : ℕ) (description : State → List ℕ) (name : List ℕ)
@@ -62,7 +67,7 @@ NextFaults name number threads old new (Err (faults.Files fault)) =
     RecoverFaults {T = Unit {0}} (era_logs name number) threads old new (Err fault)
 NextFaults name number threads old new (Err faults.AtItsEnd) = SameFaults old new
 NextFaults name number threads old new (Err (faults.NotCleared thread)) =
-    LogCallFailed kinds.Write (era_logs name (number + 1)) threads thread old new
+    LogNotCleared (era_logs name (number + 1)) thread old new
 NextFaults name number threads old new (Err (faults.NotKept area)) = (area ≡ (number + 1) % 2) × AreaNotKept name area old new
 NextFaults name number threads old new (Err (faults.FenceFailed area)) = (area ≡ (number + 1) % 2) × SameFaults old new
 NextFaults name number threads old new (Err faults.NoMemory) = SameFaults old new

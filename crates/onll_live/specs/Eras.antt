@@ -1,6 +1,7 @@
 -- The eras of an object over files: in each it goes on from a state that was saved, with logs of its own.
-use Rattle.std.specs.Prelude.{ℕ, false, List, ◌++◌, ◌≡◌, ◌+◌, ◌%◌, ◌⊎◌, length, codes, Option, Some, None, Ok}
+use Rattle.std.specs.Prelude.{ℕ, false, List, ◌++◌, ◌≡◌, ◌+◌, ◌%◌, ◌≤◌, ◌⊎◌, length, codes, Option, Some, None, Ok}
 use Rattle.std.specs.Option.{option_map}
+use Rattle.onll_model.specs.Limits.{most_threads}
 use Rattle.onll_model.specs.Object.{Behaviour}
 use Rattle.onll_model.specs.Trace.{state_after}
 use Rattle.onll_log.specs.declared.head.LogHead.{LogHead}
@@ -21,7 +22,7 @@ era_base name = name ++ codes ".era"
 
 -- the name of the file of area 0 or 1
 abbrev pub area_name : List ℕ → ℕ → List ℕ
-area_name name area = log_name (name ++ codes ".era") area
+area_name name area = log_name (era_base name) area
 
 -- the name of the logs of an era of this number
 abbrev pub era_logs : List ℕ → ℕ → List ℕ
@@ -29,7 +30,7 @@ era_logs name number = area_name name (number % 2)
 
 -- the name that is locked while an object is worked on
 abbrev pub era_lock : List ℕ → List ℕ
-era_lock name = log_lock_name (name ++ codes ".era")
+era_lock name = log_lock_name (era_base name)
 
 -- ---- areas
 -- what the file of an area holds; one that is not there, or is empty, holds no checkpoint
@@ -69,6 +70,7 @@ module _ {State Op Query Reply : Type 0} (b : Behaviour State Op Query Reply) (c
     (read_of : List ℕ → Option State) (first : State) (name : List ℕ) (threads : ℕ) where
   -- The files of this name hold the object in this state, after so many updates in all eras.
   pub record HoldObject (store : StoreView) (place : ℕ) (state : State) : Type 0 where
+    pub few : threads ≤ most_threads
     pub era : Era State
     pub in_era : IsInEra read_of first store name era
     pub found : Recovered

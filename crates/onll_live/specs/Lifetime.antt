@@ -32,7 +32,7 @@ module _ {State Op Query Reply Device Work Answer : Type 0} (b : Behaviour State
       s.era.state s.works s.after s.served
 
   -- These nodes are a front of what the works of a service did, with what its era's logs held before, and with each answered call.
-  pub record IsFrontOf (s : EraService State Device Work Answer Op Query Reply) (h : WasServed s) (nodes : List Node) : Type 0 where
+  pub record IsServiceFront (s : EraService State Device Work Answer Op Query Reply) (h : WasServed s) (nodes : List Node) : Type 0 where
     pub history : HasHistory b means h.onll h.worked.ended.runs
     pub over : IsOver b (era_logs name s.era.number) (era_heads code description (length s.works) s.era.state) s.before s.after
         (generation_of b means h.onll h.worked.ended.runs history)
@@ -43,10 +43,11 @@ module _ {State Op Query Reply Device Work Answer : Type 0} (b : Behaviour State
     pub found : Recovered
     pub files : FilesGive b s.after (era_logs name s.era.number) (era_heads code description (length s.works) s.era.state) (Ok found)
     pub nodes_are : nodes ≡ found.nodes
-    pub front : (h : WasServed s) → IsFrontOf s h nodes
+    pub front : (h : WasServed s) → IsServiceFront s h nodes
 
   -- The era of a service began after what those from this one on had given: in the state that this made.
-  pub record BeganAfter (from : Era State) (given : List (List Node)) (s : EraService State Device Work Answer Op Query Reply) : Type 0 where
+  pub record BeganAfter (from : Era State) (given : List (List Node))
+      (s : EraService State Device Work Answer Op Query Reply) : Type 0 where
     pub number_is : s.era.number ≡ from.number + length given
     pub place_is : s.era.place ≡ from.place + length (in_order given)
     pub state_is : s.era.state ≡ state_after b from.state (in_order given)
@@ -71,7 +72,7 @@ module _ {State Op Query Reply Device Work Answer : Type 0} (b : Behaviour State
 
   -- A service is counted in these nodes, which were made from an era on: its own era began after the first of them, in the state that they
   -- made, and there come the nodes that it gave, with each answered call.
-  pub record IsCounted (from : Era State) (nodes : List Node) (s : EraService State Device Work Answer Op Query Reply) : Type 0 where
+  pub record IsServiceCounted (from : Era State) (nodes : List Node) (s : EraService State Device Work Answer Op Query Reply) : Type 0 where
     pub earlier : List Node
     pub given : List Node
     pub later : List Node
@@ -88,7 +89,7 @@ module _ {State Op Query Reply Device Work Answer : Type 0} (b : Behaviour State
     pub each : Give from earlier given
     pub anew : BeginAnew (last ∷ earlier)
     pub begins : BeganAfter from given last
-    pub counted : AllByRecursion (IsCounted from (in_order given)) earlier
+    pub counted : AllByRecursion (IsServiceCounted from (in_order given)) earlier
 
 module _ {State Op Query Reply Device Work Answer Files : Type 0} (b : Behaviour State Op Query Reply) (means : Device → DeviceView)
     (seen : Files → StoreView)

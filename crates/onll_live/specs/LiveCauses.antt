@@ -1,13 +1,9 @@
 -- Why an object didn't go on over its files: who had it, which log was full, and which call of the outside failed.
-use Rattle.std.specs.Prelude.{ℕ, List, [], ◌∷◌, ◌≡◌, ◌-◌, ◌^◌, ◌⊎◌, Option, Some, None, Result, Ok, Err}
+use Rattle.std.specs.Prelude.{ℕ, List, [], ◌∷◌, ◌≡◌, ◌-◌, ◌^◌, ◌⊎◌, Option, Result, Ok, Err}
 use Rattle.onll_model.specs.Object.{Behaviour}
-use Rattle.onll_merge.specs.Recovered.{Recovered}
 use Rattle.onll_outside.specs.Views.{StoreView, SameFaults}
-use Rattle.onll_open.specs.declared.fault.OpenFault.TheVariants.{Full}
-use Rattle.onll_open.specs.Asking.{room_refused}
 use Rattle.onll_open.specs.Files.{SameBut, SameStore}
 use Rattle.onll_open.specs.Locking.{AreFree, AreInUse, LockFailed}
-use Rattle.onll_open.specs.Opening.{FilesGive}
 use Rattle.onll_live.specs.declared.era.Era.{Era}
 use Rattle.onll_live.specs.declared.fault.LiveFault.{LiveFault}
 use Rattle.onll_live.specs.declared.fault.LiveFault.TheVariants as faults
@@ -16,8 +12,9 @@ use Rattle.onll_live.specs.declared.fault.NextFault.TheVariants as next
 use Rattle.onll_live.specs.declared.fault.NotLived.{NotLived}
 use Rattle.onll_live.specs.declared.living.Turn.{Turn}
 use Rattle.onll_live.specs.declared.living.Turn.TheVariants.{HandedBack}
+use Rattle.onll_live.specs.Beginning.{IsToEnd}
 use Rattle.onll_live.specs.Causes.{NextCause, NextFaults, NextFences}
-use Rattle.onll_live.specs.Eras.{IsInEra, area_name, era_base, era_heads, era_lock, era_logs}
+use Rattle.onll_live.specs.Eras.{IsInEra, area_name, era_base, era_lock}
 use Rattle.onll_live.specs.Faults.{EraFaults, IsSettleFault}
 
 -- ---- the lock
@@ -34,7 +31,7 @@ abbrev pub LockObjectFaults : {T : Type 0} → List ℕ → StoreView → StoreV
 LockObjectFaults name old new (Err faults.NotLocked) = LockFailed (era_base name) old new
 LockObjectFaults name old new result = SameFaults old new
 
--- who has an object before and after it was not worked on: in use is the answer exactly where it was locked before
+-- who has an object before and after a refusal: in use is the answer exactly where it was locked before
 abbrev pub RefusalLocks : List ℕ → StoreView → StoreView → List (List ℕ) → List (List ℕ) → LiveFault → Type 0
 RefusalLocks name old new locked after faults.InUse = AreInUse old (era_base name) locked × (after ≡ locked)
 RefusalLocks name old new locked after faults.NotLocked = after ≡ locked
@@ -50,14 +47,14 @@ LiveLocks name old new locked after (Err e) = RefusalLocks name old new locked a
 
 -- ---- why
 -- why works aren't served in an era
-abbrev pub IsServing : LiveFault → Type 0
-IsServing (faults.NotServed fault) = Unit {0}
-IsServing faults.NoMemory = Unit {0}
-IsServing fault = ⊥
+abbrev pub IsServeFault : LiveFault → Type 0
+IsServeFault (faults.NotServed fault) = Unit {0}
+IsServeFault faults.NoMemory = Unit {0}
+IsServeFault fault = ⊥
 
 -- so are those that a turn hands back
 abbrev pub TurnsBack : {State Device Work Answer Op Query Reply : Type 0} → Turn State Device Work Answer Op Query Reply → Type 0
-TurnsBack (HandedBack e) = IsServing e.fault
+TurnsBack (HandedBack e) = IsServeFault e.fault
 TurnsBack turn = Unit {0}
 
 -- why works that were served over eras are handed back: where there was no next era to begin, as many were before as can be counted
@@ -69,25 +66,20 @@ StopsServing fault eras = ⊥
 
 module _ {State Op Query Reply : Type 0} (b : Behaviour State Op Query Reply) (code : ℕ) (description : State → List ℕ)
     (name : List ℕ) (threads : ℕ) where
-  -- The logs of an era give these nodes, and this thread's is the first that has no room for an update.
-  pub record IsFull (store : StoreView) (era : Era State) : Type 0 where
-    pub found : Recovered
-    pub given : FilesGive b store (era_logs name era.number) (era_heads code description threads era.state) (Ok found)
-    pub thread : ℕ
-    pub full : room_refused threads None found ≡ Some (Full thread)
-
-  -- A log of an era is full, and the next one wasn't begun, for this cause: nothing was done before it was to begin but to read.
+  -- An era was to end, or there was no memory to tell that, and the next one wasn't begun, for this cause: nothing was done before it was
+  -- to begin but to read.
   pub record CannotFollow (old new : StoreView) (era : Era State) (fault : NextFault) : Type 0 where
-    pub full : IsFull old era
+    pub were : ℕ
+    pub ends : (fault ≡ next.NoMemory) ⊎ IsToEnd b code description name threads old era were
     pub start : StoreView
     pub same : SameStore old start
-    pub cause : NextCause b code description name threads {T = Unit {0}} start era (Err fault)
-    pub faults : NextFaults {T = Unit {0}} name era.number threads start new (Err fault)
+    pub cause : NextCause b code description name were {T = Unit {0}} start era (Err fault)
+    pub faults : NextFaults {T = Unit {0}} name era.number were start new (Err fault)
     pub fences : NextFences {T = Unit {0}} start.device_faults new.device_faults (Err fault)
 
   module _ (read_of : List ℕ → Option State) (first : State) where
-    -- The object was found in an era, which was made durable; a log of it is full, and the next one wasn't begun for this cause. No call
-    -- failed before that one was to begin, or after.
+    -- The object was found in an era, which was made durable; it was to end, and the next one wasn't begun for this cause. No call failed
+    -- before that one was to begin, or after.
     pub record MissesNext (old new : StoreView) (fault : NextFault) : Type 0 where
       pub era : Era State
       pub found : IsInEra read_of first old name era

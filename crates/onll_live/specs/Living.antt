@@ -17,7 +17,7 @@ use Rattle.onll_live.specs.declared.fault.NotLived.{NotLived}
 use Rattle.onll_live.specs.declared.living.Lived.{Lived}
 use Rattle.onll_live.specs.declared.living.Turn.{Turn}
 use Rattle.onll_live.specs.declared.living.Turn.TheVariants.{Last, Next, HandedBack}
-use Rattle.onll_live.specs.Beginning.{EntersEra, IsNextEra, MissesEra, StaysOrBegins}
+use Rattle.onll_live.specs.Beginning.{EntersEra, EraStands, IsNextEra, MissesEra, StaysInEra, StaysOrBegins}
 use Rattle.onll_live.specs.Causes.{NextCause, NextFaults, NextFences}
 use Rattle.onll_live.specs.Faults.{CannotFind}
 use Rattle.onll_live.specs.Eras.{IsInEra, area_name, era_heads, era_lock, era_logs}
@@ -31,8 +31,8 @@ pub record EraService (State Device Work Answer Op Query Reply : Type 0) : Type 
   pub served : Served State Device Work Answer Op Query Reply
 
 -- the next era is to begin after a service: a seat was spent, and the logs were kept
-abbrev pub goes_on : {State Device Work Answer Op Query Reply : Type 0} → Served State Device Work Answer Op Query Reply → Bool
-goes_on served = served.spent && is_ok served.kept
+abbrev pub wants_next : {State Device Work Answer Op Query Reply : Type 0} → Served State Device Work Answer Op Query Reply → Bool
+wants_next served = served.spent && is_ok served.kept
 
 module _ {State Op Query Reply Device Work Answer : Type 0} (b : Behaviour State Op Query Reply) (means : Device → DeviceView)
     (promise : Work → Work → List (Call State Op Query Reply) → List (CallEnd State Op Query Reply) → Answer → Type 0)
@@ -49,7 +49,7 @@ module _ {State Op Query Reply Device Work Answer : Type 0} (b : Behaviour State
     pub begun : IsNextEra b code description read_of first name (length s.works) s.after t.before s.era t.era
     pub works : t.works ≡ s.served.works.items
     pub kept : s.served.kept ≡ Ok tt
-    pub on : goes_on s.served ≡ true
+    pub on : wants_next s.served ≡ true
 
   -- services in eras, the newest first
   abbrev pub AreEraServices : List (EraService State Device Work Answer Op Query Reply) → Type 0
@@ -65,18 +65,19 @@ module _ {State Op Query Reply Device Work Answer : Type 0} (b : Behaviour State
 
   -- The next era was to begin after a service, and that was refused, for this cause.
   pub record RefusesNext (s : EraService State Device Work Answer Op Query Reply) (fault : NextFault) (new : StoreView) : Type 0 where
-    pub on : goes_on s.served ≡ true
+    pub on : wants_next s.served ≡ true
     pub left : StaysOrBegins b code description read_of first name (length s.works) s.after new s.era
+    pub stands : EraStands fault → StaysInEra read_of first name s.after new s.era
     pub cause : NextCause b code description name (length s.works) {T = Era State} s.after s.era (Err fault)
     pub faults : NextFaults {T = Era State} name s.era.number (length s.works) s.after new (Err fault)
     pub fences : NextFences {T = Era State} s.after.device_faults new.device_faults (Err fault)
 
   -- What is left after the last service: no next era was to begin, and no file changed; or it was, and was refused.
   abbrev pub EndsEra : EraService State Device Work Answer Op Query Reply → Option NextFault → StoreView → Type 0
-  EndsEra s None new = (new ≡ s.after) × (goes_on s.served ≡ false)
+  EndsEra s None new = (new ≡ s.after) × (wants_next s.served ≡ false)
   EndsEra s (Some fault) new = RefusesNext s fault new
 
-  -- Works were served in one era after the other, from this one on, until no seat of theirs was spent.
+  -- Works were served in one era after the other, from this one on, until no next era was to begin, or it was refused.
   pub record WereServed (start new : StoreView) (era : Era State) (works : List Work)
       (lived : Lived State Device Work Answer Op Query Reply) : Type 0 where
     pub earlier : List (EraService State Device Work Answer Op Query Reply)
@@ -94,7 +95,7 @@ module _ {State Op Query Reply Device Work Answer : Type 0} (b : Behaviour State
   ComesTo [] start now first_era era first_works works = (now ≡ start) × (era ≡ first_era) × (works ≡ first_works)
   ComesTo (s ∷ earlier) start now first_era era first_works works =
       IsNextEra b code description read_of first name (length s.works) s.after now s.era era × (works ≡ s.served.works.items)
-      × (s.served.kept ≡ Ok tt) × (goes_on s.served ≡ true)
+      × (s.served.kept ≡ Ok tt) × (wants_next s.served ≡ true)
 
   -- Works have come so far over eras, from this one on, and are to be served in another.
   pub record HaveComeTo (start now : StoreView) (first_era era : Era State) (first_works works : List Work) : Type 0 where
@@ -128,7 +129,7 @@ module _ {State Op Query Reply Device Work Answer : Type 0} (b : Behaviour State
   TurnsOut old new era works (Next next more) = (after : StoreView) × (served : Served State Device Work Answer Op Query Reply)
       × IsEraService (record { era = era; works = works; before = old; after = after; served = served })
       × IsNextEra b code description read_of first name (length works) after new era next × (more.items ≡ served.works.items)
-      × (served.kept ≡ Ok tt) × (goes_on served ≡ true)
+      × (served.kept ≡ Ok tt) × (wants_next served ≡ true)
   TurnsOut old new era works (HandedBack e) = (e.works.items ≡ works) × CannotServeEra old new era works e.fault
 
   -- The object was found in an era over its files, which was made durable; where a log of it was full the next one was begun; works were
@@ -185,6 +186,7 @@ module _ {State Op Query Reply Device Work Answer : Type 0} (b : Behaviour State
       StopsAtOnce (era_lock name ∷ []) old new works e × CannotFind read_of old name fault
   CannotLiveBy (faults.NotSettled fault) old new works e =
       StopsAtOnce (era_lock name ∷ area_name name 0 ∷ area_name name 1 ∷ []) old new works e
+      × ((era : Era State) × IsInEra read_of first old name era × IsInEra read_of first new name era)
   CannotLiveBy (faults.NotServed fault) old new works e = StopsLater old new works e
   CannotLiveBy (faults.NotBegun fault) old new works e = StopsInEra old new works e ⊎ StopsLater old new works e
   CannotLiveBy faults.NoMemory old new works e = StopsAtOnce (era_lock name ∷ []) old new works e ⊎ StopsLater old new works e

@@ -5,13 +5,14 @@ ghost use Rattle.onll_model.specs.Limits.{most_threads};
 ghost use Rattle.onll_outside.specs.Views.{SameDevices, SameFiles, SameOthers};
 ghost use Rattle.onll_live.specs.Eras.{IsInEra, area_name, era_logs};
 ghost use Rattle.onll_areas.specs.Keeping.{OthersStay};
-ghost use Rattle.onll_open.specs.Files.{SameBut, SameCounts};
+ghost use Rattle.onll_open.specs.Files.{IsMade, SameBut, SameCounts};
 ghost use Rattle.onll_open.specs.Names.{log_names};
-ghost use Rattle.onll_live.specs.Refusals.{of_keep};
-ghost use Rattle.onll_live.specs.Beginning.{AreCleared, BeginFaults, BeginsEra, ClearFaults, EntersEra, IsNextEra, MissesEra, OthersOfEra};
-ghost use Rattle.onll_live.specs.Beginning.{SaveFaults, SavesEra, StaysOrBegins};
-ghost use Rattle.onll_live.specs.Causes.{NextCause, NextFaults, NextFences, NextLocks, era_files, next_files};
-ghost use Rattle.onll_live.specs.LiveCauses.{CannotFollow, IsFull};
+ghost use Rattle.onll_live.specs.Refusals.{of_clear, of_keep};
+ghost use Rattle.onll_live.specs.Beginning.{AreCleared, BeginFaults, BeginsEra, ClearFaults, ClearFileFaults, EndsBy, EntersEra};
+ghost use Rattle.onll_live.specs.Beginning.{EraStands, IsNextEra, MissesEra, NoneSaved, OthersOfEra, SaveFaults, SavesEra, StaysInEra, StaysOrBegins};
+ghost use Rattle.onll_live.specs.Beginning.{ToldBy};
+ghost use Rattle.onll_live.specs.Causes.{NextCause, NextFaults, NextFences, NextLocks, changed_files, files_of_era};
+ghost use Rattle.onll_live.specs.LiveCauses.{CannotFollow};
 
 use crate::era::Era;
 use crate::fault::NextFault;
@@ -26,24 +27,40 @@ use onll_outside::{Directory, OutsideFault, Store};
 use onll_words::NoMemory;
 use std::alloc::Global;
 
-/// Empties the files of the logs of so many threads, so that they are not begun.
-fn clear_logs<S: Store>(
-    alloc: Global,
-    store: &mut S,
-    logs: &str,
-    threads: u64,
-) -> Result<(), NextFault>
-    ensures cleared { OnOk result (AreCleared (S.seen store.new) logs.now threads) }
-    ensures faults { ClearFaults logs.now threads (S.seen store.old) (S.seen store.new) result }
+/// Empties a file, where it is there. One that is empty is written once more: that it is so may not be durable.
+fn clear_file<S: Directory>(alloc: Global, store: &mut S, file: &str) -> Result<(), OutsideFault>
+    ensures cleared { OnOk result (IsMade (S.seen store.new) file.now false) }
+    ensures faults { ClearFileFaults file.now (S.seen store.old) (S.seen store.new) result }
     ensures devices { SameDevices (S.seen store.old) (S.seen store.new) }
-    ensures others { SameBut (log_names logs.now 0 threads) (S.seen store.old) (S.seen store.new) }
+    ensures others { SameOthers file.now (S.seen store.old) (S.seen store.new) }
 {
-    for thread in 0..threads {
+    let Some(_) = store.size(alloc, file)? else {
+        return Ok(());
+    };
+    store.write(alloc, file, &[])
+}
+
+/// Why the next era wasn't begun where the file of this thread's log could not be emptied so.
+fn not_cleared(thread: u64, fault: OutsideFault) -> NextFault
+    ensures { result ≡ of_clear thread fault }
+{
+    match fault {
+        OutsideFault::Failed => NextFault::NotCleared { thread },
+        OutsideFault::NoMemory => NextFault::NoMemory,
+    }
+}
+
+/// Empties the files of an era's logs, of however many threads they were, so that none is begun. It makes no file.
+fn clear_logs<S: Directory>(alloc: Global, store: &mut S, logs: &str) -> Result<(), NextFault>
+    ensures cleared { OnOk result (AreCleared (S.seen store.new) logs.now) }
+    ensures faults { ClearFaults logs.now (S.seen store.old) (S.seen store.new) result }
+    ensures devices { SameDevices (S.seen store.old) (S.seen store.new) }
+    ensures others { SameBut (log_names logs.now 0 most_threads) (S.seen store.old) (S.seen store.new) }
+{
+    for thread in 0..MOST_THREADS {
         let file = log_name(alloc, logs, thread)?;
-        match store.write(alloc, &file, &[]) {
-            Ok(()) => {}
-            Err(OutsideFault::Failed) => return Err(NextFault::NotCleared { thread }),
-            Err(OutsideFault::NoMemory) => return Err(NextFault::NoMemory),
+        if let Err(fault) = clear_file(alloc, store, &file) {
+            return Err(not_cleared(thread, fault));
         }
     }
     Ok(())
@@ -69,6 +86,7 @@ fn save_era<O: Saved + Drop, S: Store>(
 ) -> Result<(), NextFault>
     requires { 1 ≤ era.now.number }
     ensures saved { SavesEra O.read_of (S.seen store.old) (S.seen store.new) name.now era.now result }
+    ensures unsaved { IfErr result (λ f. EraStands f → NoneSaved (S.seen store.old) (S.seen store.new) (era_logs name.now era.now.number)) }
     ensures faults { SaveFaults name.now (era.now.number % 2) (S.seen store.old) (S.seen store.new) result }
     ensures fences { NextFences (S.seen store.old).device_faults (S.seen store.new).device_faults result }
     ensures others { OthersStay (era_logs name.now era.now.number) (S.seen store.old) (S.seen store.new) }
@@ -109,22 +127,22 @@ fn next_era<O: Drop>(number: u64, place: u64, updates: u64, state: O) -> Result<
 }
 
 /// Empties the files of an era's logs, and then saves its state in its area: from there on it has begun.
-fn begin<O: Saved + Drop, S: Store>(
+fn begin<O: Saved + Drop, S: Directory>(
     alloc: Global,
     store: &mut S,
     name: &str,
     era: &Era<O>,
-    threads: u64,
 ) -> Result<(), NextFault>
     requires { 1 ≤ era.now.number }
-    ensures begun { BeginsEra O.read_of (S.seen store.old) (S.seen store.new) name.now threads era.now result }
-    ensures faults { BeginFaults name.now era.now.number threads (S.seen store.old) (S.seen store.new) result }
+    ensures begun { BeginsEra O.read_of (S.seen store.old) (S.seen store.new) name.now era.now result }
+    ensures unsaved { IfErr result (λ f. EraStands f → NoneSaved (S.seen store.old) (S.seen store.new) (era_logs name.now era.now.number)) }
+    ensures faults { BeginFaults name.now era.now.number (S.seen store.old) (S.seen store.new) result }
     ensures fences { NextFences (S.seen store.old).device_faults (S.seen store.new).device_faults result }
-    ensures others { OthersOfEra (era_logs name.now era.now.number) threads (S.seen store.old) (S.seen store.new) }
-    ensures files { SameBut (era_files name.now era.now.number threads) (S.seen store.old) (S.seen store.new) }
+    ensures others { OthersOfEra (era_logs name.now era.now.number) (S.seen store.old) (S.seen store.new) }
+    ensures files { SameBut (files_of_era name.now era.now.number) (S.seen store.old) (S.seen store.new) }
 {
     let logs = era_logs(alloc, name, era.number)?;
-    if let Err(fault) = clear_logs(alloc, store, &logs, threads) {
+    if let Err(fault) = clear_logs(alloc, store, &logs) {
         return Err(fault);
     }
     match save_era(alloc, store, name, era) {
@@ -133,8 +151,8 @@ fn begin<O: Saved + Drop, S: Store>(
     }
 }
 
-/// Begins the next era of an object, whose logs are closed: it empties the files of the next logs, and saves the state that the logs of
-/// this one give. Until the state is saved the era is as it was.
+/// Begins the next era of an object, whose logs are closed and are of so many threads: it empties the files of the next logs, and saves
+/// the state that the logs of this one give. Until the state is saved the era is as it was. The next era may be of any number of threads.
 pub fn begin_next<O: Saved + Drop, S: Directory>(
     alloc: Global,
     store: &mut S,
@@ -147,11 +165,13 @@ pub fn begin_next<O: Saved + Drop, S: Directory>(
         → IsNextEra O.means O.CODE O.description O.read_of first name.now threads (S.seen store.old) (S.seen store.new) era next) }
     ensures refused { IfErr result (λ fault. (first : O) → IsInEra O.read_of first (S.seen store.old) name.now era
         → StaysOrBegins O.means O.CODE O.description O.read_of first name.now threads (S.seen store.old) (S.seen store.new) era) }
+    ensures stands { IfErr result (λ fault. EraStands fault → (first : O) → IsInEra O.read_of first (S.seen store.old) name.now era
+        → StaysInEra O.read_of first name.now (S.seen store.old) (S.seen store.new) era) }
     ensures cause { NextCause O.means O.CODE O.description name.now threads (S.seen store.old) era result }
     ensures faults { NextFaults name.now era.number threads (S.seen store.old) (S.seen store.new) result }
     ensures fences { NextFences (S.seen store.old).device_faults (S.seen store.new).device_faults result }
     ensures locks { NextLocks (S.seen store.old) (era_logs name.now era.number) (S.locked store.old) (S.locked store.new) result }
-    ensures others { SameBut (next_files name.now era.number threads) (S.seen store.old) (S.seen store.new) }
+    ensures others { SameBut (changed_files name.now era.number result) (S.seen store.old) (S.seen store.new) }
 {
     let Era {
         number,
@@ -161,45 +181,54 @@ pub fn begin_next<O: Saved + Drop, S: Directory>(
     let logs = era_logs(alloc, name, number)?;
     let RecoveredObject { object, recovery } = recover(alloc, store, &logs, threads, state)?;
     let next = next_era(number, place, updates_in(&recovery), object)?;
-    match begin(alloc, store, name, &next, threads) {
+    match begin(alloc, store, name, &next) {
         Ok(()) => Ok(next),
         Err(fault) => Err(fault),
     }
 }
 
-/// Whether each log of an era has room for an update. Where that can't be told it is taken to be so.
-fn has_room<O: Saved + Drop, S: Directory>(
+/// The number of threads that logs are of, where they are refused for it.
+fn told_by(fault: FilesFault) -> Result<Option<u64>, NoMemory>
+    ensures told { IfOk result (ToldBy fault) }
+    ensures memory { IfErr result (λ e. fault ≡ FilesFault.NoMemory) }
+{
+    match fault {
+        FilesFault::Threads { were } => Ok((were <= MOST_THREADS).then_some(were)),
+        FilesFault::NoMemory => Err(NoMemory),
+        _ => Ok(None),
+    }
+}
+
+/// The number of threads that the logs of an era are of, where it is to end before so many threads work in it: one of its logs is full,
+/// since a service was killed before the next era began, or they are of another number.
+fn logs_that_end<O: Saved + Drop, S: Directory>(
     alloc: Global,
     store: &mut S,
     name: &str,
     era: &Era<O>,
     threads: u64,
-) -> bool
-    ensures few { result ≡ false → threads ≤ most_threads }
-    ensures full { result ≡ false → IsFull O.means O.CODE O.description name.now threads (S.seen store.old) era.now }
-    ensures counts { result ≡ false → SameCounts (S.seen store.old) (S.seen store.new) }
+) -> Result<Option<u64>, NoMemory>
+    ensures ends { IfOk result (EndsBy O.means O.CODE O.description name.now threads (S.seen store.old) (S.seen store.new) era.now) }
+    ensures counts { IfErr result (λ e. SameCounts (S.seen store.old) (S.seen store.new)) }
     ensures same { SameFiles (S.seen store.old) (S.seen store.new) }
 {
     if MOST_THREADS < threads {
-        return true;
+        return Ok(None);
     }
-    let Ok(logs) = era_logs(alloc, name, era.number) else {
-        return true;
-    };
-    let Ok(found) = find(alloc, store, &logs, &era.state, threads) else {
-        return true;
+    let logs = era_logs(alloc, name, era.number)?;
+    let found = match find(alloc, store, &logs, &era.state, threads) {
+        Ok(found) => found,
+        Err(fault) => return told_by(fault),
     };
     let Recovery { logs, nodes } = &found.recovery;
-    if logs.len() as u64 != threads {
-        return true;
-    }
-    match rooms_left(alloc, nodes, logs, threads) {
-        Ok(rooms) => first_empty(&rooms).is_none(),
-        Err(_) => true,
+    let rooms = rooms_left(alloc, nodes, logs, threads)?;
+    match first_empty(&rooms) {
+        Some(_) => Ok(Some(threads)),
+        None => Ok(None),
     }
 }
 
-/// The era, where each of its logs has room, and else the next one: a service that was killed may have left a log that is full.
+/// The era, or the next one where it is to end before so many threads work in it.
 pub(crate) fn roomy_era<O: Saved + Drop, S: Directory>(
     alloc: Global,
     store: &mut S,
@@ -213,10 +242,13 @@ pub(crate) fn roomy_era<O: Saved + Drop, S: Directory>(
         → MissesEra O.means O.CODE O.description O.read_of first name.now threads (S.seen store.old) (S.seen store.new) era) }
     ensures cause { IfErr result (CannotFollow O.means O.CODE O.description name.now threads (S.seen store.old) (S.seen store.new) era) }
 {
-    if has_room(alloc, store, name, &era, threads) {
+    let Ok(ends) = logs_that_end(alloc, store, name, &era, threads) else {
+        return Err(NextFault::NoMemory);
+    };
+    let Some(were) = ends else {
         return Ok(era);
-    }
-    match begin_next(alloc, store, name, era, threads) {
+    };
+    match begin_next(alloc, store, name, era, were) {
         Ok(next) => Ok(next),
         Err(fault) => Err(fault),
     }

@@ -18,7 +18,7 @@ pub enum EraFault {
     /// The text of the newest checkpoint is no state of the object. Nothing was changed.
     #[error("area {area} holds no state of this object")]
     BadState { area: u64 },
-    /// The file of this area could not be read. Nothing was changed.
+    /// The file of this area could not be read. Nothing was changed, but that `settle` may have written the newest area once more.
     #[error("area {area} could not be read")]
     NotRead { area: u64 },
     /// The file of this area could not be made durable again.
@@ -48,13 +48,13 @@ impl From<NoMemory> for EraFault {
 /// Why the next era of an object wasn't begun.
 #[derive(Clone, Copy, Debug, PartialEq, Eq, Error)]
 pub enum NextFault {
-    /// The logs of the era give nothing. Nothing was changed.
+    /// The logs of the era give nothing. No file was changed but the lock's of these logs.
     #[error("{0}")]
     Files(FilesFault),
-    /// No number, or no place, is left of 64 bits. Nothing was changed.
+    /// No number, or no place, is left of 64 bits. No file was changed but the lock's of the era's logs.
     #[error("the eras are at their end")]
     AtItsEnd,
-    /// The file of this thread's next log could not be emptied. The era is as it was.
+    /// It could not be told whether the file of this thread's next log is there, or it could not be emptied. The era is as it was.
     #[error("file {thread} of the next era could not be emptied")]
     NotCleared { thread: u64 },
     /// The area of the next era could not be made or kept. If it could not be kept, the next era may have begun.
@@ -98,10 +98,10 @@ impl From<FilesFault> for NextFault {
 /// Why an object didn't go on.
 #[derive(Clone, Copy, Debug, PartialEq, Eq, Error)]
 pub enum LiveFault {
-    /// Another has opened the object, here or in another process. Nothing was changed.
+    /// Another has opened the object, here or in another process. No file was changed but the lock's.
     #[error("the object is in use")]
     InUse,
-    /// The object could not be locked. Nothing was changed.
+    /// The object could not be locked. No file was changed but the lock's.
     #[error("the object could not be locked")]
     NotLocked,
     /// Its era isn't known. No file was changed but the lock's.

@@ -3,7 +3,7 @@
 ghost use Rattle.onll_balance.specs.Floor.{Floor};
 ghost use Rattle.onll_balance.specs.Measure.{Measure};
 ghost use Rattle.onll_live.specs.Balances.{ErasBalanceLaw, ErasFloorLaw};
-ghost use Rattle.onll_live.specs.Cuts.{CutLaw, StandsLaw};
+ghost use Rattle.onll_live.specs.Cuts.{EraCutLaw, EraStandsLaw};
 ghost use Rattle.onll_live.specs.Lifetime.{ErasLaw};
 
 use crate::settling::told_law;
@@ -13,8 +13,8 @@ use onll_outside::Store;
 use onll_pmem::Pmem;
 use onll_threads::Work;
 
-/// The newest era began in the state that all earlier ones made, one after the other, and each call that was answered in any of them is
-/// counted in it. It does nothing when called.
+/// Where the store tells its files, the newest era began in the state that all earlier ones made, one after the other, and each call that
+/// was answered in any of them is counted in it. It does nothing when called.
 pub fn eras_law<O: Object, S: Store, W: Work<O>>()
     ensures { ErasLaw O.means S.Dev.means S.seen W.promise }
 {
@@ -33,9 +33,9 @@ pub fn eras_balance_law<O: Object, P: Pmem, W: Work<O>>()
     floor_law::<O>();
 }
 
-/// Whatever of `begin_next` was done when the power failed, and whatever it answers: files that held an object hold it after as many
-/// updates, and in the same state. It does nothing when called.
-pub fn cut_law<O: Object>()
-    ensures cut { CutLaw O.means }
-    ensures stands { StandsLaw O.means }
+/// Where the store tells its files: files that held an object hold it after as many updates, and in the same state, where the power failed
+/// and the beginning of its next era left what `IsEraCut` says; and whatever `begin_next` answers. It does nothing when called.
+pub fn era_cut_law<O: Object>()
+    ensures cut { EraCutLaw O.means }
+    ensures stands { EraStandsLaw O.means }
 {}

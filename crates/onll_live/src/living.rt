@@ -4,7 +4,7 @@ ghost use Rattle.std.specs.Prelude.{◌≡◌, length, string_bytes, IfOk, IfErr
 ghost use Rattle.onll_outside.specs.Views.{SameOthers};
 ghost use Rattle.onll_live.specs.Eras.{IsInEra, era_lock};
 ghost use Rattle.onll_live.specs.Lifetime.{LifeAddsUp};
-ghost use Rattle.onll_live.specs.Living.{CannotLive, HasLived, IsLockFault, TurnsOut, WereHandedBack, WereServed, goes_on};
+ghost use Rattle.onll_live.specs.Living.{CannotLive, HasLived, IsLockFault, TurnsOut, WereHandedBack, WereServed, wants_next};
 ghost use Rattle.onll_live.specs.LiveCauses.{HeldCause, LiveCause, LiveLocks, LockObjectFaults, LocksObject, StopsServing, TurnsBack};
 
 use crate::beginning::{begin_next, roomy_era};
@@ -68,8 +68,8 @@ fn lock_object<S: Directory>(alloc: Global, store: &mut S, name: &str) -> Result
 }
 
 /// Whether the next era is to begin after a service.
-fn goes_on<O: Object, P: Pmem, W, A>(served: &Served<O, P, W, A>) -> bool
-    ensures { result ≡ goes_on served.now }
+fn wants_next<O: Object, P: Pmem, W, A>(served: &Served<O, P, W, A>) -> bool
+    ensures { result ≡ wants_next served.now }
 {
     served.spent && served.kept.is_ok()
 }
@@ -117,7 +117,7 @@ fn serve_era<
             return Turn::HandedBack(NotLived::of(works, LiveFault::NotServed(fault)));
         }
     };
-    if !goes_on(&served) {
+    if !wants_next(&served) {
         return Turn::Last(Lived {
             era: number,
             place,
@@ -139,7 +139,7 @@ fn serve_era<
     }
 }
 
-/// Serves works in one era after the other, until no seat of theirs is spent.
+/// Serves works in one era after the other, until no next era is to begin, or it is refused.
 fn serve_eras<
     R: Threads + Wait + Sync,
     O: Saved + Drop + Send + Sync,
@@ -226,8 +226,8 @@ fn live_locked<
 
 /// Works on an object, which began in this state, over the files of this name, in one era after the other. It goes on from what they hold.
 /// Where a seat of a work is spent, its log full or a fence failed, all works are awaited, the state is saved, new logs are begun, and all
-/// works are called again: one that has done all returns at once. It ends when no seat was spent. Nobody else works on the object
-/// meanwhile.
+/// works are called again: one that has done all returns at once. It ends where no seat was spent, a log was not kept, or the next era is
+/// refused. There may be another number of works than before: then it goes on in the next era. Nobody else works on the object meanwhile.
 pub fn live<
     R: Threads + Wait + Sync,
     O: Saved + Drop + Send + Sync,

@@ -48,17 +48,21 @@ impl<'a, R: Wait + Sync> Work<Printed<Bank>> for Depositor<'a, R> {
     }
 }
 
-/// Two depositors go on from what the store holds; the number of the last era and the greatest total, where all went well.
+/// So many depositors go on from what the store holds; the number of the last era and the greatest total, where all went well.
 fn go_on<R: Threads + Wait + Sync, S: Directory>(
     rt: &R,
     alloc: Global,
     store: &mut S,
+    many: u64,
     left: u64,
 ) -> Result<Option<(u64, u64)>, NoMemory> {
     let Some(bank) = Bank::read_state(alloc, b"bank 1")? else {
         return Ok(None);
     };
-    let works = vec![in alloc; Depositor { rt, left }, Depositor { rt, left }]?;
+    let mut works = Vec::new(alloc);
+    for _ in 0..many {
+        works.push(Depositor { rt, left })?;
+    }
     match live(rt, alloc, store, "bank", Printed::of(bank), works) {
         Ok(
             Lived {
@@ -87,16 +91,40 @@ fn of_a_bank(rt: HostRuntime) -> Result<(), Fail> {
     let mut found = Found::new();
     let mut store = MemStore::new(Vec::new(alloc), Vec::new(alloc), Vec::new(alloc));
     found.must(
-        go_on(&rt, alloc, &mut store, 5000)? == Some((1, 10000)),
+        go_on(&rt, alloc, &mut store, 2, 5000)? == Some((1, 10000)),
         "one change",
     );
     found.must(
-        go_on(&rt, alloc, &mut store, 10)? == Some((1, 10020)),
-        "none",
+        go_on(&rt, alloc, &mut store, 2, 10)? == Some((1, 10020)),
+        "no change",
     );
     found.must(
-        go_on(&rt, alloc, &mut store, 4000)? == Some((2, 18020)),
+        go_on(&rt, alloc, &mut store, 2, 4000)? == Some((2, 18020)),
         "one more",
+    );
+    found.ended()
+}
+
+#[test]
+fn of_other_numbers_of_threads(rt: HostRuntime) -> Result<(), Fail> {
+    let alloc = rt.alloc();
+    let mut found = Found::new();
+    let mut store = MemStore::new(Vec::new(alloc), Vec::new(alloc), Vec::new(alloc));
+    found.must(
+        go_on(&rt, alloc, &mut store, 3, 10)? == Some((0, 30)),
+        "three threads",
+    );
+    found.must(
+        go_on(&rt, alloc, &mut store, 1, 5)? == Some((1, 35)),
+        "one thread",
+    );
+    found.must(
+        go_on(&rt, alloc, &mut store, 1, 4)? == Some((1, 39)),
+        "one thread again",
+    );
+    found.must(
+        go_on(&rt, alloc, &mut store, 4, 2)? == Some((2, 47)),
+        "four threads",
     );
     found.ended()
 }

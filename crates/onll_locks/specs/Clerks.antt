@@ -1,5 +1,5 @@
 -- What a clerk does at his seat for a request.
-use Rattle.std.specs.Prelude.{[], ◌∷◌, Option, Result, Ok, Err}
+use Rattle.std.specs.Prelude.{Bool, true, false, [], ◌∷◌, Option, Result, Ok, Err}
 use Rattle.onll_model.specs.declared.call.Call.TheVariants as calls
 use Rattle.onll_model.specs.declared.call.CallEnd.TheVariants.{Answered}
 use Rattle.onll_pmem.specs.Pmem.{DeviceView}
@@ -24,6 +24,11 @@ DoesRequest means first (Update op) done old new =
 DoesRequest means first (Ask query) (Ok reply) old new =
     ActsAt (behaviour_of locks) means first (calls.Ask query ∷ []) (Answered reply (seen_in new.pass) ∷ []) old new
 DoesRequest means first (Ask query) (Err fault) old new = ⊥
+
+-- a clerk ended well: there were no more requests
+abbrev pub is_good : Ending → Bool
+is_good why.NoMore = true
+is_good ending = false
 
 -- a clerk goes on after a reply, and ends where there was none
 abbrev pub going_on : Result LockReply UpdateFault → Result (Unit {0}) Ending

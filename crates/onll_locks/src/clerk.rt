@@ -1,13 +1,13 @@
 //! A clerk, who takes requests by turns with others and answers each.
 
 ghost use Rattle.std.specs.Prelude.{◌≡◌};
-ghost use Rattle.onll_locks.specs.Clerks.{DoesRequest, going_on};
+ghost use Rattle.onll_locks.specs.Clerks.{DoesRequest, going_on, is_good};
 
 use crate::locks::{LockOp, LockQuery, LockReply, Locks};
 use crate::request::{Asked, Request, read_request};
 use onll_pmem::Pmem;
 use onll_rows::Plain;
-use onll_serve::Outcome;
+use onll_serve::Reported;
 use onll_shared::UpdateFault;
 use onll_threads::{Begun, Seat, Work};
 use std::alloc::Global;
@@ -40,7 +40,9 @@ pub enum Ending {
     NotSaid,
 }
 
-impl Outcome for Ending {
+impl Reported for Ending {
+    ghost good = { is_good };
+
     fn is_good(&self) -> bool {
         matches!(self, Ending::NoMore)
     }

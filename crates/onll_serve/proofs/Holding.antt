@@ -1,5 +1,5 @@
 -- The image that the file of a log holds: it is one, and what was kept of a device is it.
-use Rattle.std.proofs.Common.{ℕ, suc, ◌≡◌, ◌-◌, ◌<◌, ◌≤◌, Bool, true, false, true≢false, inl, inr, List, [], ◌∷◌, ◌++◌, length, take, Option, Some, None, refl, sym, ap, ◌∙◌, subst, append-nil, arith}
+use Rattle.std.proofs.Common.{ℕ, suc, ◌≡◌, ◌-◌, ◌<◌, ◌≤◌, true, true≢false, inl, inr, List, [], ◌∷◌, ◌++◌, length, take, Option, Some, None, refl, sym, ap, ◌∙◌, subst, append-nil, arith}
 use Rattle.std.specs.List.{AllByRecursion}
 use Rattle.std.proofs.lemmas.List.{take_all}
 use Rattle.onll_pmem.specs.Device.{zero_lines}
@@ -7,7 +7,7 @@ use Rattle.onll_outside.specs.Views.{StoreView, image_bytes, with_zeros}
 use Rattle.onll_outside.specs.LineFiles.{FrontHasLines, HasLines, IsWholeLine}
 use Rattle.onll_outside.proofs.WholeLines.{whole_to_end}
 use Rattle.onll_log.specs.ImageFile.{longest_image, whole_lines}
-use Rattle.onll_open.specs.Files.{FilesHold, HasLogLines, HoldsLogImage, is_made}
+use Rattle.onll_open.specs.Files.{FilesHold, HoldsLogImage, is_made}
 use Rattle.onll_open.specs.Names.{log_name}
 use Rattle.onll_open.specs.Rooms.{most_lines}
 use Rattle.onll_serve.proofs.FileLines.{length-image_bytes, whole_back}

@@ -1,5 +1,5 @@
 -- What a service leaves in the files of its logs is what the next one finds there.
-use Rattle.std.proofs.Common.{ℕ, suc, ◌≡◌, ◌+◌, ◌≤◌, Bool, true, false, List, [], ◌∷◌, length, map, Option, Some, None, is_some, Result, Ok, Err, refl, sym, ap, ◌∙◌, subst, arith}
+use Rattle.std.proofs.Common.{ℕ, suc, ◌≡◌, ◌+◌, ◌≤◌, true, List, [], ◌∷◌, length, map, Option, Some, None, is_some, Ok, refl, sym, ap, ◌∙◌, subst, arith}
 use Rattle.std.specs.List.{AllByRecursion}
 use Rattle.std.proofs.lemmas.List.{length-map}
 use Rattle.onll_model.specs.declared.call.Call.{Call}
@@ -29,10 +29,9 @@ use Rattle.onll_open.specs.Opening.{IsShort}
 use Rattle.onll_open.specs.Rooms.{most_lines}
 use Rattle.onll_open.proofs.GivenLogs.{contents_are, found_parts, give_same}
 use Rattle.onll_threads.specs.Ended.{before_of}
-use Rattle.onll_serve.specs.declared.service.Served.{Served}
 use Rattle.onll_serve.specs.Linking.{AreOver, FilesLifeLaw, LeavesInFiles, NextLaw}
 use Rattle.onll_serve.specs.Lives.{IsLife, IsLifeFront, ServedGeneration, generation_of}
-use Rattle.onll_serve.specs.Serving.{ClosedSo, HasHistory, HasServed}
+use Rattle.onll_serve.specs.Serving.{ClosedSo, HasHistory}
 use Rattle.onll_serve.proofs.FileLines.{fenced_whole, mixed_lines}
 use Rattle.onll_serve.proofs.Holding.{holds_image, one_each}
 use Rattle.onll_serve.proofs.Lives.{leaves_fronts, life_law}

@@ -6,7 +6,7 @@ mod fault;
 mod laws;
 mod service;
 
-pub use ending::{Outcome, report};
+pub use ending::{Reported, report};
 pub use fault::{NamedServeFault, NotServed, ServeFault};
 pub use laws::{files_law, files_life_law, fronts_law, life_law, moment_law, next_law};
 pub use service::{Served, serve};

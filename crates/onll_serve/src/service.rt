@@ -120,7 +120,7 @@ fn serve_opened<
 
 /// Opens an object, which began in this state, over the files of its logs, one for each work; does the works, each in a thread of its
 /// own; and closes the object, which keeps the logs. It goes on from what the files hold. It asks first whether so many threads can be had
-/// at once; where the system takes one back until its work begins, that work is done after another. No memory is taken once a work has
+/// at once; where the system takes one back before its work begins, that work is done after another. No memory is taken once a work has
 /// begun but to close the object.
 pub fn serve<
     R: Threads + Wait + Sync,

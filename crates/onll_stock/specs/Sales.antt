@@ -11,6 +11,8 @@ use Rattle.onll_threads.specs.Acts.{SeatView}
 use Rattle.onll_threads.specs.Seats.{KeepsPromise}
 use Rattle.onll_stock.specs.declared.customer.Customer.{Customer}
 use Rattle.onll_stock.specs.declared.customer.Deal.{Deal}
+use Rattle.onll_stock.specs.declared.customer.Ending.{Ending}
+use Rattle.onll_stock.specs.declared.customer.Ending.TheVariants as why
 use Rattle.onll_stock.specs.declared.stock.Stock.{Stock}
 use Rattle.onll_stock.specs.declared.stock.StockOp.{StockOp}
 use Rattle.onll_stock.specs.declared.stock.StockOp.TheVariants.{Sell, Restock}
@@ -18,6 +20,12 @@ use Rattle.onll_stock.specs.declared.stock.StockQuery.{StockQuery}
 use Rattle.onll_stock.specs.declared.stock.StockReply.{StockReply}
 use Rattle.onll_stock.specs.declared.stock.StockReply.TheVariants.{Sold, TooFew, Restocked, TooMany, Items}
 use Rattle.onll_stock.specs.Stock.{most_items, next, reply, stock}
+
+-- a customer ended well: it has as many as it needs, or none was left
+abbrev pub is_good : Ending → Bool
+is_good why.Content = true
+is_good why.SoldOut = true
+is_good ending = false
 
 -- how many items an operation with this reply took out
 abbrev pub taken : StockOp → StockReply → ℕ

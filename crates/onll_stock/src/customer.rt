@@ -2,15 +2,16 @@
 
 ghost use Rattle.std.specs.Prelude.{◌+◌, ◌<◌, ◌^◌, ◌≡◌};
 ghost use Rattle.onll_keeps.specs.Tallies.{back_of, out_of};
-ghost use Rattle.onll_stock.specs.Sales.{HasDealt, most_put_in, put_in, taken};
+ghost use Rattle.onll_stock.specs.Sales.{HasDealt, is_good, most_put_in, put_in, taken};
 ghost use Rattle.onll_stock.specs.Stock.{items_of};
 
 use crate::stock::{Stock, StockOp, StockQuery, StockReply};
 use onll_pmem::Pmem;
 use onll_rows::Plain;
-use onll_serve::Outcome;
+use onll_serve::Reported;
 use onll_shared::UpdateFault;
 use onll_threads::{Begun, Seat, Work};
+use std::fmt;
 use std::sync::Wait;
 use thiserror::Error;
 
@@ -32,15 +33,27 @@ pub enum Ending {
 }
 
 /// What a customer did: how many items it bought, and brought back, those of a fence that failed among them, which may be lost.
-#[derive(Clone, Copy, Debug, PartialEq, Eq, Error)]
-#[error("bought {bought}, brought back {back}, {ending}")]
+#[derive(Clone, Copy, Debug, PartialEq, Eq)]
 pub struct Deal {
     pub bought: u64,
     pub back: u64,
     pub ending: Ending,
 }
 
-impl Outcome for Deal {
+impl fmt::Display for Deal {
+    fn fmt<W: fmt::Write>(&self, f: &mut fmt::Formatter<W>) -> fmt::Result {
+        let Deal {
+            bought,
+            back,
+            ending,
+        } = self;
+        write!(f, "bought {bought}, brought back {back}, {ending}")
+    }
+}
+
+impl Reported for Deal {
+    ghost good = { λ d. is_good d.ending };
+
     fn is_good(&self) -> bool {
         matches!(self.ending, Ending::Content | Ending::SoldOut)
     }

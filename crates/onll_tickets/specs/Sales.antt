@@ -8,12 +8,21 @@ use Rattle.onll_keeps.specs.Tallies.{HasTallied, out_of}
 use Rattle.onll_shared.specs.declared.calls.UpdateFault.{UpdateFault}
 use Rattle.onll_threads.specs.Acts.{SeatView}
 use Rattle.onll_tickets.specs.declared.buyer.Ending.{Ending}
+use Rattle.onll_tickets.specs.declared.buyer.Ending.TheVariants as why
 use Rattle.onll_tickets.specs.declared.tickets.Tickets.{Tickets}
 use Rattle.onll_tickets.specs.declared.tickets.TicketOp.{TicketOp}
 use Rattle.onll_tickets.specs.declared.tickets.TicketOp.TheVariants.{Draw}
 use Rattle.onll_tickets.specs.declared.tickets.TicketReply.{TicketReply}
 use Rattle.onll_tickets.specs.declared.tickets.TicketReply.TheVariants as gives
 use Rattle.onll_tickets.specs.Tickets.{next, reply, tickets}
+
+-- a buyer ended well: it has as many as it wanted, or none was left
+abbrev pub is_good : Ending → Bool
+is_good why.Bought = true
+is_good why.SoldOut = true
+is_good why.Full = false
+is_good why.Broken = false
+is_good why.NotSaid = false
 
 -- how many tickets a draw with this reply took
 abbrev pub taken : TicketOp → TicketReply → ℕ
@@ -24,7 +33,8 @@ taken (Draw n) (gives.Left left) = 0
 pub takes_none_back : (s : Tickets) (op : TicketOp) → (next s op).left + taken op (reply s op) ≤ s.left + 0
 takes_none_back s (Draw n) = by (nat_lt s.left n) refl
   where
-    by : (q : Bool) → q ≡ nat_lt s.left n → (if q then s else record { left = s.left - n }).left + taken (Draw n) (if q then gives.SoldOut else gives.Drawn) ≤ s.left + 0
+    by : (q : Bool) → q ≡ nat_lt s.left n
+        → (if q then s else record { left = s.left - n }).left + taken (Draw n) (if q then gives.SoldOut else gives.Drawn) ≤ s.left + 0
     by true e = omega arith
     by false e = let fits : n ≤ s.left = grind (arith, nat_tests) in omega (arith, fits)
 

@@ -1,12 +1,12 @@
 //! A buyer, who draws tickets and says each draw once it is durable.
 
 ghost use Rattle.std.specs.Prelude.{ℕ, ◌+◌, ◌≡◌};
-ghost use Rattle.onll_tickets.specs.Sales.{HasDrawn, one_drawn, took};
+ghost use Rattle.onll_tickets.specs.Sales.{HasDrawn, is_good, one_drawn, took};
 
 use crate::tickets::{TicketOp, TicketReply, Tickets};
 use onll_pmem::Pmem;
 use onll_rows::Plain;
-use onll_serve::Outcome;
+use onll_serve::Reported;
 use onll_shared::UpdateFault;
 use onll_threads::{Begun, Seat, Work};
 use std::fmt;
@@ -52,7 +52,9 @@ impl fmt::Display for Bought {
     }
 }
 
-impl Outcome for Bought {
+impl Reported for Bought {
+    ghost good = { λ b. is_good b.ending };
+
     fn is_good(&self) -> bool {
         matches!(self.ending, Ending::Bought | Ending::SoldOut)
     }

@@ -8,8 +8,8 @@ use Rattle.onll_merge.specs.Recovered.{recovered_in}
 use Rattle.onll_open.specs.Opening.{FilesGive}
 use Rattle.onll_live.specs.declared.era.Era.{Era}
 use Rattle.onll_live.specs.Eras.{era_heads, era_logs}
-use Rattle.onll_live.proofs.Begins.{has_begun, locked_stays, stays_or_begins, whatever}
-use Rattle.onll_live.proofs.Causes.{and_then_files, fences_since, next_fits, none_after, not_begun, not_given, only_its_lock}
+use Rattle.onll_live.proofs.Begins.{has_begun, locked_stays, none_saved, stays_or_begins, whatever, whatever_stands}
+use Rattle.onll_live.proofs.Causes.{and_then_files, begun_changed, fences_since, lock_changed, next_fits, none_after, not_begun, not_given}
 use Rattle.onll_live.proofs.Follows.{begun_so, next_so, refused_so}
 use Rattle.onll_live.proofs.beginning.begin_next.Goals as goal
 
@@ -39,8 +39,8 @@ returns-clause-refused g c first i =
     let given = subst (λ (n : List ℕ). FilesGive means old n heads (Ok found)) logs c.in_ok-object.ensures.found in
     let next_is = next_so means era next found.nodes c.updates_in.result _ c.in_ok-next.ensures.next c.updates_in.ensures c.in_ok-object.ensures.state in
     refused_so means g.O.Object.CODE g.O.Described.description g.O.Saved.read_of first name c.args.threads old new era next found given next_is
-    (c.begin.ensures.others.tells ∙ c.recover.ensures.others.tells)
-    (stays_or_begins g.O.Saved.read_of first name c.args.threads old mid new era next after locked c.begin.ensures.others i c.in-Err.ensures.begun)
+    (c.begin.ensures.others.tells ∙ c.recover.ensures.others.tells) c.requires.few
+    (stays_or_begins g.O.Saved.read_of first name old mid new era next after locked c.begin.ensures.others i c.in-Err.ensures.begun)
 
 pub returns-in-Ok-clause-begun : goal.returns-in-Ok-clause-begun
 returns-in-Ok-clause-begun g c first i =
@@ -54,8 +54,8 @@ returns-in-Ok-clause-begun g c first i =
     let given = subst (λ (n : List ℕ). FilesGive means old n heads (Ok found)) logs c.in_ok-object.ensures.found in
     let next_is = next_so means era next found.nodes c.updates_in.result _ c.in_ok-next.ensures.next c.updates_in.ensures c.in_ok-object.ensures.state in
     begun_so means g.O.Object.CODE g.O.Described.description g.O.Saved.read_of first name c.args.threads old new era next found given next_is
-    (c.begin.ensures.others.tells ∙ c.recover.ensures.others.tells)
-    (has_begun g.O.Saved.read_of first name c.args.threads old mid new era next after locked c.begin.ensures.others i c.in-Ok.ensures.begun.0)
+    (c.begin.ensures.others.tells ∙ c.recover.ensures.others.tells) c.requires.few
+    (has_begun g.O.Saved.read_of first name old mid new era next after locked c.begin.ensures.others i c.in-Ok.ensures.begun.0)
     c.in-Ok.ensures.begun.1
 
 pub returns-in_err-object-clause-cause : goal.returns-in_err-object-clause-cause
@@ -146,13 +146,38 @@ pub returns-in_err-object-clause-others : goal.returns-in_err-object-clause-othe
 returns-in_err-object-clause-others g c =
     let name = c.args.name.now in let era = c.args.era in let old = g.S.Store.seen c.args.store.now in let new = g.S.Store.seen c.recover.new.store in
     let logs : c.deref.result.now ≡ era_logs name era.number = c.deref.ensures ∙ c.in_ok-logs.ensures in
-    only_its_lock name era.number c.args.threads old old new (subst (λ (n : List ℕ). SameBut (log_lock_name n ∷ []) old new) logs c.recover.ensures.others)
+    let p = err_from_is_err_and c.from_residual-in_err-object.result c.from_residual-in_err-object.ensures.1 in
+    rw (p.1, p.2) (lock_changed name era.number old old new c.in_err-object.field-0.0 (subst (λ (n : List ℕ). SameBut (log_lock_name n ∷ []) old new) logs c.recover.ensures.others))
 
 pub returns-in_err-next-clause-others : goal.returns-in_err-next-clause-others
 returns-in_err-next-clause-others g c =
     let name = c.args.name.now in let era = c.args.era in let old = g.S.Store.seen c.args.store.now in let new = g.S.Store.seen c.recover.new.store in
     let logs : c.deref.result.now ≡ era_logs name era.number = c.deref.ensures ∙ c.in_ok-logs.ensures in
-    only_its_lock name era.number c.args.threads old old new (subst (λ (n : List ℕ). SameBut (log_lock_name n ∷ []) old new) logs c.recover.ensures.others)
+    let p = err_from_is_err_and c.from_residual-in_err-next.result c.from_residual-in_err-next.ensures.1 in
+    rw (p.1, p.2 ∙ c.in_err-next.ensures.refused.0) (subst (λ (n : List ℕ). SameBut (log_lock_name n ∷ []) old new) logs c.recover.ensures.others)
+
+pub returns-in_err-object-clause-stands : goal.returns-in_err-object-clause-stands
+returns-in_err-object-clause-stands g c =
+    let name = c.args.name.now in let era = c.args.era in let old = g.S.Store.seen c.args.store.now in let new = g.S.Store.seen c.recover.new.store in
+    let logs : c.deref.result.now ≡ era_logs name era.number = c.deref.ensures ∙ c.in_ok-logs.ensures in
+    let locked = subst (λ (n : List ℕ). SameBut (log_lock_name n ∷ []) old new) logs c.recover.ensures.others in
+    whatever_stands c.from_residual-in_err-object.result _ (λ first i. locked_stays g.O.Saved.read_of first name era old new locked i)
+
+pub returns-in_err-next-clause-stands : goal.returns-in_err-next-clause-stands
+returns-in_err-next-clause-stands g c =
+    let name = c.args.name.now in let era = c.args.era in let old = g.S.Store.seen c.args.store.now in let new = g.S.Store.seen c.recover.new.store in
+    let logs : c.deref.result.now ≡ era_logs name era.number = c.deref.ensures ∙ c.in_ok-logs.ensures in
+    let locked = subst (λ (n : List ℕ). SameBut (log_lock_name n ∷ []) old new) logs c.recover.ensures.others in
+    whatever_stands c.from_residual-in_err-next.result _ (λ first i. locked_stays g.O.Saved.read_of first name era old new locked i)
+
+pub returns-clause-stands : goal.returns-clause-stands
+returns-clause-stands g c stands first i =
+    let name = c.args.name.now in let era = c.args.era in let next = c.in_ok-next.next in
+    let old = g.S.Store.seen c.args.store.now in let mid = g.S.Store.seen c.recover.new.store in let new = g.S.Store.seen c.begin.new.store in
+    let logs : c.deref.result.now ≡ era_logs name era.number = c.deref.ensures ∙ c.in_ok-logs.ensures in
+    let locked = subst (λ (n : List ℕ). SameBut (log_lock_name n ∷ []) old mid) logs c.recover.ensures.others in
+    let after = ap (λ (e : Era _). e.number) c.in_ok-next.ensures.next in
+    none_saved g.O.Saved.read_of first name old mid new era next after locked c.begin.ensures.others (c.in-Err.ensures.unsaved stands) i
 
 pub returns-in-Ok-clause-cause : goal.returns-in-Ok-clause-cause
 returns-in-Ok-clause-cause g c =
@@ -227,16 +252,18 @@ returns-in-Ok-clause-others g c =
     let name = c.args.name.now in let era = c.args.era in let old = g.S.Store.seen c.args.store.now in let mid = g.S.Store.seen c.recover.new.store in
     let logs : c.deref.result.now ≡ era_logs name era.number = c.deref.ensures ∙ c.in_ok-logs.ensures in
     let is = ap (λ (e : Era _). e.number) c.in_ok-next.ensures.next in
-    and_then_files name era.number c.args.threads old mid (g.S.Store.seen c.begin.new.store) c.in_ok-next.next.number is
+    and_then_files name era.number old mid (g.S.Store.seen c.begin.new.store) c.in_ok-next.next.number is
     (subst (λ (n : List ℕ). SameBut (log_lock_name n ∷ []) old mid) logs c.recover.ensures.others) c.begin.ensures.files
 
 pub returns-clause-others : goal.returns-clause-others
 returns-clause-others g c =
     let name = c.args.name.now in let era = c.args.era in let old = g.S.Store.seen c.args.store.now in let mid = g.S.Store.seen c.recover.new.store in
+    let new = g.S.Store.seen c.begin.new.store in
     let logs : c.deref.result.now ≡ era_logs name era.number = c.deref.ensures ∙ c.in_ok-logs.ensures in
     let is = ap (λ (e : Era _). e.number) c.in_ok-next.ensures.next in
-    and_then_files name era.number c.args.threads old mid (g.S.Store.seen c.begin.new.store) c.in_ok-next.next.number is
-    (subst (λ (n : List ℕ). SameBut (log_lock_name n ∷ []) old mid) logs c.recover.ensures.others) c.begin.ensures.files
+    begun_changed c.in-Err.fault name era.number c.in_ok-next.next.number mid new c.in-Err.ensures.faults old
+    (and_then_files name era.number old mid new c.in_ok-next.next.number is (subst (λ (n : List ℕ). SameBut (log_lock_name n ∷ []) old mid) logs c.recover.ensures.others)
+    c.begin.ensures.files)
 
 pub returns-in-Ok-clause-fences : goal.returns-in-Ok-clause-fences
 returns-in-Ok-clause-fences g c =

@@ -1,10 +1,11 @@
-use Rattle.std.proofs.Common.{ℕ, refl, sym, subst, inl, length}
+use Rattle.std.proofs.Common.{ℕ, ◌≡◌, refl, sym, subst, inl, length}
 use Rattle.std.proofs.lemmas.Result.{IfOk-weaker, IfErr-weaker}
 use Rattle.onll_outside.specs.Views.{SameFiles}
 use Rattle.onll_live.specs.Beginning.{EntersEra, MissesEra}
 use Rattle.onll_open.proofs.Handing.{faults_more}
 use Rattle.onll_live.specs.declared.fault.LiveFault.{LiveFault}
 use Rattle.onll_live.specs.LiveCauses.{CannotFollow, HeldCause}
+use Rattle.onll_live.specs.Living.{CannotLiveBy}
 use Rattle.onll_live.proofs.FaultSteps.{era_fault_since}
 use Rattle.onll_live.proofs.LiveCauses.{stops_cause}
 use Rattle.onll_live.proofs.Locks.{entered_in, settled_in, stops_by, with_lock}
@@ -96,6 +97,16 @@ returns-in-Err-settle-clause-cause g c =
     let old = g.S.Store.seen c.args.store.now in let mid = g.S.Store.seen c.find_era.new.store in let new = g.S.Store.seen c.settle.new.store in
     subst (λ (f : LiveFault). HeldCause g.O.Object.means g.O.Object.CODE g.O.Described.description c.args.name.now (length c.args.works.items) g.O.Saved.read_of c.args.object old new f c.of-in-Err-settle.result.eras)
     (sym c.of-in-Err-settle.ensures.2) (c.in-Err-settle.ensures.refused, era_fault_since (Unit {0}) c.args.name.now old mid new c.in-Err-settle.fault c.in-Ok.ensures.faults c.in-Err-settle.ensures.faults)
+
+pub returns-in-Err-settle-clause-refused : goal.returns-in-Err-settle-clause-refused
+returns-in-Err-settle-clause-refused g c =
+    let old = g.S.Store.seen c.args.store.now in let mid = g.S.Store.seen c.find_era.new.store in let new = g.S.Store.seen c.settle.new.store in
+    let name = c.args.name.now in let era = c.in-Ok.era in let e = c.of-in-Err-settle.result in
+    let in_era = settled_in g.O.Saved.read_of c.args.object name old mid new era c.in-Ok.ensures.same c.settle.ensures.kept c.in-Ok.ensures.found in
+    let same : e.works.items ≡ c.args.works.items = (let is = c.of-in-Err-settle.ensures.0 in (cc)) in
+    subst (λ (f : LiveFault). CannotLiveBy g.O.Object.means g.S.Dev.Pmem.means g.W.Work.promise g.O.Object.CODE g.O.Described.description g.O.Saved.read_of c.args.object name f old new c.args.works.items e)
+    (sym c.of-in-Err-settle.ensures.2)
+    ((with_lock name old mid new c.in-Ok.ensures.same c.settle.ensures.others, same, c.of-in-Err-settle.ensures.1), (era, c.in-Ok.ensures.found, in_era))
 
 pub returns-in-Ok-roomy_era-clause-cause : goal.returns-in-Ok-roomy_era-clause-cause
 returns-in-Ok-roomy_era-clause-cause g c =

@@ -16,7 +16,7 @@ returns-in-Ok-begin_next-clause-turns g c first i =
     let logs : c.deref.result.now ≡ era_logs name era.number = c.deref.ensures ∙ c.in-Ok.ensures in
     let others = subst (λ (n : List ℕ). SameBut (held_names n (length works)) old after) logs c.serve.ensures.others in
     let here = served_era g.O.Saved.read_of first name era (length works) old after others i in
-    let on = sym c.goes_on.ensures ∙ c.if-not-goes_on.false in (
+    let on = sym c.wants_next.ensures ∙ c.if-not-wants_next.false in (
       after,
       c.in-Ok-serve.served,
       is_service g.O.Object.means g.S.Dev.Pmem.means g.W.Work.promise g.O.Object.CODE g.O.Described.description g.O.Saved.read_of first name era works old after
@@ -41,9 +41,10 @@ returns-clause-turns g c first i =
       refl,
       refl,
       record {
-        on = sym c.goes_on.ensures ∙ c.if-not-goes_on.false;
+        on = sym c.wants_next.ensures ∙ c.if-not-wants_next.false;
         left = subst (λ (n : ℕ). StaysOrBegins g.O.Object.means g.O.Object.CODE g.O.Described.description g.O.Saved.read_of first name n after new era)
             c.count_of-threads.ensures (c.in-Err-begin_next.ensures.refused first here);
+        stands = λ stands. c.in-Err-begin_next.ensures.stands stands first here;
         cause = subst (λ (n : ℕ). NextCause g.O.Object.means g.O.Object.CODE g.O.Described.description name n {T = Era g.row.O.Denot} after era (Err c.in-Err-begin_next.fault))
             c.count_of-threads.ensures c.in-Err-begin_next.ensures.cause;
         faults = subst (λ (n : ℕ). NextFaults {T = Era g.row.O.Denot} name era.number n after new (Err c.in-Err-begin_next.fault))

@@ -17,3 +17,4 @@ pub mod Lifetime
 pub mod Balances
 pub mod LiveCauses
 pub mod Cuts
+pub mod Killed

@@ -10,3 +10,4 @@ pub mod LiveCauses
 pub mod Refusals
 pub mod Plain
 pub mod Cuts
+pub mod Killed

@@ -4,6 +4,7 @@ ghost use Rattle.onll_balance.specs.Floor.{Floor};
 ghost use Rattle.onll_balance.specs.Measure.{Measure};
 ghost use Rattle.onll_live.specs.Balances.{ErasBalanceLaw, ErasFloorLaw};
 ghost use Rattle.onll_live.specs.Cuts.{EraCutLaw, EraStandsLaw};
+ghost use Rattle.onll_live.specs.Killed.{EraKilledLaw};
 ghost use Rattle.onll_live.specs.Lifetime.{ErasLaw};
 
 use crate::settling::told_law;
@@ -11,6 +12,7 @@ use onll_balance::{balance_law, floor_law};
 use onll_model::Object;
 use onll_outside::Store;
 use onll_pmem::Pmem;
+use onll_serve::moment_law;
 use onll_threads::Work;
 
 /// Where the store tells its files, the newest era began in the state that all earlier ones made, one after the other, and each call that
@@ -39,3 +41,12 @@ pub fn era_cut_law<O: Object>()
     ensures cut { EraCutLaw O.means }
     ensures stands { EraStandsLaw O.means }
 {}
+
+/// Where the store tells its files, and works that are served in an era are killed, at any moment, within their calls too: the object is in
+/// this era still, and whatever its logs then give is a front of what was done, with what they held before and each answered call. The next
+/// life goes on from it. It does nothing when called.
+pub fn era_killed_law<O: Object, P: Pmem>()
+    ensures { EraKilledLaw O.means P.means }
+{
+    moment_law::<O, P>();
+}

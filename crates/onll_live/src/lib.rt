@@ -17,7 +17,7 @@ pub use beginning::begin_next;
 pub use era::Era;
 pub use fault::{EraFault, LiveFault, NextFault, NotLived};
 pub use finding::find_era;
-pub use laws::{era_cut_law, eras_balance_law, eras_law};
+pub use laws::{era_cut_law, era_killed_law, eras_balance_law, eras_law};
 pub use living::{Lived, live};
 pub use plain::PlainSaved;
 pub use saved::Saved;

@@ -7,9 +7,12 @@ use Rattle.onll_model.specs.declared.call.CallEnd.{CallEnd}
 use Rattle.onll_pmem.specs.Pmem.{DeviceView}
 use Rattle.onll_rows.specs.Sketch.{behaviour_of}
 use Rattle.onll_shared.specs.declared.calls.UpdateFault.{UpdateFault}
-use Rattle.onll_threads.specs.Acts.{SeatView}
+use Rattle.onll_shared.specs.declared.calls.UpdateFault.TheVariants as faults
+use Rattle.onll_threads.specs.Acts.{SeatView, calls_of, ends_of, seen_in}
+use Rattle.onll_threads.specs.Seats.{ActsAt}
 use Rattle.onll_meter.specs.declared.clerk.Clerk.{Clerk}
 use Rattle.onll_meter.specs.declared.clerk.Ending.{Ending}
+use Rattle.onll_meter.specs.declared.clerk.Ending.TheVariants as why
 use Rattle.onll_meter.specs.declared.clerk.Tally.{Tally}
 use Rattle.onll_meter.specs.declared.meter.Meter.{Meter}
 use Rattle.onll_meter.specs.declared.meter.MeterOp.{MeterOp}
@@ -27,6 +30,21 @@ counted Count AtItsEnd = 0
 -- how much an update counted
 abbrev pub counted_by : Result MeterReply UpdateFault → ℕ
 counted_by done = out_of counted Count done
+
+-- what a clerk has of a count's reply: how much was counted with it, or why it ends
+abbrev pub total_said : Result MeterReply UpdateFault → Result ℕ Ending
+total_said (Ok (Counted total)) = Ok total
+total_said (Ok AtItsEnd) = Err why.AtItsEnd
+total_said (Err faults.NodesFull) = Err why.Full
+total_said (Err (faults.LogFull free)) = Err why.Full
+total_said (Err (faults.FenceFailed place)) = Err why.Broken
+total_said (Err (faults.Broken place)) = Err why.Broken
+
+-- One count was made at a seat, the one call there, and this is had of its reply.
+abbrev pub CountsOne : {Device : Type 0} → (Device → DeviceView) → Option (SeatView Meter Device) → SeatView Meter Device
+    → SeatView Meter Device → Result ℕ Ending → Type 0
+CountsOne means first old new said = (done : Result MeterReply UpdateFault)
+    × ActsAt (behaviour_of meter) means first (calls_of Count done) (ends_of (seen_in new.pass) done) old new × (said ≡ total_said done)
 
 -- one thing, where a clerk goes on
 abbrev pub one_counted : Result ℕ Ending → ℕ

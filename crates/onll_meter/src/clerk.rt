@@ -1,7 +1,7 @@
 //! A clerk, who counts things and says each count once it is durable.
 
 ghost use Rattle.std.specs.Prelude.{ℕ, ◌+◌, ◌≡◌};
-ghost use Rattle.onll_meter.specs.Counting.{HasCounted, HasCountedOff, counted_by, one_counted};
+ghost use Rattle.onll_meter.specs.Counting.{CountsOne, HasCounted, HasCountedOff, one_counted, total_said};
 
 use crate::meter::{Meter, MeterOp, MeterQuery, MeterReply};
 use onll_pmem::Pmem;
@@ -56,7 +56,7 @@ pub struct Clerk<'a, R: Wait> {
 
 /// How much was counted with this count.
 fn total_of(done: Result<MeterReply, UpdateFault>) -> Result<u64, Ending>
-    ensures { one_counted result ≡ counted_by done }
+    ensures { result ≡ total_said done }
 {
     match done {
         Ok(MeterReply::Counted(total)) => Ok(total),
@@ -73,7 +73,8 @@ fn count_one<R: Wait, P: Pmem, B: Begun<Plain<Meter>, P>>(
     rt: &R,
     seat: &mut Seat<'_, Plain<Meter>, P, B>,
 ) -> Result<u64, Ending>
-    ensures { (n : ℕ) → HasCounted P.means B.first n seat.old → HasCounted P.means B.first (n + one_counted result) seat.new }
+    ensures said { CountsOne P.means B.first seat.old seat.new result }
+    ensures counted { (n : ℕ) → HasCounted P.means B.first n seat.old → HasCounted P.means B.first (n + one_counted result) seat.new }
 {
     total_of(seat.update(rt, MeterOp::Count))
 }

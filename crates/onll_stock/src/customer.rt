@@ -9,9 +9,8 @@ use crate::stock::{Stock, StockOp, StockQuery, StockReply};
 use onll_pmem::Pmem;
 use onll_rows::Plain;
 use onll_serve::Reported;
-use onll_shared::UpdateFault;
+use onll_shared::UpdateFault::{self, FenceFailed};
 use onll_threads::{Begun, Seat, Work};
-use std::fmt;
 use std::sync::Wait;
 use thiserror::Error;
 
@@ -33,22 +32,12 @@ pub enum Ending {
 }
 
 /// What a customer did: how many items it bought, and brought back, those of a fence that failed among them, which may be lost.
-#[derive(Clone, Copy, Debug, PartialEq, Eq)]
+#[derive(Clone, Copy, Debug, PartialEq, Eq, Error)]
+#[error("bought {bought}, brought back {back}, {ending}")]
 pub struct Deal {
     pub bought: u64,
     pub back: u64,
     pub ending: Ending,
-}
-
-impl fmt::Display for Deal {
-    fn fmt<W: fmt::Write>(&self, f: &mut fmt::Formatter<W>) -> fmt::Result {
-        let Deal {
-            bought,
-            back,
-            ending,
-        } = self;
-        write!(f, "bought {bought}, brought back {back}, {ending}")
-    }
 }
 
 impl Reported for Deal {
@@ -78,9 +67,7 @@ impl Deal {
         match (op, done) {
             (StockOp::Sell { count }, Ok(StockReply::Sold)) => self.bought += count,
             (StockOp::Restock { count }, Ok(StockReply::Restocked)) => self.back += count,
-            (StockOp::Restock { count }, Err(UpdateFault::FenceFailed { .. })) => {
-                self.back += count;
-            }
+            (StockOp::Restock { count }, Err(FenceFailed { .. })) => self.back += count,
             _ => {}
         }
     }
@@ -104,9 +91,8 @@ impl<'a, R: Print + Wait> Customer<'a, R> {
         let done = seat.update(self.rt, op);
         deal.count(op, done);
         let (reply, thread, place) = (done?, seat.thread(), seat.place());
-        println!(self.rt; "{place}: customer {thread}: {reply:?} {count}").or(Err(
-            Ending::NotSaid,
-        ))?;
+        let said = println!(self.rt; "{place}: customer {thread}: {reply:?} {count}");
+        said.or(Err(Ending::NotSaid))?;
         Ok(reply)
     }
 

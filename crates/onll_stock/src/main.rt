@@ -14,28 +14,13 @@ use std::sync::Wait;
 use std::thread::Threads;
 use std::{env, io, process};
 
-/// What the words say of a shop: the name of its files, how many items it has at first, and who comes.
-struct ShopWords<'a> {
-    name: &'a str,
-    items: u64,
-    customers: u64,
-    needs: u64,
-    of_box: u64,
-}
-
-/// Opens the shop, and says what its customers did.
+/// Opens the shop of this name for so many customers, and says what they did.
 fn open_shop<R: Threads + Wait + Sync + Print>(
     rt: &HostRuntime,
     threads: &R,
-    shop: ShopWords<'_>,
+    name: &str,
+    [items, count, needs, of_box]: [u64; 4],
 ) -> io::Result<process::ExitCode> {
-    let ShopWords {
-        name,
-        items,
-        customers: count,
-        needs,
-        of_box,
-    } = shop;
     let mut customers = Vec::new(rt.alloc());
     for _ in 0..count {
         customers.push(Customer {
@@ -56,20 +41,13 @@ fn main(rt: HostRuntime) -> io::Result<process::ExitCode> {
         words.push(word)?;
     }
     if let [name, items, customers, needs, of_box] = words.as_slice() {
-        if let (Ok(items), Ok(customers), Ok(needs), Ok(of_box)) = (
+        if let (Ok(items), Ok(count), Ok(needs), Ok(of_box)) = (
             items.parse(),
             customers.parse(),
             needs.parse(),
             of_box.parse(),
         ) {
-            let shop = ShopWords {
-                name,
-                items,
-                customers,
-                needs,
-                of_box,
-            };
-            return open_shop(&rt, &rt, shop);
+            return open_shop(&rt, &rt, name, [items, count, needs, of_box]);
         }
     }
     println!(&rt; "usage: onll_stock NAME ITEMS CUSTOMERS NEEDS BOX")?;

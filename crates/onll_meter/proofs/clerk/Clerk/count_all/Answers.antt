@@ -6,4 +6,4 @@ returns-then-is_err g c =
     let n = c.loop-counted.counted in
     let inv = c.loop-counted.invariant in
     let within = c.loop-counted-test.true in
-    record { many = n + 1; tallied = c.in-Ok.ensures n inv.0; off = omega (arith, within) }
+    record { many = n + 1; tallied = c.in-Ok.ensures.counted n inv.0; off = omega (arith, within) }

@@ -4,17 +4,15 @@ use Rattle.std.specs.Prelude.{Option, None, Result, Ok, Err, IfErr}
 use Rattle.std.proofs.lemmas.Bool.{cases_Bool}
 use Rattle.std.proofs.lemmas.Bool.Decides.{nat_tests}
 use Rattle.onll_model.specs.Limits.{most_threads}
-use Rattle.onll_outside.specs.Views.{StoreView, Rose, SameFaults}
+use Rattle.onll_outside.specs.Views.{StoreView}
 use Rattle.onll_areas.specs.Keeping.{OthersStay}
 use Rattle.onll_areas.specs.Newest.{AreaHolds}
 use Rattle.onll_open.specs.Files.{SameBut, is_made}
 use Rattle.onll_open.specs.Names.{log_lock_name, log_name, log_names}
-use Rattle.onll_open.proofs.Handing.{faults_more}
 use Rattle.onll_open.proofs.Locked.{logs_locked}
 use Rattle.onll_live.specs.declared.era.Era.{Era}
 use Rattle.onll_live.specs.declared.fault.NextFault.{NextFault}
-use Rattle.onll_live.specs.declared.fault.NextFault.TheVariants as faults
-use Rattle.onll_live.specs.Beginning.{AreCleared, AreaSaves, BeginFaults, ClearFaults, SaveFaults, EraHasBegun, EraStands, LogsStay, NoneSaved, OthersOfEra, SameAreaFile, StaysInEra}
+use Rattle.onll_live.specs.Beginning.{AreCleared, AreaSaves, EraHasBegun, EraStands, LogsStay, NoneSaved, OthersOfEra, SameAreaFile, StaysInEra}
 use Rattle.onll_live.specs.Eras.{IsInEra, area_name, era_logs}
 use Rattle.onll_live.proofs.Apart.{log_not_area, logs_differ, none_of_logs, not_lock, not_log, other_area}
 use Rattle.onll_live.proofs.Changes.{has_next, has_none, same_era}
@@ -40,9 +38,6 @@ module _ (name : List ℕ) (number : ℕ) (old mid new : StoreView) where
     tells = then_.tells ∙ first.tells;
     file = λ t other differs apart. then_.file (first.tells ∙ t) other differs ∙ first.file other apart;
   }
-
-  pub others_cleared : SameBut (log_names (era_logs name number) 0 most_threads) old new → OthersOfEra (era_logs name number) old new
-  others_cleared first = record { tells = first.tells; file = λ t other differs apart. first.file other apart }
 
 -- a file of an area that stays, and stays
 pub area_more : (file : List ℕ) (old mid new : StoreView) → SameAreaFile old mid file → SameAreaFile mid new file → SameAreaFile old new file
@@ -133,24 +128,3 @@ whatever (Err e) P p = p
 pub whatever_stands : {T : Type 0} (result : Result T NextFault) (P : Type 0) → P → IfErr result (λ fault. EraStands fault → P)
 whatever_stands (Ok x) P p = tt
 whatever_stands (Err e) P p = λ stands. p
-
--- ---- the outside
-pub clear_faults : (fault : NextFault) (name : List ℕ) (number : ℕ) (old new : StoreView) → ClearFaults (era_logs name number) old new (Err fault)
-    → BeginFaults name number old new (Err fault)
-clear_faults (faults.Files fault) name number old new h = absurd h
-clear_faults faults.AtItsEnd name number old new h = absurd h
-clear_faults (faults.NotCleared thread) name number old new h = h
-clear_faults (faults.NotKept area) name number old new h = absurd h
-clear_faults (faults.FenceFailed area) name number old new h = absurd h
-clear_faults faults.NoMemory name number old new h = h
-
-pub save_after : (result : Result (Unit {0}) NextFault) (name : List ℕ) (number : ℕ) (old mid new : StoreView) → SameFaults old mid
-    → SaveFaults name (number % 2) mid new result → BeginFaults name number old new result
-save_after (Ok x) name number old mid new same h = faults_more old mid new same h
-save_after (Err (faults.Files fault)) name number old mid new same h = absurd h
-save_after (Err faults.AtItsEnd) name number old mid new same h = absurd h
-save_after (Err (faults.NotCleared thread)) name number old mid new same h = absurd h
-save_after (Err (faults.NotKept area)) name number old mid new same h =
-    (h.0, record { rose = subst (λ (n : ℕ). Rose n new.faults) same.0 h.1.rose; last = h.1.last })
-save_after (Err (faults.FenceFailed area)) name number old mid new same h = (h.0, faults_more old mid new same h.1)
-save_after (Err faults.NoMemory) name number old mid new same h = faults_more old mid new same h

@@ -20,7 +20,7 @@ use Rattle.onll_live.specs.declared.living.Lived.{Lived}
 use Rattle.onll_live.specs.Beginning.{EntersEra, IsNextEra, IsToEnd, IsToGoOn, SameAreaFile}
 use Rattle.onll_live.specs.Eras.{AreasGive, IsInEra, area_name, era_lock, number_of}
 use Rattle.onll_live.specs.Faults.{CannotFind}
-use Rattle.onll_live.specs.Living.{CannotServeEra, CannotLiveBy, HasLived, IsLockFault, StopsInEra, StopsLater}
+use Rattle.onll_live.specs.Living.{CannotServeEra, CannotLiveBy, HasLived, StopsInEra, StopsLater}
 use Rattle.onll_live.proofs.Changes.{number_is, same_area, same_era}
 
 -- ---- areas
@@ -77,12 +77,6 @@ lock_alone name old mid new first then_ = record { tells = then_.tells ∙ first
 
 then_same : (names : List (List ℕ)) (old mid new : StoreView) → SameBut names old mid → SameFiles mid new → SameBut names old new
 then_same names old mid new first same = record { tells = same.tells ∙ first.tells; file = λ other d. same.file other ∙ first.file other d }
-
-pub only_locked : (name : List ℕ) (old new : StoreView) → SameFiles old new → SameBut (era_lock name ∷ []) old new
-only_locked name old new same = record { tells = same.tells; file = λ other d. same.file other }
-
-pub lock_others : (name : List ℕ) (old new : StoreView) → SameOthers (era_lock name) old new → SameBut (era_lock name ∷ []) old new
-lock_others name old new same = record { tells = same.tells; file = λ other d. same.file other d.0 }
 
 -- where no file changed the object is in its era
 pub era_of_files : {State : Type 0} (read_of : List ℕ → Option State) (first : State) (name : List ℕ) (old new : StoreView) (era : Era State)
@@ -191,14 +185,3 @@ module _ {State Op Query Reply Device Work Answer : Type 0} (b : Behaviour State
   stops_by (faults.NotServed fault) e from to next left c s = s
   stops_by (faults.NotBegun fault) e from to next left c s = inr s
   stops_by faults.NoMemory e from to next left c s = inr s
-
-  -- where it wasn't locked
-  pub not_locked : (fault : LiveFault) (e : NotLived Work) → IsLockFault fault → e.works.items ≡ works → e.eras ≡ 0 → SameOthers (era_lock name) old new
-      → CannotLiveBy b means promise code description read_of first name fault old new works e
-  not_locked faults.InUse e h same none others = (lock_others name old new others, same, none)
-  not_locked faults.NotLocked e h same none others = (lock_others name old new others, same, none)
-  not_locked (faults.NotFound fault) e h same none others = absurd h
-  not_locked (faults.NotSettled fault) e h same none others = absurd h
-  not_locked (faults.NotServed fault) e h same none others = absurd h
-  not_locked (faults.NotBegun fault) e h same none others = absurd h
-  not_locked faults.NoMemory e h same none others = inl (lock_others name old new others, same, none)

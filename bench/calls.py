@@ -9,12 +9,14 @@ call on the folder is for a file that is written. Where the output fails the lin
 file is may fail for nothing. Each read and each write does half of its bytes once, which must change nothing. And the process is killed before
 each call, and after half of each write of more than a line.
 
-After each: no file has changed that the row doesn't write. Of images that are written the ones before one are whole, and those after it as
-they were. `restore` gives the place and the state of before, and what a `resume` went on from is recovered.
+After each: no file has changed that the row doesn't write. What `write` writes is as it was or whole, and a kill may leave a part of it
+beside, as `NAME.new0`. Of images the ones before one are whole, and those after it as they were. `restore` gives the place and the state of
+before, and what a `resume` went on from is recovered.
 
 Ends with 0, or names each run that does otherwise and ends with 1."""
 import errno
 import os
+import re
 import sys
 import tempfile
 
@@ -28,6 +30,8 @@ WAYS = {"fails": ("FAIL", errno.EIO, ANY), "finds no room": ("FAIL", errno.ENOSP
         "is not reached": ("KILL", 0, ANY), "is cut": ("CUT", 0, WRITE)}
 # The commands that write one file after the other, and whose failed fences are told with 7.
 IMAGES, FENCES = ("replay", "again"), ("run", "resume", "checkpoint")
+# The end of the name of a file that is written beside another one.
+BESIDE = re.compile(r"\.new\d+$")
 
 
 class Row:
@@ -59,16 +63,22 @@ class Row:
         if status == 5:
             return lines == [f"read fault {file}"] and call in ("open", "stat", "read")
         if status == 6:
-            return lines in ([f"write fault {name}"] for name in (self.written if file == "." else {file} & self.written))
+            return lines in ([f"write fault {name}"] for name in (self.written if file == "." else {BESIDE.sub("", file)} & self.written))
         is_fault = any(line.startswith(("fault thread ", "fault area ")) for line in lines)
         return status == 7 and self.name in FENCES and call in ("write", "sync") and is_fault
 
     def are_images(self, files, lines):
-        """Whether the images before one are whole, and those after it as they were: the one that is named, or any."""
+        """Whether the first images are whole and the rest as they were, and one that is named is the last of those or the first of these."""
         images = sorted(self.written)
         named = [at for at, name in enumerate(images) if f"write fault {name}" in lines]
-        return any(all(files.get(name) == self.whole[name] for name in images[:at]) and
-                   all(files.get(name) == self.old.get(name) for name in images[at + 1:]) for at in named or range(len(images)))
+        counts = {count for at in named or range(len(images)) for count in (at, at + 1)}
+        return any(all(files.get(name) == self.whole[name] for name in images[:count]) and
+                   all(files.get(name) == self.old.get(name) for name in images[count:]) for count in counts)
+
+    def is_left(self, name, data):
+        """Whether this is a part of a file that is written, beside it."""
+        stem = BESIDE.sub("", name)
+        return name != stem and stem in self.written and self.whole[stem].startswith(data)
 
     def wrong(self, way, number, error, call, file):
         """What is wrong with a run in which this befalls the call of this number, that is for this file."""
@@ -79,6 +89,8 @@ class Row:
         if not self.is_said(way, call, file, status, lines):
             yield f"status {status}, {lines[:3]}"
         others = {name for name in {*files, *self.old} - self.written if files.get(name) != self.old.get(name)}
+        if way in ("KILL", "CUT"):
+            others = {name for name in others if not self.is_left(name, files.get(name))}
         if others:
             yield f"changed {sorted(others)}"
         if way == "SHORT" and files != self.whole:

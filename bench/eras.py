@@ -158,6 +158,8 @@ class Chain:
     """Six eras over the files of this folder: what was restored last, and the model of the object with all updates of it."""
 
     def __init__(self, program, kind, times, rng, killing):
+        # So many updates of a thread may be in the logs of others and not in its own.
+        self.ahead = 1
         self.program, self.kind, self.times, self.rng = program, kind, times, rng
         self.killing = rng if killing else None
         self.model, self.replies, self.last = KINDS[kind](ROOMS[kind]), [], None
@@ -241,7 +243,7 @@ class Chain:
             counts[thread] += 1
             self.replies.append(self.model.say(*call.split()))
         for count, now, then in zip(counts, found.entries, before.entries):
-            assert 0 <= count - (now - then) <= 1, (counts, found.entries, before.entries)
+            assert 0 <= count - (now - then) <= self.ahead, (counts, found.entries, before.entries)
         assert found.state == self.model.lines(), (found.state, self.model.lines())
 
     def expect_told(self, found, scripts):

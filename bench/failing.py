@@ -226,6 +226,7 @@ int ftruncate(int fd, off_t length) {
     if (!done && had > length) written(names[fd], length, had);
     return done;
 }
+int fchmod(int fd, mode_t mode) { return refused("permit", name_of(fd)) ? -1 : syscall(SYS_fchmod, fd, mode); }
 /* It is not passed on: what a loss of power would leave stands in the folder DISK. */
 int fsync(int fd) {
     int done = refused("sync", name_of(fd)) ? -1 : 0, error = errno;

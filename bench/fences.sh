@@ -1,13 +1,13 @@
 #!/usr/bin/env bash
 # Shows the system calls of a log over a file: for each append one write at an offset and one fdatasync, and nothing else.
-# It runs, unproved, the test of onll_outside_tests that goes on in a log over a file, under strace: a new log with three entries, and
+# It runs, unproved, the test of tests_outside that goes on in a log over a file, under strace: a new log with three entries, and
 # a fourth entry after the file was reopened. Each line of its output is what the program called from a device's first write
 # to its last fence; the first two calls of a new log are its header's.
 # Usage: bench/fences.sh
 top=$(cd "$(dirname "${BASH_SOURCE[0]}")/.." && pwd) || exit 1
 trace=$(mktemp) || exit 1
 trap 'rm -f "$trace"' EXIT
-cd "$top/crates/onll_outside_tests" || exit 1
+cd "$top/crates/tests_outside" || exit 1
 strace -f -o "$trace" rt try --test -- logs::a_log_over_a_file_goes_on >/dev/null || exit 1
 file='"onll_tests_next/log.0"'
 program=$(grep -F "$file" "$trace" | tail -n 1 | awk '{ print $1 }')

@@ -11,12 +11,15 @@ then over the files, where it is killed by signal 9 at a moment between its star
 After each, whatever came of it: no file has changed that its words don't write. `restore` answers 0, as in bench/eras.py: it holds all
 that it held before, and of each thread the first updates of the scripts, with each one that a report has told; `recover` of the era's
 files says the same, and `detect` tells their replies and places. A whole report of `run` is `legal` for `audit`, and what `audit` says of
-the others is what judge.py says. What a killed `ship` writes is a front of what it writes beside the copy; what `follow` says of it is the
-state after so many updates of the era, all of them where the stream is whole; and a stream of another era is refused.
+the others is what judge.py says. A killed `ship` leaves the stream that was there, or all that it writes over the copy; of the streams some
+are then cut. What `follow` says is the state after so many updates of the era, all of them where the stream is whole; and a stream of another
+era is refused. A killed command may leave a file beside one that it writes, `NAME.new0`, which has a front of what that one has over the copy
+and is then removed.
 
 `replay` and `again` play a crash, and write the images that it leaves over the files, one after the other; the copy shows these images. Of a
-killed one the first files have them, the next may have a front, and the rest are as they were. Where some are new and some old `restore` may
-refuse them, as it may where one is a front. Then the files are put back as they were, which is counted with what `restore` said.
+killed one the first files have them, and the rest are as they were. Where some are new and some old `restore` may refuse them, since a place
+is missing. Then each log is cut before its first entry of a later place, as docs/FORMATS.md says, and all that was held before stands. Where
+files were missing before a `replay`, they are removed. Both are counted, by what `restore` said.
 
 At the first failure it says what is wrong, keeps the folder with the files, and ends with 1."""
 import argparse
@@ -42,7 +45,10 @@ NEXT = ["resume", "again", "checkpoint", "ship", "follow"]
 OFTEN = [3, 3, 2, 2, 2]
 PIECES = [1, 63, 64, 192, 4096, 1 << 20]
 # What `restore` may say of images that are partly those before a `replay` or an `again` and partly those after it.
-PARTLY = re.compile(r"log \d not a log|place \d+ missing|read fault log\.\d")
+MISSING, NO_LOG = re.compile(r"place (\d+) missing\n"), re.compile(r"read fault log\.\d\n")
+ENTRY = re.compile(r"entry \d+ place (\d+) count (\d+)")
+# A file that is being written beside another one.
+BESIDE = re.compile(r"(.*)\.new\d+")
 COPY = "../copy"
 
 
@@ -58,7 +64,7 @@ class Mixed(Chain):
 
     def __init__(self, program, kind, times, rng):
         super().__init__(program, kind, times, rng, True)
-        self.begun, self.stream, self.put_back = copy.deepcopy(self.model), None, {}
+        self.begun, self.stream, self.partly, self.left = copy.deepcopy(self.model), None, {}, 0
         self.audits, self.follows = {}, {}
 
     # ---- all commands
@@ -90,10 +96,21 @@ class Mixed(Chain):
         self.words, self.before, written = words, files_of("."), self.written(words[0])
         self.report, self.whole = self.by_copy(words, wanted)
         ended = self.times.command(self.program, self.kind, words, killing, wanted)
+        self.clear_beside(ended, written)
         after = files_of(".")
         changed = {name for name in {*self.before, *after} - written if self.before.get(name) != after.get(name)}
         assert not changed, (words, changed)
         return ended
+
+    def clear_beside(self, ended, written):
+        """Removes the file that a killed command has left beside one that it writes, and counts it."""
+        found = files_of(".")
+        left = [match for match in map(BESIDE.fullmatch, found) if match]
+        assert len(left) <= (0 if ended else 1), (ended, left)
+        for match in left:
+            assert match[1] in written and self.whole[match[1]].startswith(found[match[0]]), match[0]
+            os.remove(match[0])
+            self.left += 1
 
     def restore(self):
         """What `restore` says. Where it answers 0 `recover` says the same of the era's files."""
@@ -108,6 +125,7 @@ class Mixed(Chain):
     # ---- threads and images
     def go_on(self, words, scripts):
         """These scripts by one command more in the era. Its report is audited over the copy, and where it has ended."""
+        self.ahead = 1
         ended = self.command(words, self.killing)
         self.audit(scripts, COPY)
         if ended:
@@ -138,37 +156,50 @@ class Mixed(Chain):
 
     def are_images(self, ended):
         """Whether the files of the logs are what a `replay` or an `again` leaves, or as they were, or are recovered though they are partly one
-        and partly the other; else they are put back."""
-        new, is_front = self.new_images(self.before, files_of("."), self.whole)
+        and partly the other, where need be once they are cut; else they are removed."""
+        new = self.new_images(self.before, files_of("."), self.whole)
         assert not ended or new == THREADS, new
-        if is_front or 0 < new < THREADS:
+        # An old image lacks what its thread has logged since, and new ones may have it.
+        self.ahead = UPDATES if 0 < new < THREADS else 1
+        if 0 < new < THREADS:
             status, said = self.restore()
-            assert status == 0 or PARTLY.fullmatch(said.strip()), (status, said)
-            if is_front or status != 0:
-                self.go_back(said if status else "restored")
-                return False
+            missing = MISSING.fullmatch(said)
+            if missing:
+                self.cut_logs(int(missing[1]))
+                status, _ = self.restore()
+            elif status != 0:
+                assert NO_LOG.fullmatch(said) and not self.last, (status, said)
+                self.go_back()
+            if missing or status != 0:
+                key = f"{self.words[0]}: {re.sub('[0-9]+', 'N', said.strip())}"
+                self.partly[key] = self.partly.get(key, 0) + 1
+            return status == 0
         return self.last is not None or new == THREADS
 
     def new_images(self, before, found, whole):
-        """How many files, from the first on, are the images of a whole one; and whether the one after them is another front of its own.
-        The rest are as they were."""
+        """How many files, from the first on, are the images of a whole one. The rest are as they were."""
         logs = self.log_names()
         new = next((at for at, log in enumerate(logs) if found.get(log) != whole[log]), THREADS)
-        old = next((at for at in range(new, THREADS) if found.get(logs[at]) == before.get(logs[at])), THREADS)
-        assert all(found.get(log) == before.get(log) for log in logs[old:]), (new, old)
-        assert old == new or old == new + 1 and whole[logs[new]].startswith(found[logs[new]]), (new, old)
-        return new, old > new
+        assert all(found.get(log) == before.get(log) for log in logs[new:]), new
+        return new
 
-    def go_back(self, said):
-        """The logs as they were before the last command."""
+    def cut_logs(self, missing):
+        """Cuts each log before its first entry of a place after the missing one."""
         for log in self.log_names():
-            if log in self.before:
-                with open(log, "wb") as file:
-                    file.write(self.before[log])
-            elif os.path.exists(log):
+            status, shown = self.ask("show", log)
+            assert status == 0, shown
+            lines = 1
+            for place, count in (map(int, match.groups()) for match in ENTRY.finditer(shown)):
+                if place > missing:
+                    break
+                lines += 1 + count
+            os.truncate(log, 64 * lines)
+
+    def go_back(self):
+        """No logs, as before the first `replay`."""
+        for log in self.log_names():
+            if os.path.exists(log):
                 os.remove(log)
-        key = f"{self.words[0]}: {re.sub('[0-9]+', 'N', said.strip())}"
-        self.put_back[key] = self.put_back.get(key, 0) + 1
 
     # ---- streams
     def ship(self):
@@ -182,11 +213,18 @@ class Mixed(Chain):
         stream, found = self.whole["stream"], files_of(".").get("stream")
         assert self.report == f"shipped entries {sum(self.last.entries)} bytes {len(stream)}\n", self.report
         assert not ended or (found, text_of(report_lines())) == (stream, self.report), "another stream"
-        assert found == logs.get("stream") or stream.startswith(found), "no front of the stream"
-        if found != logs.get("stream") or found == stream:
-            count = (sum(self.last.entries), len(self.last.nodes)) if found == stream else None
-            self.stream = (self.last.era, count)
+        assert found in (logs.get("stream"), stream), "neither the old stream nor the new one"
+        if found == stream:
+            self.stream = (self.last.era, self.cut_stream(stream))
         self.expect_restored()
+
+    def cut_stream(self, stream):
+        """How many entries and updates a stream has that stays whole; none of one that is cut, as some are."""
+        if self.rng.random() < 0.7:
+            return sum(self.last.entries), len(self.last.nodes)
+        with open("stream", "wb") as file:
+            file.write(stream[:self.rng.randrange(len(stream))])
+        return None
 
     def follow(self):
         """What is followed of the stream that is there."""
@@ -292,7 +330,8 @@ def tell(chains, times):
     print("statuses of audits:", summed({f"of {status}": count for status, count in chain.audits.items()} for chain in chains))
     print("streams followed:", summed(chain.follows for chain in chains))
     print("before every log had a line:", summed(chain.early for chain in chains))
-    print("files put back:", summed(chain.put_back for chain in chains))
+    print("logs refused, and then cut or removed:", summed(chain.partly for chain in chains))
+    print("files left beside:", sum(chain.left for chain in chains))
 
 
 def main():

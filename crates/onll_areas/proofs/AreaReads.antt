@@ -8,7 +8,7 @@ use Rattle.onll_pmem.specs.Pmem.{words_of}
 use Rattle.onll_pmem.proofs.Lines.{words_of-replicate, length-words_of}
 use Rattle.onll_pmem.proofs.Fronts.{length-followed}
 use Rattle.onll_log.specs.ImageFile.{whole_lines}
-use Rattle.onll_outside.specs.Views.{StoreView, Holds, with_zeros, image_bytes}
+use Rattle.onll_outside.specs.Views.{StoreView, FileHolds, with_zeros, image_bytes}
 use Rattle.onll_outside.specs.LineFiles.{IsWholeLine, IsFileFront, FrontHasLines, GivesLines}
 use Rattle.onll_outside.proofs.WholeLines.{whole_to_end}
 use Rattle.onll_checkpoint.specs.Checkpoint.{CheckpointState}
@@ -19,7 +19,7 @@ use Rattle.onll_areas.proofs.LinesBack.{whole_back, length-image_bytes}
 -- bytes that the file may have, and their lines
 record AreaRead (s : StoreView) (name : List ℕ) (lines : List (List ℕ)) : Type 0 where
   bytes : List ℕ
-  held : Holds s name bytes
+  held : FileHolds s name bytes
   lines_are : area_lines bytes ≡ lines
 
 area_read : (s : StoreView) (name : List ℕ) (front : List (List ℕ)) (count : ℕ) → IsFileFront front count → 64 * count ≤ longest_area

@@ -2,7 +2,7 @@
 
 use Rattle.std.specs.Prelude.{ℕ, ◌≡◌, ◌==◌, ◌%◌, if◌then◌else◌, List, take, nat_lt, Option, Some, None}
 use Rattle.onll_log.specs.ImageFile.{whole_lines}
-use Rattle.onll_outside.specs.Views.{StoreView, Holds}
+use Rattle.onll_outside.specs.Views.{StoreView, FileHolds}
 use Rattle.onll_checkpoint.specs.Checkpoint.{CheckpointState}
 use Rattle.onll_checkpoint.specs.Grammar.{checkpoint_in}
 
@@ -17,7 +17,7 @@ area_lines bytes = whole_lines (take longest_area bytes)
 -- the bytes of an area's file, where the store tells it, and the checkpoint that they hold
 pub record AreaHolds (store : StoreView) (name : List ℕ) (found : Option CheckpointState) : Type 0 where
   pub bytes : List ℕ
-  pub held : Holds store name bytes
+  pub held : FileHolds store name bytes
   pub found_is : found ≡ checkpoint_in (area_lines bytes)
 
 -- a checkpoint counts only in the area of its number's parity, 0 or 1

@@ -15,7 +15,7 @@
 //! assert!(rt; found.number() == 1);
 //! ```
 //!
-//! The test `areas` of `onll_uses` runs this.
+//! The test `areas` of `tests_uses` runs this.
 #![tactic(auto)]
 
 mod area;

@@ -7,7 +7,7 @@
 //! assert!(rt; bank.ask(BankQuery::Total) == BankReply::Amount(5));
 //! ```
 //!
-//! The test `bank` of `onll_uses` runs this.
+//! The test `bank` of `tests_uses` runs this.
 #![tactic(auto)]
 
 mod bank;

@@ -3,7 +3,7 @@ use Rattle.std.proofs.Common.{ℕ, suc, ◌≡◌, ◌+◌, ◌-◌, ◌<◌, �
 use Rattle.std.proofs.lemmas.List.{length-replicate, take_more, length-take-le, take_all}
 use Rattle.onll_pmem.specs.Device.{line_at, zero_line, zero_lines}
 use Rattle.onll_pmem.specs.Pmem.{DeviceView, ToldBacked, ToldSettled, told_fenced}
-use Rattle.onll_log.specs.Log.{Puts, placed_lines}
+use Rattle.onll_log.specs.Log.{PutsLines, placed_lines}
 use Rattle.onll_log.proofs.Placed.{placed_lines-zeros}
 use Rattle.onll_log.proofs.Writing.{Puts-then}
 use Rattle.onll_log.proofs.Kept.{ToldSettled-fenced, ToldBacked-fenced}
@@ -35,17 +35,17 @@ length-text_image text count room =
 
 -- one line of the text more
 pub Puts-more : (old mid new : DeviceView) (lines : List (List ℕ)) (i : ℕ) (value : List ℕ) → 1 + length lines ≤ length old.read → i < length lines
-    → value ≡ line_at lines i → Puts old mid 1 (take i lines) → Puts mid new (1 + i) (value ∷ []) → Puts old new 1 (take (i + 1) lines)
+    → value ≡ line_at lines i → PutsLines old mid 1 (take i lines) → PutsLines mid new (1 + i) (value ∷ []) → PutsLines old new 1 (take (i + 1) lines)
 Puts-more old mid new lines i value room here e p q =
     let n : length (take i lines) ≡ i = length-take-le i lines (omega arith) in
     let to : take i lines ++ value ∷ [] ≡ take (i + 1) lines = ap (λ (v : List ℕ). take i lines ++ v ∷ []) e ∙ sym (take_more lines i [] here) in
-    subst (Puts old new 1) to (Puts-then old mid new 1 (1 + i) (take i lines) (value ∷ []) (omega arith) (omega arith) p q)
+    subst (PutsLines old new 1) to (Puts-then old mid new 1 (1 + i) (take i lines) (value ∷ []) (omega arith) (omega arith) p q)
 
-pub Puts-all : (old new : DeviceView) (lines : List (List ℕ)) (n : ℕ) → length lines ≤ n → Puts old new 1 (take n lines) → Puts old new 1 lines
-Puts-all old new lines n e p = subst (Puts old new 1) (take_all n lines e) p
+pub Puts-all : (old new : DeviceView) (lines : List (List ℕ)) (n : ℕ) → length lines ≤ n → PutsLines old new 1 (take n lines) → PutsLines old new 1 lines
+Puts-all old new lines n e p = subst (PutsLines old new 1) (take_all n lines e) p
 
 -- ---- the first stage
-pub HasText-fenced : (old mid new : DeviceView) (c : CheckpointState) → CanTake old c → ToldBacked old.told old.read → Puts old mid 1 (text_lines c.text)
+pub HasText-fenced : (old mid new : DeviceView) (c : CheckpointState) → CanTake old c → ToldBacked old.told old.read → PutsLines old mid 1 (text_lines c.text)
     → new.read ≡ mid.read → new.fences ≡ mid.fences + 1 → new.faults ≡ mid.faults → new.told ≡ told_fenced mid.told mid.read → HasText old new c.text
 HasText-fenced old mid new c room backed p read fences faults told =
     let image : new.read ≡ text_image c.text (length old.read) = read ∙ (p.read ∙ text_image-placed old.read c.text room.clean.zeros room.lines) in
@@ -58,7 +58,7 @@ HasText-fenced old mid new c room backed p read fences faults told =
       backed = ToldBacked-fenced mid new (p.backed backed) read told;
     }
 
-pub IsTextPending-failed : (old mid new : DeviceView) (c : CheckpointState) → CanTake old c → ToldSettled old.told old.read → Puts old mid 1 (text_lines c.text)
+pub IsTextPending-failed : (old mid new : DeviceView) (c : CheckpointState) → CanTake old c → ToldSettled old.told old.read → PutsLines old mid 1 (text_lines c.text)
     → new.read ≡ mid.read → new.fences ≡ mid.fences + 1 → new.faults ≡ mid.faults + 1 → new.told ≡ mid.told → IsTextPending old new c
 IsTextPending-failed old mid new c room settled p read fences faults told = record {
   room = room;
@@ -73,7 +73,7 @@ first_placed : (read : List (List ℕ)) (c : CheckpointState) → read ≡ text_
 first_placed read c e = ap (λ (ls : List (List ℕ)). placed_lines ls 0 (first_line c ∷ [])) e
 
 pub HasFirst-fenced : (old mid new : DeviceView) (c : CheckpointState) (line : List ℕ) → old.read ≡ text_image c.text (length old.read) → ToldBacked old.told old.read
-    → line ≡ first_line c → Puts old mid 0 (line ∷ [])
+    → line ≡ first_line c → PutsLines old mid 0 (line ∷ [])
     → new.read ≡ mid.read → new.fences ≡ mid.fences + 1 → new.faults ≡ mid.faults → new.told ≡ told_fenced mid.told mid.read → HasFirst old new c
 HasFirst-fenced old mid new c line text backed is p read fences faults told = record {
   read = read ∙ (p.read ∙ (ap (λ (l : List ℕ). placed_lines old.read 0 (l ∷ [])) is ∙ first_placed old.read c text));
@@ -83,7 +83,7 @@ HasFirst-fenced old mid new c line text backed is p read fences faults told = re
 }
 
 pub HasFirstPending-failed : (old mid new : DeviceView) (c : CheckpointState) (line : List ℕ) → old.read ≡ text_image c.text (length old.read) → ToldSettled old.told old.read
-    → line ≡ first_line c → Puts old mid 0 (line ∷ [])
+    → line ≡ first_line c → PutsLines old mid 0 (line ∷ [])
     → new.read ≡ mid.read → new.fences ≡ mid.fences + 1 → new.faults ≡ mid.faults + 1 → new.told ≡ mid.told → HasFirstPending old new c
 HasFirstPending-failed old mid new c line text settled is p read fences faults told = record {
   read = read ∙ (p.read ∙ (ap (λ (l : List ℕ). placed_lines old.read 0 (l ∷ [])) is ∙ first_placed old.read c text));

@@ -17,7 +17,7 @@
 //! assert!(rt; found.text() == checkpoint.text());
 //! ```
 //!
-//! The test `checkpoint` of `onll_uses` runs this.
+//! The test `checkpoint` of `tests_uses` runs this.
 #![tactic(auto)]
 
 mod cause;

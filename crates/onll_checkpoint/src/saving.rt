@@ -3,7 +3,7 @@
 ghost use Rattle.std.specs.Prelude.{◌≡◌, ◌<◌, ◌≤◌, ◌^◌, ◌⊎◌, length, IfOk, IfErr};
 ghost use Rattle.onll_pmem.specs.Device.{zero_lines};
 ghost use Rattle.onll_pmem.specs.Pmem.{ToldBacked, ToldSettled};
-ghost use Rattle.onll_log.specs.Log.{Puts};
+ghost use Rattle.onll_log.specs.Log.{PutsLines};
 ghost use Rattle.onll_checkpoint.specs.Checkpoint.{longest_saved, FitsCheckpoint};
 ghost use Rattle.onll_checkpoint.specs.Text.{lines_for, text_lines};
 ghost use Rattle.onll_checkpoint.specs.Grammar.{text_image};
@@ -22,7 +22,7 @@ fn put_text<P: Pmem>(device: &mut P, text: &[u8])
     requires clean { (P.means device.old).read ≡ zero_lines (length (P.means device.old).read) }
     requires few { length text.now ≤ longest_saved }
     requires room { lines_for (length text.now) ≤ length (P.means device.old).read }
-    ensures { Puts (P.means device.old) (P.means device.new) 1 (text_lines text.now) }
+    ensures { PutsLines (P.means device.old) (P.means device.new) 1 (text_lines text.now) }
 {
     for i in 0..lines_of_text(text.len()) {
         put(device, 1 + i as u64, front_line(&text[64 * i..]));

@@ -17,7 +17,7 @@ use Rattle.onll_core.specs.declared.phase.Phase.TheVariants as phases
 use Rattle.onll_core.specs.declared.returned.Returned.{Returned}
 use Rattle.onll_core.specs.Core.{CoreThread, CoreState}
 use Rattle.onll_core.specs.CoreFrame.{seen_in, pending_in, activity_in, fenced_entries, frame_thread, frame_of}
-use Rattle.onll_core.specs.Tie.{updates_to_link, IsTied}
+use Rattle.onll_core.specs.Tie.{updates_to_link, IsTiedDevice}
 use Rattle.onll_core.specs.Consistent.{EachCoreThread, IsConsistent}
 use Rattle.onll_core.specs.First.{IsHeadOf}
 use Rattle.onll_core.specs.Fences.{fenced_in, updates_returned, CountsFences}
@@ -67,7 +67,7 @@ module _ {State Op Query Reply : Type 0} (count t : ℕ) (base : List Node) (log
   all_to_come : updates_in (drop (length th.returned) th.script) ≡ updates_in th.script
   all_to_come = ap (λ (rs : List (Returned State Op Query Reply)). updates_in (drop (length rs) th.script)) h.returned
 
-  begun_tie : (tie : IsTied count t None th phases.Idle) × (tie.log ≡ log)
+  begun_tie : (tie : IsTiedDevice count t None th phases.Idle) × (tie.log ≡ log)
   begun_tie =
       let free : ℕ = updates_in th.script * suc th.head.threads in
       let d = h.device in
@@ -101,8 +101,8 @@ module _ {State Op Query Reply : Type 0} (count t : ℕ) (base : List Node) (log
       let phase = h.phase in
       λ i. record { seen = seen_in b (returned i); fenced = e i; pending = pending_in trace (phase i); stuck = None; activity = activity_in (phase i) }
 
-  begun_tied : IsTied count t (pending_in base th.phase) th th.phase
-  begun_tied = subst (λ (z : Phase). IsTied count t (pending_in base z) th z) (sym h.phase) begun_tie.0
+  begun_tied : IsTiedDevice count t (pending_in base th.phase) th th.phase
+  begun_tied = subst (λ (z : Phase). IsTiedDevice count t (pending_in base z) th z) (sym h.phase) begun_tie.0
 
   begun_numbers : count_by (is_of_thread t) base + updates_to_link th th.phase ≤ 4096
   begun_numbers = subst (λ (z : Phase). count_by (is_of_thread t) base + updates_to_link th z ≤ 4096) (sym h.phase) (let a = all_to_come in let n = h.names in omega arith)

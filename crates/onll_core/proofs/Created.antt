@@ -5,12 +5,12 @@ use Rattle.onll_model.specs.declared.call.Call.{Call}
 use Rattle.onll_model.proofs.Lists.{same_some, some_not_none, all_at}
 use Rattle.onll_model.specs.Calls.{updates_in}
 use Rattle.onll_log.specs.declared.head.LogHead.{LogHead}
-use Rattle.onll_log.specs.Head.{head_for}
+use Rattle.onll_log.specs.Head.{head_for, heads_from}
 use Rattle.onll_log.proofs.Lines.{length-digest_words}
 use Rattle.onll_core.specs.Consistent.{IsConsistent}
 use Rattle.onll_core.specs.First.{IsHeadOf}
 use Rattle.onll_core.specs.First.{AreFirst}
-use Rattle.onll_core.specs.Created.{heads_from, created_core, IsWithinLimits}
+use Rattle.onll_core.specs.Created.{created_core, IsWithinLimits}
 use Rattle.onll_core.specs.Fences.{CountsFences}
 use Rattle.onll_core.proofs.FirstCore.{first_consistent, first_counts, length-first_threads}
 

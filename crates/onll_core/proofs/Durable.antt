@@ -15,7 +15,7 @@ use Rattle.onll_core.specs.Created.{created_heads, created_core, IsWithinLimits}
 use Rattle.onll_core.specs.Outcomes.{ends_of, script_of}
 use Rattle.onll_core.specs.Reached.{IsReached}
 use Rattle.onll_core.specs.Crash.{heads_of}
-use Rattle.onll_core.specs.Durable.{GoesOn, Begins, DurableLaw}
+use Rattle.onll_core.specs.Durable.{CoreGoesOn, CoreBegins, DurableLaw}
 use Rattle.onll_core.proofs.Created.{are_first}
 use Rattle.onll_core.proofs.Ready.{entries_few}
 use Rattle.onll_core.proofs.ReachedCores.{created_reached, resumed_reached, steps_reached, reached_consistent, reached_report, reached_order, reached_counts, reached_returns}
@@ -60,7 +60,7 @@ module _ {State Op Query Reply : Type 0} (b : Behaviour State Op Query Reply) (c
         base_is = refl;
       }
 
-  resumed_starts : (c : CoreState State Op Query Reply) → GoesOn b code init initial scripts c → StartsSo b (created_heads code init scripts) initial scripts c
+  resumed_starts : (c : CoreState State Op Query Reply) → CoreGoesOn b code init initial scripts c → StartsSo b (created_heads code init scripts) initial scripts c
   resumed_starts c g =
       let heads = created_heads code init scripts in
       let from = goes_on_from b code init initial g.images scripts c g.resumed in
@@ -76,8 +76,8 @@ module _ {State Op Query Reply : Type 0} (b : Behaviour State Op Query Reply) (c
         base_is = refl;
       })
 
-  pub begun_starts : (c : CoreState State Op Query Reply) → Begins b code init initial scripts c → StartsSo b (created_heads code init scripts) initial scripts c
-  begun_starts c h = ⊎_elim (λ (e : created_core initial code init scripts ≡ c). subst (StartsSo b (created_heads code init scripts) initial scripts) e created_starts) (λ (g : GoesOn b code init initial scripts c). resumed_starts c g) h
+  pub begun_starts : (c : CoreState State Op Query Reply) → CoreBegins b code init initial scripts c → StartsSo b (created_heads code init scripts) initial scripts c
+  begun_starts c h = ⊎_elim (λ (e : created_core initial code init scripts ≡ c). subst (StartsSo b (created_heads code init scripts) initial scripts) e created_starts) (λ (g : CoreGoesOn b code init initial scripts c). resumed_starts c g) h
 
 module _ {State Op Query Reply : Type 0} (b : Behaviour State Op Query Reply) where
   -- the report is one of the scripts, from the initial state and the base

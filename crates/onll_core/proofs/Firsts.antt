@@ -10,12 +10,12 @@ use Rattle.std.specs.List.{AllByRecursion}
 use Rattle.onll_pmem.specs.Device.{zero_lines}
 use Rattle.onll_pmem.specs.Memory.{MemoryState}
 use Rattle.onll_log.specs.declared.head.LogHead.{LogHead}
-use Rattle.onll_log.specs.Head.{head_for, head_line}
+use Rattle.onll_log.specs.Head.{head_for, head_line, heads_from}
 use Rattle.onll_core.specs.declared.phase.Phase.TheVariants as phases
 use Rattle.onll_core.specs.declared.local.Local.{Local}
 use Rattle.onll_core.specs.Core.{CoreThread, CoreState}
 use Rattle.onll_core.specs.First.{first_device, first_thread, first_threads}
-use Rattle.onll_core.specs.Created.{heads_from, created_core, IsWithinLimits}
+use Rattle.onll_core.specs.Created.{created_core, IsWithinLimits}
 use Rattle.onll_model.specs.declared.node.Node.{Node}
 use Rattle.onll_model.specs.Calls.{updates_in}
 use Rattle.onll_core.specs.Consistent.{IsConsistent}

@@ -29,7 +29,7 @@ use Rattle.onll_core.specs.CoreFrame.{seen_in}
 use Rattle.onll_core.specs.Created.{created_heads, IsWithinLimits}
 use Rattle.onll_core.specs.Resumed.{resumed_core, AreResumed}
 use Rattle.onll_core.specs.Resume.{Found, old_format, found_merged, found_newer, found_logs, found_in, too_many, going_on, resumed}
-use Rattle.onll_core.specs.Found.{found_threads, AreRoomy, IsFound, locals_from}
+use Rattle.onll_core.specs.Found.{found_threads, HaveLogRoom, IsFound, locals_from}
 use Rattle.onll_core.specs.Consistent.{IsConsistent}
 use Rattle.onll_core.specs.Reached.{IsReached}
 use Rattle.onll_core.specs.Kept.{own_place, IsLocal, KeepsCore}
@@ -136,7 +136,7 @@ module _ {State Op Query Reply : Type 0} (b : Behaviour State Op Query Reply) (c
   abbrev core : CoreState State Op Query Reply
   core = resumed_core initial f.nodes heads (entries_of f.logs) scripts
 
-  pub roomy : AreRoomy heads images (map log_counts f.logs) scripts
+  pub roomy : HaveLogRoom heads images (map log_counts f.logs) scripts
   roomy = are_roomy (length heads) f.nodes 0 heads images f.logs scripts fit (sym long) (subst (λ (n : ℕ). AllByRecursion (λ (x : LogHead). x.threads ≡ n) heads) (sym long) threads_each) (omega (arith, long, within.few)) within.updates room
 
   threads_are : found_threads heads images (map log_counts f.logs) scripts ≡ core.threads
@@ -208,11 +208,11 @@ module _ {State Op Query Reply : Type 0} (b : Behaviour State Op Query Reply) (c
     the_room : too_many (length the_heads) found.all.nodes 0 (map log_counts found.all.logs) scripts ≡ None
     the_room = sym (told_room n size) ∙ none
 
-    pub made_roomy : AreRoomy hs images r.logs scripts
+    pub made_roomy : HaveLogRoom hs images r.logs scripts
     made_roomy =
         let a = sym heads_are in
         let l = sym logs_told in
-        subst (λ (x : List LogHead × List LogCounts). AreRoomy x.0 images x.1 scripts) (λ i. (a i, l i)) (roomy b code init initial scripts within images eight as_many found.all (has_found b the_heads images found.all is_found) the_room)
+        subst (λ (x : List LogHead × List LogCounts). HaveLogRoom x.0 images x.1 scripts) (λ i. (a i, l i)) (roomy b code init initial scripts within images eight as_many found.all (has_found b the_heads images found.all is_found) the_room)
 
     module _ (object : State) (after : object ≡ state_after b initial r.nodes) (base nodes flags : ℕ) (trace : List Node) (fs : List Bool) (threads : List (CoreThread State Op Query Reply)) (locals : List (Local State Op Query Reply))
         (base_is : base ≡ length r.nodes) (trace_is : (trace ≡ r.nodes) × (4096 * n ≤ nodes)) (flags_are : (fs ≡ replicate base true) × (4096 * n ≤ flags))

@@ -28,7 +28,7 @@ use Rattle.onll_core.specs.declared.fault.ResumeFault.TheVariants.{TooMany}
 use Rattle.onll_core.specs.declared.phase.Phase.TheVariants as phases
 use Rattle.onll_core.specs.Resumed.{found_device, resumed_core_thread, resumed_core_threads}
 use Rattle.onll_core.specs.Resume.{most_lines, is_too_many, too_many}
-use Rattle.onll_core.specs.Found.{front_lines, found_thread, found_threads, AreRoomy}
+use Rattle.onll_core.specs.Found.{front_lines, found_thread, found_threads, HaveLogRoom}
 
 -- What the logs of images are, and the threads that go on in them.
 
@@ -186,7 +186,7 @@ module _ {State Op Query Reply : Type 0} where
 
   pub are_roomy : (threads : ℕ) (nodes : List Node) (t : ℕ) (heads : List LogHead) (images : List (List (List ℕ))) (logs : List Content) (scripts : List (List (Call State Op Query Reply))) → LogsFit heads images logs → length scripts ≡ length heads
       → AllByRecursion (λ (h : LogHead). h.threads ≡ threads) heads → threads ≤ 16 → AllByRecursion (λ (s : List (Call State Op Query Reply)). updates_in s ≤ 4096) scripts
-      → too_many threads nodes t (map log_counts logs) scripts ≡ None → AreRoomy heads images (map log_counts logs) scripts
+      → too_many threads nodes t (map log_counts logs) scripts ≡ None → HaveLogRoom heads images (map log_counts logs) scripts
   are_roomy threads nodes t [] [] [] [] f n h few u e = tt
   are_roomy threads nodes t [] [] [] (s ∷ ss) f n h few u e = absurd (omega arith)
   are_roomy threads nodes t [] [] (c ∷ cs) ss f n h few u e = absurd f

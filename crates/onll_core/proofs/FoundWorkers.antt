@@ -12,7 +12,7 @@ use Rattle.onll_core.specs.declared.phase.Phase.TheVariants as phases
 use Rattle.onll_core.specs.Core.{CoreThread}
 use Rattle.onll_core.specs.Kept.{KeepsWorker}
 use Rattle.onll_core.specs.Resumed.{found_device}
-use Rattle.onll_core.specs.Found.{front_lines, found_thread, found_threads, IsRoomy, AreRoomy}
+use Rattle.onll_core.specs.Found.{front_lines, found_thread, found_threads, HasLogRoom, HaveLogRoom}
 
 -- What the code of a core keeps of threads that go on in their logs.
 
@@ -61,10 +61,10 @@ module _ {State Op Query Reply : Type 0} where
     pub heads_are : heads ≡ head ∷ heads'
     pub images_are : images ≡ image ∷ images'
     pub logs_are : logs ≡ log ∷ logs'
-    pub here : IsRoomy head image log script
-    pub rest : AreRoomy heads' images' logs' scripts
+    pub here : HasLogRoom head image log script
+    pub rest : HaveLogRoom heads' images' logs' scripts
 
-  roomy_first : (heads : List LogHead) (images : List (List (List ℕ))) (logs : List LogCounts) (script : List (Call State Op Query Reply)) (scripts : List (List (Call State Op Query Reply))) → AreRoomy heads images logs (script ∷ scripts)
+  roomy_first : (heads : List LogHead) (images : List (List (List ℕ))) (logs : List LogCounts) (script : List (Call State Op Query Reply)) (scripts : List (List (Call State Op Query Reply))) → HaveLogRoom heads images logs (script ∷ scripts)
       → RoomyFirst heads images logs script scripts
   roomy_first [] [] [] s ss r = absurd r
   roomy_first [] [] (c ∷ cs) s ss r = absurd r
@@ -78,13 +78,13 @@ module _ {State Op Query Reply : Type 0} where
     pub low_head : t < length heads
     pub low_image : t < length images
     pub low_log : t < length logs
-    pub here : IsRoomy (get_or heads t dh) (get_or images t []) (get_or logs t dl) script
-    pub rest : AreRoomy (drop (t + 1) heads) (drop (t + 1) images) (drop (t + 1) logs) scripts
+    pub here : HasLogRoom (get_or heads t dh) (get_or images t []) (get_or logs t dl) script
+    pub rest : HaveLogRoom (drop (t + 1) heads) (drop (t + 1) images) (drop (t + 1) logs) scripts
     pub more : (made made' : List (CoreThread State Op Query Reply)) (w : CoreThread State Op Query Reply) → w ≡ found_thread (get_or heads t dh) (get_or images t []) (get_or logs t dl) script → made' ≡ made ++ w ∷ []
         → made' ++ found_threads (drop (t + 1) heads) (drop (t + 1) images) (drop (t + 1) logs) scripts ≡ made ++ found_threads (drop t heads) (drop t images) (drop t logs) (script ∷ scripts)
 
   pub roomy_at : (heads : List LogHead) (images : List (List (List ℕ))) (logs : List LogCounts) (t : ℕ) (dh : LogHead) (dl : LogCounts) (script : List (Call State Op Query Reply)) (scripts : List (List (Call State Op Query Reply)))
-      → AreRoomy (drop t heads) (drop t images) (drop t logs) (script ∷ scripts) → RoomyAt heads images logs t dh dl script scripts
+      → HaveLogRoom (drop t heads) (drop t images) (drop t logs) (script ∷ scripts) → RoomyAt heads images logs t dh dl script scripts
   roomy_at heads images logs t dh dl script scripts r =
       let f = roomy_first (drop t heads) (drop t images) (drop t logs) script scripts r in
       let h = drop_head heads t f.head dh f.heads' f.heads_are in
@@ -103,8 +103,8 @@ module _ {State Op Query Reply : Type 0} where
         low_head = h.0;
         low_image = i.0;
         low_log = l.0;
-        here = subst (λ (x : LogHead × List (List ℕ) × LogCounts). IsRoomy x.0 x.1 x.2 script) (sym (λ j. (h1 j, i1 j, l1 j))) f.here;
-        rest = subst (λ (x : List LogHead × List (List (List ℕ)) × List LogCounts). AreRoomy x.0 x.1 x.2 scripts) (sym (λ j. (h2 j, i2 j, l2 j))) f.rest;
+        here = subst (λ (x : LogHead × List (List ℕ) × LogCounts). HasLogRoom x.0 x.1 x.2 script) (sym (λ j. (h1 j, i1 j, l1 j))) f.here;
+        rest = subst (λ (x : List LogHead × List (List (List ℕ)) × List LogCounts). HaveLogRoom x.0 x.1 x.2 scripts) (sym (λ j. (h2 j, i2 j, l2 j))) f.rest;
         more = λ made made' w is made_is.
             let tail : ℕ → List (CoreThread State Op Query Reply) = (λ n. found_threads (drop n heads) (drop n images) (drop n logs) scripts) in
             ap (λ (ys : List (CoreThread State Op Query Reply)). ys ++ tail (t + 1)) made_is

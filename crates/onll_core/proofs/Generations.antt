@@ -26,10 +26,11 @@ use Rattle.onll_core.specs.declared.fault.ResumeFault.TheVariants.{OldFormat, No
 use Rattle.onll_core.specs.Core.{CoreThread, CoreState}
 use Rattle.onll_core.specs.Step.{steps_of}
 use Rattle.onll_core.specs.Consistent.{IsConsistent}
-use Rattle.onll_core.specs.Created.{heads_from, created_heads, created_core, IsWithinLimits}
+use Rattle.onll_core.specs.Created.{created_heads, created_core, IsWithinLimits}
+use Rattle.onll_log.specs.Head.{heads_from}
 use Rattle.onll_core.specs.Resume.{Found, is_old, old_format, found_merged, found_newer, found_logs, found_in, is_too_many, too_many, going_on, resumed}
 use Rattle.onll_core.specs.Crash.{AreImages, RecoversAll}
-use Rattle.onll_core.specs.Durable.{GoesOn}
+use Rattle.onll_core.specs.Durable.{CoreGoesOn}
 use Rattle.onll_core.specs.Generations.{Generation, IsGeneration, AreGenerations, LeavesAll, GenerationsLaw, PrefixLaw, OnlyTooManyLaw}
 use Rattle.onll_core.proofs.Created.{are_first}
 use Rattle.onll_core.proofs.Operations.{AllOperations, steps_operations}
@@ -144,7 +145,7 @@ module _ {State Op Query Reply : Type 0} (b : Behaviour State Op Query Reply) wh
         let c = steps_of b all.0.core h.steps in
         let k = reached_consistent b (length h.scripts) c (steps_reached b (length h.scripts) all.0.core h.steps before.starts.reached) in
         let many : length h.images ≡ length g.scripts = images_many c.threads h.images all.0.left ∙ (threads_count (length h.scripts) c k ∙ (all.0.many ∙ sym is.many)) in
-        let goes : GoesOn b code init initial g.scripts is.core = record { images = h.images; lines = left_lines (length h.scripts) c h.images k all.0.left; as_many = many; resumed = is.begun } in
+        let goes : CoreGoesOn b code init initial g.scripts is.core = record { images = h.images; lines = left_lines (length h.scripts) c h.images k all.0.left; as_many = many; resumed = is.begun } in
         let from = goes_on_from b code init initial h.images g.scripts is.core is.begun in
         let found = has_found b (created_heads code init g.scripts) h.images from.found from.is in record {
           starts = begun_starts b code init initial g.scripts is.within is.core (inr goes);

@@ -9,10 +9,9 @@ use Rattle.onll_pmem.specs.Pmem.{words_of}
 use Rattle.onll_pmem.specs.Device.{line_at, zero_line, zero_lines}
 use Rattle.onll_pmem.proofs.Lines.{words_of-replicate}
 use Rattle.onll_log.specs.declared.head.LogHead.{LogHead}
-use Rattle.onll_log.specs.Head.{head_for}
+use Rattle.onll_log.specs.Head.{head_for, heads_from}
 use Rattle.onll_log.specs.Torn.{IsLine, AreLines}
 use Rattle.onll_core.specs.declared.local.Local.{Local}
-use Rattle.onll_core.specs.Created.{heads_from}
 use Rattle.onll_core.specs.Found.{locals_from}
 
 -- Lists that the code makes one by one.

@@ -18,7 +18,7 @@ use Rattle.onll_core.specs.declared.phase.Phase.{Phase}
 use Rattle.onll_core.specs.declared.phase.Phase.TheVariants as phases
 use Rattle.onll_core.specs.Core.{CoreThread, CoreState}
 use Rattle.onll_core.specs.CoreFrame.{pending_in, fenced_entries}
-use Rattle.onll_core.specs.Tie.{written_in, lines_needed, coming_lines, IsTied}
+use Rattle.onll_core.specs.Tie.{written_in, lines_needed, coming_lines, IsTiedDevice}
 use Rattle.onll_core.specs.Consistent.{IsConsistent}
 use Rattle.onll_core.specs.Crash.{with_entry, HoldsFenced, HasRest}
 use Rattle.onll_core.proofs.Windows.{window_of}
@@ -60,14 +60,14 @@ record IsHeld {State Op Query Reply : Type 0} (th : CoreThread State Op Query Re
 
 module _ {State Op Query Reply : Type 0} (count t : ℕ) (th : CoreThread State Op Query Reply) where
   -- ---- no entry is being written
-  settled_read : (o : Option Segment) (ph : Phase) (tie : IsTied count t o th ph) → written_in ph ≡ 0 → th.device.read ≡ th.device.fenced
+  settled_read : (o : Option Segment) (ph : Phase) (tie : IsTiedDevice count t o th ph) → written_in ph ≡ 0 → th.device.read ≡ th.device.fenced
   settled_read o ph tie none = tie.read ∙ (quiet (written_in ph) none ∙ sym tie.fenced)
     where
       quiet : (n : ℕ) → n ≡ 0 → log_lines th.head tie.log ++ (take n (coming_lines th.head (length tie.log) o) ++ zero_lines tie.free) ≡ log_lines th.head tie.log ++ zero_lines (n + tie.free)
       quiet zero e = let z : tie.free ≡ 0 + tie.free = omega arith in ap (λ (m : ℕ). log_lines th.head tie.log ++ zero_lines m) z
       quiet (suc n) e = absurd (omega arith)
 
-  held_at_rest : (image : List (List ℕ)) → IsImage th.device image → (o : Option Segment) (ph : Phase) (tie : IsTied count t o th ph) → written_in ph ≡ 0 → IsHeld th None image
+  held_at_rest : (image : List (List ℕ)) → IsImage th.device image → (o : Option Segment) (ph : Phase) (tie : IsTiedDevice count t o th ph) → written_in ph ≡ 0 → IsHeld th None image
   held_at_rest image i o ph tie none =
       let is : image ≡ log_image th.head tie.log (written_in ph + tie.free) = Mixed-same th.device.fenced image (subst (λ (l : List (List ℕ)). Mixed th.device.fenced l image) (settled_read o ph tie none) i) ∙ tie.fenced in
       let holds : Holds image th.head tie.log = subst (λ (l : List (List ℕ)). Holds l th.head tie.log) (sym is) (Holds-log_image th.head tie.log (written_in ph + tie.free) tie.head tie.fits) in
@@ -81,14 +81,14 @@ module _ {State Op Query Reply : Type 0} (count t : ℕ) (th : CoreThread State 
         );
       }
 
-  shape_at_rest : (o : Option Segment) (ph : Phase) (tie : IsTied count t o th ph) → written_in ph ≡ 0 → SameShape th.device.fenced th.device.read
+  shape_at_rest : (o : Option Segment) (ph : Phase) (tie : IsTiedDevice count t o th ph) → written_in ph ≡ 0 → SameShape th.device.fenced th.device.read
   shape_at_rest o ph tie none =
       let lines : AreLines th.device.fenced = subst AreLines (sym tie.fenced) (AreLines-log_image th.head tie.log (written_in ph + tie.free) tie.head tie.fits) in
       let read : th.device.fenced ≡ th.device.read = sym (settled_read o ph tie none) in
       subst (SameShape th.device.fenced) read (same_shape th.device.fenced th.device.fenced lines lines refl)
 
   -- ---- an entry is being written
-  module _ (g : Segment) (ph : Phase) (tie : IsTied count t (Some g) th ph) (fits : FitsEntry th.head.threads g) (needs : lines_needed ph ≡ suc (length g.nodes)) (low : written_in ph ≤ suc (length g.nodes)) where
+  module _ (g : Segment) (ph : Phase) (tie : IsTiedDevice count t (Some g) th ph) (fits : FitsEntry th.head.threads g) (needs : lines_needed ph ≡ suc (length g.nodes)) (low : written_in ph ≤ suc (length g.nodes)) where
     lines : List (List ℕ)
     lines = entry_lines th.head (length tie.log) g
 
@@ -186,16 +186,16 @@ module _ {State Op Query Reply : Type 0} (count t : ℕ) (th : CoreThread State 
 
 -- ---- in each phase
 module _ {State Op Query Reply : Type 0} (count : ℕ) (c : CoreState State Op Query Reply) (k : IsConsistent count c) (t : ℕ) (th : CoreThread State Op Query Reply) (at : slice_get c.threads t ≡ Some th) where
-  tie_in : (ph : Phase) → th.phase ≡ ph → IsTied count t (pending_in c.trace ph) th ph
-  tie_in ph e = subst (λ (z : Phase). IsTied count t (pending_in c.trace z) th z) e (k.tied t th at)
+  tie_in : (ph : Phase) → th.phase ≡ ph → IsTiedDevice count t (pending_in c.trace ph) th ph
+  tie_in ph e = subst (λ (z : Phase). IsTiedDevice count t (pending_in c.trace z) th z) e (k.tied t th at)
 
   -- the entry that is being written
-  record IsComing (p d : ℕ) (ph : Phase) (tie : IsTied count t (Some (window c.trace d p)) th ph) : Type 0 where
+  record IsComing (p d : ℕ) (ph : Phase) (tie : IsTiedDevice count t (Some (window c.trace d p)) th ph) : Type 0 where
     pub fits : FitsEntry th.head.threads (window c.trace d p)
     pub needs : lines_needed ph ≡ suc (length (window c.trace d p).nodes)
     pub low : written_in ph ≤ suc (length (window c.trace d p).nodes)
 
-  coming : (p d : ℕ) (ph : Phase) (tie : IsTied count t (Some (window c.trace d p)) th ph) → pending_in c.trace th.phase ≡ Some (window c.trace d p) → lines_needed ph ≡ suc (p - d) → written_in ph ≤ suc (p - d) → IsComing p d ph tie
+  coming : (p d : ℕ) (ph : Phase) (tie : IsTiedDevice count t (Some (window c.trace d p)) th ph) → pending_in c.trace th.phase ≡ Some (window c.trace d p) → lines_needed ph ≡ suc (p - d) → written_in ph ≤ suc (p - d) → IsComing p d ph tie
   coming p d ph tie e needs low =
       let w = window_of count c k t th at p d e in
       let size = w.size in

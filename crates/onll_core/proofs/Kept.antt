@@ -24,7 +24,7 @@ use Rattle.onll_core.specs.declared.returned.Returned.{Returned}
 use Rattle.onll_core.specs.Core.{CoreThread, CoreState}
 use Rattle.onll_core.specs.CoreFrame.{pending_in, frame_of}
 use Rattle.onll_core.specs.Step.{turned, begun, on_device, logged, returning, put, linked, flagged, line_of_entry, after_exchange, after_flag, answered, act, next_call, step_by, step_of, steps_of}
-use Rattle.onll_core.specs.Tie.{written_in, lines_needed, IsBehind, InEntry, updates_to_log, updates_to_link, IsTied}
+use Rattle.onll_core.specs.Tie.{written_in, lines_needed, IsBehind, InEntry, updates_to_log, updates_to_link, IsTiedDevice}
 use Rattle.onll_core.specs.Consistent.{IsConsistent}
 use Rattle.onll_core.specs.StepEvent.{event_at, after_maybe, MayCome, IsEvent}
 use Rattle.onll_core.proofs.Calls.{length_snoc, update_left, ask_left}
@@ -38,7 +38,7 @@ use Rattle.onll_core.proofs.StepEvents.{tie_at, fence_tie, act_event}
 -- what is known of the thread's own part
 pub record Own {State Op Query Reply : Type 0} (count : ℕ) (trace : List Node) (t : ℕ) (w : CoreThread State Op Query Reply) (ph : Phase) : Type 0 where
   pub numbers : count_by (is_of_thread t) trace + updates_to_link w ph ≤ 4096
-  pub tied : IsTied count t (pending_in trace ph) w ph
+  pub tied : IsTiedDevice count t (pending_in trace ph) w ph
 
 maybe_sound : (count base : ℕ) (f : Frame) (e : Option Event) → SoundOver count base f → MayCome f e → SoundOver count base (after_maybe base f e)
 maybe_sound count base f None k m = k
@@ -62,7 +62,7 @@ module _ {State Op Query Reply : Type 0} (count : ℕ) (c : CoreState State Op Q
     rows = k.rows;
     few = k.few;
     numbers = each_set (λ u z. count_by (is_of_thread u) c.trace + updates_to_link z z.phase ≤ 4096) t w own.numbers (λ u z _ at. k.numbers u z at);
-    tied = each_set (λ u z. IsTied count u (pending_in c.trace z.phase) z z.phase) t w own.tied (λ u z _ at. k.tied u z at);
+    tied = each_set (λ u z. IsTiedDevice count u (pending_in c.trace z.phase) z z.phase) t w own.tied (λ u z _ at. k.tied u z at);
   }
 
   keeps_flagged : (t p : ℕ) (w : CoreThread State Op Query Reply) (e : Option Event) → IsEvent c (flagged c t p w) e → Own count c.trace t w w.phase → IsConsistent count (flagged c t p w)
@@ -72,7 +72,7 @@ module _ {State Op Query Reply : Type 0} (count : ℕ) (c : CoreState State Op Q
     rows = k.rows;
     few = k.few;
     numbers = each_set (λ u z. count_by (is_of_thread u) c.trace + updates_to_link z z.phase ≤ 4096) t w own.numbers (λ u z _ at. k.numbers u z at);
-    tied = each_set (λ u z. IsTied count u (pending_in c.trace z.phase) z z.phase) t w own.tied (λ u z _ at. k.tied u z at);
+    tied = each_set (λ u z. IsTiedDevice count u (pending_in c.trace z.phase) z z.phase) t w own.tied (λ u z _ at. k.tied u z at);
   }
 
   keeps_linked : (t : ℕ) (row : OpRow) (w : CoreThread State Op Query Reply) (e : Option Event) → length row.w ≡ 7 → IsEvent c (linked c t (next_node c.trace t row) w) e
@@ -88,8 +88,8 @@ module _ {State Op Query Reply : Type 0} (count : ℕ) (c : CoreState State Op Q
         few = k.few;
         numbers = each_set (λ u z. count_by (is_of_thread u) long + updates_to_link z z.phase ≤ 4096) t w own.numbers
             (λ u z other at. let a = k.numbers u z at in let m = count_other u c.trace x (λ y. other (sym y)) in omega arith);
-        tied = each_set (λ u z. IsTied count u (pending_in long z.phase) z z.phase) t w own.tied
-            (λ u z _ at. subst (λ (o : Option Segment). IsTied count u o z z.phase) (sym (pending_longer c count k.sound u z at (x ∷ []))) (k.tied u z at));
+        tied = each_set (λ u z. IsTiedDevice count u (pending_in long z.phase) z z.phase) t w own.tied
+            (λ u z _ at. subst (λ (o : Option Segment). IsTiedDevice count u o z z.phase) (sym (pending_longer c count k.sound u z at (x ∷ []))) (k.tied u z at));
       }
 
 -- a step reads of a thread only these parts
@@ -117,7 +117,7 @@ module _ {State Op Query Reply : Type 0} (b : Behaviour State Op Query Reply) (c
   numbers_at : (ph : Phase) → th.phase ≡ ph → count_by (is_of_thread t) c.trace + updates_to_link th ph ≤ 4096
   numbers_at ph e = subst (λ (z : Phase). count_by (is_of_thread t) c.trace + updates_to_link th z ≤ 4096) e (k.numbers t th at)
 
-  tie : (ph : Phase) → th.phase ≡ ph → IsTied count t (pending_in c.trace ph) th ph
+  tie : (ph : Phase) → th.phase ≡ ph → IsTiedDevice count t (pending_in c.trace ph) th ph
   tie ph e = tie_at b count c k t th at ph e
 
   abbrev to_come : ℕ

@@ -13,7 +13,7 @@ use Rattle.onll_core.specs.declared.returned.Current.TheVariants as currents
 use Rattle.onll_core.specs.Core.{CoreThread, CoreState}
 use Rattle.onll_core.specs.CoreFrame.{frame_thread}
 use Rattle.onll_core.specs.Consistent.{IsConsistent}
-use Rattle.onll_core.specs.Outcomes.{current_in, current_of, current_ends, returned_end, ends_of, script_of, IsLegalCore, IsFresh}
+use Rattle.onll_core.specs.Outcomes.{current_in, current_of, current_ends, returned_end, ends_of, script_of, IsLegalCore, IsFreshCore}
 use Rattle.onll_core.specs.CallTimes.{returned_calls, current_calls, timed_calls}
 use Rattle.onll_core.proofs.Phases.{seen_below}
 use Rattle.onll_core.proofs.Lawful.{IsLawful, lawful_legal}
@@ -48,7 +48,7 @@ lawful_report b count c k all =
           (lawful_legal b c.initial c.base c.trace t th.script th.returned (current_of th) (all.each t th e) (λ p o. seen_below count c k t th e p o))));
     }
 
-pub fresh_lawful : {State Op Query Reply : Type 0} (b : Behaviour State Op Query Reply) (c : CoreState State Op Query Reply) → IsFresh c → AreLawful b c
+pub fresh_lawful : {State Op Query Reply : Type 0} (b : Behaviour State Op Query Reply) (c : CoreState State Op Query Reply) → IsFreshCore c → AreLawful b c
 fresh_lawful {State} {Op} {Query} {Reply} b c fresh = record {
   each = λ t th e. subst (λ (x : List (Returned State Op Query Reply) × _). IsLawful b c.initial c.base c.trace t th.script x.0 x.1)
       (λ i. (sym (fresh.returned t th e) i, ap current_in (sym (fresh.idle t th e)) i)) record {

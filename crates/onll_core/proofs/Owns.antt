@@ -16,12 +16,12 @@ use Rattle.onll_core.specs.declared.phase.Phase.{Phase}
 use Rattle.onll_core.specs.declared.phase.Phase.TheVariants as phases
 use Rattle.onll_core.specs.Core.{CoreThread, CoreState}
 use Rattle.onll_core.specs.Step.{turned, begun, on_device, logged, returning, put, linked, answered, line_of_entry, after_exchange, after_flag, after_back, act, next_call, step_by, step_of}
-use Rattle.onll_core.specs.Kept.{own_place, Holds, HoldOwn}
+use Rattle.onll_core.specs.Kept.{own_place, HoldsOp, HoldOwn}
 
 -- An update that has a place holds its operation there, after every step.
 
 -- in a longer trace too
-holds_more : {State Op Query Reply : Type 0} (b : Behaviour State Op Query Reply) (trace more : List Node) (p : ℕ) (op : Op) → Holds b trace p op → Holds b (trace ++ more) p op
+holds_more : {State Op Query Reply : Type 0} (b : Behaviour State Op Query Reply) (trace more : List Node) (p : ℕ) (op : Op) → HoldsOp b trace p op → HoldsOp b (trace ++ more) p op
 holds_more b trace more zero op h = record { node = h.node; here = h.here; row = h.row }
 holds_more b trace more (suc q) op h = record { node = h.node; here = at_before trace more q (inside trace q h.node h.here) ∙ h.here; row = h.row }
 
@@ -50,7 +50,7 @@ exchange_place base l = by_base (nat_le l base)
 
 module _ {State Op Query Reply : Type 0} (b : Behaviour State Op Query Reply) (c : CoreState State Op Query Reply) (k : HoldOwn b c) (t : ℕ) (th : CoreThread State Op Query Reply) (at : slice_get c.threads t ≡ Some th) where
   abbrev OwnIn : List Node → CoreThread State Op Query Reply → Type 0
-  OwnIn trace w = (op : Op) (p : ℕ) → next_call w ≡ Some (Update op) → own_place w.phase ≡ Some p → Holds b trace p op
+  OwnIn trace w = (op : Op) (p : ℕ) → next_call w ≡ Some (Update op) → own_place w.phase ≡ Some p → HoldsOp b trace p op
 
   abbrev Each : List Node → List (CoreThread State Op Query Reply) → Type 0
   Each trace threads = (u : ℕ) (v : CoreThread State Op Query Reply) → slice_get threads u ≡ Some v → OwnIn trace v
@@ -73,8 +73,8 @@ module _ {State Op Query Reply : Type 0} (b : Behaviour State Op Query Reply) (c
       let same : op ≡ op' = (let e : Some (Update op) ≡ Some (Update op') = sym call ∙ call' in cc) in
       let place : l + 1 ≡ p' = same_some (l + 1) p' (sym (exchange_place c.base l) ∙ own') in
       let here : suc (length c.trace) ≡ p' = omega arith in
-      let h : Holds b long (suc (length c.trace)) op = record { node = x; here = at_end c.trace x; row = b.op_of_its_row op } in
-      subst (λ (o : Op). Holds b long p' o) same (subst (λ (q : ℕ). Holds b long q op) here h))
+      let h : HoldsOp b long (suc (length c.trace)) op = record { node = x; here = at_end c.trace x; row = b.op_of_its_row op } in
+      subst (λ (o : Op). HoldsOp b long p' o) same (subst (λ (q : ℕ). HoldsOp b long q op) here h))
       (λ u v e op' p' call' own'. holds_more b c.trace (x ∷ []) p' op' (k u v e op' p' call' own'))
 
   update_own : (op : Op) → next_call th ≡ Some (Update op) → (ph : Phase) → th.phase ≡ ph → HoldOwn b (act b c t th (Some (Update op)) ph)

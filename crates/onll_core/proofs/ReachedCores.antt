@@ -13,10 +13,11 @@ use Rattle.onll_core.specs.declared.returned.Current.TheVariants as currents
 use Rattle.onll_core.specs.Core.{CoreThread, CoreState}
 use Rattle.onll_core.specs.Step.{step_of, steps_of, next_call}
 use Rattle.onll_core.specs.First.{first_thread, first_threads, first_core}
-use Rattle.onll_core.specs.Created.{heads_from, created_core}
+use Rattle.onll_core.specs.Created.{created_core}
+use Rattle.onll_log.specs.Head.{heads_from}
 use Rattle.onll_core.specs.Resumed.{resumed_core_thread, resumed_core_threads, resumed_core}
 use Rattle.onll_core.specs.Consistent.{IsConsistent}
-use Rattle.onll_core.specs.Outcomes.{current_of, IsFresh}
+use Rattle.onll_core.specs.Outcomes.{current_of, IsFreshCore}
 use Rattle.onll_core.specs.Reached.{IsReached}
 use Rattle.onll_core.specs.OutcomeLaws.{FirstReachedLaw, CreatedReachedLaw, ResumedReachedLaw, FreshReachedLaw, StepReachedLaw, StepsReachedLaw, ReachedConsistentLaw, ReportLaw, OrderLaw, ReturnLaw}
 use Rattle.onll_core.proofs.FirstCore.{first_consistent, resumed_consistent}
@@ -45,7 +46,7 @@ module _ {State Op Query Reply : Type 0} where
       (ap (λ z. z.returned) same, ap (λ z. z.phase) same, (let n = ap (λ z. z.began) same in omega arith), ap (λ z. z.device.fences) same ∙ sym (ap (λ z. z.before) same))
   first_threads_fresh (head ∷ heads) (script ∷ scripts) (suc t) th e = first_threads_fresh heads scripts t th e
 
-  pub first_fresh : (initial : State) (heads : List LogHead) (scripts : List (List (Call State Op Query Reply))) → IsFresh (first_core initial heads scripts)
+  pub first_fresh : (initial : State) (heads : List LogHead) (scripts : List (List (Call State Op Query Reply))) → IsFreshCore (first_core initial heads scripts)
   first_fresh initial heads scripts = record {
     trace = refl;
     returned = λ t th e. (first_threads_fresh heads scripts t th e).0;
@@ -62,7 +63,7 @@ module _ {State Op Query Reply : Type 0} where
       (ap (λ z. z.returned) same, ap (λ z. z.phase) same, (let n = ap (λ z. z.began) same in omega arith), ap (λ z. z.device.fences) same ∙ sym (ap (λ z. z.before) same))
   resumed_threads_fresh (head ∷ heads) (log ∷ logs) (script ∷ scripts) (suc t) th e = resumed_threads_fresh heads logs scripts t th e
 
-  pub resumed_fresh : (initial : State) (base : List Node) (heads : List LogHead) (logs : List (List Segment)) (scripts : List (List (Call State Op Query Reply))) → IsFresh (resumed_core initial base heads logs scripts)
+  pub resumed_fresh : (initial : State) (base : List Node) (heads : List LogHead) (logs : List (List Segment)) (scripts : List (List (Call State Op Query Reply))) → IsFreshCore (resumed_core initial base heads logs scripts)
   resumed_fresh initial base heads logs scripts = record {
     trace = refl;
     returned = λ t th e. (resumed_threads_fresh heads logs scripts t th e).0;
@@ -71,7 +72,7 @@ module _ {State Op Query Reply : Type 0} where
     fences = λ t th e. (resumed_threads_fresh heads logs scripts t th e).3;
   }
 
-  fresh_counts : (c : CoreState State Op Query Reply) → IsFresh c → CountsFences c
+  fresh_counts : (c : CoreState State Op Query Reply) → IsFreshCore c → CountsFences c
   fresh_counts c f t th at =
       let none : updates_returned th ≡ 0 = ap (λ (rs : List (Returned State Op Query Reply)). updates_in (take (length rs) th.script)) (f.returned t th at) in
       let rest : fenced_in th.phase ≡ 0 = ap fenced_in (f.idle t th at) in

@@ -24,7 +24,7 @@ use Rattle.onll_core.specs.declared.phase.Phase.TheVariants as phases
 use Rattle.onll_core.specs.Core.{CoreThread, CoreState}
 use Rattle.onll_core.specs.CoreFrame.{seen_in, pending_in, activity_in, thread_at, frame_thread, frame_of}
 use Rattle.onll_core.specs.Step.{line_of_entry, next_call}
-use Rattle.onll_core.specs.Tie.{written_in, lines_needed, updates_to_link, IsTied}
+use Rattle.onll_core.specs.Tie.{written_in, lines_needed, updates_to_link, IsTiedDevice}
 use Rattle.onll_core.specs.Entries.{EntriesAreFew}
 use Rattle.onll_core.specs.Consistent.{IsConsistent}
 use Rattle.onll_core.proofs.Calls.{update_left}
@@ -120,8 +120,8 @@ lines_few threads [] l f = omega arith
 lines_few threads (s ∷ ss) l f = let h = lines_few threads ss l f.1 in let n = f.0.few_nodes in omega arith
 
 module _ {State Op Query Reply : Type 0} (count : ℕ) (c : CoreState State Op Query Reply) (k : IsConsistent count c) (t : ℕ) (th : CoreThread State Op Query Reply) (at : slice_get c.threads t ≡ Some th) where
-  tie_at : (ph : Phase) → th.phase ≡ ph → IsTied count t (pending_in c.trace ph) th ph
-  tie_at ph e = subst (λ (z : Phase). IsTied count t (pending_in c.trace z) th z) e (k.tied t th at)
+  tie_at : (ph : Phase) → th.phase ≡ ph → IsTiedDevice count t (pending_in c.trace ph) th ph
+  tie_at ph e = subst (λ (z : Phase). IsTiedDevice count t (pending_in c.trace z) th z) e (k.tied t th at)
 
   follows : (ph : Phase) → th.phase ≡ ph → Follows c.trace (seen_in c.base th.returned) (activity_in ph)
   follows ph e = k.sound.follows t (thread_at c.base c.trace th ph) (part_at c t th at ph e)
@@ -195,7 +195,7 @@ module _ {State Op Query Reply : Type 0} (count : ℕ) (c : CoreState State Op Q
   fits_log : (ph : Phase) → th.phase ≡ ph → (p d : ℕ) → pending_in c.trace ph ≡ Some (window c.trace d p) → lines_needed ph ≡ suc (p - d) → written_in ph ≤ suc (p - d) → FitsLog count c t th p d
   fits_log ph is p d e needs low =
       let x = window_of count c k t th at p d (ap (pending_in c.trace) is ∙ e) in
-      let tie = subst (λ (o : Option Segment). IsTied count t o th ph) e (tie_at ph is) in
+      let tie = subst (λ (o : Option Segment). IsTiedDevice count t o th ph) e (tie_at ph is) in
       let size = x.size in
       let long = length_read count t th (window c.trace d p) ph tie (omega arith) in
       let s = tie.space in

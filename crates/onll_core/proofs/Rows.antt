@@ -26,7 +26,7 @@ use Rattle.onll_core.specs.CoreFrame.{seen_in, frame_of, frame_thread, thread_at
 use Rattle.onll_core.specs.Step.{put, turned, linked, flagged, returning, answered, after_exchange, step_of}
 use Rattle.onll_core.specs.Next.{IsNext, IsUpdating}
 use Rattle.onll_core.specs.Consistent.{IsConsistent}
-use Rattle.onll_core.specs.Kept.{IsLocal, Holds, KeepsCore, moved}
+use Rattle.onll_core.specs.Kept.{IsLocal, HoldsOp, KeepsCore, moved}
 use Rattle.onll_core.proofs.Ready.{MayLink, MaySet}
 use Rattle.onll_core.proofs.CoreFrames.{part_at}
 use Rattle.onll_core.proofs.Windows.{few_in_all, few_of_thread}
@@ -60,7 +60,7 @@ take_next (y ∷ xs) zero x e = ap (λ (z : Node). z ∷ []) (same_some y x e)
 take_next (y ∷ xs) (suc q) x e = ap (λ (zs : List Node). y ∷ zs) (take_next xs q x e)
 
 -- after the operation that stands at a place
-pub after_own : {State Op Query Reply : Type 0} (b : Behaviour State Op Query Reply) (s : State) (xs : List Node) (p : ℕ) (op : Op) → 1 ≤ p → Holds b xs p op → b.next (state_after b s (take (p - 1) xs)) op ≡ state_after b s (take p xs)
+pub after_own : {State Op Query Reply : Type 0} (b : Behaviour State Op Query Reply) (s : State) (xs : List Node) (p : ℕ) (op : Op) → 1 ≤ p → HoldsOp b xs p op → b.next (state_after b s (take (p - 1) xs)) op ≡ state_after b s (take p xs)
 after_own b s xs zero op l h = absurd (omega arith)
 after_own {State} b s xs (suc q) op l h =
     let e : suc q - 1 ≡ q = omega arith in
@@ -231,7 +231,7 @@ module _ {State Op Query Reply : Type 0} (b : Behaviour State Op Query Reply) (n
       let state : state_after b own.object (nodes_between c.trace own.place (p - 1)) ≡ state_after b c.initial (take (p - 1) c.trace)
       = ap (λ (s : State). state_after b s (nodes_between c.trace own.place (p - 1))) is_local.state ∙ forward b c.initial c.trace own.place (p - 1) ahead in
       let right : reply ≡ reply_after b c.initial (take (p - 1) c.trace) op = reply_is ∙ ap (λ (s : State). b.reply s op) state in
-      let holds : Holds b c.trace p op = k.own t th at op p nx.0 (ap Rattle.onll_core.specs.Kept.own_place nx.1) in
+      let holds : HoldsOp b c.trace p op = k.own t th at op p nx.0 (ap Rattle.onll_core.specs.Kept.own_place nx.1) in
       let w_same : returning th p (reply_after b c.initial (take (p - 1) c.trace) op) th.began c.clock ≡ w = sym (w_is ∙ λ i. returning th p (right i) (began_is i) c.clock) in
       let step : step_of b c t ≡ flagged c t p w = step_is b nodes flags locals c k now view t th there read (Update op) (phases.Set p d) n ∙ ap (flagged c t p) w_same in
       let clock = set_clock (flagged c t p w) c.clock refl in

@@ -22,7 +22,7 @@ use Rattle.onll_core.specs.declared.phase.Phase.TheVariants as phases
 use Rattle.onll_core.specs.Core.{CoreThread, CoreState}
 use Rattle.onll_core.specs.CoreFrame.{seen_in, pending_in, activity_in, fenced_entries, thread_at, frame_thread, frame_of}
 use Rattle.onll_core.specs.Step.{turned, begun, on_device, logged, returning, put, linked, flagged, line_of_entry, after_exchange, after_flag, answered, act, next_call, step_by, step_of}
-use Rattle.onll_core.specs.Tie.{IsTied}
+use Rattle.onll_core.specs.Tie.{IsTiedDevice}
 use Rattle.onll_core.specs.Consistent.{IsConsistent}
 use Rattle.onll_core.specs.StepEvent.{event_at, event_by, event_of, IsEvent}
 use Rattle.onll_core.proofs.Calls.{update_left}
@@ -43,8 +43,8 @@ module _ {State Op Query Reply : Type 0} (b : Behaviour State Op Query Reply) (c
   after_event : (ph : Phase) → th.phase ≡ ph → (e : Event) → thread_of e ≡ t → after c.base f e ≡ after_by c.base f e (Some (part ph))
   after_event ph is e own = ap (after_by c.base f e) (ap (slice_get f.threads) own ∙ part_at c t th at ph is)
 
-  pub tie_at : (ph : Phase) → th.phase ≡ ph → IsTied count t (pending_in c.trace ph) th ph
-  tie_at ph e = subst (λ (z : Phase). IsTied count t (pending_in c.trace z) th z) e (k.tied t th at)
+  pub tie_at : (ph : Phase) → th.phase ≡ ph → IsTiedDevice count t (pending_in c.trace ph) th ph
+  tie_at ph e = subst (λ (z : Phase). IsTiedDevice count t (pending_in c.trace z) th z) e (k.tied t th at)
 
   follows : (ph : Phase) → th.phase ≡ ph → Follows c.trace (seen_in c.base th.returned) (activity_in ph)
   follows ph e = k.sound.follows t (part ph) (part_at c t th at ph e)
@@ -111,7 +111,7 @@ module _ {State Op Query Reply : Type 0} (b : Behaviour State Op Query Reply) (c
   -- ---- the log
   -- the entry that is fenced
   pub fence_tie : (op : Op) → next_call th ≡ Some (Update op) → (p d : ℕ) → (is : th.phase ≡ phases.Fence p d)
-      → (tie' : IsTied count t None (logged th (p - d) (phases.Set p d)) (phases.Set p d)) × (tie'.log ≡ (tie_at (phases.Fence p d) is).log ++ window c.trace d p ∷ [])
+      → (tie' : IsTiedDevice count t None (logged th (p - d) (phases.Set p d)) (phases.Set p d)) × (tie'.log ≡ (tie_at (phases.Fence p d) is).log ++ window c.trace d p ∷ [])
   fence_tie op call p d is =
       let g : Segment = window c.trace d p in
       let w = window_of count c k t th at p d (ap (pending_in c.trace) is) in

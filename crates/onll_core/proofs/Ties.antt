@@ -18,20 +18,20 @@ use Rattle.onll_core.specs.declared.returned.Returned.{Returned}
 use Rattle.onll_core.specs.Core.{CoreThread}
 use Rattle.onll_core.specs.CoreFrame.{fenced_entries}
 use Rattle.onll_core.specs.Step.{on_device, logged}
-use Rattle.onll_core.specs.Tie.{written_in, lines_needed, IsBehind, InEntry, coming_lines, updates_to_log, IsTied}
+use Rattle.onll_core.specs.Tie.{written_in, lines_needed, IsBehind, InEntry, coming_lines, updates_to_log, IsTiedDevice}
 
 -- The steps on a device keep it tied to its log.
 
 module _ {State Op Query Reply : Type 0} (count t : ℕ) (th : CoreThread State Op Query Reply) where
   -- the log is what the fenced words hold
-  pub fenced_is_log : (o : Option Segment) (ph : Phase) (tie : IsTied count t o th ph) → fenced_entries th.head th.device ≡ tie.log
+  pub fenced_is_log : (o : Option Segment) (ph : Phase) (tie : IsTiedDevice count t o th ph) → fenced_entries th.head th.device ≡ tie.log
   fenced_is_log o ph tie = ap (λ (l : List (List ℕ)). entries_from th.head 0 0 (drop 1 l)) tie.fenced ∙ (entries_from-entries_lines th.head tie.log (zero_lines (written_in ph + tie.free)) tie.fits ∙
       (ap (λ (l : List Segment). tie.log ++ l) (entries_from-zero_lines th.head (length tie.log) (written_in ph + tie.free)) ∙ append-nil tie.log))
 
   -- no step on the device, and no line of an entry is written
-  pub tie_moved : (o o' : Option Segment) (ph ph' : Phase) (rs : List (Returned State Op Query Reply)) (began : ℕ) → (tie : IsTied count t o th ph) → written_in ph ≡ 0 → written_in ph' ≡ 0
+  pub tie_moved : (o o' : Option Segment) (ph ph' : Phase) (rs : List (Returned State Op Query Reply)) (began : ℕ) → (tie : IsTiedDevice count t o th ph) → written_in ph ≡ 0 → written_in ph' ≡ 0
       → ((line : ℕ) → IsBehind th.used ph line) → InEntry ph' → updates_to_log (record th { returned = rs; phase = ph'; began = began }) ph' ≡ updates_to_log th ph → lines_needed ph' ≤ tie.free
-      → IsTied count t o' (record th { returned = rs; phase = ph'; began = began }) ph'
+      → IsTiedDevice count t o' (record th { returned = rs; phase = ph'; began = began }) ph'
   tie_moved o o' ph ph' rs began tie none none' all entry updates needs =
       let front : List (List ℕ) = log_lines th.head tie.log in
       let r = tie.room in
@@ -56,7 +56,7 @@ module _ {State Op Query Reply : Type 0} (count t : ℕ) (th : CoreThread State 
 
   -- ---- the entry that is written
   -- its zeros and those behind it
-  pub as_front : (g : Segment) (p d k : ℕ) (tie : IsTied count t (Some g) th (phases.Line p d k)) → length g.nodes ≡ p - d
+  pub as_front : (g : Segment) (p d k : ℕ) (tie : IsTiedDevice count t (Some g) th (phases.Line p d k)) → length g.nodes ≡ p - d
       → th.device.read ≡ written_front (log_lines th.head tie.log) (entry_lines th.head (length tie.log) g) k (k + tie.free - suc (p - d))
   as_front g p d k tie size =
       let lines : List (List ℕ) = entry_lines th.head (length tie.log) g in
@@ -67,12 +67,12 @@ module _ {State Op Query Reply : Type 0} (count t : ℕ) (th : CoreThread State 
       tie.read ∙ ap (λ (m : ℕ). log_lines th.head tie.log ++ (take k lines ++ zero_lines m)) n
 
   -- the place of the entry's next line
-  pub next_line : (o : Option Segment) (ph : Phase) (k : ℕ) (tie : IsTied count t o th ph) → th.used + k ≡ length (log_lines th.head tie.log) + k
+  pub next_line : (o : Option Segment) (ph : Phase) (k : ℕ) (tie : IsTiedDevice count t o th ph) → th.used + k ≡ length (log_lines th.head tie.log) + k
   next_line o ph k tie = let a = tie.lines in let b = length-log_lines th.head tie.log in omega arith
 
   -- the next line of the entry is written
-  pub tie_written : (g : Segment) (p d k : ℕ) (line : List ℕ) → (tie : IsTied count t (Some g) th (phases.Line p d k)) → length g.nodes ≡ p - d → line ≡ line_at (entry_lines th.head (length tie.log) g) k
-      → IsTied count t (Some g) (on_device th (after_step th.device (Write (th.used + k) line)) (phases.Back p d k)) (phases.Back p d k)
+  pub tie_written : (g : Segment) (p d k : ℕ) (line : List ℕ) → (tie : IsTiedDevice count t (Some g) th (phases.Line p d k)) → length g.nodes ≡ p - d → line ≡ line_at (entry_lines th.head (length tie.log) g) k
+      → IsTiedDevice count t (Some g) (on_device th (after_step th.device (Write (th.used + k) line)) (phases.Back p d k)) (phases.Back p d k)
   tie_written g p d k line tie size is =
       let lines : List (List ℕ) = entry_lines th.head (length tie.log) g in
       let front : List (List ℕ) = log_lines th.head tie.log in
@@ -106,7 +106,7 @@ module _ {State Op Query Reply : Type 0} (count t : ℕ) (th : CoreThread State 
       }
 
   -- the lines of the device
-  pub length_read : (g : Segment) (ph : Phase) (tie : IsTied count t (Some g) th ph) → written_in ph ≤ suc (length g.nodes) → length th.device.read ≡ th.used + written_in ph + tie.free
+  pub length_read : (g : Segment) (ph : Phase) (tie : IsTiedDevice count t (Some g) th ph) → written_in ph ≤ suc (length g.nodes) → length th.device.read ≡ th.used + written_in ph + tie.free
   length_read g ph tie low =
       let lines : List (List ℕ) = entry_lines th.head (length tie.log) g in
       let long = length-entry_lines th.head (length tie.log) g in
@@ -123,10 +123,10 @@ module _ {State Op Query Reply : Type 0} (count t : ℕ) (th : CoreThread State 
       )
 
   -- that line is written back
-  pub tie_backed : (g : Segment) (p d k : ℕ) (ph : Phase) → (tie : IsTied count t (Some g) th (phases.Back p d k)) → length g.nodes ≡ p - d → written_in ph ≡ suc k → InEntry ph
+  pub tie_backed : (g : Segment) (p d k : ℕ) (ph : Phase) → (tie : IsTiedDevice count t (Some g) th (phases.Back p d k)) → length g.nodes ≡ p - d → written_in ph ≡ suc k → InEntry ph
       → updates_to_log th ph ≡ updates_to_log th (phases.Back p d k) → lines_needed ph ≡ suc (p - d) → ((line : ℕ) → IsBehind th.used ph line)
       → updates_to_log (on_device th (after_step th.device (WriteBack (th.used + k))) ph) ph ≡ updates_to_log th ph
-      → IsTied count t (Some g) (on_device th (after_step th.device (WriteBack (th.used + k))) ph) ph
+      → IsTiedDevice count t (Some g) (on_device th (after_step th.device (WriteBack (th.used + k))) ph) ph
   tie_backed g p d k ph tie size written entry updates needs all still =
       let a = tie.in_entry in
       let long = length_read g (phases.Back p d k) tie (omega arith) in
@@ -156,9 +156,9 @@ module _ {State Op Query Reply : Type 0} (count t : ℕ) (th : CoreThread State 
       }
 
   -- the entry is fenced
-  pub tie_fenced : (g : Segment) (p d : ℕ) → (tie : IsTied count t (Some g) th (phases.Fence p d)) → length g.nodes ≡ p - d → FitsEntry th.head.threads g
+  pub tie_fenced : (g : Segment) (p d : ℕ) → (tie : IsTiedDevice count t (Some g) th (phases.Fence p d)) → length g.nodes ≡ p - d → FitsEntry th.head.threads g
       → updates_in (drop (length th.returned) th.script) ≡ suc (updates_in (drop (suc (length th.returned)) th.script)) → p - d ≤ th.head.threads
-      → (tie' : IsTied count t None (logged th (p - d) (phases.Set p d)) (phases.Set p d)) × (tie'.log ≡ tie.log ++ g ∷ [])
+      → (tie' : IsTiedDevice count t None (logged th (p - d) (phases.Set p d)) (phases.Set p d)) × (tie'.log ≡ tie.log ++ g ∷ [])
   tie_fenced g p d tie size fits more few =
       let lines : List (List ℕ) = entry_lines th.head (length tie.log) g in
       let front : List (List ℕ) = log_lines th.head tie.log in

@@ -23,7 +23,7 @@ use Rattle.onll_core.specs.Core.{CoreThread, CoreState}
 use Rattle.onll_core.specs.CoreFrame.{seen_in, frame_of}
 use Rattle.onll_core.specs.Step.{turned, begun, on_device, logged, returning, put, linked, flagged, line_of_entry, after_exchange, after_flag, after_back, answered, act, next_call, step_by, step_of}
 use Rattle.onll_core.specs.Consistent.{IsConsistent}
-use Rattle.onll_core.specs.Outcomes.{current_in, IsFresh}
+use Rattle.onll_core.specs.Outcomes.{current_in, IsFreshCore}
 use Rattle.onll_core.proofs.Phases.{if_case, own_last, own_place, seen_below}
 use Rattle.onll_core.proofs.Timed.{IsPast, IsAhead, IsBusy, IsTimed, timed_put, timed_return, before_update, before_read}
 
@@ -152,7 +152,7 @@ step_timed {State} {Op} {Query} {Reply} b count c k time t = by_thread (slice_ge
     by_thread (Some th) e = act_timed b count c k time t th e (next_call th) refl
 
 -- where no call has begun there is nothing to keep
-pub fresh_timed : {State Op Query Reply : Type 0} (c : CoreState State Op Query Reply) → IsFresh c → IsTimed c
+pub fresh_timed : {State Op Query Reply : Type 0} (c : CoreState State Op Query Reply) → IsFreshCore c → IsTimed c
 fresh_timed {State} {Op} {Query} {Reply} c fresh = record {
   past = λ t i x a h. absurd (none t i x a h);
   begun = fresh.began;

@@ -6,7 +6,7 @@ use Rattle.onll_model.specs.Trace.{is_of_thread}
 use Rattle.onll_model.specs.Frames.{Sound, Based}
 use Rattle.onll_core.specs.Core.{CoreThread, CoreState}
 use Rattle.onll_core.specs.CoreFrame.{pending_in, frame_of}
-use Rattle.onll_core.specs.Tie.{updates_to_link, IsTied}
+use Rattle.onll_core.specs.Tie.{updates_to_link, IsTiedDevice}
 
 -- each thread has this fact, with its number
 abbrev pub EachCoreThread : {State Op Query Reply : Type 0} → CoreState State Op Query Reply
@@ -21,4 +21,4 @@ pub record IsConsistent {State Op Query Reply : Type 0} (count : ℕ) (c : CoreS
   pub rows : AllByRecursion (λ (n : Node). length n.row.w ≡ 7) c.trace
   pub few : count ≤ most_threads
   pub numbers : EachCoreThread c (λ t th. count_by (is_of_thread t) c.trace + updates_to_link th th.phase ≤ most_updates)
-  pub tied : EachCoreThread c (λ t th. IsTied count t (pending_in c.trace th.phase) th th.phase)
+  pub tied : EachCoreThread c (λ t th. IsTiedDevice count t (pending_in c.trace th.phase) th th.phase)

@@ -22,8 +22,8 @@ use Rattle.onll_core.specs.Crash.{HoldsFenced, HasRest, AreImages, images_of, he
 -- Laws of a crash of the step core, whatever the object, whatever threads take steps, and whatever the crash leaves.
 
 -- each image of each device holds the thread's log, and the entry that is being written exactly where it has that whole
-abbrev pub ImageLaw : (State Op Query Reply : Type 0) → Type 0
-ImageLaw State Op Query Reply = (count : ℕ) (c : CoreState State Op Query Reply) → IsConsistent count c
+abbrev pub CoreImageLaw : (State Op Query Reply : Type 0) → Type 0
+CoreImageLaw State Op Query Reply = (count : ℕ) (c : CoreState State Op Query Reply) → IsConsistent count c
     → EachCoreThread c (λ t th. (image : List (List ℕ)) → IsImage th.device image → HoldsFenced th (pending_in c.trace th.phase) image)
 
 -- behind it there is nothing that could be read as an entry: zeros, or what is left of the entry that is not whole
@@ -77,8 +77,8 @@ module _ {State Op Query Reply : Type 0} (b : Behaviour State Op Query Reply) wh
 
   -- A crash at any step of a core leaves logs whose recovery is a prefix of the trace, and holds every returned update and
   -- all that returned reads saw: for every initial state, all heads and scripts, every list of turns, and every choice of images.
-  abbrev pub CrashLaw : Type 0
-  CrashLaw = (count : ℕ) (initial : State) (heads : List LogHead) (scripts : List (List (Call State Op Query Reply)))
+  abbrev pub CoreCrashLaw : Type 0
+  CoreCrashLaw = (count : ℕ) (initial : State) (heads : List LogHead) (scripts : List (List (Call State Op Query Reply)))
       (ts : List ℕ) (images : List (List (List ℕ)))
       → AreFirst count heads scripts → AreImages (steps_of b (first_core initial heads scripts) ts).threads images
       → RecoversAll b heads (steps_of b (first_core initial heads scripts) ts) images

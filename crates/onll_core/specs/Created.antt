@@ -1,19 +1,14 @@
-use Rattle.std.specs.Prelude.{ℕ, zero, suc, ◌≤◌, List, [], ◌∷◌, length}
+use Rattle.std.specs.Prelude.{ℕ, ◌≤◌, List, length}
 use Rattle.onll_model.specs.Limits.{most_threads, most_updates, greatest_code}
 use Rattle.std.specs.List.{AllByRecursion}
 use Rattle.onll_model.specs.declared.call.Call.{Call}
 use Rattle.onll_model.specs.Calls.{updates_in}
 use Rattle.onll_log.specs.declared.head.LogHead.{LogHead}
-use Rattle.onll_log.specs.Head.{head_for}
+use Rattle.onll_log.specs.Head.{heads_from}
 use Rattle.onll_core.specs.Core.{CoreState}
 use Rattle.onll_core.specs.First.{first_core}
 
 -- The core that is made of an object, the bytes of its initial state and scripts.
-
--- the heads of this many logs, of threads t and above among `count`
-abbrev pub heads_from : ℕ → ℕ → List ℕ → ℕ → ℕ → List LogHead
-heads_from count object init t zero = []
-heads_from count object init t (suc n) = head_for 2 t count object init ∷ heads_from count object init (suc t) n
 
 -- the heads of the logs of a core that is made of scripts
 abbrev pub created_heads : {State Op Query Reply : Type 0} → ℕ → List ℕ → List (List (Call State Op Query Reply)) → List LogHead

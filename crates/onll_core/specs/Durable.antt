@@ -41,7 +41,7 @@ pub record IsDurable {State Op Query Reply : Type 0} (b : Behaviour State Op Que
   pub crash : RecoversAlways b heads c
 
 -- a core of these scripts that goes on from some images, lists of lines
-pub record GoesOn {State Op Query Reply : Type 0} (b : Behaviour State Op Query Reply) (code : ℕ) (init : List ℕ) (initial : State)
+pub record CoreGoesOn {State Op Query Reply : Type 0} (b : Behaviour State Op Query Reply) (code : ℕ) (init : List ℕ) (initial : State)
     (scripts : List (List (Call State Op Query Reply))) (c : CoreState State Op Query Reply) : Type 0 where
   pub images : List (List (List ℕ))
   pub lines : AllByRecursion AreLines images
@@ -49,9 +49,9 @@ pub record GoesOn {State Op Query Reply : Type 0} (b : Behaviour State Op Query 
   pub resumed : resumed b code init initial images scripts ≡ Ok c
 
 -- a core of these scripts before any step: one that begins anew, or one that goes on
-abbrev pub Begins : {State Op Query Reply : Type 0} → Behaviour State Op Query Reply → ℕ → List ℕ → State
+abbrev pub CoreBegins : {State Op Query Reply : Type 0} → Behaviour State Op Query Reply → ℕ → List ℕ → State
     → List (List (Call State Op Query Reply)) → CoreState State Op Query Reply → Type 0
-Begins b code init initial scripts c = (created_core initial code init scripts ≡ c) ⊎ GoesOn b code init initial scripts c
+CoreBegins b code init initial scripts c = (created_core initial code init scripts ≡ c) ⊎ CoreGoesOn b code init initial scripts c
 
 -- after any steps of the threads of such a core, in any order; what its trace began with stays
 abbrev pub AlwaysDurable : {State Op Query Reply : Type 0} → Behaviour State Op Query Reply → ℕ → List ℕ → State
@@ -64,4 +64,4 @@ abbrev pub DurableLaw : {State Op Query Reply : Type 0} → Behaviour State Op Q
 DurableLaw {State} {Op} {Query} {Reply} b =
     (code : ℕ) (init : List ℕ) (initial : State) (scripts : List (List (Call State Op Query Reply)))
     (c : CoreState State Op Query Reply)
-    → IsWithinLimits code scripts → Begins b code init initial scripts c → AlwaysDurable b code init initial scripts c
+    → IsWithinLimits code scripts → CoreBegins b code init initial scripts c → AlwaysDurable b code init initial scripts c

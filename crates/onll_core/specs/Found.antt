@@ -85,7 +85,7 @@ found_threads (head ∷ heads) (image ∷ more) (log ∷ logs) (script ∷ scrip
 found_threads heads more logs scripts = []
 
 -- the log has the lines that it is said to use, and there is room for an entry of each update
-pub record IsRoomy {State Op Query Reply : Type 0} (head : LogHead) (image : List (List ℕ)) (log : LogCounts)
+pub record HasLogRoom {State Op Query Reply : Type 0} (head : LogHead) (image : List (List ℕ)) (log : LogCounts)
     (script : List (Call State Op Query Reply)) : Type 0 where
   pub threads : head.threads ≤ most_threads
   pub updates : updates_in script ≤ most_updates
@@ -93,12 +93,12 @@ pub record IsRoomy {State Op Query Reply : Type 0} (head : LogHead) (image : Lis
   pub entries : log.entries < max 1 log.lines
   pub room : max 1 log.lines + updates_in script * (head.threads + 1) ≤ most_lines
 
-abbrev pub AreRoomy : {State Op Query Reply : Type 0} → List LogHead → List (List (List ℕ)) → List LogCounts
+abbrev pub HaveLogRoom : {State Op Query Reply : Type 0} → List LogHead → List (List (List ℕ)) → List LogCounts
     → List (List (Call State Op Query Reply)) → Type 0
-AreRoomy [] [] [] [] = Unit {0}
-AreRoomy (head ∷ heads) (image ∷ more) (log ∷ logs) (script ∷ scripts) =
-    IsRoomy head image log script × AreRoomy heads more logs scripts
-AreRoomy heads more logs scripts = ⊥
+HaveLogRoom [] [] [] [] = Unit {0}
+HaveLogRoom (head ∷ heads) (image ∷ more) (log ∷ logs) (script ∷ scripts) =
+    HasLogRoom head image log script × HaveLogRoom heads more logs scripts
+HaveLogRoom heads more logs scripts = ⊥
 
 -- ---- replicas
 -- a replica of the object for each of this many threads, from thread t on, after all nodes

@@ -6,7 +6,8 @@ use Rattle.onll_core.specs.declared.fault.ResumeFault.{ResumeFault}
 use Rattle.onll_core.specs.declared.fault.ResumeFault.TheVariants.{TooMany}
 use Rattle.onll_core.specs.Core.{CoreState}
 use Rattle.onll_core.specs.Step.{steps_of}
-use Rattle.onll_core.specs.Created.{heads_from, created_core, IsWithinLimits}
+use Rattle.onll_core.specs.Created.{created_core, IsWithinLimits}
+use Rattle.onll_log.specs.Head.{heads_from}
 use Rattle.onll_core.specs.Crash.{AreImages, RecoversAll}
 use Rattle.onll_core.specs.Resume.{Found, found_in, resumed}
 

@@ -32,7 +32,7 @@ abbrev pub own_place : Phase → Option ℕ
 own_place phase = open_in (activity_in phase)
 
 -- at this place stands the operation
-pub record Holds {State Op Query Reply : Type 0} (b : Behaviour State Op Query Reply) (trace : List Node) (p : ℕ) (op : Op) : Type 0 where
+pub record HoldsOp {State Op Query Reply : Type 0} (b : Behaviour State Op Query Reply) (trace : List Node) (p : ℕ) (op : Op) : Type 0 where
   pub node : Node
   pub here : node_at trace p ≡ Some node
   pub row : b.op_at node.row ≡ Some op
@@ -40,7 +40,7 @@ pub record Holds {State Op Query Reply : Type 0} (b : Behaviour State Op Query R
 -- an update that has a place holds its operation there
 abbrev pub HoldOwn : {State Op Query Reply : Type 0} → Behaviour State Op Query Reply → CoreState State Op Query Reply → Type 0
 HoldOwn b c = EachCoreThread c (λ t th. (op : _) (p : ℕ) → next_call th ≡ Some (Update op) → own_place th.phase ≡ Some p
-    → Holds b c.trace p op)
+    → HoldsOp b c.trace p op)
 
 -- A thread's replica is the object after the nodes up to its place, which the thread has seen, and it counts the thread's nodes.
 pub record IsLocal {State Op Query Reply : Type 0} (b : Behaviour State Op Query Reply)

@@ -29,8 +29,8 @@ module _ (State Op Query Reply : Type 0) where
       → CountsFences (first_core initial heads scripts)
 
   -- such as the one that is made of scripts within the limits
-  abbrev pub CreatedLaw : Type 0
-  CreatedLaw = (initial : State) (object : ℕ) (init : List ℕ) (scripts : List (List (Call State Op Query Reply)))
+  abbrev pub CreatedCoreLaw : Type 0
+  CreatedCoreLaw = (initial : State) (object : ℕ) (init : List ℕ) (scripts : List (List (Call State Op Query Reply)))
       → IsWithinLimits object scripts → IsConsistent (length scripts) (created_core initial object init scripts)
 
   abbrev pub CreatedFencesLaw : Type 0
@@ -38,8 +38,8 @@ module _ (State Op Query Reply : Type 0) where
       → IsWithinLimits object scripts → CountsFences (created_core initial object init scripts)
 
   -- so is that of a core that goes on, which has made none
-  abbrev pub ResumedLaw : Type 0
-  ResumedLaw = (count : ℕ) (initial : State) (base : List Node) (heads : List LogHead) (logs : List (List Segment))
+  abbrev pub ResumedCoreLaw : Type 0
+  ResumedCoreLaw = (count : ℕ) (initial : State) (base : List Node) (heads : List LogHead) (logs : List (List Segment))
       (scripts : List (List (Call State Op Query Reply))) → AreResumed count base heads logs scripts
       → IsConsistent count (resumed_core initial base heads logs scripts)
 
@@ -50,8 +50,8 @@ module _ (State Op Query Reply : Type 0) where
       → CountsFences (resumed_core initial base heads logs scripts)
 
   -- no entry of a consistent core, fenced or being written, holds more nodes than there are threads
-  abbrev pub EntriesLaw : Type 0
-  EntriesLaw = (count : ℕ) (c : CoreState State Op Query Reply) → IsConsistent count c → EntriesAreFew count c
+  abbrev pub EntryBoundLaw : Type 0
+  EntryBoundLaw = (count : ℕ) (c : CoreState State Op Query Reply) → IsConsistent count c → EntriesAreFew count c
 
 module _ {State Op Query Reply : Type 0} (b : Behaviour State Op Query Reply) where
   -- a step of a thread is its event
@@ -60,8 +60,8 @@ module _ {State Op Query Reply : Type 0} (b : Behaviour State Op Query Reply) wh
       → IsEvent c (step_of b c t) (event_of b c t)
 
   -- each step keeps a core consistent, and so do all steps
-  abbrev pub StepLaw : Type 0
-  StepLaw = (count : ℕ) (c : CoreState State Op Query Reply) (t : ℕ) → IsConsistent count c → IsConsistent count (step_of b c t)
+  abbrev pub CoreStepLaw : Type 0
+  CoreStepLaw = (count : ℕ) (c : CoreState State Op Query Reply) (t : ℕ) → IsConsistent count c → IsConsistent count (step_of b c t)
 
   abbrev pub StepsLaw : Type 0
   StepsLaw = (count : ℕ) (c : CoreState State Op Query Reply) (ts : List ℕ) → IsConsistent count c → IsConsistent count (steps_of b c ts)

@@ -10,7 +10,7 @@ use Rattle.onll_core.specs.First.{first_core, AreFirst}
 use Rattle.onll_core.specs.Created.{created_core, IsWithinLimits}
 use Rattle.onll_core.specs.Resumed.{resumed_core, AreResumed}
 use Rattle.onll_core.specs.Consistent.{IsConsistent}
-use Rattle.onll_core.specs.Outcomes.{IsLegalCore, IsFresh}
+use Rattle.onll_core.specs.Outcomes.{IsLegalCore, IsFreshCore}
 use Rattle.onll_core.specs.CallTimes.{AreInTime}
 use Rattle.onll_core.specs.Returns.{OrderedReturn}
 use Rattle.onll_core.specs.Reached.{IsReached}
@@ -38,7 +38,7 @@ module _ {State Op Query Reply : Type 0} (b : Behaviour State Op Query Reply) wh
 
   -- so is every consistent state in which no call has begun
   abbrev pub FreshReachedLaw : Type 0
-  FreshReachedLaw = (count : ℕ) (c : CoreState State Op Query Reply) → IsConsistent count c → IsFresh c → IsReached b count c
+  FreshReachedLaw = (count : ℕ) (c : CoreState State Op Query Reply) → IsConsistent count c → IsFreshCore c → IsReached b count c
 
   -- and what a step leads to from a state that is reached, and what steps do
   abbrev pub StepReachedLaw : Type 0

@@ -51,7 +51,7 @@ abbrev pub IsLegalCore : {State Op Query Reply : Type 0} → Behaviour State Op 
 IsLegalCore b c = IsLegal b c.initial (take c.base c.trace) (map script_of c.threads) c.trace (map ends_of c.threads)
 
 -- No call has begun since the base, which is the whole trace, and no fence was made in this generation.
-pub record IsFresh {State Op Query Reply : Type 0} (c : CoreState State Op Query Reply) : Type 0 where
+pub record IsFreshCore {State Op Query Reply : Type 0} (c : CoreState State Op Query Reply) : Type 0 where
   pub trace : length c.trace ≡ c.base
   pub returned : EachCoreThread c (λ t th. th.returned ≡ [])
   pub idle : EachCoreThread c (λ t th. th.phase ≡ phases.Idle)

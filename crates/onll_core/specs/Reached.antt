@@ -3,7 +3,7 @@ use Rattle.onll_model.specs.Object.{Behaviour}
 use Rattle.onll_core.specs.Core.{CoreState}
 use Rattle.onll_core.specs.Step.{steps_of}
 use Rattle.onll_core.specs.Consistent.{IsConsistent}
-use Rattle.onll_core.specs.Outcomes.{IsFresh}
+use Rattle.onll_core.specs.Outcomes.{IsFreshCore}
 
 -- The core of `count` threads is one that steps, in whatever order, reach from a consistent state where no call has begun.
 pub record IsReached {State Op Query Reply : Type 0} (b : Behaviour State Op Query Reply) (count : ℕ)
@@ -11,5 +11,5 @@ pub record IsReached {State Op Query Reply : Type 0} (b : Behaviour State Op Que
   pub start : CoreState State Op Query Reply
   pub steps : List ℕ
   pub consistent : IsConsistent count start
-  pub fresh : IsFresh start
+  pub fresh : IsFreshCore start
   pub reached : steps_of b start steps ≡ c

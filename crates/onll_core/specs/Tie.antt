@@ -92,7 +92,7 @@ updates_to_link th (phases.Ask f d) = updates_in (drop (length th.returned) th.s
 
 -- The device of thread t of `count`, whose next step is of this kind and which is writing this segment, if any: `log` are
 -- its fenced entries, and `free` lines are zero behind those that are written.
-pub record IsTied {State Op Query Reply : Type 0} (count t : ℕ) (writing : Option Segment)
+pub record IsTiedDevice {State Op Query Reply : Type 0} (count t : ℕ) (writing : Option Segment)
     (th : CoreThread State Op Query Reply) (phase : Phase) : Type 0 where
   pub log : List Segment
   pub free : ℕ

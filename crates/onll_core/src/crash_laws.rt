@@ -3,7 +3,7 @@
 ghost use Rattle.onll_core.specs.Based.{BaseLaw, SameRefusalLaw, SameBaseLaw};
 ghost use Rattle.onll_core.specs.Durable.{DurableLaw};
 ghost use Rattle.onll_core.specs.Generations.{GenerationsLaw, PrefixLaw, OnlyTooManyLaw};
-ghost use Rattle.onll_core.specs.CrashLaws.{ImageLaw, RestLaw, PickedLaw, RecoveryLaw, HeadsLaw, LaterCrashLaw, CrashLaw, ResumedCrashLaw, ReachedCrashLaw, GoOnLaw, MoreNodesLaw, NextCrashLaw};
+ghost use Rattle.onll_core.specs.CrashLaws.{CoreImageLaw, RestLaw, PickedLaw, RecoveryLaw, HeadsLaw, LaterCrashLaw, CoreCrashLaw, ResumedCrashLaw, ReachedCrashLaw, GoOnLaw, MoreNodesLaw, NextCrashLaw};
 
 use onll_model::Object;
 
@@ -11,7 +11,7 @@ use onll_model::Object;
 /// and its fenced entries, and with the entry that is being written exactly where that is whole. Behind them are zeros, or
 /// what is left of that entry. Every number picks such images.
 pub fn image_law<O: Object>()
-    ensures holds { ImageLaw O O.Op O.Query O.Reply }
+    ensures holds { CoreImageLaw O O.Op O.Query O.Reply }
     ensures rest { RestLaw O O.Op O.Query O.Reply }
     ensures picked { PickedLaw O O.Op O.Query O.Reply }
 {}
@@ -26,7 +26,7 @@ pub fn recovery_law<O: Object>()
 /// A crash at any step leaves logs whose recovery is a prefix of the trace and holds every returned update and all that
 /// returned reads saw; where the core goes on from recovered nodes, the prefix begins with these.
 pub fn crash_law<O: Object>()
-    ensures begun { CrashLaw O.means }
+    ensures begun { CoreCrashLaw O.means }
     ensures resumed { ResumedCrashLaw O.means }
     ensures reached { ReachedCrashLaw O.means }
 {}

@@ -16,7 +16,7 @@ ghost use Rattle.onll_core.specs.declared.fault.ResumeFault.TheVariants.{NoMemor
 
 use crate::fault::ResumeFault;
 use crate::worker::count_updates;
-use onll_log::{LogCursor, LogHead};
+use onll_log::{LogHead, LogImage};
 use onll_merge::{ImagesFault, LogCounts, Recovery, StateFault, recover_state};
 use onll_model::{Call, MOST_THREADS, MOST_UPDATES, Node, Object};
 use onll_words::Line;
@@ -52,10 +52,10 @@ pub fn told_lines(images: &[Vec<Line>])
 }
 
 /// Whether an image is a log of format 1.
-fn is_old(image: &[Line]) -> bool
-    ensures { result ≡ is_old_log (content_of (words_of image.now)) }
+fn is_old<I: LogImage>(image: &I) -> bool
+    ensures { result ≡ is_old_log (content_of (I.lines_of image.now)) }
 {
-    match LogCursor::open(image) {
+    match image.open() {
         Some(cursor) => match cursor.head() {
             Some(head) => head.format == 1,
             None => false,
@@ -65,8 +65,8 @@ fn is_old(image: &[Line]) -> bool
 }
 
 /// The first image that is a log of format 1.
-fn first_old(images: &[Vec<Line>]) -> Option<u64>
-    ensures { result ≡ first_old 0 (map (λ image. words_of image.items) images.now) }
+fn first_old<I: LogImage>(images: &[I]) -> Option<u64>
+    ensures { result ≡ first_old 0 (map I.lines_of images.now) }
 {
     for (log, image) in images.iter().enumerate() {
         if is_old(image) {
@@ -104,17 +104,17 @@ fn answer_of(
 
 /// What images give as logs that a core with these heads can go on from, and the object after their nodes. A refusal leaves the
 /// object after those of them that come before a row that is no operation.
-pub fn find<O: Object>(
+pub fn find<O: Object, I: LogImage>(
     alloc: Global,
     object: &mut O,
     heads: &[LogHead],
-    images: &[Vec<Line>],
+    images: &[I],
 ) -> Result<Recovery, ResumeFault>
     requires { length heads.now ≡ length images.now }
-    ensures found { let found = found_in O.means heads.now (map (λ image. words_of image.items) images.now) in
+    ensures found { let found = found_in O.means heads.now (map I.lines_of images.now) in
         MatchResult result (λ r. IsFound found (recovered_in r)) (λ e. (e ≡ OutOfMemory) ⊎ (found ≡ Err e)) }
     ensures state { IfOk result (λ r. object.new ≡ state_after O.means object.old r.nodes.items) }
-    ensures left { let recovered = recovered_from heads.now (map (λ image. words_of image.items) images.now) in
+    ensures left { let recovered = recovered_from heads.now (map I.lines_of images.now) in
         MatchResult result (λ r. applied_nodes O.means recovered ≡ r.nodes.items)
         (λ e. object.new ≡ object_left O.means recovered object.old e) }
 {
@@ -177,11 +177,11 @@ pub fn check_room<O: Object>(
 /// What images give as logs that scripts can go on from with these heads, and the object after their nodes; or the first reason why
 /// they can't. A refusal leaves the object after those of the nodes that come before a row that is no operation, where the logs
 /// merge to nodes, and as it was where they don't.
-pub fn find_base<O: Object>(
+pub fn find_start<O: Object, I: LogImage>(
     alloc: Global,
     object: &mut O,
     heads: &[LogHead],
-    images: &[Vec<Line>],
+    images: &[I],
     scripts: &[Vec<Call<O>>],
 ) -> Result<Recovery, ResumeFault>
     requires few { length scripts.now ≤ most_threads }
@@ -189,11 +189,11 @@ pub fn find_base<O: Object>(
     requires images { length images.now ≡ length scripts.now }
     requires updates { All (λ script. updates_in script.items ≤ most_updates) scripts.now }
     ensures base { let base = base_in O.means heads.now (map (λ script. script.items) scripts.now)
-        (map (λ image. words_of image.items) images.now) in
+        (map I.lines_of images.now) in
         MatchResult result (λ r. IsFound base (recovered_in r)) (λ e. (e ≡ OutOfMemory) ⊎ (base ≡ Err e)) }
     ensures state { IfOk result (λ r. object.new ≡ state_after O.means object.old r.nodes.items) }
     ensures left { IfErr result (λ e. object.new
-        ≡ object_left O.means (recovered_from heads.now (map (λ image. words_of image.items) images.now)) object.old e) }
+        ≡ object_left O.means (recovered_from heads.now (map I.lines_of images.now)) object.old e) }
 {
     let found = find(alloc, object, heads, images)?;
     match check_room(&found.nodes, &found.logs, scripts) {

@@ -1,6 +1,6 @@
 //! What steps of a core keep, for every object and whatever threads take them.
 
-ghost use Rattle.onll_core.specs.Laws.{FirstLaw, FirstFencesLaw, CreatedLaw, CreatedFencesLaw, ResumedLaw, ResumedFencesLaw, StepEventLaw, StepLaw, StepsLaw, StaysLaw, FencesLaw, EntriesLaw};
+ghost use Rattle.onll_core.specs.Laws.{FirstLaw, FirstFencesLaw, CreatedCoreLaw, CreatedFencesLaw, ResumedCoreLaw, ResumedFencesLaw, StepEventLaw, CoreStepLaw, StepsLaw, StaysLaw, FencesLaw, EntryBoundLaw};
 
 use onll_model::Object;
 
@@ -12,9 +12,9 @@ pub fn step_event_law<O: Object>()
 /// The first state of a core is consistent, of one that begins anew and of one that goes on; each step keeps it so.
 pub fn consistency_law<O: Object>()
     ensures first { FirstLaw O O.Op O.Query O.Reply }
-    ensures created { CreatedLaw O O.Op O.Query O.Reply }
-    ensures resumed { ResumedLaw O O.Op O.Query O.Reply }
-    ensures step { StepLaw O.means }
+    ensures created { CreatedCoreLaw O O.Op O.Query O.Reply }
+    ensures resumed { ResumedCoreLaw O O.Op O.Query O.Reply }
+    ensures step { CoreStepLaw O.means }
     ensures steps { StepsLaw O.means }
 {}
 
@@ -24,7 +24,7 @@ pub fn fence_law<O: Object>()
     ensures created { CreatedFencesLaw O O.Op O.Query O.Reply }
     ensures resumed { ResumedFencesLaw O O.Op O.Query O.Reply }
     ensures fences { FencesLaw O.means }
-    ensures entries { EntriesLaw O O.Op O.Query O.Reply }
+    ensures entries { EntryBoundLaw O O.Op O.Query O.Reply }
 {}
 
 /// Steps take nothing back: nodes stay where they are, a flag that is set stays set, and so do returned calls.

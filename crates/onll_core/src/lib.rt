@@ -18,7 +18,7 @@
 //! assert!(rt; nodes.len() == 1);
 //! ```
 //!
-//! The test `core` of `onll_uses` runs this.
+//! The test `core` of `tests_uses` runs this.
 #![tactic(auto)]
 
 mod crash;
@@ -37,7 +37,7 @@ pub use crash_laws::{
     base_law, crash_law, durable_law, generations_law, image_law, next_crash_law, recovery_law,
 };
 pub use fault::ResumeFault;
-pub use found::find_base;
+pub use found::find_start;
 pub use laws::{consistency_law, fence_law, stays_law, step_event_law};
 pub use outcomes::{order_law, reached_law, report_law, return_law};
 pub use phase::Phase;

@@ -8,7 +8,7 @@ ghost use Rattle.onll_pmem.specs.Pmem.{words_of};
 ghost use Rattle.std.specs.Vec.{vec_capacity};
 ghost use Rattle.onll_core.specs.First.{first_device, first_thread};
 ghost use Rattle.onll_core.specs.Resumed.{found_device};
-ghost use Rattle.onll_core.specs.Found.{front_lines, found_thread, IsRoomy};
+ghost use Rattle.onll_core.specs.Found.{front_lines, found_thread, HasLogRoom};
 ghost use Rattle.onll_core.specs.Step.{turned, begun, on_device, logged, returning, next_call};
 
 use crate::phase::Phase;
@@ -189,7 +189,7 @@ impl<O: Object> Worker<O> {
         log: LogCounts,
         script: Vec<Call<O>>,
     ) -> Result<Worker<O>, NoMemory>
-        requires { IsRoomy head (words_of image.now) log script.items }
+        requires { HasLogRoom head (words_of image.now) log script.items }
         ensures { IfOk result (λ worker. worker ≡ found_thread head (words_of image.now) log script.items) }
     {
         let room = count_updates(&script) * (head.threads + 1);

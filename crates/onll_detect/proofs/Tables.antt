@@ -11,7 +11,7 @@ use Rattle.onll_model.specs.Object.{Behaviour}
 use Rattle.onll_model.specs.Trace.{is_of_thread, node_at, state_after, after_row, IsNumbered, NumberedAbove}
 use Rattle.onll_model.specs.Recovered.{operations_front, where_some}
 use Rattle.onll_model.proofs.Traces.{count_own, count_other}
-use Rattle.onll_detect.specs.Outcomes.{places_of, all_places, replies_of, reply_to, numbered_in, at_place, at_reply, find_in, table_of, AreWithin, IsNowhere, IsOutcome, OutcomeLaw}
+use Rattle.onll_detect.specs.Outcomes.{places_of, all_places, replies_of, reply_to, numbered_in, at_place, at_reply, find_in, table_of, ArePlacesWithin, IsNowhere, IsOutcome, OutcomeLaw}
 
 -- ---- tables
 -- one thread more, of those that are left
@@ -143,7 +143,7 @@ own_within t below count [] most = tt
 own_within t below count (n ∷ nodes) most =
     within_step (is_of_thread t n) (below + 1) count (places_of t (below + 1) nodes) (omega arith) (omega arith) (own_within t (below + 1) count nodes (omega arith))
 
-places_within : (t threads count : ℕ) (nodes : List Node) → length nodes ≤ count → AreWithin count (all_places t threads nodes)
+places_within : (t threads count : ℕ) (nodes : List Node) → length nodes ≤ count → ArePlacesWithin count (all_places t threads nodes)
 places_within t zero count nodes most = tt
 places_within t (suc threads) count nodes most = (own_within t 0 count nodes (omega arith), places_within (t + 1) threads count nodes most)
 
@@ -276,10 +276,10 @@ module _ {State Op Query Reply : Type 0} (b : Behaviour State Op Query Reply) wh
       reply_one s (b.op_at n.row) (replies_of b (after_row b s (b.op_at n.row)) nodes) all.0 ∙ ap suc (replies_many (after_row b s (b.op_at n.row)) nodes all.1)
 
   pub table_within : (s : State) (nodes : List Node) (replies : List Reply) (places : List (List ℕ)) → operations_front b nodes ≡ nodes
-      → replies ≡ replies_of b s nodes → places ≡ all_places 0 16 nodes → AreWithin (length replies) places
+      → replies ≡ replies_of b s nodes → places ≡ all_places 0 16 nodes → ArePlacesWithin (length replies) places
   table_within s nodes replies places ops r p =
       let many = replies_many s nodes (all_operations b nodes ops) in
-      subst (AreWithin (length replies)) (sym p) (places_within 0 16 (length replies) nodes (omega (arith, ap length r, many)))
+      subst (ArePlacesWithin (length replies)) (sym p) (places_within 0 16 (length replies) nodes (omega (arith, ap length r, many)))
 
 -- the places of one thread more
 pub places_pushed : {A B : Type 0} (old new : Vec (Vec ℕ A) B) (one : Vec ℕ A) (places : List ℕ) → new.items ≡ old.items ++ one ∷ [] → one.items ≡ places

@@ -51,8 +51,8 @@ pub record Table (Reply : Type 0) : Type 0 where
   pub places : List (List ℕ)
 
 -- each place is one of the first so many
-abbrev pub AreWithin : ℕ → List (List ℕ) → Type 0
-AreWithin count places = AllByRecursion (λ own. AllByRecursion (λ place. (1 ≤ place) × (place ≤ count)) own) places
+abbrev pub ArePlacesWithin : ℕ → List (List ℕ) → Type 0
+ArePlacesWithin count places = AllByRecursion (λ own. AllByRecursion (λ place. (1 ≤ place) × (place ≤ count)) own) places
 
 abbrev pub table_of : {State Op Query Reply : Type 0} → Behaviour State Op Query Reply → State → List Node → Table Reply
 table_of b s nodes = record { replies = replies_of b s nodes; places = all_places 0 most_threads nodes }

@@ -18,7 +18,7 @@
 //! assert!(rt; outcomes.find(0, 2) == Outcome::Lost);
 //! ```
 //!
-//! The test `detect` of `onll_uses` runs this.
+//! The test `detect` of `tests_uses` runs this.
 #![tactic(auto)]
 
 mod outcome;

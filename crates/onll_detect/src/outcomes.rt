@@ -6,7 +6,7 @@ ghost use Rattle.onll_model.specs.declared.node.Node.{Node};
 ghost use Rattle.onll_model.specs.Limits.{most_threads};
 ghost use Rattle.onll_model.specs.Trace.{IsNumbered};
 ghost use Rattle.onll_model.specs.Recovered.{operations_front};
-ghost use Rattle.onll_detect.specs.Outcomes.{replies_of, places_of, all_places, numbered_in, table_of, find_in, AreWithin, IsOutcome, IsTraceOf, OutcomeLaw};
+ghost use Rattle.onll_detect.specs.Outcomes.{replies_of, places_of, all_places, numbered_in, table_of, find_in, ArePlacesWithin, IsOutcome, IsTraceOf, OutcomeLaw};
 ghost use Rattle.onll_detect.specs.Faults.{FaultOf};
 
 use crate::outcome::{DetectFault, Outcome};
@@ -25,13 +25,13 @@ pub struct Outcomes<O: Object> {
 
 impl<O: Object> Model for Outcomes<O> {
     ghost use Rattle.std.specs.Prelude.{length, map};
-    ghost use Rattle.onll_detect.specs.Outcomes.{Table, AreWithin};
+    ghost use Rattle.onll_detect.specs.Outcomes.{Table, ArePlacesWithin};
 
     ghost Value = { Table O.Reply };
 
     ghost view = { λ o. record { replies = o.replies.items; places = map (λ places. places.items) o.places.items } };
 
-    ghost invariant = { λ o. AreWithin (length o.replies.items) (map (λ places. places.items) o.places.items) };
+    ghost invariant = { λ o. ArePlacesWithin (length o.replies.items) (map (λ places. places.items) o.places.items) };
 }
 
 /// The places of a thread's nodes.

@@ -15,7 +15,7 @@ use Rattle.onll_text.specs.declared.any_object.AnyObject.TheVariants as objects
 use Rattle.onll_text.specs.Init.{init_of}
 use Rattle.onll_text.specs.Kinds.{ObjectKind, on_object}
 use Rattle.onll_task.specs.declared.answer.Stop.{Stop}
-use Rattle.onll_task.specs.Doing.{Task, Stage, after_stage, Does, Begins, BeginsBy}
+use Rattle.onll_task.specs.Doing.{Task, Stage, after_stage, Fulfils, DoesStage, BeginsBy}
 use Rattle.onll_task.specs.Images.{images_stage}
 use Rattle.onll_task.specs.Job.{Read}
 use Rattle.onll_task.proofs.Onwards.{goes_after, stay_more}
@@ -83,14 +83,14 @@ even_stops ckpt s first = record {
 module _ {A : Type 0} (names : List (List ℕ)) (store after : StoreView) (files : EraNames) (threads : ℕ) (era : NewestEra) (k : ObjectKind) (s state : k.State) (r : Recovered)
     (result : Result (Vec ℕ A) Stop) where
   pub gave_does : (asked : Asked) (found : Result Recovered StateFault) → found ≡ Ok r → state ≡ state_after k.means s r.nodes
-      → Does names store after (with_recovered asked files threads era k state r) result
-      → Does names store after (next_by asked files threads era.newest.now (era_found era) k s found) result
+      → Fulfils names store after (with_recovered asked files threads era k state r) result
+      → Fulfils names store after (next_by asked files threads era.newest.now (era_found era) k s found) result
   gave_does asks.Restore found e is h =
-      subst (λ (x : Result Recovered StateFault). Does names store after (next_by asks.Restore files threads era.newest.now (era_found era) k s x) result) (sym e)
-      (subst (λ (t : k.State). Does names store after (restored_with era.newest.now (era_found era) k t r) result) is h)
+      subst (λ (x : Result Recovered StateFault). Fulfils names store after (next_by asks.Restore files threads era.newest.now (era_found era) k s x) result) (sym e)
+      (subst (λ (t : k.State). Fulfils names store after (restored_with era.newest.now (era_found era) k t r) result) is h)
   gave_does asks.Checkpoint found e is h =
-      subst (λ (x : Result Recovered StateFault). Does names store after (next_by asks.Checkpoint files threads era.newest.now (era_found era) k s x) result) (sym e)
-      (subst (λ (t : k.State). Does names store after (checkpoint_with files.ckpt threads (era_found era) k t (length r.nodes)) result) is h)
+      subst (λ (x : Result Recovered StateFault). Fulfils names store after (next_by asks.Checkpoint files threads era.newest.now (era_found era) k s x) result) (sym e)
+      (subst (λ (t : k.State). Fulfils names store after (checkpoint_with files.ckpt threads (era_found era) k t (length r.nodes)) result) is h)
 
 -- ---- the files of both areas
 left_of : (P : List ℕ → Type 0) (xs ys : List (List ℕ)) → AllByRecursion P (xs ++ ys) → AllByRecursion P xs
@@ -115,7 +115,7 @@ area_named ckpt threads n = by (of_two n)
         (right_of (λ name. other ≡ name → ⊥) (area_files ckpt 0 threads) (area_files ckpt 1 threads) h)
 
 pub begins_wider : {V X : Type 0} {few names : List (List ℕ)} {store after : StoreView} {stage : Stage X} {value : V → X} {r : Result V Stop} → Named few names
-    → Begins few store after stage value r → Begins names store after stage value r
+    → DoesStage few store after stage value r → DoesStage names store after stage value r
 begins_wider named b = record { goes = b.goes; gives = b.gives; stops = b.stops; files = but_wider named b.files }
 
 -- ---- the newest era
@@ -133,28 +133,28 @@ module _ {A : Type 0} (writes : List (List ℕ)) (store after : StoreView) (name
     (newest : Option CheckpointState) (result : Result (Vec ℕ A) Stop) where
   -- that of a checkpoint, whose text says its object
   pub some_does : (c : CheckpointState) (text source logs : List ℕ) → newest ≡ Some c → text ≡ c.text → source ≡ area_name names.ckpt (c.number % 2) → logs ≡ area_name names.ckpt (c.number % 2)
-      → Does writes store after (on_started (era_by newest text source logs) (init_of text) (era_over next newest (era_by newest text source logs) threads)) result
-      → Does writes store after (era_task names bytes threads first newest next) result
+      → Fulfils writes store after (on_started (era_by newest text source logs) (init_of text) (era_over next newest (era_by newest text source logs) threads)) result
+      → Fulfils writes store after (era_task names bytes threads first newest next) result
   some_does c text source logs is e₁ e₂ e₃ h =
       let area = area_name names.ckpt (c.number % 2) in
-      let known = subst (λ (n : Option CheckpointState). Does writes store after (on_started (era_by n text source logs) (init_of text) (era_over next n (era_by n text source logs) threads)) result) is h in
-      let said = subst (λ (t : List ℕ). Does writes store after (on_started (era_by (Some c) t source logs) (init_of t) (era_over next (Some c) (era_by (Some c) t source logs) threads)) result) e₁ known in
-      let named = subst (λ (n : List ℕ). Does writes store after (on_started (era_by (Some c) c.text n logs) (init_of c.text) (era_over next (Some c) (era_by (Some c) c.text n logs) threads)) result) e₂ said in
-      let all = subst (λ (n : List ℕ). Does writes store after (on_started (era_by (Some c) c.text area n) (init_of c.text) (era_over next (Some c) (era_by (Some c) c.text area n) threads)) result) e₃ named in
-      subst (λ (n : Option CheckpointState). Does writes store after (era_task names bytes threads first n next) result) (sym is) all
+      let known = subst (λ (n : Option CheckpointState). Fulfils writes store after (on_started (era_by n text source logs) (init_of text) (era_over next n (era_by n text source logs) threads)) result) is h in
+      let said = subst (λ (t : List ℕ). Fulfils writes store after (on_started (era_by (Some c) t source logs) (init_of t) (era_over next (Some c) (era_by (Some c) t source logs) threads)) result) e₁ known in
+      let named = subst (λ (n : List ℕ). Fulfils writes store after (on_started (era_by (Some c) c.text n logs) (init_of c.text) (era_over next (Some c) (era_by (Some c) c.text n logs) threads)) result) e₂ said in
+      let all = subst (λ (n : List ℕ). Fulfils writes store after (on_started (era_by (Some c) c.text area n) (init_of c.text) (era_over next (Some c) (era_by (Some c) c.text area n) threads)) result) e₃ named in
+      subst (λ (n : Option CheckpointState). Fulfils writes store after (era_task names bytes threads first n next) result) (sym is) all
 
   -- era 0, whose object the initial state is
   pub first_does : (text : List ℕ) → newest ≡ None → text ≡ bytes
-      → Does writes store after (on_object (era_over next newest (era_by newest text names.init names.logs) threads) first) result
-      → Does writes store after (era_task names bytes threads first newest next) result
+      → Fulfils writes store after (on_object (era_over next newest (era_by newest text names.init names.logs) threads) first) result
+      → Fulfils writes store after (era_task names bytes threads first newest next) result
   first_does text is e h =
-      let known = subst (λ (n : Option CheckpointState). Does writes store after (on_object (era_over next n (era_by n text names.init names.logs) threads) first) result) is h in
-      let said = subst (λ (t : List ℕ). Does writes store after (on_object (era_over next None (era_by None t names.init names.logs) threads) first) result) e known in
-      subst (λ (n : Option CheckpointState). Does writes store after (era_task names bytes threads first n next) result) (sym is) said
+      let known = subst (λ (n : Option CheckpointState). Fulfils writes store after (on_object (era_over next n (era_by n text names.init names.logs) threads) first) result) is h in
+      let said = subst (λ (t : List ℕ). Fulfils writes store after (on_object (era_over next None (era_by None t names.init names.logs) threads) first) result) e known in
+      subst (λ (n : Option CheckpointState). Fulfils writes store after (era_task names bytes threads first n next) result) (sym is) said
 
 -- over an object of whatever kind
 pub object_does : {A : Type 0} (call : EraCall) (era : NewestEra) (store after : StoreView) (result : Result (Vec ℕ A) Stop) (object : AnyObject)
-    → on_object (λ k s. DoesFound call era k s store after result) object → Does (call_work call).writes store after (on_object (found_task call era) object) result
+    → on_object (λ k s. DoesFound call era k s store after result) object → Fulfils (call_work call).writes store after (on_object (found_task call era) object) result
 object_does call era store after result (objects.Bank s) h = h.does
 object_does call era store after result (objects.Map s) h = h.does
 object_does call era store after result (objects.Queue s) h = h.does
@@ -162,6 +162,6 @@ object_does call era store after result (objects.Lease s) h = h.does
 
 -- what is asked is the work of its command
 pub asked_does : {A : Type 0} (writes : List (List ℕ)) (store after : StoreView) (asked : Asked) (names : EraNames) (threads : ℕ) (result : Result (Vec ℕ A) Stop)
-    → Does writes store after (with_newest names threads (next_by asked names threads)) result → Does writes store after (asked_work asked names threads).task result
+    → Fulfils writes store after (with_newest names threads (next_by asked names threads)) result → Fulfils writes store after (asked_work asked names threads).task result
 asked_does writes store after asks.Restore names threads result h = h
 asked_does writes store after asks.Checkpoint names threads result h = h

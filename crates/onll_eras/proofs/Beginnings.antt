@@ -10,10 +10,10 @@ use Rattle.onll_checkpoint.specs.Text.{lines_for}
 use Rattle.onll_checkpoint.specs.Grammar.{checkpoint_image}
 use Rattle.onll_task.specs.declared.answer.Stop.{Stop}
 use Rattle.onll_task.specs.declared.answer.Stop.TheVariants.{NoMemory}
-use Rattle.onll_task.specs.ImageNames.{image_name, image_names}
-use Rattle.onll_task.specs.Writing.{SameBut}
-use Rattle.onll_task.specs.Job.{Job, GoesOn}
-use Rattle.onll_task.specs.Doing.{Stage, StopsSo, Begins, keep_stage, write_stage, then_stage}
+use Rattle.onll_open.specs.Names.{log_name, log_names}
+use Rattle.onll_open.specs.Files.{SameBut}
+use Rattle.onll_task.specs.Job.{Job, JobGoesOn}
+use Rattle.onll_task.specs.Doing.{Stage, StopsSo, DoesStage, keep_stage, write_stage, then_stage}
 use Rattle.onll_task.proofs.Onwards.{goes_same, goes_after, others_on}
 use Rattle.onll_task.proofs.Sequences.{Named, both_begin, first_stops, cut_between}
 use Rattle.onll_task.proofs.Stages.{StopsSo-on, none_changes}
@@ -28,53 +28,53 @@ module _ (logs : List ℕ) (code : ℕ) (text : List ℕ) (threads : ℕ) where
 
   -- the log of this thread, with this head
   abbrev log_stage : ℕ → LogHead → Stage (Unit {0})
-  log_stage t head = keep_stage (image_name logs t) (head_line head ∷ []) 1 (header_said t)
+  log_stage t head = keep_stage (log_name logs t) (head_line head ∷ []) 1 (header_said t)
 
   -- so many logs were begun
   pub record LogsBegun (store mid : StoreView) (t : ℕ) : Type 0 where
-    pub on : (next : Job) → GoesOn store mid (keeping_headers logs code text threads 0 threads next) (keeping_headers logs code text threads t (threads - t) next)
-    pub others : SameBut (image_names logs 0 threads) store mid
+    pub on : (next : Job) → JobGoesOn store mid (keeping_headers logs code text threads 0 threads next) (keeping_headers logs code text threads t (threads - t) next)
+    pub others : SameBut (log_names logs 0 threads) store mid
 
   pub no_logs : (store : StoreView) → LogsBegun store store 0
   no_logs store = record {
     on = λ next. let e : threads ≡ threads - 0 = omega arith in
-        subst (λ (n : ℕ). GoesOn store store (keeping_headers logs code text threads 0 threads next) (keeping_headers logs code text threads 0 n next)) e (goes_same store (keeping_headers logs code text threads 0 threads next));
-    others = none_changes (image_names logs 0 threads) store;
+        subst (λ (n : ℕ). JobGoesOn store store (keeping_headers logs code text threads 0 threads next) (keeping_headers logs code text threads 0 n next)) e (goes_same store (keeping_headers logs code text threads 0 threads next));
+    others = none_changes (log_names logs 0 threads) store;
   }
 
-  more_others : (store mid new : StoreView) (t : ℕ) → t < threads → SameBut (image_names logs 0 threads) store mid → SameBut (image_name logs t ∷ []) mid new → SameBut (image_names logs 0 threads) store new
+  more_others : (store mid new : StoreView) (t : ℕ) → t < threads → SameBut (log_names logs 0 threads) store mid → SameBut (log_name logs t ∷ []) mid new → SameBut (log_names logs 0 threads) store new
   more_others store mid new t l a b = others_on store mid new logs threads t l a (record { tells = b.tells; file = λ other d. b.file other (d, tt) })
 
   pub more_logs : (store mid new : StoreView) (t : ℕ) (head : LogHead) → t < threads → head ≡ head_for 2 t threads code text → LogsBegun store mid t
-      → Begins {V = Unit {0}} (image_name logs t ∷ []) mid new (log_stage t head) (λ done. done) (Ok tt) → LogsBegun store new (t + 1)
+      → DoesStage {V = Unit {0}} (log_name logs t ∷ []) mid new (log_stage t head) (λ done. done) (Ok tt) → LogsBegun store new (t + 1)
   more_logs store mid new t head l is so b =
-      let here = subst (λ (h : LogHead). Begins {V = Unit {0}} (image_name logs t ∷ []) mid new (log_stage t h) (λ (done : Unit {0}). done) (Ok tt)) is b in
+      let here = subst (λ (h : LogHead). DoesStage {V = Unit {0}} (log_name logs t ∷ []) mid new (log_stage t h) (λ (done : Unit {0}). done) (Ok tt)) is b in
       record {
         on = λ next.
             let up : suc t ≡ t + 1 = omega arith in
             let less : threads - t ≡ suc (threads - (t + 1)) = omega arith in
             goes_after store mid new (keeping_headers logs code text threads 0 threads next) (left_from t next) (left_from (t + 1) next) (so.on next)
-            (subst (λ (n : ℕ). GoesOn mid new (keeping_headers logs code text threads t n next) (left_from (t + 1) next)) (sym less)
-            (subst (λ (u : ℕ). GoesOn mid new (keeping_headers logs code text threads t (suc (threads - (t + 1))) next) (keeping_headers logs code text threads u (threads - (t + 1)) next)) up
+            (subst (λ (n : ℕ). JobGoesOn mid new (keeping_headers logs code text threads t n next) (left_from (t + 1) next)) (sym less)
+            (subst (λ (u : ℕ). JobGoesOn mid new (keeping_headers logs code text threads t (suc (threads - (t + 1))) next) (keeping_headers logs code text threads u (threads - (t + 1)) next)) up
             (here.goes (λ _. keeping_headers logs code text threads (suc t) (threads - (t + 1)) next))));
         others = more_others store mid new t l so.others b.files;
       }
 
   pub all_logs : (store mid : StoreView) (t : ℕ) → threads ≤ t → LogsBegun store mid t
-      → Begins {V = Unit {0}} (image_names logs 0 threads) store mid (headers_stage logs code text threads) (λ done. done) (Ok tt)
+      → DoesStage {V = Unit {0}} (log_names logs 0 threads) store mid (headers_stage logs code text threads) (λ done. done) (Ok tt)
   all_logs store mid t l so = record {
     goes = λ next. let none : threads - t ≡ 0 = omega arith in
-        subst (λ (n : ℕ). GoesOn store mid (keeping_headers logs code text threads 0 threads (next tt)) (keeping_headers logs code text threads t n (next tt))) none (so.on (next tt));
+        subst (λ (n : ℕ). JobGoesOn store mid (keeping_headers logs code text threads 0 threads (next tt)) (keeping_headers logs code text threads t n (next tt))) none (so.on (next tt));
     gives = λ before same. tt;
     stops = tt;
     files = so.others;
   }
 
   pub log_stops : (store mid new : StoreView) (t : ℕ) (head : LogHead) (s : Stop) → t < threads → head ≡ head_for 2 t threads code text → LogsBegun store mid t
-      → Begins {V = Unit {0}} (image_name logs t ∷ []) mid new (log_stage t head) (λ done. done) (Err s)
-      → Begins {V = Unit {0}} (image_names logs 0 threads) store new (headers_stage logs code text threads) (λ done. done) (Err s)
+      → DoesStage {V = Unit {0}} (log_name logs t ∷ []) mid new (log_stage t head) (λ done. done) (Err s)
+      → DoesStage {V = Unit {0}} (log_names logs 0 threads) store new (headers_stage logs code text threads) (λ done. done) (Err s)
   log_stops store mid new t head s l is so b =
-      let here = subst (λ (h : LogHead). Begins {V = Unit {0}} (image_name logs t ∷ []) mid new (log_stage t h) (λ (done : Unit {0}). done) (Err s)) is b in
+      let here = subst (λ (h : LogHead). DoesStage {V = Unit {0}} (log_name logs t ∷ []) mid new (log_stage t h) (λ (done : Unit {0}). done) (Err s)) is b in
       record {
         goes = tt;
         gives = tt;
@@ -102,7 +102,7 @@ module _ (ckpt : List ℕ) (code threads : ℕ) (c : CheckpointState) where
   init = text_name ckpt (area_of c)
 
   abbrev logs : List (List ℕ)
-  logs = image_names area 0 threads
+  logs = log_names area 0 threads
 
   abbrev rest : List (List ℕ)
   rest = init ∷ area ∷ []
@@ -134,17 +134,17 @@ module _ (ckpt : List ℕ) (code threads : ℕ) (c : CheckpointState) where
   abbrev begun : Stage (Unit {0})
   begun = begun_stage ckpt code threads c
 
-  pub era_stops : (store after : StoreView) (s : Stop) → Begins {V = Unit {0}} logs store after headers (λ done. done) (Err s) → Begins {V = Unit {0}} files store after begun (λ done. done) (Err s)
+  pub era_stops : (store after : StoreView) (s : Stop) → DoesStage {V = Unit {0}} logs store after headers (λ done. done) (Err s) → DoesStage {V = Unit {0}} files store after begun (λ done. done) (Err s)
   era_stops store after s a = first_stops headers (then_stage text kept) logs_named a
 
-  pub era_cut : (store mid : StoreView) (r : Result (Unit {0}) Stop) → Begins {V = Unit {0}} logs store mid headers (λ done. done) (Ok tt) → IsErrAnd r (λ stop. stop ≡ NoMemory)
-      → Begins {V = Unit {0}} files store mid begun (λ done. done) r
+  pub era_cut : (store mid : StoreView) (r : Result (Unit {0}) Stop) → DoesStage {V = Unit {0}} logs store mid headers (λ done. done) (Ok tt) → IsErrAnd r (λ stop. stop ≡ NoMemory)
+      → DoesStage {V = Unit {0}} files store mid begun (λ done. done) r
   era_cut store mid r a h = cut_between headers (then_stage text kept) logs_named a h
 
-  pub text_stops : (store mid after : StoreView) (s : Stop) → Begins {V = Unit {0}} logs store mid headers (λ done. done) (Ok tt) → Begins {V = Unit {0}} (init ∷ []) mid after text (λ done. done) (Err s)
-      → Begins {V = Unit {0}} files store after begun (λ done. done) (Err s)
+  pub text_stops : (store mid after : StoreView) (s : Stop) → DoesStage {V = Unit {0}} logs store mid headers (λ done. done) (Ok tt) → DoesStage {V = Unit {0}} (init ∷ []) mid after text (λ done. done) (Err s)
+      → DoesStage {V = Unit {0}} files store after begun (λ done. done) (Err s)
   text_stops store mid after s a b = both_begin headers (then_stage text kept) logs_named {others = rest} rest_named a (first_stops text kept text_named b)
 
-  pub era_begins : (store mid wrote after : StoreView) (r : Result (Unit {0}) Stop) → Begins {V = Unit {0}} logs store mid headers (λ done. done) (Ok tt) → Begins {V = Unit {0}} (init ∷ []) mid wrote text (λ done. done) (Ok tt)
-      → Begins {V = Unit {0}} (area ∷ []) wrote after kept (λ done. done) r → Begins {V = Unit {0}} files store after begun (λ done. done) r
+  pub era_begins : (store mid wrote after : StoreView) (r : Result (Unit {0}) Stop) → DoesStage {V = Unit {0}} logs store mid headers (λ done. done) (Ok tt) → DoesStage {V = Unit {0}} (init ∷ []) mid wrote text (λ done. done) (Ok tt)
+      → DoesStage {V = Unit {0}} (area ∷ []) wrote after kept (λ done. done) r → DoesStage {V = Unit {0}} files store after begun (λ done. done) r
   era_begins store mid wrote after r a b d = both_begin headers (then_stage text kept) logs_named {others = rest} rest_named a (both_begin text kept text_named {others = area ∷ []} area_named b d)

@@ -9,7 +9,7 @@ use Rattle.std.proofs.lemmas.Slice.Eq.{bytes_eq-Decides}
 use Rattle.onll_outside.specs.Views.{StoreView, AreZeros, image_bytes}
 use Rattle.onll_task.specs.declared.ending.Ending.{Ending}
 use Rattle.onll_task.specs.declared.ending.Ending.TheVariants.{Done}
-use Rattle.onll_task.specs.ImageNames.{image_name, image_names}
+use Rattle.onll_open.specs.Names.{log_name, log_names}
 use Rattle.onll_task.specs.Writing.{FilesStay, AllButStay, written}
 use Rattle.onll_areas.specs.Keeping.{HasKeptLines, OthersStay}
 use Rattle.onll_task.specs.Job.{Job, Say, Write, Keep, JobCut, JobEnds}
@@ -18,7 +18,7 @@ use Rattle.onll_checkpoint.specs.Text.{lines_for}
 use Rattle.onll_checkpoint.specs.Grammar.{checkpoint_image}
 use Rattle.onll_eras.specs.Names.{area_name, text_name, area_files}
 use Rattle.onll_eras.specs.Restored.{TellLogs}
-use Rattle.onll_eras.specs.Begun.{header_image, header_images, HoldsNoCheckpoint, IsBegun}
+use Rattle.onll_eras.specs.Begun.{header_image, header_images, HoldsNoCheckpoint, IsBegunEra}
 use Rattle.onll_eras.specs.EraJob.{area_said, area_of, keeping_headers, begun_stage}
 use Rattle.onll_eras.proofs.HeadersAlone.{length-header_images}
 use Rattle.onll_eras.proofs.NamesApart.{same_thread, log_not_text, longer}
@@ -63,14 +63,14 @@ fewer names more store after f a = record { tells = a.tells; file = λ tells oth
 
 -- ---- logs that are told stay told
 tell_on : (store after : StoreView) (logs : List ℕ) (t : ℕ) (images : List (List (List ℕ))) → after.tells ≡ store.tells
-    → ((i : ℕ) → i < length images → after.file (image_name logs (t + i)) ≡ store.file (image_name logs (t + i))) → TellLogs store logs t images → TellLogs after logs t images
+    → ((i : ℕ) → i < length images → after.file (log_name logs (t + i)) ≡ store.file (log_name logs (t + i))) → TellLogs store logs t images → TellLogs after logs t images
 tell_on store after logs t [] tells same told = tt
 tell_on store after logs t (image ∷ images) tells same told =
-    let here : after.file (image_name logs t) ≡ store.file (image_name logs t) =
-    (let e : t + 0 ≡ t = omega arith in subst (λ (i : ℕ). after.file (image_name logs i) ≡ store.file (image_name logs i)) e (same 0 (omega arith))) in (
+    let here : after.file (log_name logs t) ≡ store.file (log_name logs t) =
+    (let e : t + 0 ≡ t = omega arith in subst (λ (i : ℕ). after.file (log_name logs i) ≡ store.file (log_name logs i)) e (same 0 (omega arith))) in (
       record { bytes = told.0.bytes; told = record { tells = tells ∙ told.0.told.tells; file = here ∙ told.0.told.file }; image = told.0.image },
       tell_on store after logs (suc t) images tells
-          (λ i l. let e : t + suc i ≡ suc t + i = omega arith in subst (λ (j : ℕ). after.file (image_name logs j) ≡ store.file (image_name logs j)) e (same (suc i) (omega arith))) told.1,
+          (λ i l. let e : t + suc i ≡ suc t + i = omega arith in subst (λ (j : ℕ). after.file (log_name logs j) ≡ store.file (log_name logs j)) e (same (suc i) (omega arith))) told.1,
     )
 
 written_other : (store : StoreView) (name bytes other : List ℕ) → (other ≡ name → ⊥) → (written store name bytes).file other ≡ store.file other
@@ -84,15 +84,15 @@ module _ (logs : List ℕ) (code : ℕ) (text : List ℕ) (threads : ℕ) (few :
   -- they were kept, and it goes on
   record KeptAll (store : StoreView) (t n : ℕ) : Type 0 where
     kept : StoreView
-    others : AllButStay (image_names logs t n) store kept
+    others : AllButStay (log_names logs t n) store kept
     told : TellLogs kept logs t (header_images code text threads t n)
     on : Goes kept
 
-  more_kept : (store mid : StoreView) (t n : ℕ) → t < threads → store.tells ≡ true → HasKeptLines store mid (image_name logs t) (header_image code text threads t) 1
+  more_kept : (store mid : StoreView) (t n : ℕ) → t < threads → store.tells ≡ true → HasKeptLines store mid (log_name logs t) (header_image code text threads t) 1
       → t + suc n ≤ 16 → KeptAll mid (suc t) n → KeptAll store t (suc n)
   more_kept store mid t n l tells h within k =
-      let rest : List (List ℕ) = image_names logs (suc t) n in
-      let name = image_name logs t in
+      let rest : List (List ℕ) = log_names logs (suc t) n in
+      let name = log_name logs t in
       let on : mid.tells ≡ true = h.others.tells ∙ tells in
       record {
         kept = k.kept;
@@ -108,7 +108,7 @@ module _ (logs : List ℕ) (code : ℕ) (text : List ℕ) (threads : ℕ) (few :
         on = k.on;
       }
     where
-      apart : (u m : ℕ) → t < u → u + m ≤ 16 → AllByRecursion (λ n. image_name logs t ≡ n → ⊥) (image_names logs u m)
+      apart : (u m : ℕ) → t < u → u + m ≤ 16 → AllByRecursion (λ n. log_name logs t ≡ n → ⊥) (log_names logs u m)
       apart u zero b w = tt
       apart u (suc m) b w = ((λ e. let same = same_thread logs t u (omega arith) (omega arith) e in omega arith), apart (suc u) m (omega arith) (omega arith))
 
@@ -117,14 +117,14 @@ module _ (logs : List ℕ) (code : ℕ) (text : List ℕ) (threads : ℕ) (few :
   Cut kept = JobCut kept after next
 
   headers_cut : (store : StoreView) (t n : ℕ) → t + n ≤ threads → store.tells ≡ true → JobCut store after (keeping_headers logs code text threads t n next)
-      → AllButStay (image_names logs t n) store after ⊎ KeptAll logs code text threads few known Cut store t n
+      → AllButStay (log_names logs t n) store after ⊎ KeptAll logs code text threads few known Cut store t n
   headers_cut store t zero l tells h = inr (record { kept = store; others = stay_all [] store; told = tt; on = h })
-  headers_cut store t (suc n) l tells (inl h) = inl (stay_one (image_name logs t ∷ image_names logs (suc t) n) (image_name logs t) store after (λ other d. d.0) h.others)
+  headers_cut store t (suc n) l tells (inl h) = inl (stay_one (log_name logs t ∷ log_names logs (suc t) n) (log_name logs t) store after (λ other d. d.0) h.others)
   headers_cut store t (suc n) l tells (inr h) = ⊎_elim
-      (λ (s : AllButStay (image_names logs (suc t) n) h.0 after).
-      inl (stay_then (image_name logs t ∷ image_names logs (suc t) n) store h.0 after
-      (stay_one (image_name logs t ∷ image_names logs (suc t) n) (image_name logs t) store h.0 (λ other d. d.0) h.1.others)
-      (fewer (image_names logs (suc t) n) (image_name logs t ∷ image_names logs (suc t) n) h.0 after (λ other d. d.1) s)))
+      (λ (s : AllButStay (log_names logs (suc t) n) h.0 after).
+      inl (stay_then (log_name logs t ∷ log_names logs (suc t) n) store h.0 after
+      (stay_one (log_name logs t ∷ log_names logs (suc t) n) (log_name logs t) store h.0 (λ other d. d.0) h.1.others)
+      (fewer (log_names logs (suc t) n) (log_name logs t ∷ log_names logs (suc t) n) h.0 after (λ other d. d.1) s)))
       (λ (k : KeptAll logs code text threads few known Cut h.0 (suc t) n). inr (more_kept logs code text threads few known Cut store h.0 t n (omega arith) tells h.1 (omega arith) k))
       (headers_cut h.0 (suc t) n (omega arith) (h.1.others.tells ∙ tells) h.2)
 
@@ -153,7 +153,7 @@ module _ (ckpt : List ℕ) (code threads : ℕ) (c : CheckpointState) (fits : Fi
   init = text_name ckpt (area_of c)
 
   abbrev logs : List (List ℕ)
-  logs = image_names this 0 threads
+  logs = log_names this 0 threads
 
   abbrev files : List (List ℕ)
   files = area_files ckpt (area_of c) threads
@@ -165,7 +165,7 @@ module _ (ckpt : List ℕ) (code threads : ℕ) (c : CheckpointState) (fits : Fi
   images = header_images code c.text threads 0 threads
 
   abbrev Begun : Type 0
-  Begun = IsBegun after ckpt threads code c
+  Begun = IsBegunEra after ckpt threads code c
 
   abbrev Area : Type 0
   Area = (after.file this ≡ store.file this) ⊎ HoldsNoCheckpoint after this ⊎ Begun
@@ -183,7 +183,7 @@ module _ (ckpt : List ℕ) (code threads : ℕ) (c : CheckpointState) (fits : Fi
   in_this other d = d.0
 
   -- the area is none of the other files
-  area_alone : (t n : ℕ) → AllByRecursion (λ name. this ≡ name → ⊥) (image_names this t n)
+  area_alone : (t n : ℕ) → AllByRecursion (λ name. this ≡ name → ⊥) (log_names this t n)
   area_alone t zero = tt
   area_alone t (suc n) = ((λ e. longer this (codes "." ++ decimal t) (omega arith) (sym e)), area_alone (suc t) n)
 
@@ -193,7 +193,7 @@ module _ (ckpt : List ℕ) (code threads : ℕ) (c : CheckpointState) (fits : Fi
   area_same : (mid : StoreView) → AllButStay logs store mid → mid.file this ≡ store.file this
   area_same mid o = o.file tells this (area_alone 0 threads)
 
-  log_not_this : (t : ℕ) → image_name this t ≡ this → ⊥
+  log_not_this : (t : ℕ) → log_name this t ≡ this → ⊥
   log_not_this t e = longer this (codes "." ++ decimal t) (omega arith) e
 
   -- the area holds the checkpoint, over a store that has its text and its logs
@@ -204,7 +204,7 @@ module _ (ckpt : List ℕ) (code threads : ℕ) (c : CheckpointState) (fits : Fi
     told = record { tells = others.tells ∙ on; file = e };
     found = found_in_area c fits;
     text = record { tells = others.tells ∙ on; file = others.file on init (λ same. area_not_init (sym same)) ∙ said };
-    logs = tell_on mid after this 0 images others.tells (λ i l. others.file on (image_name this (0 + i)) (log_not_this (0 + i))) told;
+    logs = tell_on mid after this 0 images others.tells (λ i l. others.file on (log_name this (0 + i)) (log_not_this (0 + i))) told;
   }
 
   -- the area was kept, and nothing changed since
@@ -245,7 +245,7 @@ module _ (ckpt : List ℕ) (code threads : ℕ) (c : CheckpointState) (fits : Fi
             (stay_one files init kept mid in_init (record { tells = refl; file = λ on other differs. written_other kept init c.text other differs })),
         tell_on kept mid this 0 images refl
             (λ i l. let n = length-header_images code c.text threads 0 threads in
-            written_other kept init c.text (image_name this (0 + i)) (log_not_text ckpt (area_of c) (0 + i) (omega arith))) told,
+            written_other kept init c.text (log_name this (0 + i)) (log_not_text ckpt (area_of c) (0 + i) (omega arith))) told,
       )
 
   at_text : (kept : StoreView) → AllButStay logs store kept → TellLogs kept this 0 images
@@ -262,7 +262,7 @@ module _ (ckpt : List ℕ) (code threads : ℕ) (c : CheckpointState) (fits : Fi
 
   pub begun_leaves : JobCut store after ((begun_stage ckpt code threads c).job (λ _. Say ending text))
       → AllButStay (area_files ckpt (area_of c) threads) store after
-      × ((after.file (area_name ckpt (area_of c)) ≡ store.file (area_name ckpt (area_of c))) ⊎ HoldsNoCheckpoint after (area_name ckpt (area_of c)) ⊎ IsBegun after ckpt threads code c)
+      × ((after.file (area_name ckpt (area_of c)) ≡ store.file (area_name ckpt (area_of c))) ⊎ HoldsNoCheckpoint after (area_name ckpt (area_of c)) ⊎ IsBegunEra after ckpt threads code c)
   begun_leaves h = ⊎_elim
       (λ (o : AllButStay logs store after). (fewer logs files store after in_logs o, inl (area_same after o)))
       (λ k. at_text k.kept k.others k.told k.on)
@@ -283,7 +283,7 @@ module _ (ckpt : List ℕ) (code threads : ℕ) (c : CheckpointState) (fits : Fi
   text_ends kept said o told (inr h) = let w = text_whole kept o told in area_ends (written kept init c.text) said w.0 (written_this kept init c.text) w.1 h
 
   pub begun_ends : (said : List ℕ) → JobEnds store after ((begun_stage ckpt code threads c).job (λ _. Say ending text)) Done said
-      → AllButStay (area_files ckpt (area_of c) threads) store after × IsBegun after ckpt threads code c × (said ≡ text)
+      → AllButStay (area_files ckpt (area_of c) threads) store after × IsBegunEra after ckpt threads code c × (said ≡ text)
   begun_ends said h =
       let k = headers_done this code c.text threads few known (Write init c.text (Keep this lines 2 (area_said (area_of c)) (Say ending text))) after said store 0 threads (omega arith) tells h in
       text_ends k.kept said k.others k.told k.on

@@ -28,7 +28,7 @@ use Rattle.onll_checkpoint.specs.Checkpoint.{CheckpointState}
 use Rattle.onll_task.specs.declared.ending.Ending.{Ending}
 use Rattle.onll_task.specs.declared.ending.Ending.TheVariants.{Done, Refused, BadLog, WriteFault, Faulty}
 use Rattle.onll_task.specs.Doing.{Task, after_stage, report_task, say_task, assured_stage, lines_stage, each_job}
-use Rattle.onll_task.specs.ImageNames.{image_name, image_names}
+use Rattle.onll_open.specs.Names.{log_name, log_names}
 use Rattle.onll_task.specs.Images.{images_stage}
 use Rattle.onll_task.specs.Job.{Job, Say, Read, Write, Keep, JobEnds, Never, on_value}
 use Rattle.onll_task.specs.Keeps.{KeepStops}
@@ -144,7 +144,7 @@ module _ (store after : StoreView) (ending : Ending) (text : List ℕ)
       each_kind {A = Task} (λ kind s. after_stage (images_stage era.logs threads)
       (λ images. next from era (kind_at kind) s (state_recovered (kind_at kind).means (expected_heads (kind_at kind).code era.text images) images)))
       (λ task. JobEnds store after task.job ending text → AtNext next)
-      (λ kind s. at_images (image_names era.logs 0 threads)
+      (λ kind s. at_images (log_names era.logs 0 threads)
       (λ images. (next from era (kind_at kind) s (state_recovered (kind_at kind).means (expected_heads (kind_at kind).code era.text images) images)).job)
       (λ images h. record { from = from; era = era; kind = kind; s = s; r = state_recovered (kind_at kind).means (expected_heads (kind_at kind).code era.text images) images; ends = h })) object
 
@@ -234,7 +234,7 @@ module _ (after : StoreView) (said : List ℕ) (logs : List ℕ) (code : ℕ) (t
       → JobEnds store after (keeping_headers logs code text threads t n next) WriteFault said → HasFileFault store after said
   headers_file store t zero last h = last store h
   headers_file store t (suc n) last (inl h) =
-      not_kept store after (image_name logs t) (head_line (head_for 2 t threads code text) ∷ []) 1 (header_said t) said h
+      not_kept store after (log_name logs t) (head_line (head_for 2 t threads code text) ∷ []) 1 (header_said t) said h
   headers_file store t (suc n) last (inr h) = file_from store h.0 after said h.1.calls (headers_file h.0 (suc t) n last h.2)
 
 -- what is done once the next era's checkpoint is known

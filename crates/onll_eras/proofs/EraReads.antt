@@ -11,9 +11,9 @@ use Rattle.onll_text.specs.Kinds.{ObjectKind, kind_at, on_object}
 use Rattle.onll_outside.specs.Views.{StoreView}
 use Rattle.onll_task.specs.declared.ending.Ending.{Ending}
 use Rattle.onll_task.specs.declared.ending.Ending.TheVariants.{Done, Refused}
-use Rattle.onll_task.specs.ImageNames.{image_name, image_names}
+use Rattle.onll_open.specs.Names.{log_name, log_names}
 use Rattle.onll_task.specs.Images.{images_stage}
-use Rattle.onll_task.specs.Reading.{IsTold}
+use Rattle.onll_task.specs.Reading.{FileIsTold}
 use Rattle.onll_task.specs.Writing.{FilesStay}
 use Rattle.onll_task.specs.Job.{Job, Read, JobCut, JobEnds, DecidesWhere, on_value}
 use Rattle.onll_task.specs.Doing.{Task, after_stage, lines_stage, each_job}
@@ -58,12 +58,12 @@ pub record EraRead (store : StoreView) (names : EraNames) (threads : ℕ)
     (P : Option CheckpointState → Era → List (List (List ℕ)) → (k : ObjectKind) → k.State → Type 0) : Type 0 where
   pub bytes : List ℕ
   pub first : AnyObject
-  pub init_told : IsTold store names.init bytes
+  pub init_told : FileIsTold store names.init bytes
   pub init_read : init_of bytes ≡ Ok first
   pub even : List ℕ
   pub odd : List ℕ
-  pub even_told : IsTold store (area_name names.ckpt 0) even
-  pub odd_told : IsTold store (area_name names.ckpt 1) odd
+  pub even_told : FileIsTold store (area_name names.ckpt 0) even
+  pub odd_told : FileIsTold store (area_name names.ckpt 1) odd
   pub object : AnyObject
   pub began : started first (newest even odd) ≡ Ok object
   pub images : List (List (List ℕ))
@@ -72,7 +72,7 @@ pub record EraRead (store : StoreView) (names : EraNames) (threads : ℕ)
   pub goes : on_object (λ k s. P (newest even odd) (era_of names bytes (newest even odd)) images k s) object
 
 module _ (store after : StoreView) (tells : store.tells ≡ true) (said : List ℕ) where
-  logs_end : (logs : List ℕ) (t n : ℕ) (go : List (List (List ℕ)) → Job) → JobEnds store after (each_job lines_stage (image_names logs t n) go) Done said
+  logs_end : (logs : List ℕ) (t n : ℕ) (go : List (List (List ℕ)) → Job) → JobEnds store after (each_job lines_stage (log_names logs t n) go) Done said
       → LogsRead store logs t n (λ images. JobEnds store after (go images) Done said)
   logs_end logs t zero go h = record { images = []; told = tt; many = refl; goes = h }
   logs_end logs t (suc n) go (inl h) = absurd h.0
@@ -109,7 +109,7 @@ module _ (store after : StoreView) (tells : store.tells ≡ true) (said : List �
           object (job_of_kind (λ k s. OnObject next threads from era k s) (λ job. JobEnds store after job Done said) object h);
     }
 
-    odd_end : (bytes : List ℕ) (first : AnyObject) (even odd : List ℕ) → IsTold store names.init bytes → init_of bytes ≡ Ok first → IsTold store (area_name names.ckpt 0) even → IsTold store (area_name names.ckpt 1) odd
+    odd_end : (bytes : List ℕ) (first : AnyObject) (even odd : List ℕ) → FileIsTold store names.init bytes → init_of bytes ≡ Ok first → FileIsTold store (area_name names.ckpt 0) even → FileIsTold store (area_name names.ckpt 1) odd
         → JobEnds store after (after_odd names threads next bytes first even odd) Done said → EraRead store names threads EndsHere
     odd_end bytes first even odd told read even_told odd_told h =
         let o = object_end (newest even odd) (era_of names bytes (newest even odd)) (started first (newest even odd)) h in
@@ -130,17 +130,17 @@ module _ (store after : StoreView) (tells : store.tells ≡ true) (said : List �
           goes = o.logs.goes;
         }
 
-    even_end : (bytes : List ℕ) (first : AnyObject) (even : List ℕ) → IsTold store names.init bytes → init_of bytes ≡ Ok first → IsTold store (area_name names.ckpt 0) even
+    even_end : (bytes : List ℕ) (first : AnyObject) (even : List ℕ) → FileIsTold store names.init bytes → init_of bytes ≡ Ok first → FileIsTold store (area_name names.ckpt 0) even
         → JobEnds store after (after_even names threads next bytes first even) Done said → EraRead store names threads EndsHere
     even_end bytes first even told read even_told (inl h) = absurd h.0
     even_end bytes first even told read even_told (inr h) = odd_end bytes first even h.0 told read even_told (record { tells = tells; file = h.1.0 tells }) h.1.1
 
-    init_end : (bytes : List ℕ) (first : AnyObject) → IsTold store names.init bytes → init_of bytes ≡ Ok first
+    init_end : (bytes : List ℕ) (first : AnyObject) → FileIsTold store names.init bytes → init_of bytes ≡ Ok first
         → JobEnds store after (after_init names threads next bytes first) Done said → EraRead store names threads EndsHere
     init_end bytes first told read (inl h) = absurd h.0
     init_end bytes first told read (inr h) = even_end bytes first h.0 told read (record { tells = tells; file = h.1.0 tells }) h.1.1
 
-    value_end : (bytes : List ℕ) (v : Result AnyObject Refusal) → IsTold store names.init bytes → init_of bytes ≡ v
+    value_end : (bytes : List ℕ) (v : Result AnyObject Refusal) → FileIsTold store names.init bytes → init_of bytes ≡ v
         → JobEnds store after (on_value names.init (λ first. after_init names threads next bytes first) v) Done said → EraRead store names threads EndsHere
     value_end bytes (Err refusal) told e h = absurd (let no : Done ≡ Refused = h.0 in (cc))
     value_end bytes (Ok first) told e h = init_end bytes first told e h
@@ -173,7 +173,7 @@ restores_of e place text restored = record {
 -- ---- what the files decide
 module _ (hold : Bool) (store : StoreView) (ending : Ending) (said : List ℕ) where
   logs_decide : (logs : List ℕ) (t : ℕ) (images : List (List (List ℕ))) (go : List (List (List ℕ)) → Job) → TellLogs store logs t images
-      → DecidesWhere hold store (go images) ending said → DecidesWhere hold store (each_job lines_stage (image_names logs t (length images)) go) ending said
+      → DecidesWhere hold store (go images) ending said → DecidesWhere hold store (each_job lines_stage (log_names logs t (length images)) go) ending said
   logs_decide logs t [] go told d = d
   logs_decide logs t (image ∷ images) go told d = (
     told.0.bytes,
@@ -191,7 +191,7 @@ module _ (hold : Bool) (store : StoreView) (ending : Ending) (said : List ℕ) w
     object_decides : (kind : Kind) (s : (kind_at kind).State) → Decided (Onward next (newest_by r) (era_in r) (kind_at kind) s r.images)
         → Decided (OnObject next threads (newest_by r) (era_in r) (kind_at kind) s).job
     object_decides kind s d =
-        subst (λ (n : ℕ). Decided (each_job lines_stage (image_names (era_in r).logs 0 n) (λ images. Onward next (newest_by r) (era_in r) (kind_at kind) s images))) r.many
+        subst (λ (n : ℕ). Decided (each_job lines_stage (log_names (era_in r).logs 0 n) (λ images. Onward next (newest_by r) (era_in r) (kind_at kind) s images))) r.many
         (logs_decide (era_in r).logs 0 r.images (λ images. Onward next (newest_by r) (era_in r) (kind_at kind) s images) r.logs_told d)
 
     pub decides_read : on_object (λ k s. DecidesWhere hold store (Onward next (newest_by r) (era_in r) k s r.images) ending said) r.object
@@ -207,18 +207,18 @@ module _ (hold : Bool) (store : StoreView) (ending : Ending) (said : List ℕ) w
 -- ---- where a job stops
 module _ (store after : StoreView) where
   -- of a file that is told, a job that reads it stops there with nothing changed, or goes on with what it holds
-  read_cut : (name bytes : List ℕ) (go : List ℕ → Job) → IsTold store name bytes → JobCut store after (Read name go) → FilesStay store after ⊎ JobCut store after (go bytes)
+  read_cut : (name bytes : List ℕ) (go : List ℕ → Job) → FileIsTold store name bytes → JobCut store after (Read name go) → FilesStay store after ⊎ JobCut store after (go bytes)
   read_cut name bytes go told (inl h) = inl h
   read_cut name bytes go told (inr h) = inr (subst (λ (found : List ℕ). JobCut store after (go found)) (held_bytes store name bytes h.0 told h.1.0) h.1.1)
 
   logs_cut : (logs : List ℕ) (t : ℕ) (images : List (List (List ℕ))) (go : List (List (List ℕ)) → Job) → TellLogs store logs t images
-      → JobCut store after (each_job lines_stage (image_names logs t (length images)) go) → FilesStay store after ⊎ JobCut store after (go images)
+      → JobCut store after (each_job lines_stage (log_names logs t (length images)) go) → FilesStay store after ⊎ JobCut store after (go images)
   logs_cut logs t [] go told h = inr h
   logs_cut logs t (image ∷ images) go told h = ⊎_elim
       (λ (s : FilesStay store after). inl s)
       (λ k. logs_cut logs (suc t) images (λ rest. go (image ∷ rest)) told.1
-      (subst (λ (lines : List (List ℕ)). JobCut store after (each_job lines_stage (image_names logs (suc t) (length images)) (λ rest. go (lines ∷ rest)))) (sym told.0.image) k))
-      (read_cut (image_name logs t) told.0.bytes (λ bytes. each_job lines_stage (image_names logs (suc t) (length images)) (λ rest. go (image_lines bytes ∷ rest))) told.0.told h)
+      (subst (λ (lines : List (List ℕ)). JobCut store after (each_job lines_stage (log_names logs (suc t) (length images)) (λ rest. go (lines ∷ rest)))) (sym told.0.image) k))
+      (read_cut (log_name logs t) told.0.bytes (λ bytes. each_job lines_stage (log_names logs (suc t) (length images)) (λ rest. go (image_lines bytes ∷ rest))) told.0.told h)
 
   module _ {names : EraNames} {threads place : ℕ} {text : List ℕ} (next : EraNext) (r : Restores store names threads place text) where
     abbrev CutHere : (k : ObjectKind) → k.State → Type 0
@@ -228,7 +228,7 @@ module _ (store after : StoreView) where
         → FilesStay store after ⊎ JobCut store after (Onward next (newest_by r) (era_in r) (kind_at kind) s r.images)
     object_cut kind s h =
         logs_cut (era_in r).logs 0 r.images (λ images. Onward next (newest_by r) (era_in r) (kind_at kind) s images) r.logs_told
-        (subst (λ (n : ℕ). JobCut store after (each_job lines_stage (image_names (era_in r).logs 0 n) (λ images. Onward next (newest_by r) (era_in r) (kind_at kind) s images))) (sym r.many) h)
+        (subst (λ (n : ℕ). JobCut store after (each_job lines_stage (log_names (era_in r).logs 0 n) (λ images. Onward next (newest_by r) (era_in r) (kind_at kind) s images))) (sym r.many) h)
 
     abbrev Here : Type 0
     Here = FilesStay store after ⊎ on_object (λ k s. JobCut store after (Onward next (newest_by r) (era_in r) k s r.images)) r.object

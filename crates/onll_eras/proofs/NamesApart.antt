@@ -6,7 +6,7 @@ use Rattle.std.proofs.lemmas.List.{append_cancel_left}
 use Rattle.std.proofs.lemmas.Fmt.{decimal_digit}
 use Rattle.onll_words.specs.Numbers.{number_of}
 use Rattle.onll_words.proofs.Decimals.{number_of-decimal}
-use Rattle.onll_task.specs.ImageNames.{image_name, image_names}
+use Rattle.onll_open.specs.Names.{log_name, log_names}
 use Rattle.onll_eras.specs.Names.{area_name, text_name, area_files}
 use Rattle.onll_eras.specs.Begun.{IsNone}
 
@@ -30,18 +30,18 @@ module _ (ckpt q : List ℕ) (a b : ℕ) (in_a : a < 2) (in_b : b < 2) (apart : 
   other : (r name : List ℕ) → name ≡ area_name ckpt a ++ r → area_name ckpt b ++ q ≡ name → ⊥
   other r name is e = differ ckpt r q a b in_a in_b apart (sym is ∙ sym e)
 
-  none_of_logs : (t n : ℕ) → IsNone (image_names (area_name ckpt a) t n) (area_name ckpt b ++ q)
+  none_of_logs : (t n : ℕ) → IsNone (log_names (area_name ckpt a) t n) (area_name ckpt b ++ q)
   none_of_logs t zero = tt
-  none_of_logs t (suc n) = (other (codes "." ++ decimal t) (image_name (area_name ckpt a) t) refl, none_of_logs (suc t) n)
+  none_of_logs t (suc n) = (other (codes "." ++ decimal t) (log_name (area_name ckpt a) t) refl, none_of_logs (suc t) n)
 
   pub none_of_era : (threads : ℕ) → IsNone (area_files ckpt a threads) (area_name ckpt b ++ q)
   none_of_era threads = (
     other [] (area_name ckpt a) (sym (append-nil (area_name ckpt a))),
-    none_more (area_name ckpt b ++ q) (image_names (area_name ckpt a) 0 threads) (text_name ckpt a ∷ []) (none_of_logs 0 threads) (other (codes ".init") (text_name ckpt a) refl, tt),
+    none_more (area_name ckpt b ++ q) (log_names (area_name ckpt a) 0 threads) (text_name ckpt a ∷ []) (none_of_logs 0 threads) (other (codes ".init") (text_name ckpt a) refl, tt),
   )
 
 -- ---- names of one area
-pub same_thread : (logs : List ℕ) (t u : ℕ) → t < 2 ^ 64 → u < 2 ^ 64 → image_name logs t ≡ image_name logs u → t ≡ u
+pub same_thread : (logs : List ℕ) (t u : ℕ) → t < 2 ^ 64 → u < 2 ^ 64 → log_name logs t ≡ log_name logs u → t ≡ u
 same_thread logs t u l k e =
     let rest : 46 ∷ decimal t ≡ 46 ∷ decimal u = append_cancel_left logs (46 ∷ decimal t) (46 ∷ decimal u) e in
     let digits : decimal t ≡ decimal u = (cc) in
@@ -50,7 +50,7 @@ same_thread logs t u l k e =
 no_init : (t : ℕ) → t < 2 ^ 64 → decimal t ≡ codes "init" → ⊥
 no_init t l e = let none : Some t ≡ None = sym (number_of-decimal t l) ∙ ap number_of e in (cc)
 
-pub log_not_text : (ckpt : List ℕ) (area t : ℕ) → t < 2 ^ 64 → image_name (area_name ckpt area) t ≡ text_name ckpt area → ⊥
+pub log_not_text : (ckpt : List ℕ) (area t : ℕ) → t < 2 ^ 64 → log_name (area_name ckpt area) t ≡ text_name ckpt area → ⊥
 log_not_text ckpt area t l e =
     let rest : 46 ∷ decimal t ≡ 46 ∷ codes "init" = append_cancel_left (area_name ckpt area) (46 ∷ decimal t) (46 ∷ codes "init") e in
     let digits : decimal t ≡ codes "init" = (cc) in no_init t l digits

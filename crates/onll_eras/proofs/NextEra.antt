@@ -21,7 +21,7 @@ use Rattle.onll_text.proofs.PrintedStates.{PrintsState, prints_state, says_objec
 use Rattle.onll_outside.specs.Views.{StoreView, Rose, counted, image_bytes}
 use Rattle.onll_task.specs.declared.ending.Ending.{Ending}
 use Rattle.onll_task.specs.declared.ending.Ending.TheVariants.{Done, BadLog}
-use Rattle.onll_task.specs.ImageNames.{image_name}
+use Rattle.onll_open.specs.Names.{log_name}
 use Rattle.onll_task.specs.Writing.{FilesStay, AllButStay, written}
 use Rattle.onll_task.specs.Job.{Job, Say, Write, Keep, JobCut, JobEnds, DecidesWhere}
 use Rattle.onll_task.specs.Doing.{Task, after_stage, assured_stage, report_task, say_task}
@@ -35,7 +35,7 @@ use Rattle.onll_eras.specs.Eras.{Era, era_of, next_area}
 use Rattle.onll_eras.specs.EraReports.{at_end_text, CheckpointData, CheckpointReads, checkpoint_lines, checkpoint_text}
 use Rattle.onll_eras.specs.EraJob.{area_of, area_said, begun_stage, keeping_headers, checkpoint_after, checkpoint_task, either_task, has_next}
 use Rattle.onll_eras.specs.Restored.{RestoredTo, Restores, era_in, newest_by}
-use Rattle.onll_eras.specs.Begun.{AreApart, IsPrinted, IsNext, IsBegun, LeavesEra}
+use Rattle.onll_eras.specs.Begun.{AreNamesApart, IsPrinted, IsEraAfter, IsBegunEra, LeavesEra}
 use Rattle.onll_eras.specs.Laws.{checkpoint_job, HasBegunNext}
 use Rattle.onll_eras.proofs.EachObject.{at_object, to_object, each_object, both_objects}
 use Rattle.onll_eras.proofs.EraReads.{Onward, ends_read, restores_of, decides_read, cut_read}
@@ -82,7 +82,7 @@ module _ (kind : Kind) (era : Era) (s : (kind_at kind).State) (r : Recovered) wh
       bytes = Bytes-era_text next.number next.place lines within.0 within.1 it.bytes;
     }
 
-    next_is : (after : StoreView) (ckpt : List ℕ) (threads : ℕ) → IsBegun after ckpt threads (kind_at kind).code next → IsNext after ckpt era threads (era.place + length r.nodes) text
+    next_is : (after : StoreView) (ckpt : List ℕ) (threads : ℕ) → IsBegunEra after ckpt threads (kind_at kind).code next → IsEraAfter after ckpt era threads (era.place + length r.nodes) text
     next_is after ckpt threads b = record {
       checkpoint = next;
       code = (kind_at kind).code;
@@ -118,10 +118,10 @@ module _ (names : EraNames) (threads : ℕ) (few : threads ≤ 16) (from : Optio
   Left = FilesStay store after ⊎ LeavesEra store after names.ckpt era threads place text
 
   module _ (kind : Kind) (s : (kind_at kind).State) (h : RestoredTo (kind_at kind) era s images place text) where
-    next_left : IsNext after names.ckpt era threads (era.place + length h.recovered.nodes) (state_text (kind_at kind).wording (state_after (kind_at kind).means s h.recovered.nodes))
-        → IsNext after names.ckpt era threads place text
-    next_left n = subst (λ (p : ℕ). IsNext after names.ckpt era threads p text) (sym h.place_is)
-        (subst (λ (t : List ℕ). IsNext after names.ckpt era threads (era.place + length h.recovered.nodes) t) (sym h.state) n)
+    next_left : IsEraAfter after names.ckpt era threads (era.place + length h.recovered.nodes) (state_text (kind_at kind).wording (state_after (kind_at kind).means s h.recovered.nodes))
+        → IsEraAfter after names.ckpt era threads place text
+    next_left n = subst (λ (p : ℕ). IsEraAfter after names.ckpt era threads p text) (sym h.place_is)
+        (subst (λ (t : List ℕ). IsEraAfter after names.ckpt era threads (era.place + length h.recovered.nodes) t) (sym h.state) n)
 
     task_cut : (b : Bool) → has_next era (length h.recovered.nodes) ≡ b → JobCut store after (task_by b names.ckpt threads era (kind_at kind) s h.recovered).job → Left
     task_cut false t cut = inl cut
@@ -138,7 +138,7 @@ module _ (names : EraNames) (threads : ℕ) (few : threads ≤ 16) (from : Optio
         (subst (λ (v : Result Recovered StateFault). JobCut store after (checkpoint_task names.ckpt threads from era (kind_at kind) s v).job) h.gives cut)
 
 pub checkpoint_cut : (store after : StoreView) (names : EraNames) (threads place : ℕ) (text : List ℕ) → store.tells ≡ true → 1 ≤ threads → threads ≤ 16
-    → (r : Restores store names threads place text) → AreApart names (next_area (era_in r)) threads
+    → (r : Restores store names threads place text) → AreNamesApart names (next_area (era_in r)) threads
     → JobCut store after (checkpoint_job names threads) → Restores after names threads place text
 checkpoint_cut store after names threads place text tells some_threads few r apart cut =
     ⊎_elim (λ stay. stays stay) (λ here. ⊎_elim (λ stay. stays stay) (λ left. leaves left) (at here)) (cut_read store after (checkpoint_task names.ckpt threads) r cut)
@@ -162,7 +162,7 @@ record HasNext (store after : StoreView) (names : EraNames) (threads : ℕ) (era
   restored : on_object (λ k s. RestoredTo k era s images place text) o
   says : said ≡ checkpoint_text (era.number + 1) place text
   others : AllButStay (area_files names.ckpt (next_area era) threads) store after
-  next : IsNext after names.ckpt era threads place text
+  next : IsEraAfter after names.ckpt era threads place text
 
 module _ (names : EraNames) (threads : ℕ) (few : threads ≤ 16) (from : Option CheckpointState) (era : Era) (images : List (List (List ℕ))) (store after : StoreView) (tells : store.tells ≡ true)
     (said : List ℕ) (kind : Kind) (s : (kind_at kind).State) where
@@ -218,7 +218,7 @@ lt_test m n h = grind (arith, nat_tests)
 headers_decide : (store : StoreView) (logs : List ℕ) (code : ℕ) (bytes : List ℕ) (threads t n : ℕ) (go : Job) (said : List ℕ) → ((mid : StoreView) → DecidesWhere true mid go Done said)
     → DecidesWhere true store (keeping_headers logs code bytes threads t n go) Done said
 headers_decide store logs code bytes threads t zero go said d = d store
-headers_decide store logs code bytes threads t (suc n) go said d = (refl, headers_decide (written store (image_name logs t) (image_bytes (head_line (head_for 2 t threads code bytes) ∷ []))) logs code bytes threads (suc t) n go said d)
+headers_decide store logs code bytes threads t (suc n) go said d = (refl, headers_decide (written store (log_name logs t) (image_bytes (head_line (head_for 2 t threads code bytes) ∷ []))) logs code bytes threads (suc t) n go said d)
 
 kind_decides : (store : StoreView) (names : EraNames) (threads : ℕ) (from : Option CheckpointState) (era : Era) (images : List (List (List ℕ))) (place : ℕ) (text : List ℕ) → era.number + 1 < 2 ^ 64
     → (kind : Kind) (s : (kind_at kind).State) → RestoredTo (kind_at kind) era s images place text

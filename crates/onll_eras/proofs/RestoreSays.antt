@@ -20,8 +20,8 @@ use Rattle.onll_text.specs.Reports.{SaysOnly}
 use Rattle.onll_outside.specs.Views.{StoreView}
 use Rattle.onll_recovery.specs.RecoverJob.{data_with}
 use Rattle.onll_task.specs.declared.ending.Ending.TheVariants.{Done, BadLog}
-use Rattle.onll_task.specs.ImageNames.{image_name}
-use Rattle.onll_task.specs.Reading.{IsTold}
+use Rattle.onll_open.specs.Names.{log_name}
+use Rattle.onll_task.specs.Reading.{FileIsTold}
 use Rattle.onll_task.specs.Job.{DecidesWhere, JobEnds}
 use Rattle.onll_task.specs.Doing.{Task, report_task, say_task}
 use Rattle.onll_checkpoint.specs.Checkpoint.{CheckpointState}
@@ -147,7 +147,7 @@ restore_prints store after names threads said tells h =
     record { place = p.place; text = p.text; restores = restores_of e p.place p.text p.restored; place_said = p.place_said }
 
 -- ---- one place and one state
-told_once : (store : StoreView) (name bytes others : List ℕ) → IsTold store name bytes → IsTold store name others → bytes ≡ others
+told_once : (store : StoreView) (name bytes others : List ℕ) → FileIsTold store name bytes → FileIsTold store name others → bytes ≡ others
 told_once store name bytes others a b = let same : Some bytes ≡ Some others = sym a.file ∙ b.file in (cc)
 
 abbrev value_or : {A E : Type 0} → A → Result A E → A
@@ -163,7 +163,7 @@ logs_once store logs t [] [] a b e = refl
 logs_once store logs t [] (other ∷ others) a b e = absurd (omega arith)
 logs_once store logs t (image ∷ images) [] a b e = absurd (omega arith)
 logs_once store logs t (image ∷ images) (other ∷ others) a b e =
-    let here : image ≡ other = a.0.image ∙ (ap image_lines (told_once store (image_name logs t) a.0.bytes b.0.bytes a.0.told b.0.told) ∙ sym b.0.image) in
+    let here : image ≡ other = a.0.image ∙ (ap image_lines (told_once store (log_name logs t) a.0.bytes b.0.bytes a.0.told b.0.told) ∙ sym b.0.image) in
     let rest = logs_once store logs (suc t) images others a.1 b.1 (omega arith) in
     λ i. here i ∷ rest i
 

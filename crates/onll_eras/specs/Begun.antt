@@ -8,8 +8,8 @@ use Rattle.onll_text.specs.declared.any_object.AnyObject.{AnyObject}
 use Rattle.onll_text.specs.Init.{init_of}
 use Rattle.onll_text.specs.Kinds.{ObjectKind, on_object}
 use Rattle.onll_outside.specs.Views.{StoreView}
-use Rattle.onll_task.specs.ImageNames.{image_name}
-use Rattle.onll_task.specs.Reading.{IsTold}
+use Rattle.onll_open.specs.Names.{log_name}
+use Rattle.onll_task.specs.Reading.{FileIsTold}
 use Rattle.onll_task.specs.Writing.{AllButStay}
 use Rattle.onll_checkpoint.specs.Checkpoint.{CheckpointState}
 use Rattle.onll_checkpoint.specs.Grammar.{checkpoint_in}
@@ -24,9 +24,9 @@ abbrev pub IsNone : List (List ℕ) → List ℕ → Type 0
 IsNone names name = AllByRecursion (λ other. name ≡ other → ⊥) names
 
 -- neither the initial state nor a log of era 0 has the name of a file that is written for the era of this area
-pub record AreApart (names : EraNames) (area threads : ℕ) : Type 0 where
+pub record AreNamesApart (names : EraNames) (area threads : ℕ) : Type 0 where
   pub init_apart : IsNone (area_files names.ckpt area threads) names.init
-  pub logs_apart : (t : ℕ) → t < threads → IsNone (area_files names.ckpt area threads) (image_name names.logs t)
+  pub logs_apart : (t : ℕ) → t < threads → IsNone (area_files names.ckpt area threads) (log_name names.logs t)
 
 -- the lines of a log that has a header alone, of an object of this code whose initial state this text says
 abbrev pub header_image : (code : ℕ) (text : List ℕ) (threads t : ℕ) → List (List ℕ)
@@ -38,11 +38,11 @@ header_images code text threads t zero = []
 header_images code text threads t (suc more) = header_image code text threads t ∷ header_images code text threads (suc t) more
 
 -- the area of a checkpoint holds it, the file of its era's text holds that, and its logs are begun and have no entry
-pub record IsBegun (after : StoreView) (ckpt : List ℕ) (threads code : ℕ) (c : CheckpointState) : Type 0 where
+pub record IsBegunEra (after : StoreView) (ckpt : List ℕ) (threads code : ℕ) (c : CheckpointState) : Type 0 where
   pub bytes : List ℕ
-  pub told : IsTold after (area_name ckpt (area_of c)) bytes
+  pub told : FileIsTold after (area_name ckpt (area_of c)) bytes
   pub found : checkpoint_in (area_lines bytes) ≡ Some c
-  pub text : IsTold after (text_name ckpt (area_of c)) c.text
+  pub text : FileIsTold after (text_name ckpt (area_of c)) c.text
   pub logs : TellLogs after (area_name ckpt (area_of c)) 0 (header_images code c.text threads 0 threads)
 
 -- the state of an object of this code is printed so
@@ -51,12 +51,12 @@ pub record IsPrinted (k : ObjectKind) (code : ℕ) (s : k.State) (text : List �
   pub printed : text ≡ flat_map line_text (k.wording.state_lines s)
 
 -- the era after this one has begun, at this place, with this state as it is printed
-pub record IsNext (after : StoreView) (ckpt : List ℕ) (era : Era) (threads place : ℕ) (text : List ℕ) : Type 0 where
+pub record IsEraAfter (after : StoreView) (ckpt : List ℕ) (era : Era) (threads place : ℕ) (text : List ℕ) : Type 0 where
   pub checkpoint : CheckpointState
   pub code : ℕ
   pub number_is : checkpoint.number ≡ era.number + 1
   pub place_is : checkpoint.place ≡ place
-  pub begun : IsBegun after ckpt threads code checkpoint
+  pub begun : IsBegunEra after ckpt threads code checkpoint
   pub object : AnyObject
   pub reads : init_of checkpoint.text ≡ Ok object
   pub printed : on_object (λ k s. IsPrinted k code s text) object
@@ -65,7 +65,7 @@ pub record IsNext (after : StoreView) (ckpt : List ℕ) (era : Era) (threads pla
 -- up before all of the checkpoint was durable
 pub record HoldsNoCheckpoint (after : StoreView) (name : List ℕ) : Type 0 where
   pub bytes : List ℕ
-  pub told : IsTold after name bytes
+  pub told : FileIsTold after name bytes
   pub none : checkpoint_in (area_lines bytes) ≡ None
 
 -- What `checkpoint` leaves, however it ends: no files change but those of the next era. Its area is as it was, or holds no checkpoint, or
@@ -74,7 +74,7 @@ pub record LeavesEra (store after : StoreView) (ckpt : List ℕ) (era : Era) (th
   pub others : AllButStay (area_files ckpt (next_area era) threads) store after
   pub area : (after.file (area_name ckpt (next_area era)) ≡ store.file (area_name ckpt (next_area era)))
       ⊎ HoldsNoCheckpoint after (area_name ckpt (next_area era))
-      ⊎ IsNext after ckpt era threads place text
+      ⊎ IsEraAfter after ckpt era threads place text
 
 -- The era after the newest one has begun: the files give the same place and the same state, its number is one more, and the place is its
 -- beginning. The file of its text holds that, and its logs are begun and have no entry.
@@ -86,5 +86,5 @@ pub record BeginsNext {store : StoreView} {names : EraNames} {threads place : �
   pub checkpoint : CheckpointState
   pub code : ℕ
   pub is_newest : (checkpoint.number ≡ (era_in restores).number) × (checkpoint.text ≡ (era_in restores).text)
-  pub begun : IsBegun after names.ckpt threads code checkpoint
+  pub begun : IsBegunEra after names.ckpt threads code checkpoint
   pub images : restores.images ≡ header_images code checkpoint.text threads 0 threads

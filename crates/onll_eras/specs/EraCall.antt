@@ -8,7 +8,7 @@ use Rattle.onll_outside.specs.Views.{StoreView}
 use Rattle.onll_text.specs.declared.any_object.AnyObject.{AnyObject}
 use Rattle.onll_text.specs.Kinds.{ObjectKind}
 use Rattle.onll_task.specs.declared.answer.Stop.{Stop}
-use Rattle.onll_task.specs.Doing.{Task, Work, Does, after_stage}
+use Rattle.onll_task.specs.Doing.{Task, Work, Fulfils, after_stage}
 use Rattle.onll_task.specs.Images.{images_stage}
 use Rattle.onll_eras.specs.declared.era.Asked.{Asked}
 use Rattle.onll_eras.specs.declared.era.Asked.TheVariants as asks
@@ -63,7 +63,7 @@ found_task call era k s = after_stage (images_stage era.logs.now call.threads)
 -- what a function does over a state of a kind
 pub record DoesFound {A : Type 0} (call : EraCall) (era : NewestEra) (k : ObjectKind) (s : k.State) (store after : StoreView)
     (result : Result (Vec ℕ A) Stop) : Type 0 where
-  pub does : Does (call_work call).writes store after (found_task call era k s) result
+  pub does : Fulfils (call_work call).writes store after (found_task call era k s) result
 
 -- the areas are read, and then the logs of the newest era
 abbrev pub areas_task : EraCall → List ℕ → AnyObject → Task

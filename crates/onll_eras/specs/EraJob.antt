@@ -14,11 +14,11 @@ use Rattle.onll_text.specs.Kinds.{ObjectKind, on_object}
 use Rattle.onll_text.specs.EraText.{era_text}
 use Rattle.onll_text.specs.PrintsBack.{prints_back}
 use Rattle.onll_text.specs.Reports.{SaysOnly}
-use Rattle.onll_outside.specs.Views.{Holds}
+use Rattle.onll_outside.specs.Views.{FileHolds}
 use Rattle.onll_task.specs.declared.ending.Ending.TheVariants.{Refused, BadLog}
 use Rattle.onll_text.specs.Lines.{fence_line}
 use Rattle.onll_task.specs.Printed.{refusal_text}
-use Rattle.onll_task.specs.ImageNames.{image_name, image_names}
+use Rattle.onll_open.specs.Names.{log_name, log_names}
 use Rattle.onll_task.specs.Images.{images_stage}
 use Rattle.onll_task.specs.Job.{Job, Read, Keep}
 use Rattle.onll_task.specs.Doing.{Task, Work, Stage, after_stage, whole_stage, report_task, say_task, assured_stage, keep_stage, write_stage, then_stage}
@@ -39,13 +39,13 @@ empty_stage ckpt = then_stage (write_stage (area_name ckpt 0) []) (write_stage (
 abbrev pub areas_work : List ℕ → Work
 areas_work ckpt = record {
   task = after_stage (empty_stage ckpt) (λ _. report_task (areas_text ckpt) (λ text. text ≡ areas_text ckpt));
-  writes = image_names ckpt 0 2;
+  writes = log_names ckpt 0 2;
 }
 
 -- ---- the newest era
 -- the bytes of an area's file
 abbrev pub area_stage : List ℕ → Stage (List ℕ)
-area_stage name = record { job = Read name; known = λ store bytes. Holds store name bytes }
+area_stage name = record { job = Read name; known = λ store bytes. FileHolds store name bytes }
 
 -- those of both areas
 pub record AreaBytes : Type 0 where
@@ -56,7 +56,7 @@ abbrev pub areas_stage : List ℕ → Stage AreaBytes
 areas_stage ckpt = record {
   job = λ (next : AreaBytes → Job).
       Read (area_name ckpt 0) (λ even. Read (area_name ckpt 1) (λ odd. next (record { even = even; odd = odd })));
-  known = λ store read. Holds store (area_name ckpt 0) read.even × Holds store (area_name ckpt 1) read.odd;
+  known = λ store read. FileHolds store (area_name ckpt 0) read.even × FileHolds store (area_name ckpt 1) read.odd;
 }
 
 -- the object of an era: that of INIT where there is no checkpoint, and else what the checkpoint's text says, or why it says none
@@ -121,7 +121,7 @@ area_said area = line_text (area_fault_line area)
 abbrev pub keeping_headers : (logs : List ℕ) (code : ℕ) (text : List ℕ) (threads t : ℕ) → ℕ → Job → Job
 keeping_headers logs code text threads t zero next = next
 keeping_headers logs code text threads t (suc more) next =
-    Keep (image_name logs t) (head_line (head_for 2 t threads code text) ∷ []) 1 (header_said t)
+    Keep (log_name logs t) (head_line (head_for 2 t threads code text) ∷ []) 1 (header_said t)
     (keeping_headers logs code text threads (suc t) more next)
 
 abbrev pub headers_stage : (logs : List ℕ) (code : ℕ) (text : List ℕ) (threads : ℕ) → Stage (Unit {0})

@@ -6,7 +6,7 @@ use Rattle.onll_outside.specs.Views.{StoreView, Rose, counted}
 use Rattle.onll_task.specs.declared.ending.Ending.{Ending}
 use Rattle.onll_task.specs.declared.ending.Ending.TheVariants.{Done}
 use Rattle.onll_task.specs.Job.{Job, JobCut, JobEnds, Decides}
-use Rattle.onll_eras.specs.Begun.{AreApart, BeginsNext, LeavesEra}
+use Rattle.onll_eras.specs.Begun.{AreNamesApart, BeginsNext, LeavesEra}
 use Rattle.onll_eras.specs.EraJob.{restore_work, checkpoint_work}
 use Rattle.onll_eras.specs.EraReports.{restored_text, checkpoint_text}
 use Rattle.onll_eras.specs.Eras.{next_area}
@@ -57,14 +57,14 @@ OneStateLaw = (store : StoreView) (names : EraNames) (threads place other : ℕ)
 abbrev pub SameStateLaw : Type 0
 SameStateLaw = (store after : StoreView) (names : EraNames) (threads place : ℕ) (text : List ℕ) → store.tells ≡ true
     → 1 ≤ threads → threads ≤ most_threads → (r : Restores store names threads place text)
-    → AreApart names (next_area (era_in r)) threads
+    → AreNamesApart names (next_area (era_in r)) threads
     → LeavesEra store after names.ckpt (era_in r) threads place text → Restores after names threads place text
 
 -- the same, wherever the job of `checkpoint` stops; a job that ends stops there
-abbrev pub CutLaw : Type 0
-CutLaw = (store after : StoreView) (names : EraNames) (threads place : ℕ) (text : List ℕ) → store.tells ≡ true
+abbrev pub CheckpointCutLaw : Type 0
+CheckpointCutLaw = (store after : StoreView) (names : EraNames) (threads place : ℕ) (text : List ℕ) → store.tells ≡ true
     → 1 ≤ threads → threads ≤ most_threads → (r : Restores store names threads place text)
-    → AreApart names (next_area (era_in r)) threads
+    → AreNamesApart names (next_area (era_in r)) threads
     → JobCut store after (checkpoint_job names threads) → Restores after names threads place text
 
 -- Where `checkpoint` is done, the files gave a place and a state, which it prints; and where the names are apart, the next era has
@@ -74,7 +74,7 @@ pub record HasBegunNext (store after : StoreView) (names : EraNames) (threads : 
   pub text : List ℕ
   pub was : Restores store names threads place text
   pub says : said ≡ checkpoint_text ((era_in was).number + 1) place text
-  pub begins : AreApart names (next_area (era_in was)) threads → BeginsNext was after
+  pub begins : AreNamesApart names (next_area (era_in was)) threads → BeginsNext was after
 
 abbrev pub NextEraLaw : Type 0
 NextEraLaw = (store after : StoreView) (names : EraNames) (threads : ℕ) (said : List ℕ) → store.tells ≡ true

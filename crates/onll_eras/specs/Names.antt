@@ -2,7 +2,7 @@
 
 use Rattle.std.specs.Prelude.{ℕ, ◌++◌, List, [], ◌∷◌, codes}
 use Rattle.onll_eras.specs.declared.names.EraFiles.{EraFiles}
-use Rattle.onll_task.specs.ImageNames.{image_name, image_names}
+use Rattle.onll_open.specs.Names.{log_name, log_names}
 
 -- what a command over eras is given: the file of the initial state of era 0, the name of the logs of era 0, and that of the areas
 pub record EraNames : Type 0 where
@@ -16,7 +16,7 @@ names_of files = record { init = files.init.now; logs = files.logs.now; ckpt = f
 
 -- the file of an area, 0 or 1; with a dot and a thread's number after it, that of a log of its era
 abbrev pub area_name : List ℕ → ℕ → List ℕ
-area_name ckpt area = image_name ckpt area
+area_name ckpt area = log_name ckpt area
 
 -- the file of the text of an area's era
 abbrev pub text_name : List ℕ → ℕ → List ℕ
@@ -24,7 +24,7 @@ text_name ckpt area = area_name ckpt area ++ codes ".init"
 
 -- the files that the era of an area has, but for the area itself
 abbrev pub era_files : List ℕ → ℕ → ℕ → List (List ℕ)
-era_files ckpt area threads = image_names (area_name ckpt area) 0 threads ++ text_name ckpt area ∷ []
+era_files ckpt area threads = log_names (area_name ckpt area) 0 threads ++ text_name ckpt area ∷ []
 
 -- and with the area
 abbrev pub area_files : List ℕ → ℕ → ℕ → List (List ℕ)

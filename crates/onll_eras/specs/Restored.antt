@@ -10,8 +10,8 @@ use Rattle.onll_text.specs.declared.any_object.AnyObject.{AnyObject}
 use Rattle.onll_text.specs.Init.{init_of}
 use Rattle.onll_text.specs.Kinds.{ObjectKind, on_object}
 use Rattle.onll_outside.specs.Views.{StoreView}
-use Rattle.onll_task.specs.ImageNames.{image_name}
-use Rattle.onll_task.specs.Reading.{IsTold}
+use Rattle.onll_open.specs.Names.{log_name}
+use Rattle.onll_task.specs.Reading.{FileIsTold}
 use Rattle.onll_areas.specs.Newest.{newest}
 use Rattle.onll_checkpoint.specs.Checkpoint.{CheckpointState}
 use Rattle.onll_eras.specs.EraJob.{started}
@@ -21,13 +21,13 @@ use Rattle.onll_eras.specs.Names.{EraNames, area_name}
 -- the named file is told, and these are its lines as an image
 pub record TellsLines (store : StoreView) (name : List ℕ) (lines : List (List ℕ)) : Type 0 where
   pub bytes : List ℕ
-  pub told : IsTold store name bytes
+  pub told : FileIsTold store name bytes
   pub image : lines ≡ image_lines bytes
 
 -- so are the files of the logs of an era, from thread t on
 abbrev pub TellLogs : StoreView → List ℕ → ℕ → List (List (List ℕ)) → Type 0
 TellLogs store logs t [] = Unit {0}
-TellLogs store logs t (image ∷ images) = TellsLines store (image_name logs t) image × TellLogs store logs (suc t) images
+TellLogs store logs t (image ∷ images) = TellsLines store (log_name logs t) image × TellLogs store logs (suc t) images
 
 -- these images of an era's logs give, over its initial state, this place, and this state as it is printed
 pub record RestoredTo (k : ObjectKind) (era : Era) (s : k.State) (images : List (List (List ℕ))) (place : ℕ) (text : List ℕ)
@@ -42,12 +42,12 @@ pub record RestoredTo (k : ObjectKind) (era : Era) (s : k.State) (images : List 
 pub record Restores (store : StoreView) (names : EraNames) (threads place : ℕ) (text : List ℕ) : Type 0 where
   pub bytes : List ℕ
   pub first : AnyObject
-  pub init_told : IsTold store names.init bytes
+  pub init_told : FileIsTold store names.init bytes
   pub init_read : init_of bytes ≡ Ok first
   pub even : List ℕ
   pub odd : List ℕ
-  pub even_told : IsTold store (area_name names.ckpt 0) even
-  pub odd_told : IsTold store (area_name names.ckpt 1) odd
+  pub even_told : FileIsTold store (area_name names.ckpt 0) even
+  pub odd_told : FileIsTold store (area_name names.ckpt 1) odd
   pub object : AnyObject
   pub began : started first (newest even odd) ≡ Ok object
   pub images : List (List (List ℕ))

@@ -5,16 +5,17 @@ ghost use Rattle.onll_model.specs.Limits.{most_threads};
 ghost use Rattle.onll_log.specs.Head.{head_line, FitsHead};
 ghost use Rattle.onll_checkpoint.specs.Text.{lines_for};
 ghost use Rattle.onll_checkpoint.specs.Grammar.{checkpoint_image};
-ghost use Rattle.onll_task.specs.ImageNames.{image_name, image_names};
-ghost use Rattle.onll_task.specs.Doing.{Begins, keep_stage};
+ghost use Rattle.onll_open.specs.Names.{log_name, log_names};
+ghost use Rattle.onll_task.specs.Doing.{DoesStage, keep_stage};
 ghost use Rattle.onll_eras.specs.Names.{area_files};
 ghost use Rattle.onll_eras.specs.EraJob.{area_of, header_said, area_said, headers_stage, begun_stage};
 
 use onll_areas::{keep_checkpoint, keep_header};
 use onll_checkpoint::Checkpoint;
 use onll_log::LogHead;
+use onll_open::log_name;
 use onll_outside::Store;
-use onll_task::{Stop, image_name, kept_or, write_bytes};
+use onll_task::{Stop, kept_or, write_bytes};
 use onll_text::Piece;
 use std::alloc::{AllocError, Global};
 
@@ -27,10 +28,10 @@ fn begin_log<S: Store>(
     store: &mut S,
 ) -> Result<(), Stop>
     requires { FitsHead head }
-    ensures { let stage = keep_stage (image_name logs.now thread) (head_line head ∷ []) 1 (header_said thread) in
-        Begins (image_name logs.now thread ∷ []) (S.seen store.old) (S.seen store.new) stage (λ done. done) result }
+    ensures { let stage = keep_stage (log_name logs.now thread) (head_line head ∷ []) 1 (header_said thread) in
+        DoesStage (log_name logs.now thread ∷ []) (S.seen store.old) (S.seen store.new) stage (λ done. done) result }
 {
-    let name = image_name(alloc, logs, thread)?;
+    let name = log_name(alloc, logs, thread)?;
     let kept = keep_header(alloc, &name, head, store);
     let said = [
         Piece::Text(b"fault"),
@@ -54,7 +55,7 @@ fn begin_logs<S: Store>(
     requires few { threads ≤ most_threads }
     requires known { (1 ≤ code) × (code ≤ 4) }
     ensures { let stage = headers_stage logs.now code text.now threads in
-        Begins (image_names logs.now 0 threads) (S.seen store.old) (S.seen store.new) stage (λ done. done) result }
+        DoesStage (log_names logs.now 0 threads) (S.seen store.old) (S.seen store.new) stage (λ done. done) result }
 {
     for thread in 0..threads {
         let head = LogHead::new(thread, threads, code, text);
@@ -86,7 +87,7 @@ fn keep_area<S: Store>(
 ) -> Result<(), Stop>
     ensures { let lines = checkpoint_image checkpoint.now (lines_for (length checkpoint.now.text)) in
         let stage = keep_stage name.now lines 2 (area_said area) in
-        Begins (name.now ∷ []) (S.seen store.old) (S.seen store.new) stage (λ done. done) result }
+        DoesStage (name.now ∷ []) (S.seen store.old) (S.seen store.new) stage (λ done. done) result }
 {
     let kept = keep_checkpoint(alloc, name, checkpoint, store);
     let said = [
@@ -111,10 +112,10 @@ pub fn begin_era<S: Store>(
     requires few { threads ≤ most_threads }
     requires known { (1 ≤ code) × (code ≤ 4) }
     ensures { let stage = begun_stage ckpt.now code threads checkpoint.now in
-        Begins (area_files ckpt.now (area_of checkpoint.now) threads) (S.seen store.old) (S.seen store.new) stage (λ done. done) result }
+        DoesStage (area_files ckpt.now (area_of checkpoint.now) threads) (S.seen store.old) (S.seen store.new) stage (λ done. done) result }
 {
     let area = checkpoint.number() % 2;
-    let logs = image_name(alloc, ckpt, area)?;
+    let logs = log_name(alloc, ckpt, area)?;
     match begin_logs(alloc, &logs, code, checkpoint.text(), threads, store) {
         Ok(()) => {}
         Err(stop) => return Err(stop),

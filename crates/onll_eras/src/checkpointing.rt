@@ -8,7 +8,7 @@ ghost use Rattle.onll_text.specs.EraText.{era_text};
 ghost use Rattle.onll_text.specs.Kinds.{kind_by};
 ghost use Rattle.onll_text.specs.Lines.{state_lines};
 ghost use Rattle.onll_text.specs.PrintsBack.{prints_back, state_text};
-ghost use Rattle.onll_task.specs.Doing.{Does};
+ghost use Rattle.onll_task.specs.Doing.{Fulfils};
 ghost use Rattle.onll_eras.specs.EraCall.{era_found};
 ghost use Rattle.onll_eras.specs.EraJob.{begun_task, checkpoint_with, checkpoint_work, has_next};
 ghost use Rattle.onll_checkpoint.specs.Checkpoint.{CheckpointState};
@@ -98,7 +98,7 @@ fn begin_next<O: Texted, S: Store>(
     ensures { let k = kind_by O.means O.wording O.CODE in
         let text = era_text next.number next.place (k.wording.state_lines object.now) in
         let c : CheckpointState = record { number = next.number; place = next.place; text = text } in
-        Does (checkpoint_work (names_of call.entry.files) call.entry.threads).writes (S.seen store.old) (S.seen store.new)
+        Fulfils (checkpoint_work (names_of call.entry.files) call.entry.threads).writes (S.seen store.old) (S.seen store.new)
         (begun_task call.entry.files.ckpt.now call.entry.threads k object.now c) result }
 {
     let report = report(alloc, object, next.number, next.place)?;
@@ -128,7 +128,7 @@ pub(crate) fn checkpointed<O: Texted, S: Store>(
 ) -> Result<Vec<u8>, Stop>
     requires { call.threads ≤ most_threads }
     ensures { let k = kind_by O.means O.wording O.CODE in
-        Does (checkpoint_work (names_of call.entry.files) call.entry.threads).writes (S.seen store.old) (S.seen store.new)
+        Fulfils (checkpoint_work (names_of call.entry.files) call.entry.threads).writes (S.seen store.old) (S.seen store.new)
         (checkpoint_with call.entry.files.ckpt.now call.entry.threads (era_found era.entry) k object.now nodes) result }
 {
     match next_era(era, nodes) {

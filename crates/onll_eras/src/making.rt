@@ -1,25 +1,26 @@
 //! The command `areas`: both areas are made.
 
 ghost use Rattle.std.specs.Prelude.{◌≡◌, IfOk};
-ghost use Rattle.onll_task.specs.ImageNames.{image_names};
-ghost use Rattle.onll_task.specs.Doing.{Begins, Does};
+ghost use Rattle.onll_open.specs.Names.{log_names};
+ghost use Rattle.onll_task.specs.Doing.{DoesStage, Fulfils};
 ghost use Rattle.onll_eras.specs.EraReports.{areas_text};
 ghost use Rattle.onll_eras.specs.EraJob.{empty_stage, areas_work};
 
+use onll_open::log_name;
 use onll_outside::Store;
-use onll_task::{Stop, image_name, write_bytes};
+use onll_task::{Stop, write_bytes};
 use std::alloc::{AllocError, Global};
 
 /// Makes both areas empty files, or gives what is said in place of that.
 fn write_areas<S: Store>(alloc: Global, ckpt: &str, store: &mut S) -> Result<(), Stop>
-    ensures { Begins (image_names ckpt.now 0 2) (S.seen store.old) (S.seen store.new) (empty_stage ckpt.now) (λ done. done) result }
+    ensures { DoesStage (log_names ckpt.now 0 2) (S.seen store.old) (S.seen store.new) (empty_stage ckpt.now) (λ done. done) result }
 {
-    let even = image_name(alloc, ckpt, 0)?;
+    let even = log_name(alloc, ckpt, 0)?;
     match write_bytes(alloc, &even, &[], store) {
         Ok(()) => {}
         Err(stop) => return Err(stop),
     }
-    let odd = image_name(alloc, ckpt, 1)?;
+    let odd = log_name(alloc, ckpt, 1)?;
     write_bytes(alloc, &odd, &[], store)
 }
 
@@ -37,7 +38,7 @@ fn areas_text(alloc: Global, ckpt: &str) -> Result<Vec<u8>, AllocError>
 /// Makes both areas of this name empty files, and says so; or gives what is said in place of that.
 pub fn make_areas<S: Store>(alloc: Global, ckpt: &str, store: &mut S) -> Result<Vec<u8>, Stop>
     ensures { let work = areas_work ckpt.now in
-        Does work.writes (S.seen store.old) (S.seen store.new) work.task result }
+        Fulfils work.writes (S.seen store.old) (S.seen store.new) work.task result }
 {
     match write_areas(alloc, ckpt, store) {
         Ok(()) => {}

@@ -11,7 +11,7 @@ ghost use Rattle.onll_text.specs.Kinds.{kind_by};
 ghost use Rattle.onll_text.specs.Lines.{state_lines};
 ghost use Rattle.onll_text.specs.Reports.{NodeReads};
 ghost use Rattle.onll_recovery.specs.RecoverJob.{HeldReads, held_of, data_with};
-ghost use Rattle.onll_task.specs.Doing.{Does};
+ghost use Rattle.onll_task.specs.Doing.{Fulfils};
 ghost use Rattle.onll_task.specs.Stop.{StopSays};
 ghost use Rattle.onll_eras.specs.EraCall.{era_found};
 ghost use Rattle.onll_eras.specs.EraJob.{restored_with};
@@ -119,7 +119,7 @@ pub(crate) fn restored<O: Texted>(
     requires { operations_front O.means recovery.now.nodes.items ≡ recovery.now.nodes.items }
     ensures { let task = restored_with era.entry.newest.now (era_found era.entry) (kind_by O.means O.wording O.CODE) object.now
         (recovered_in recovery.now) in
-        (store : StoreView) → Does [] store store task result }
+        (store : StoreView) → Fulfils [] store store task result }
 {
     match era.place().checked_add(recovery.nodes.len() as u64) {
         Some(place) => Ok(report(alloc, object, recovery, era.newest, place)?),

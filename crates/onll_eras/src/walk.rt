@@ -7,7 +7,7 @@ ghost use Rattle.onll_merge.specs.Recovered.{recovered_in, expected_heads, state
 ghost use Rattle.onll_text.specs.Init.{init_of};
 ghost use Rattle.onll_text.specs.Kinds.{kind_by, on_object};
 ghost use Rattle.onll_areas.specs.Newest.{newest};
-ghost use Rattle.onll_task.specs.Doing.{Begins, BeginsBy, Does};
+ghost use Rattle.onll_task.specs.Doing.{DoesStage, BeginsBy, Fulfils};
 ghost use Rattle.onll_checkpoint.specs.Grammar.{checkpoint_in};
 ghost use Rattle.onll_areas.specs.Newest.{area_lines};
 ghost use Rattle.onll_eras.specs.EraCall.{era_found, call_next, call_work, recovered_by, areas_task, found_task, DoesFound};
@@ -22,9 +22,10 @@ use onll_areas::{newest, read_area};
 use onll_checkpoint::Checkpoint;
 use onll_log::TestedImage;
 use onll_merge::{Recovery, StateFault, expected_heads};
+use onll_open::log_name;
 use onll_outside::{OutsideFault, Store};
 use onll_recovery::{bad_logs, recover_tested};
-use onll_task::{InitText, Stop, image_name, init_file, read_images};
+use onll_task::{InitText, Stop, init_file, read_images};
 use onll_text::{AnyObject, TextFault, Texted, read_init};
 use std::alloc::Global;
 
@@ -40,7 +41,7 @@ fn over_recovery<O: Texted, S: Store>(
     requires rows { operations_front O.means recovery.now.nodes.items ≡ recovery.now.nodes.items }
     requires few { call.threads ≤ most_threads }
     ensures { let task = recovered_by call.entry era.entry (kind_by O.means O.wording O.CODE) object.now (recovered_in recovery.now) in
-        Does (call_work call.entry).writes (S.seen store.old) (S.seen store.new) task result }
+        Fulfils (call_work call.entry).writes (S.seen store.old) (S.seen store.new) task result }
 {
     match call.asked {
         Asked::Restore => restored(alloc, object, recovery, era),
@@ -63,7 +64,7 @@ fn over_images<O: Texted, S: Store>(
     requires few { call.threads ≤ most_threads }
     ensures { let k = kind_by O.means O.wording O.CODE in
         let found = state_recovered k.means (expected_heads k.code era.entry.text.now images.now) images.now in
-        Does (call_work call.entry).writes (S.seen store.old) (S.seen store.new)
+        Fulfils (call_work call.entry).writes (S.seen store.old) (S.seen store.new)
         (call_next call.entry era.entry.newest.now (era_found era.entry) k object.old found) result }
 {
     let heads = expected_heads(alloc, O::CODE, era.text, images)?;
@@ -120,7 +121,7 @@ fn over_text<S: Store>(
 ) -> Result<Vec<u8>, Stop>
     requires { (1 ≤ call.threads) × (call.threads ≤ most_threads) }
     ensures { let task = on_started (era_found era.entry) (init_of era.entry.text.now) (found_task call.entry era.entry) in
-        Does (call_work call.entry).writes (S.seen store.old) (S.seen store.new) task result }
+        Fulfils (call_work call.entry).writes (S.seen store.old) (S.seen store.new) task result }
 {
     match read_init(alloc, era.text) {
         Ok(object) => over_any(alloc, object, era, call, store),
@@ -142,12 +143,12 @@ fn over_newest<S: Store>(
     requires { (1 ≤ call.threads) × (call.threads ≤ most_threads) }
     ensures { let task = era_task (names_of call.entry.files) first.text.items call.entry.threads first.object newest
         (call_next call.entry) in
-        Does (call_work call.entry).writes (S.seen store.old) (S.seen store.new) task result }
+        Fulfils (call_work call.entry).writes (S.seen store.old) (S.seen store.new) task result }
 {
     let InitText { text, object } = first;
     match &newest {
         Some(checkpoint) => {
-            let area = image_name(alloc, call.files.ckpt, checkpoint.number() % 2)?;
+            let area = log_name(alloc, call.files.ckpt, checkpoint.number() % 2)?;
             let era = NewestEra {
                 newest: &newest,
                 text: checkpoint.text(),
@@ -178,7 +179,7 @@ fn area_of<S: Store>(
     ensures { BeginsBy [] (S.seen store.old) (S.seen store.new) (area_stage (area_name ckpt.now area))
         (λ found bytes. found ≡ checkpoint_in (area_lines bytes)) result }
 {
-    let name = image_name(alloc, ckpt, area)?;
+    let name = log_name(alloc, ckpt, area)?;
     match read_area(alloc, &name, store) {
         Ok(found) => Ok(found),
         Err(OutsideFault::Failed) => Err(Stop::unread(alloc, &name)),
@@ -214,7 +215,7 @@ fn over_init<S: Store>(
 ) -> Result<Vec<u8>, Stop>
     requires { (1 ≤ call.threads) × (call.threads ≤ most_threads) }
     ensures { let task = areas_task call.entry first.text.items first.object in
-        Does (call_work call.entry).writes (S.seen store.old) (S.seen store.new) task result }
+        Fulfils (call_work call.entry).writes (S.seen store.old) (S.seen store.new) task result }
 {
     match newest_area(alloc, call.files.ckpt, store) {
         Ok(newest) => over_newest(alloc, first, newest, call, store),
@@ -226,7 +227,7 @@ fn over_init<S: Store>(
 fn ask<S: Store>(alloc: Global, call: EraCall<'_>, store: &mut S) -> Result<Vec<u8>, Stop>
     requires { (1 ≤ call.threads) × (call.threads ≤ most_threads) }
     ensures { let work = call_work call.entry in
-        Does work.writes (S.seen store.old) (S.seen store.new) work.task result }
+        Fulfils work.writes (S.seen store.old) (S.seen store.new) work.task result }
 {
     match init_file(alloc, call.files.init, store) {
         Ok(first) => over_init(alloc, first, call, store),
@@ -243,7 +244,7 @@ pub fn restore<S: Store>(
 ) -> Result<Vec<u8>, Stop>
     requires { (1 ≤ threads) × (threads ≤ most_threads) }
     ensures { let work = restore_work (names_of files.entry) threads in
-        Does work.writes (S.seen store.old) (S.seen store.new) work.task result }
+        Fulfils work.writes (S.seen store.old) (S.seen store.new) work.task result }
 {
     let call = EraCall {
         asked: Asked::Restore,
@@ -262,7 +263,7 @@ pub fn checkpoint<S: Store>(
 ) -> Result<Vec<u8>, Stop>
     requires { (1 ≤ threads) × (threads ≤ most_threads) }
     ensures { let work = checkpoint_work (names_of files.entry) threads in
-        Does work.writes (S.seen store.old) (S.seen store.new) work.task result }
+        Fulfils work.writes (S.seen store.old) (S.seen store.new) work.task result }
 {
     let call = EraCall {
         asked: Asked::Checkpoint,

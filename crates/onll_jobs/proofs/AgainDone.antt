@@ -9,9 +9,10 @@ use Rattle.onll_core.specs.declared.fault.ResumeFault.TheVariants.{Images, OldFo
 use Rattle.onll_core.specs.Core.{CoreState}
 use Rattle.onll_core.specs.Turns.{turns_of}
 use Rattle.onll_core.specs.Step.{steps_of}
-use Rattle.onll_core.specs.Created.{heads_from, created_heads, IsWithinLimits}
+use Rattle.onll_core.specs.Created.{created_heads, IsWithinLimits}
+use Rattle.onll_log.specs.Head.{heads_from}
 use Rattle.onll_core.specs.Crash.{heads_of, images_of}
-use Rattle.onll_core.specs.Durable.{Begins}
+use Rattle.onll_core.specs.Durable.{CoreBegins}
 use Rattle.onll_core.specs.Resume.{Found, found_in, resumed}
 use Rattle.onll_core.proofs.Kept.{steps_consistent}
 use Rattle.onll_core.proofs.Crashed.{picked_images}
@@ -31,11 +32,11 @@ use Rattle.onll_task.specs.declared.ending.Ending.{Ending}
 use Rattle.onll_task.specs.declared.ending.Ending.TheVariants.{Done, Refused}
 use Rattle.onll_task.specs.declared.ending.Exit.{Exit}
 use Rattle.onll_task.specs.Doing.{Task, lines_stage, each_job}
-use Rattle.onll_task.specs.ImageNames.{image_name, image_names}
+use Rattle.onll_open.specs.Names.{log_name, log_names}
 use Rattle.onll_task.specs.Images.{image_bytes, writing_images}
 use Rattle.onll_task.specs.Job.{Job, Threads, Decides, on_value, reading_whole}
 use Rattle.onll_task.specs.Printed.{exit_status}
-use Rattle.onll_task.specs.Reading.{IsTold}
+use Rattle.onll_task.specs.Reading.{FileIsTold}
 use Rattle.onll_task.specs.Writing.{written}
 use Rattle.onll_log.specs.Torn.{AreLines}
 use Rattle.onll_merge.specs.declared.fault.StateFault.{StateFault}
@@ -43,7 +44,7 @@ use Rattle.onll_merge.specs.Recovered.{Recovered, recovered_with, state_recovere
 use Rattle.onll_recovery.specs.AgainJob.{resume_text, resumed_task, goes_on_task, planned_task, again_task}
 use Rattle.onll_recovery.specs.ReplayJob.{scripts_stage, replay_report, run_task, crash_task}
 use Rattle.onll_recovery.proofs.Resumes.{GoesOrMany, goes_or_many, resumed_on, on_recovered}
-use Rattle.onll_jobs.specs.AgainPromises.{TellsValue, TellScripts, TellsPlan, SaysOn, GoesOnLeft, GoesOnRun, GoesOn}
+use Rattle.onll_jobs.specs.AgainPromises.{TellsValue, TellScripts, TellsPlan, SaysOn, GoesOnLeft, GoesOnRun, RunGoesOn}
 use Rattle.onll_jobs.specs.Command.{form_of, Again}
 use Rattle.onll_jobs.specs.Durable.{TellImages}
 use Rattle.onll_jobs.specs.Over.{AgainOver, over_task, object_task, over_work}
@@ -76,7 +77,7 @@ module _ (ending : Ending) (text : List ℕ) where
 
   decides_writes : (store : StoreView) (logs : List ℕ) (i : ℕ) (images : List (List (List ℕ))) (next : Job) → ((any : StoreView) → Decides any next ending text) → Decides store (writing_images logs i images next) ending text
   decides_writes store logs i [] next d = d store
-  decides_writes store logs i (image ∷ images) next d = decides_writes (written store (image_name logs i) (image_bytes image)) logs (suc i) images next d
+  decides_writes store logs i (image ∷ images) next d = decides_writes (written store (log_name logs i) (image_bytes image)) logs (suc i) images next d
 
 told_eight : (store : StoreView) (logs : List ℕ) (i : ℕ) (images : List (List (List ℕ))) → TellImages store logs i images → AllByRecursion AreLines images
 told_eight store logs i [] h = tt
@@ -91,7 +92,7 @@ run_decides b w store logs on scripts c keep r e =
 
 -- ---- the call
 module _ (seen : Seen) (x : Exit) (says : ExitSays seen x) (init schedule logs bytes : List ℕ) (names : List (List ℕ)) (object : AnyObject)
-    (form : form_of seen.words ≡ Some (Again init schedule logs names)) (told : IsTold seen.store init bytes) (accepted : init_of bytes ≡ Ok object) (none : NoneRose seen) where
+    (form : form_of seen.words ≡ Some (Again init schedule logs names)) (told : FileIsTold seen.store init bytes) (accepted : init_of bytes ≡ Ok object) (none : NoneRose seen) where
   pub object_says : (ending : Ending) (text : List ℕ) → Decides seen.store (object_task (AgainOver schedule logs names) bytes object).job ending text → SaysThis seen (exit_status x) ending text
   object_says ending text d =
       let on : Result AnyObject Refusal → Job = λ r. on_value init (λ o. (object_task (AgainOver schedule logs names) bytes o).job) r in
@@ -121,7 +122,7 @@ module _ (seen : Seen) (x : Exit) (says : ExitSays seen x) (init schedule logs b
     found_says ending text d =
         let scripts = texts.scripts in
         let goes : List (List (List ℕ)) → Job = λ images. (resumed_task k.means k.wording logs names scripts texts.plan (resumed k.means k.code bytes s images scripts)).job in
-        let read = subst (λ (n : ℕ). Decides seen.store (each_job lines_stage (image_names logs 0 n) goes) ending text) as_many (decides_images seen.store logs 0 images goes ending text files d) in
+        let read = subst (λ (n : ℕ). Decides seen.store (each_job lines_stage (log_names logs 0 n) goes) ending text) as_many (decides_images seen.store logs 0 images goes ending text files d) in
         say ending text
         (decides_scripts ending text k.wording seen.store names scripts (λ scripts. (planned_task k bytes s schedule logs names scripts).job) texts.tell
         (decides_value ending text seen.store schedule (schedule_of (length scripts)) (λ read plan. (goes_on_task k bytes s logs names scripts plan).job) texts.plan texts.planned read))
@@ -140,7 +141,7 @@ module _ (seen : Seen) (x : Exit) (says : ExitSays seen x) (init schedule logs b
             let taken = images_of plan.keep core.threads in
             let on = resumed_on b k.code bytes s scripts images begun as_many e in
             let count = length scripts in
-            let begins : Begins b k.code bytes s scripts begun = inr (record { images = images; lines = eight; as_many = as_many; resumed = e }) in
+            let begins : CoreBegins b k.code bytes s scripts begun = inr (record { images = images; lines = eight; as_many = as_many; resumed = e }) in
             let starts = begun_starts b k.code bytes s scripts within begun begins in
             let left = picked_images count core plan.keep (steps_consistent b count begun ts (reached_consistent b count begun starts.reached)) in
             let crash = (always_durable b k.code bytes s scripts begun within begins ts).crash taken left in
@@ -163,7 +164,7 @@ module _ (seen : Seen) (x : Exit) (says : ExitSays seen x) (init schedule logs b
 
 -- ---- what is promised
 module _ (seen : Seen) (x : Exit) (says : ExitSays seen x) (init schedule logs bytes : List ℕ) (names : List (List ℕ)) (object : AnyObject)
-    (form : form_of seen.words ≡ Some (Again init schedule logs names)) (told : IsTold seen.store init bytes) (accepted : init_of bytes ≡ Ok object) (none : NoneRose seen) where
+    (form : form_of seen.words ≡ Some (Again init schedule logs names)) (told : FileIsTold seen.store init bytes) (accepted : init_of bytes ≡ Ok object) (none : NoneRose seen) where
   -- from images that give nodes, as logs with the heads of as many threads, the scripts go on
   module _ (k : ObjectKind) (is : IsKnown k) (s : k.State)
       (say : (ending : Ending) (text : List ℕ) → Decides seen.store (again_task k bytes schedule logs names s).job ending text → SaysThis seen (exit_status x) ending text)
@@ -211,8 +212,8 @@ module _ (seen : Seen) (x : Exit) (says : ExitSays seen x) (init schedule logs b
         says = gives_on k known s say texts held.images held.files held.many (record { logs = held.recovers.logs; nodes = held.recovers.nodes }) held.gives;
       })
 
-pub goes_on_left : (seen : Seen) (x : Exit) → ExitSays seen x → GoesOn seen (λ k bytes s schedule logs names. GoesOnLeft k bytes s seen (exit_status x) schedule logs names)
+pub goes_on_left : (seen : Seen) (x : Exit) → ExitSays seen x → RunGoesOn seen (λ k bytes s schedule logs names. GoesOnLeft k bytes s seen (exit_status x) schedule logs names)
 goes_on_left seen x says init schedule logs bytes names object form told accepted none = left_goes_on seen x says init schedule logs bytes names object form told accepted none
 
-pub goes_on_run : (seen : Seen) (x : Exit) → ExitSays seen x → GoesOn seen (λ k bytes s schedule logs names. GoesOnRun k bytes s seen (exit_status x) schedule logs names)
+pub goes_on_run : (seen : Seen) (x : Exit) → ExitSays seen x → RunGoesOn seen (λ k bytes s schedule logs names. GoesOnRun k bytes s seen (exit_status x) schedule logs names)
 goes_on_run seen x says init schedule logs bytes names object form told accepted none = run_goes_on seen x says init schedule logs bytes names object form told accepted none

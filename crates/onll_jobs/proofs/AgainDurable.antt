@@ -11,7 +11,7 @@ use Rattle.onll_core.specs.Turns.{turns_of}
 use Rattle.onll_core.specs.Step.{steps_of}
 use Rattle.onll_core.specs.Created.{created_heads, IsWithinLimits}
 use Rattle.onll_core.specs.Crash.{images_of}
-use Rattle.onll_core.specs.Durable.{Begins}
+use Rattle.onll_core.specs.Durable.{CoreBegins}
 use Rattle.onll_core.specs.Resume.{resumed}
 use Rattle.onll_core.proofs.Kept.{steps_consistent}
 use Rattle.onll_core.proofs.Crashed.{picked_images}
@@ -28,7 +28,7 @@ use Rattle.onll_merge.specs.Recovered.{recovered_with}
 use Rattle.onll_recovery.specs.AgainJob.{resume_ending, resumed_task}
 use Rattle.onll_recovery.specs.ReplayJob.{replay_report}
 use Rattle.onll_recovery.proofs.Resumes.{resumed_on, on_recovered}
-use Rattle.onll_jobs.specs.AgainPromises.{HasRead, HasGoneOn, HasBadLogs}
+use Rattle.onll_jobs.specs.AgainPromises.{HasReadFiles, IsResumedReport, HasBadLogs}
 use Rattle.onll_jobs.specs.Command.{form_of, Again}
 use Rattle.onll_jobs.specs.Says.{PutWhole, PutOverInit}
 use Rattle.onll_jobs.specs.Seen.{Seen}
@@ -48,10 +48,10 @@ bad_ending NoMemory h = refl
 -- how it ended
 abbrev EndsSo : (k : ObjectKind) → List ℕ → k.State → StoreView → StoreView → (schedule logs : List ℕ) → List (List ℕ) → Ending → List ℕ → Type 0
 EndsSo k init s store after schedule logs names ending text =
-    ((ending ≡ Done) × HasGoneOn k init s store schedule logs names after text) ⊎ ((ending ≡ BadLog) × HasBadLogs k init s store schedule logs names after text)
+    ((ending ≡ Done) × IsResumedReport k init s store schedule logs names after text) ⊎ ((ending ≡ BadLog) × HasBadLogs k init s store schedule logs names after text)
 
 module _ (after : StoreView) (ending : Ending) (text : List ℕ) (said : IsSaid ending) (k : ObjectKind) (is : IsKnown k) (init : List ℕ) (s : k.State) (store : StoreView) (schedule logs : List ℕ) (names : List (List ℕ)) (few : length names ≤ 16)
-    (scripts : List (List (Call k.State k.Op k.Query k.Reply))) (plan : Schedule) (images : List (List (List ℕ))) (files_read : HasRead k init s store schedule logs names scripts plan images)
+    (scripts : List (List (Call k.State k.Op k.Query k.Reply))) (plan : Schedule) (images : List (List (List ℕ))) (files_read : HasReadFiles k init s store schedule logs names scripts plan images)
     (many : length images ≡ length scripts) (eight : AllByRecursion AreLines images) where
   within : IsWithinLimits k.code scripts
   within = record {
@@ -70,7 +70,7 @@ module _ (after : StoreView) (ending : Ending) (text : List ℕ) (said : IsSaid 
       let core = steps_of b begun ts in
       let taken = images_of plan.keep core.threads in
       let on = resumed_on b k.code init s scripts images begun many e in
-      let begins : Begins b k.code init s scripts begun = inr (record { images = images; lines = eight; as_many = many; resumed = e }) in
+      let begins : CoreBegins b k.code init s scripts begun = inr (record { images = images; lines = eight; as_many = many; resumed = e }) in
       let starts = begun_starts b k.code init s scripts within begun begins in
       let durable = always_durable b k.code init s scripts begun within begins in
       let left = picked_images count core plan.keep (steps_consistent b count begun ts (reached_consistent b count begun starts.reached)) in
@@ -99,7 +99,7 @@ module _ (after : StoreView) (ending : Ending) (text : List ℕ) (said : IsSaid 
 
 -- ---- the call
 module _ (k : ObjectKind) (bytes : List ℕ) (s : k.State) (store after : StoreView) (schedule logs : List ℕ) (names : List (List ℕ)) (text : List ℕ) where
-  is_done : EndsSo k bytes s store after schedule logs names Done text → HasGoneOn k bytes s store schedule logs names after text
+  is_done : EndsSo k bytes s store after schedule logs names Done text → IsResumedReport k bytes s store schedule logs names after text
   is_done (inl h) = h.1
   is_done (inr h) = absurd (let e = h.0 in cc)
 
@@ -115,9 +115,9 @@ module _ (seen : Seen) (init schedule logs : List ℕ) (names : List (List ℕ))
       read.scripts read.plan read.images read.files_read read.many read.eight (resumed k.means k.code bytes s read.images read.scripts) refl read.ends
 
   -- what is done is durable
-  pub again_durable : PutWhole seen Done → PutOverInit seen init (λ k bytes s store after text. HasGoneOn k bytes s store schedule logs names after text)
+  pub again_durable : PutWhole seen Done → PutOverInit seen init (λ k bytes s store after text. IsResumedReport k bytes s store schedule logs names after text)
   again_durable h =
-      let r = again_put seen init schedule logs names form (λ k bytes s. HasGoneOn k bytes s seen.store schedule logs names seen.store_after h.text) (λ says. says) Done tt h
+      let r = again_put seen init schedule logs names form (λ k bytes s. IsResumedReport k bytes s seen.store schedule logs names seen.store_after h.text) (λ says. says) Done tt h
       (λ k bytes s known read. is_done k bytes s seen.store seen.store_after schedule logs names h.text (ends Done tt h k bytes s known read)) in
       record { bytes = r.bytes; object = r.object; read = r.read; text = h.text; says = r.ends; put = h.put }
 

@@ -29,13 +29,13 @@ use Rattle.onll_task.specs.declared.ending.Ending.{Ending}
 use Rattle.onll_task.specs.declared.ending.Ending.TheVariants.{Done, Usage, BadLog, Faulty, Judged}
 use Rattle.onll_task.specs.Reading.{ReadsWhole}
 use Rattle.onll_task.specs.Doing.{Task, lines_stage, AreKnown}
-use Rattle.onll_task.specs.ImageNames.{image_names}
+use Rattle.onll_open.specs.Names.{log_names}
 use Rattle.onll_task.specs.Job.{Threads, JobEnds}
 use Rattle.onll_merge.specs.declared.fault.StateFault.{StateFault}
 use Rattle.onll_merge.specs.Recovered.{Recovered, state_recovered}
 use Rattle.onll_recovery.specs.ReplayJob.{run_task}
 use Rattle.onll_recovery.specs.AgainJob.{resume_ending, resumed_task, goes_on_task, planned_task, again_task}
-use Rattle.onll_jobs.specs.AgainPromises.{HasRead}
+use Rattle.onll_jobs.specs.AgainPromises.{HasReadFiles}
 use Rattle.onll_jobs.specs.Command.{form_of, Again}
 use Rattle.onll_jobs.specs.Durable.{with_images}
 use Rattle.onll_jobs.specs.Over.{AgainOver, over_task, object_task, over_work}
@@ -49,7 +49,7 @@ pub record AgainRead (k : ObjectKind) (init : List ℕ) (s : k.State) (store aft
   pub scripts : List (List (Call k.State k.Op k.Query k.Reply))
   pub plan : Schedule
   pub images : List (List (List ℕ))
-  pub files_read : HasRead k init s store schedule logs names scripts plan images
+  pub files_read : HasReadFiles k init s store schedule logs names scripts plan images
   pub many : length images ≡ length scripts
   pub eight : AllByRecursion AreLines images
   pub ends : JobEnds store after (resumed_task k.means k.wording logs names scripts plan (resumed k.means k.code init s images scripts)).job ending text
@@ -84,14 +84,14 @@ module _ (after : StoreView) (ending : Ending) (text : List ℕ) (said : IsSaid 
       let count = length scripts in
       let planned = whole_ends after ending text (said_read ending said) store schedule (schedule_of count) (λ bytes (plan : Schedule). (goes_on_task k init s logs names scripts plan).job) read.ends in
       let plan = planned.value in
-      let taken = images_read after ending text (said_read ending said).0 store (image_names logs 0 count) (λ images. (resumed_task k.means k.wording logs names scripts plan (resumed k.means k.code init s images scripts)).job) planned.ends in
+      let taken = images_read after ending text (said_read ending said).0 store (log_names logs 0 count) (λ images. (resumed_task k.means k.wording logs names scripts plan (resumed k.means k.code init s images scripts)).job) planned.ends in
       record {
         scripts = scripts;
         plan = plan;
         images = taken.images;
         files_read = record { read = read.read; planned = record { bytes = planned.bytes; held = planned.read.held; accepted = planned.read.accepted }; held = taken.known };
         many = known_many store logs 0 count taken.images taken.known;
-        eight = known_eight store (image_names logs 0 count) taken.images taken.known;
+        eight = known_eight store (log_names logs 0 count) taken.images taken.known;
         ends = taken.ends;
       }
 

@@ -2,7 +2,7 @@
 
 use Rattle.std.proofs.Common.{ℕ, Bool, true, false, List, ◌≡◌, ◌+◌, take, Option, Some, None, Result, Ok, Err, refl, sym, ap, ◌∙◌, subst}
 use Rattle.onll_model.specs.declared.call.Call.{Call}
-use Rattle.onll_outside.specs.Views.{StoreView, Gives, Holds, IsFront}
+use Rattle.onll_outside.specs.Views.{StoreView, Gives, FileHolds, IsFrontOfFile}
 use Rattle.onll_text.specs.declared.reason.Reason.{Reason}
 use Rattle.onll_text.specs.Kinds.{ObjectKind}
 use Rattle.onll_text.specs.Refusal.{Refusal, refused}
@@ -14,7 +14,7 @@ use Rattle.onll_task.specs.declared.answer.Stop.{Stop}
 use Rattle.onll_task.specs.Printed.{refusal_text}
 use Rattle.onll_task.specs.Reading.{Reads, Stops}
 use Rattle.onll_task.specs.Stop.{StopSays}
-use Rattle.onll_task.specs.Writing.{SameCounts}
+use Rattle.onll_open.specs.Files.{SameCounts}
 use Rattle.onll_task.proofs.Stops.{StopSays-weaker}
 use Rattle.onll_audit.specs.Printed.{longest_report}
 use Rattle.onll_jobs.specs.AuditJob.{or_bad_line, judged_of}
@@ -27,7 +27,7 @@ judged_front k s scripts bytes = ap or_bad_line (cut_same (verdict_of k.means k.
 -- the file holds bytes that are read as this text is
 pub record ReadsLike {A : Type 0} (store : StoreView) (grammar : List ℕ → A) (name text : List ℕ) : Type 0 where
   pub bytes : List ℕ
-  pub held : Holds store name bytes
+  pub held : FileHolds store name bytes
   pub same : grammar bytes ≡ grammar text
 
 -- what a store gives of a file is read as the file is, where a front of this length is read as the whole
@@ -35,7 +35,7 @@ pub reads_like : {A : Type 0} (store : StoreView) (grammar : List ℕ → A) (na
     → ((bytes : List ℕ) → grammar (take limit bytes) ≡ grammar bytes) → Gives store name limit text → ReadsLike store grammar name text
 reads_like store grammar name text limit front h = by_telling store.tells refl
   where
-    told : (found : Option (List ℕ)) → store.file name ≡ found → IsFront limit found text → ReadsLike store grammar name text
+    told : (found : Option (List ℕ)) → store.file name ≡ found → IsFrontOfFile limit found text → ReadsLike store grammar name text
     told None e k = absurd k
     told (Some all) e k = record { bytes = all; held = λ _. e; same = sym (front all) ∙ ap grammar (sym k) }
 

@@ -14,7 +14,7 @@ use Rattle.onll_task.specs.declared.ending.Exit.{Exit}
 use Rattle.onll_task.specs.Doing.{Task}
 use Rattle.onll_task.specs.Job.{Job, Threads, Decides, on_value}
 use Rattle.onll_task.specs.Printed.{exit_status}
-use Rattle.onll_task.specs.Reading.{IsTold}
+use Rattle.onll_task.specs.Reading.{FileIsTold}
 use Rattle.onll_runner.specs.RunJob.{run_plan}
 use Rattle.onll_runner.specs.RunReport.{plan_report}
 use Rattle.onll_jobs.specs.AuditJob.{judged_of, verdict_task, report_judged_task, audit_task, legal_text}
@@ -49,7 +49,7 @@ module _ (k : ObjectKind) (init : List ℕ) (s : k.State) (store : StoreView) (r
 
 -- the call says what the told files decide
 module _ (seen : Seen) (x : Exit) (says : ExitSays seen x) (init report bytes : List ℕ) (names : List (List ℕ)) (object : AnyObject)
-    (form : form_of seen.words ≡ Some (Audit init report names)) (told : IsTold seen.store init bytes) (accepted : init_of bytes ≡ Ok object) (none : NoneRose seen) where
+    (form : form_of seen.words ≡ Some (Audit init report names)) (told : FileIsTold seen.store init bytes) (accepted : init_of bytes ≡ Ok object) (none : NoneRose seen) where
   object_says : (text : List ℕ) → Decides seen.store (object_task (AuditOver report names) bytes object).job Done text → SaysThis seen (exit_status x) Done text
   object_says text d =
       let on : Result AnyObject Refusal → Job = λ r. on_value init (λ o. (object_task (AuditOver report names) bytes o).job) r in

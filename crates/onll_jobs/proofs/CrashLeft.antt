@@ -4,9 +4,10 @@ use Rattle.std.proofs.Common.{ℕ, List, ◌≡◌, ⊎_elim, length, take, Ok, 
 use Rattle.std.proofs.lemmas.List.{length-map, take_at}
 use Rattle.onll_log.specs.declared.head.LogHead.{LogHead}
 use Rattle.onll_core.specs.Core.{CoreState}
-use Rattle.onll_core.specs.Created.{heads_from, created_heads, created_core}
+use Rattle.onll_core.specs.Created.{created_heads, created_core}
+use Rattle.onll_log.specs.Head.{heads_from}
 use Rattle.onll_core.specs.Crash.{RecoversAll}
-use Rattle.onll_core.specs.Durable.{GoesOn}
+use Rattle.onll_core.specs.Durable.{CoreGoesOn}
 use Rattle.onll_core.specs.Outcomes.{script_of}
 use Rattle.onll_core.specs.Resume.{found_in}
 use Rattle.onll_core.specs.Step.{steps_of}
@@ -20,9 +21,9 @@ use Rattle.onll_outside.specs.Views.{StoreView}
 use Rattle.onll_merge.specs.Recovered.{recovered_with, expected_heads, state_recovered}
 use Rattle.onll_recovery.proofs.Crashes.{AreFormat2, images_formats, images_recover, heads_expected, take_operations}
 use Rattle.onll_recovery.proofs.Resumes.{resumed_on, found_is}
-use Rattle.onll_jobs.specs.Durable.{IsLeft, LeavesAll}
+use Rattle.onll_jobs.specs.Durable.{AreLeftFiles, FilesLeaveAll}
 
-module _ (k : ObjectKind) (init : List ℕ) (s : k.State) (store : StoreView) (logs : List ℕ) (threads : ℕ) (left : IsLeft k init s store logs threads) where
+module _ (k : ObjectKind) (init : List ℕ) (s : k.State) (store : StoreView) (logs : List ℕ) (threads : ℕ) (left : AreLeftFiles k init s store logs threads) where
   abbrev core : CoreState k.State k.Op k.Query k.Reply
   core = steps_of k.means left.first left.steps
 
@@ -35,7 +36,7 @@ module _ (k : ObjectKind) (init : List ℕ) (s : k.State) (store : StoreView) (l
   rows : AllOperations k.means left.first.trace
   rows = ⊎_elim
       (λ (e : created_core s k.code init left.scripts ≡ left.first). subst (λ (c : CoreState k.State k.Op k.Query k.Reply). AllOperations k.means c.trace) e tt)
-      (λ (g : GoesOn k.means k.code init s left.scripts left.first). (resumed_on k.means k.code init s left.scripts g.images left.first g.as_many g.resumed).operations)
+      (λ (g : CoreGoesOn k.means k.code init s left.scripts left.first). (resumed_on k.means k.code init s left.scripts g.images left.first g.as_many g.resumed).operations)
       left.begins
 
   all : RecoversAll k.means heads core left.images
@@ -74,7 +75,7 @@ module _ (k : ObjectKind) (init : List ℕ) (s : k.State) (store : StoreView) (l
 
   -- what it left, and that it is recovered
   pub record LeftImages : Type 0 where
-    pub leaves : LeavesAll k init s store logs threads left
+    pub leaves : FilesLeaveAll k init s store logs threads left
     pub recovered : state_recovered k.means (expected_heads k.code init left.images) left.images
         ≡ Ok (recovered_with leaves.all.recovers.logs leaves.all.recovers.nodes)
     pub operations : AllOperations k.means leaves.all.recovers.nodes

@@ -34,10 +34,10 @@ use Rattle.onll_outside.specs.Views.{StoreView}
 use Rattle.onll_task.specs.declared.ending.Ending.TheVariants.{Done}
 use Rattle.onll_task.specs.declared.ending.Exit.{Exit}
 use Rattle.onll_task.specs.Doing.{Task, lines_stage, each_job}
-use Rattle.onll_task.specs.ImageNames.{image_names}
+use Rattle.onll_open.specs.Names.{log_names}
 use Rattle.onll_task.specs.Job.{Job, Threads, Decides, on_value}
 use Rattle.onll_task.specs.Printed.{exit_status}
-use Rattle.onll_task.specs.Reading.{IsTold}
+use Rattle.onll_task.specs.Reading.{FileIsTold}
 use Rattle.onll_recovery.specs.DetectJob.{scripts_lines, detect_lines, stranger_to, nodes_task, detected_task, outcomes_task, detect_images_task, detect_task}
 use Rattle.onll_jobs.specs.Command.{Detect, form_of}
 use Rattle.onll_jobs.specs.DetectPromises.{IsLeftByFirst, TellsLeft, TellsCrashes}
@@ -61,7 +61,7 @@ detected_decides b w store s scripts found r e none =
 
 -- the call says what the told files decide
 module _ (seen : Seen) (x : Exit) (says : ExitSays seen x) (init logs bytes : List ℕ) (names : List (List ℕ)) (object : AnyObject)
-    (form : form_of seen.words ≡ Some (Detect init logs names)) (told : IsTold seen.store init bytes) (accepted : init_of bytes ≡ Ok object) (none : NoneRose seen) where
+    (form : form_of seen.words ≡ Some (Detect init logs names)) (told : FileIsTold seen.store init bytes) (accepted : init_of bytes ≡ Ok object) (none : NoneRose seen) where
   object_says : (text : List ℕ) → Decides seen.store (object_task (DetectOver logs names) bytes object).job Done text
       → SaysThis seen (exit_status x) Done text
   object_says text d =
@@ -123,7 +123,7 @@ module _ (seen : Seen) (x : Exit) (says : ExitSays seen x) (init logs bytes : Li
         let many : length left.images ≡ length scripts =
         left_many k bytes s seen.store logs (length names) left ∙ (sym left.many ∙ ap length first.ran) in
         let recovered = detected_decides b w seen.store s scripts (state_recovered b (expected_heads k.code bytes left.images) left.images) r held.recovered strange in
-        let read = subst (λ (n : ℕ). Decides seen.store (each_job lines_stage (image_names logs 0 n) goes) Done text) many
+        let read = subst (λ (n : ℕ). Decides seen.store (each_job lines_stage (log_names logs 0 n) goes) Done text) many
         (decides_images seen.store logs 0 left.images goes Done text left.files recovered) in
         record {
           leaves = held.leaves;

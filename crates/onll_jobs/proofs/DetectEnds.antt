@@ -14,7 +14,7 @@ use Rattle.onll_outside.specs.Views.{StoreView}
 use Rattle.onll_task.specs.declared.ending.Ending.{Ending}
 use Rattle.onll_task.specs.declared.ending.Ending.TheVariants.{Done, Usage, BadLog, Faulty, Judged}
 use Rattle.onll_task.specs.Doing.{Task}
-use Rattle.onll_task.specs.ImageNames.{image_names}
+use Rattle.onll_open.specs.Names.{log_names}
 use Rattle.onll_task.specs.Job.{JobEnds, Threads}
 use Rattle.onll_recovery.specs.DetectJob.{stranger_to, nodes_task, detected_task, outcomes_task, detect_images_task, detect_task}
 use Rattle.onll_jobs.specs.Command.{Detect, form_of}
@@ -41,7 +41,7 @@ module _ (after : StoreView) (ending : Ending) (text : List ℕ) (said : IsSaid 
   detect_said k store init logs names s h =
       let read = scripts_end after ending text (said_read ending said) k.wording store names (λ scripts. (detect_images_task k init s logs scripts).job) h in
       let scripts = read.scripts in
-      let taken = images_read after ending text (said_read ending said).0 store (image_names logs 0 (length scripts))
+      let taken = images_read after ending text (said_read ending said).0 store (log_names logs 0 (length scripts))
       (λ images. (outcomes_task k init s scripts images).job) read.ends in
       detected_said k.means k.wording store s scripts (state_recovered k.means (expected_heads k.code init taken.images) taken.images) taken.ends
 

@@ -10,7 +10,7 @@ use Rattle.onll_task.specs.declared.ending.Exit.TheVariants.{Said, SinkFault, No
 use Rattle.onll_task.specs.Job.{JobEnds, JobCut, Decides}
 use Rattle.onll_task.specs.Printed.{status_of, exit_status}
 use Rattle.onll_task.proofs.Onwards.{ends_cut}
-use Rattle.onll_eras.specs.Begun.{AreApart}
+use Rattle.onll_eras.specs.Begun.{AreNamesApart}
 use Rattle.onll_eras.specs.EraReports.{checkpoint_text}
 use Rattle.onll_eras.specs.Eras.{next_area}
 use Rattle.onll_eras.specs.Names.{EraNames}
@@ -65,7 +65,7 @@ module _ (seen : Seen) (names : EraNames) (threads : ℕ) (form : form_of seen.w
   ends_at ending h = subst (λ form. JobEnds seen.store seen.store_after (job_of form) ending h.text) form h.allowed
 
   era_kept : (x : Exit) (place : ℕ) (text : List ℕ) → ExitSays seen x → seen.store.tells ≡ true
-      → (r : Restores seen.store names threads place text) → AreApart names (next_area (era_in r)) threads
+      → (r : Restores seen.store names threads place text) → AreNamesApart names (next_area (era_in r)) threads
       → Restores seen.store_after names threads place text
   era_kept x place text says tells r apart =
       checkpoint_cut seen.store seen.store_after names threads place text tells few.0 few.1 r apart

@@ -27,7 +27,7 @@ use Rattle.onll_merge.specs.Recovered.{Recovered, expected_heads, state_recovere
 use Rattle.onll_recovery.specs.RecoverJob.{recovered_task, images_task}
 use Rattle.onll_jobs.specs.FoldJob.{script_task}
 use Rattle.onll_jobs.specs.Exits.{PutExits}
-use Rattle.onll_jobs.specs.Says.{job_of, Allows, PutWhole, OutOfMemory, SinkFailed, ExitSays, NothingFailed, NoneRose, SaysThis}
+use Rattle.onll_jobs.specs.Says.{job_of, AllowsEnding, PutWhole, OutOfMemory, SinkFailed, ExitSays, NothingFailed, NoneRose, SaysThis}
 use Rattle.onll_task.specs.Doing.{Task, lines_stage, each_job}
 use Rattle.onll_jobs.specs.Over.{OverForm, FoldOver, RecoverOver, ReplayOver, AgainOver, ResumeOver, RunOver, DetectOver, FollowOver, AuditOver, over_task, object_task, over_work}
 use Rattle.onll_task.proofs.Onwards.{ends_cut}
@@ -40,12 +40,12 @@ use Rattle.onll_jobs.proofs.DetectEnds.{detect_not_usage, detect_not_faulty, det
 use Rattle.onll_jobs.proofs.ReplayEnds.{replay_not_usage, replay_not_faulty, replay_not_judged}
 use Rattle.onll_jobs.proofs.ResumeEnds.{resume_not_usage, resume_not_judged}
 use Rattle.onll_jobs.proofs.RunEnds.{run_not_usage, run_not_judged}
-use Rattle.onll_task.specs.ImageNames.{image_names}
+use Rattle.onll_open.specs.Names.{log_names}
 use Rattle.onll_eras.proofs.EraEndings.{areas_never, restore_never, checkpoint_never, areas_not_faulty, restore_not_faulty}
 use Rattle.onll_shipping.proofs.Endings.{follow_never, follow_not_faulty}
 use Rattle.onll_shipping.proofs.Shipping.{ship_never, ship_not_faulty}
 use Rattle.onll_jobs.specs.AuditPromises.{IsOfAudit}
-use Rattle.onll_jobs.specs.RunPromises.{IsOfRun, IsOfCheckpoint}
+use Rattle.onll_jobs.specs.RunPromises.{AreRunWords, IsOfCheckpoint}
 use Rattle.onll_jobs.proofs.SaidEnds.{said_read, whole_ends}
 
 ending_at : ℕ → Ending
@@ -83,8 +83,8 @@ not_nine Faulty h = omega arith
 not_nine Judged h = omega arith
 
 -- what a put of a text that is allowed says by its exit
-pub put_says : (w : Seen) (ending : Ending) (text : List ℕ) (x : Exit) → Allows w ending text → PutExits w.sink w.sink_after ending text x → ExitSays w x
-put_says w ending text (Said said) h p = record { text = text; allowed = subst (λ e. Allows w e text) (sym p.0) h; put = p.1; count = p.2 }
+pub put_says : (w : Seen) (ending : Ending) (text : List ℕ) (x : Exit) → AllowsEnding w ending text → PutExits w.sink w.sink_after ending text x → ExitSays w x
+put_says w ending text (Said said) h p = record { text = text; allowed = subst (λ e. AllowsEnding w e text) (sym p.0) h; put = p.1; count = p.2 }
 put_says w ending text SinkFault h p = record { some = record { ending = ending; text = text; allowed = h; put = p.0 }; rose = p.1 }
 put_says w ending text NoMemory h p = record {
   taken = inl (record { ending = ending; text = text; allowed = h; put = p.0 });
@@ -266,7 +266,7 @@ module _ (seen : Seen) (h : PutWhole seen Faulty) where
   ends_so : (form : Option Form) → form_of seen.words ≡ form → JobEnds seen.store seen.store_after (job_of form) Faulty h.text
   ends_so form e = subst (λ f. JobEnds seen.store seen.store_after (job_of f) Faulty h.text) e h.allowed
 
-  of_run : (form : Option Form) → form_of seen.words ≡ form → IsOfRun seen ⊎ IsOfCheckpoint seen
+  of_run : (form : Option Form) → form_of seen.words ≡ form → AreRunWords seen ⊎ IsOfCheckpoint seen
   of_run None e = absurd (let same = (ends_so None e).0 in cc)
   of_run (Some (OverInit init (FoldOver script))) e =
       absurd (over_not_faulty seen.store seen.store_after h.text init (FoldOver script)
@@ -275,7 +275,7 @@ module _ (seen : Seen) (h : PutWhole seen Faulty) where
   of_run (Some (OverInit init (RecoverOver logs threads))) e =
       absurd (over_not_faulty seen.store seen.store_after h.text init (RecoverOver logs threads)
       (λ kind bytes s. let k = kind_at kind in
-      images_not_faulty seen.store seen.store_after h.text (image_names logs 0 threads) (λ images. (images_task k bytes s images).job)
+      images_not_faulty seen.store seen.store_after h.text (log_names logs 0 threads) (λ images. (images_task k bytes s images).job)
       (λ images. recovered_not_faulty seen.store seen.store_after h.text k.means k.wording s (state_recovered k.means (expected_heads k.code bytes images) images))) (ends_so (Some (OverInit init (RecoverOver logs threads))) e))
   of_run (Some (OverInit init (ReplayOver schedule logs scripts))) e = absurd (replay_not_faulty seen init schedule logs scripts e h)
   of_run (Some (OverInit init (AgainOver schedule logs scripts))) e = absurd (again_not_faulty seen init schedule logs scripts e h)
@@ -295,5 +295,5 @@ module _ (seen : Seen) (h : PutWhole seen Faulty) where
   of_run (Some (Ship logs threads out)) e =
       absurd (ship_not_faulty seen.store seen.store_after logs threads out h.text (ends_so (Some (Ship logs threads out)) e))
 
-  pub faulty_run : IsOfRun seen ⊎ IsOfCheckpoint seen
+  pub faulty_run : AreRunWords seen ⊎ IsOfCheckpoint seen
   faulty_run = of_run (form_of seen.words) refl

@@ -13,7 +13,7 @@ use Rattle.onll_jobs.specs.ResumePromises.{ResumePromises}
 use Rattle.onll_jobs.specs.RunPromises.{RunPromises}
 use Rattle.onll_jobs.specs.MakePromises.{MakePromises}
 use Rattle.onll_jobs.specs.Seen.{Seen}
-use Rattle.onll_task.specs.Writing.{SameBut}
+use Rattle.onll_open.specs.Files.{SameBut}
 use Rattle.onll_jobs.proofs.ExitCauses.{faulty_run, said_of, none_failed_of, usage_of, failed_of, no_memory_of, count_of, decided_exactly}
 use Rattle.onll_jobs.proofs.FormsDetermined.{exit_done}
 use Rattle.onll_jobs.proofs.AgainDurable.{again_durable, again_bad}

@@ -11,9 +11,9 @@ use Rattle.onll_task.specs.declared.ending.Ending.{Ending}
 use Rattle.onll_task.specs.declared.ending.Ending.TheVariants.{Done}
 use Rattle.onll_task.specs.declared.ending.Exit.{Exit}
 use Rattle.onll_merge.specs.declared.fault.StateFault.{StateFault}
-use Rattle.onll_task.specs.Reading.{IsTold}
+use Rattle.onll_task.specs.Reading.{FileIsTold}
 use Rattle.onll_task.specs.Job.{Job, Threads, Decides, on_value}
-use Rattle.onll_task.specs.ImageNames.{image_names}
+use Rattle.onll_open.specs.Names.{log_names}
 use Rattle.onll_task.specs.Doing.{lines_stage, each_job}
 use Rattle.onll_jobs.specs.Seen.{Seen}
 use Rattle.onll_jobs.specs.Command.{form_of, Recover}
@@ -21,7 +21,7 @@ use Rattle.onll_task.specs.Printed.{exit_status}
 use Rattle.onll_jobs.specs.Says.{job_of, ExitSays, NoneRose, SaysThis}
 use Rattle.onll_recovery.specs.RecoverJob.{recover_report, recovered_task, images_task, logs_task}
 use Rattle.onll_merge.specs.Recovered.{Recovered, recovered_with, expected_heads, state_recovered}
-use Rattle.onll_jobs.specs.Durable.{TellImages, IsLeft, RecoversLeft, RecoversCrashes}
+use Rattle.onll_jobs.specs.Durable.{TellImages, AreLeftFiles, RecoversLeft, RecoversCrashes}
 use Rattle.onll_jobs.specs.Over.{RecoverOver, over_task, object_task, over_work}
 use Rattle.onll_task.specs.Doing.{Task}
 use Rattle.onll_text.proofs.EachKind.{kind_goes}
@@ -31,7 +31,7 @@ use Rattle.onll_jobs.proofs.ExitCauses.{decided_exactly}
 -- What a crash left in told files is recovered.
 
 pub decides_images : (store : StoreView) (logs : List ℕ) (i : ℕ) (images : List (List (List ℕ))) (next : List (List (List ℕ)) → Job) (ending : Ending) (text : List ℕ)
-    → TellImages store logs i images → Decides store (next images) ending text → Decides store (each_job lines_stage (image_names logs i (length images)) next) ending text
+    → TellImages store logs i images → Decides store (next images) ending text → Decides store (each_job lines_stage (log_names logs i (length images)) next) ending text
 decides_images store logs i [] next ending text told d = d
 decides_images store logs i (image ∷ images) next ending text told d =
     let here = told.0 in (
@@ -49,7 +49,7 @@ recovered_decides b w store s recovered r e = subst (λ (x : Result Recovered St
 
 -- the call says what the told files decide
 module _ (seen : Seen) (x : Exit) (says : ExitSays seen x) (init logs bytes : List ℕ) (threads : ℕ) (object : AnyObject)
-    (form : form_of seen.words ≡ Some (Recover init logs threads)) (told : IsTold seen.store init bytes) (accepted : init_of bytes ≡ Ok object) (none : NoneRose seen) where
+    (form : form_of seen.words ≡ Some (Recover init logs threads)) (told : FileIsTold seen.store init bytes) (accepted : init_of bytes ≡ Ok object) (none : NoneRose seen) where
   pub object_says : (text : List ℕ) → Decides seen.store (object_task (RecoverOver logs threads) bytes object).job Done text
       → SaysThis seen (exit_status x) Done text
   object_says text d =
@@ -60,7 +60,7 @@ module _ (seen : Seen) (x : Exit) (says : ExitSays seen x) (init logs bytes : Li
 
   left_recovers : (k : ObjectKind) (s : k.State)
       → ((text : List ℕ) → Decides seen.store (logs_task k bytes logs threads s).job Done text → SaysThis seen (exit_status x) Done text)
-      → (left : IsLeft k bytes s seen.store logs threads) → RecoversLeft k bytes s seen (exit_status x) logs threads left
+      → (left : AreLeftFiles k bytes s seen.store logs threads) → RecoversLeft k bytes s seen (exit_status x) logs threads left
   left_recovers k s say left =
       let b = k.means in
       let w = k.wording in
@@ -70,7 +70,7 @@ module _ (seen : Seen) (x : Exit) (says : ExitSays seen x) (init logs bytes : Li
       let recovered = recovered_decides b w seen.store s (state_recovered b (expected_heads k.code bytes left.images) left.images) r held.recovered in
       record {
         leaves = leaves;
-        says = say (recover_report b w s r) (subst (λ (n : ℕ). Decides seen.store (each_job lines_stage (image_names logs 0 n) (λ images. (images_task k bytes s images).job)) Done (recover_report b w s r)) (left_many k bytes s seen.store logs threads left)
+        says = say (recover_report b w s r) (subst (λ (n : ℕ). Decides seen.store (each_job lines_stage (log_names logs 0 n) (λ images. (images_task k bytes s images).job)) Done (recover_report b w s r)) (left_many k bytes s seen.store logs threads left)
             (decides_images seen.store logs 0 left.images (λ images. (images_task k bytes s images).job) Done (recover_report b w s r) left.files recovered));
       }
 
@@ -78,7 +78,7 @@ pub recovers_crashes : (seen : Seen) (x : Exit) → ExitSays seen x → Recovers
 recovers_crashes seen x says init logs bytes threads object form told accepted none =
     kind_goes {A = Task} (λ kind s. over_task (RecoverOver logs threads) (kind_at kind) (Threads kind) bytes s)
     (λ task. (text : List ℕ) → Decides seen.store task.job Done text → SaysThis seen (exit_status x) Done text)
-    (λ k s. (left : IsLeft k bytes s seen.store logs threads) → RecoversLeft k bytes s seen (exit_status x) logs threads left)
+    (λ k s. (left : AreLeftFiles k bytes s seen.store logs threads) → RecoversLeft k bytes s seen (exit_status x) logs threads left)
     (λ says. says)
     (λ kind s known say left. left_recovers seen x says init logs bytes threads object form told accepted none (kind_at kind) s say left)
     object (object_says seen x says init logs bytes threads object form told accepted none)

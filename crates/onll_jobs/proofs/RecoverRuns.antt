@@ -10,28 +10,28 @@ use Rattle.onll_model.specs.Object.{Behaviour}
 use Rattle.onll_pmem.specs.Device.{word_at, Mixed}
 use Rattle.onll_pmem.proofs.Mixes.{Mixed-self, Mixed-same, Mixed-word_at}
 use Rattle.onll_log.specs.declared.head.LogHead.{LogHead}
-use Rattle.onll_log.specs.Head.{word}
+use Rattle.onll_log.specs.Head.{word, heads_from}
 use Rattle.onll_log.specs.Grammar.{Content, content_of, format_in}
 use Rattle.onll_merge.specs.declared.fault.RecoverFault.{RecoverFault}
 use Rattle.onll_merge.specs.Merge.{merge}
 use Rattle.onll_merge.specs.Recovered.{Recovered, recovered_with, expected_heads, state_recovered}
 use Rattle.onll_merge.proofs.Images.{their_contents}
-use Rattle.onll_core.specs.Created.{heads_from, created_heads}
+use Rattle.onll_core.specs.Created.{created_heads}
 use Rattle.onll_core.proofs.Based.{base_is}
 use Rattle.onll_core.proofs.Created.{length-heads_from}
 use Rattle.onll_core.proofs.Operations.{AllOperations}
 use Rattle.onll_run.specs.Outcomes.{failed_in, fault_in}
-use Rattle.onll_run.specs.Left.{LogLeft, LogsTell, AreLeft, Recovers, content_in, fenced_in}
+use Rattle.onll_run.specs.Left.{LogLeft, LogsTell, AreLeftImages, ImagesRecover, content_in, fenced_in}
 use Rattle.onll_text.specs.Kinds.{ObjectKind, kind_at}
 use Rattle.onll_outside.specs.Views.{StoreView, image_bytes}
 use Rattle.onll_task.specs.declared.ending.Ending.TheVariants.{Done}
 use Rattle.onll_task.specs.declared.ending.Exit.{Exit}
 use Rattle.onll_task.specs.Doing.{Task, lines_stage, each_job}
 use Rattle.onll_task.specs.FileLines.{FitFile}
-use Rattle.onll_task.specs.ImageNames.{image_name, image_names}
+use Rattle.onll_open.specs.Names.{log_name, log_names}
 use Rattle.onll_task.specs.Job.{Threads, Decides}
 use Rattle.onll_task.specs.Printed.{exit_status}
-use Rattle.onll_task.specs.Running.{RunPlan, HoldsLog, HoldsLogs, broken_threads}
+use Rattle.onll_task.specs.Running.{RunPlan, FileHoldsLog, HoldsLogs, broken_threads}
 use Rattle.onll_task.proofs.FileLines.{image_lines-image_bytes, mixed_fit, fenced_fit}
 use Rattle.onll_core.specs.Resume.{Found, found_in}
 use Rattle.onll_recovery.specs.RecoverJob.{recover_report, images_task}
@@ -81,7 +81,7 @@ tells_image store name image tells file fit =
     record { bytes = image_bytes image; told = record { tells = tells; file = file }; image = sym (image_lines-image_bytes image fit) }
 
 one_left : (store after : StoreView) (name : List ℕ) (log : LogLeft) (failed : Option ℕ) → store.tells ≡ true → after.tells ≡ true → store.file name ≡ after.file name
-    → HoldsLog after name log failed → FitFile log.read → content_of log.read ≡ Some (content_in log) → log.head.format ≡ 2 → OneLeft store name log failed
+    → FileHoldsLog after name log failed → FitFile log.read → content_of log.read ≡ Some (content_in log) → log.head.format ≡ 2 → OneLeft store name log failed
 one_left store after name log None tells told same h fit holds format = record {
   image = log.read;
   mixed = Mixed-self log.read;
@@ -101,7 +101,7 @@ one_left store after name log (Some place) tells told same h fit holds format =
 -- ---- the files of all logs
 record FilesLeft {State Op Query Reply : Type 0} (store : StoreView) (logs : List ℕ) (t : ℕ) (left : List LogLeft) (ends : List (List (CallEnd State Op Query Reply))) : Type 0 where
   images : List (List (List ℕ))
-  are_left : AreLeft left ends images
+  are_left : AreLeftImages left ends images
   tell : TellImages store logs t images
   formats : AreFormat2 images
   many : length images ≡ length left
@@ -112,10 +112,10 @@ SameNames store after names = AllByRecursion (λ name. store.file name ≡ after
 module _ {State Op Query Reply : Type 0} (b : Behaviour State Op Query Reply) (store after : StoreView) (tells : store.tells ≡ true) (told : after.tells ≡ true) (logs : List ℕ) where
   files_left : (t : ℕ) (heads : List LogHead) (base : List Content) (scripts : List (List (Call State Op Query Reply))) (ends : List (List (CallEnd State Op Query Reply))) (left : List LogLeft)
       → LogsTell b heads base scripts ends left → HaveFormat2 heads → HoldsLogs after logs t left ends → AllByRecursion (λ (log : LogLeft). FitFile log.read) left
-      → SameNames store after (image_names logs t (length scripts)) → FilesLeft store logs t left ends
+      → SameNames store after (log_names logs t (length scripts)) → FilesLeft store logs t left ends
   files_left t [] [] [] [] [] h format holds fit same = record { images = []; are_left = tt; tell = tt; formats = tt; many = refl }
   files_left t (head ∷ heads) (c ∷ base) (calls ∷ scripts) (es ∷ ends) (log ∷ left) h format holds fit same =
-      let first = one_left store after (image_name logs t) log (failed_in es) tells told same.0 holds.0 fit.0 h.0.holds (ap (λ (x : LogHead). x.format) h.0.head_is ∙ format.0) in
+      let first = one_left store after (log_name logs t) log (failed_in es) tells told same.0 holds.0 fit.0 h.0.holds (ap (λ (x : LogHead). x.format) h.0.head_is ∙ format.0) in
       let rest = files_left (suc t) heads base scripts ends left h.1 format.1 holds.1 fit.1 same.1 in
       record {
         images = first.image ∷ rest.images;
@@ -141,7 +141,7 @@ not_failed : (failed : Option ℕ) → fault_in failed ≡ 0 → failed ≡ None
 not_failed None e = refl
 not_failed (Some place) e = absurd (omega arith)
 
-whole_images : {State Op Query Reply : Type 0} (left : List LogLeft) (ends : List (List (CallEnd State Op Query Reply))) (images : List (List (List ℕ))) → AreLeft left ends images → broken_threads ends ≡ 0 → images ≡ map read_in left
+whole_images : {State Op Query Reply : Type 0} (left : List LogLeft) (ends : List (List (CallEnd State Op Query Reply))) (images : List (List (List ℕ))) → AreLeftImages left ends images → broken_threads ends ≡ 0 → images ≡ map read_in left
 whole_images [] [] [] h none = refl
 whole_images {State} {Op} {Query} {Reply} (log ∷ left) (es ∷ ends) (image ∷ images) h none =
     let all = sum_by-cons (λ (e : List (CallEnd State Op Query Reply)). fault_in (failed_in e)) es ends in
@@ -213,9 +213,9 @@ module _ (seen : Seen) (init logs : List ℕ) (threads : ℕ) (k : ObjectKind) (
       files_left k.means seen.store left.after tells left.tells logs 0 plan.run.heads plan.run.base.logs plan.run.scripts left.reported.left.ends left.reported.left.logs left.reported.run.logs
       (subst HaveFormat2 (sym heads_are) (heads_have_format threads k.code init 0 threads))
       (subst (λ (name : List ℕ). HoldsLogs left.after name 0 left.reported.left.logs left.reported.left.ends) (plan_logs left.from k init logs s left.reported.scripts) left.reported.kept.files) left.reported.kept.fit
-      (subst (λ n. SameNames seen.store left.after (image_names logs 0 n)) (sym plan_many) left.same)
+      (subst (λ n. SameNames seen.store left.after (log_names logs 0 n)) (sym plan_many) left.same)
 
-  recovers : Recovers k.means plan.run left.reported.left files.images
+  recovers : ImagesRecover k.means plan.run left.reported.left files.images
   recovers = left.reported.run.crash files.images files.are_left
 
   images_many : length files.images ≡ threads
@@ -241,7 +241,7 @@ module _ (seen : Seen) (init logs : List ℕ) (threads : ℕ) (k : ObjectKind) (
     pub images : List (List (List ℕ))
     pub files : TellImages seen.store logs 0 images
     pub many : length images ≡ threads
-    pub recovers : Recovers k.means plan.run left.reported.left images
+    pub recovers : ImagesRecover k.means plan.run left.reported.left images
     pub gives : found_in k.means (heads_from threads k.code init 0 threads) images ≡ Ok (record { logs = recovers.logs; nodes = recovers.nodes })
 
   pub run_images : RunImages
@@ -256,7 +256,7 @@ module _ (seen : Seen) (init logs : List ℕ) (threads : ℕ) (k : ObjectKind) (
 
   -- ---- the call
   run_recovers : (x : Exit)
-      → ((text : List ℕ) → Decides seen.store (each_job lines_stage (image_names logs 0 threads) (λ images. (images_task k init s images).job)) Done text → SaysThis seen (exit_status x) Done text)
+      → ((text : List ℕ) → Decides seen.store (each_job lines_stage (log_names logs 0 threads) (λ images. (images_task k init s images).job)) Done text → SaysThis seen (exit_status x) Done text)
       → RecoversRun k init s seen (exit_status x) logs threads left
   run_recovers x say =
       let r : Recovered = recovered_with recovers.logs recovers.nodes in
@@ -267,7 +267,7 @@ module _ (seen : Seen) (init logs : List ℕ) (threads : ℕ) (k : ObjectKind) (
         recovers = recovers;
         whole = whole;
         says = say (recover_report k.means k.wording s r)
-            (subst (λ (n : ℕ). Decides seen.store (each_job lines_stage (image_names logs 0 n) (λ images. (images_task k init s images).job)) Done (recover_report k.means k.wording s r)) images_many
+            (subst (λ (n : ℕ). Decides seen.store (each_job lines_stage (log_names logs 0 n) (λ images. (images_task k init s images).job)) Done (recover_report k.means k.wording s r)) images_many
             (decides_images seen.store logs 0 files.images (λ images. (images_task k init s images).job) Done (recover_report k.means k.wording s r) files.tell recovered));
       }
 

@@ -20,9 +20,10 @@ use Rattle.onll_task.specs.declared.ending.Ending.{Ending}
 use Rattle.onll_task.specs.declared.ending.Ending.TheVariants.{Done, Usage, BadLog, Faulty, Judged}
 use Rattle.onll_merge.specs.declared.fault.StateFault.{StateFault}
 use Rattle.onll_task.specs.Reading.{ReadsWhole}
-use Rattle.onll_task.specs.Writing.{FilesStay, SameCounts, written}
+use Rattle.onll_task.specs.Writing.{FilesStay, written}
+use Rattle.onll_open.specs.Files.{SameCounts}
 use Rattle.onll_task.specs.Job.{Job, Threads, JobEnds}
-use Rattle.onll_task.specs.ImageNames.{image_name}
+use Rattle.onll_open.specs.Names.{log_name}
 use Rattle.onll_task.specs.Images.{image_bytes, writing_images}
 use Rattle.onll_jobs.specs.Seen.{Seen}
 use Rattle.onll_jobs.specs.Command.{form_of, Replay}
@@ -50,8 +51,8 @@ record ReplayEnds (store after : StoreView) (init schedule logs : List ℕ) (nam
 module _ (after : StoreView) (ending : Ending) (text : List ℕ) (said : IsSaid ending) where
   pub images_end : (store : StoreView) (logs : List ℕ) (i : ℕ) (images : List (List (List ℕ))) (next : Job) → JobEnds store after (writing_images logs i images next) ending text → JobEnds (with_images store logs i images) after next ending text
   images_end store logs i [] next h = h
-  images_end store logs i (image ∷ images) next (inl h) = absurd (can_write store after (image_name logs i) ending text said h)
-  images_end store logs i (image ∷ images) next (inr h) = images_end (written store (image_name logs i) (image_bytes image)) logs (suc i) images next h
+  images_end store logs i (image ∷ images) next (inl h) = absurd (can_write store after (log_name logs i) ending text said h)
+  images_end store logs i (image ∷ images) next (inr h) = images_end (written store (log_name logs i) (image_bytes image)) logs (suc i) images next h
 
   module _ {State Op Query Reply : Type 0} (b : Behaviour State Op Query Reply) (w : Wording State Op Query Reply) (store : StoreView) where
     -- what a crash says of a core whose images recover

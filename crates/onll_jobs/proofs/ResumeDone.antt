@@ -6,7 +6,8 @@ use Rattle.onll_log.specs.declared.head.LogHead.{LogHead}
 use Rattle.onll_core.specs.declared.fault.ResumeFault.{ResumeFault}
 use Rattle.onll_core.specs.declared.fault.ResumeFault.TheVariants as faults
 use Rattle.onll_core.specs.Core.{CoreState}
-use Rattle.onll_core.specs.Created.{heads_from, created_heads}
+use Rattle.onll_core.specs.Created.{created_heads}
+use Rattle.onll_log.specs.Head.{heads_from}
 use Rattle.onll_core.specs.Resume.{Found, found_in, base_in, resumed}
 use Rattle.onll_core.proofs.Based.{same_refusal}
 use Rattle.onll_text.specs.declared.any_object.Kind.{Kind}
@@ -17,7 +18,7 @@ use Rattle.onll_task.specs.declared.ending.Ending.TheVariants.{Refused}
 use Rattle.onll_task.specs.declared.ending.Exit.{Exit}
 use Rattle.onll_task.specs.declared.ending.Exit.TheVariants as exits
 use Rattle.onll_task.specs.Doing.{Task, lines_stage, each_job}
-use Rattle.onll_task.specs.ImageNames.{image_names}
+use Rattle.onll_open.specs.Names.{log_names}
 use Rattle.onll_task.specs.Images.{images_stage}
 use Rattle.onll_task.specs.Job.{Job, Say, Threads}
 use Rattle.onll_task.specs.Printed.{status_of, exit_status}
@@ -83,9 +84,9 @@ module _ (seen : Seen) (none : NoneRose seen) (x : Exit) (kind : Kind) (init : L
       let based : List (List (List ℕ)) → Job = λ images. (based_task k (Threads kind) init logs names s scripts (base_in k.means heads scripts images)).job in
       let read = did_rest seen none (resume_task k (Threads kind) init logs names s).job (task scripts).job
       (λ ending text h. scripts_told seen.store_after ending text seen.store none.store k.wording names scripts (λ scripts. (task scripts).job) tell h) x did in
-      let taken = did_rest seen none (each_job lines_stage (image_names logs 0 (length images)) based) (based images)
+      let taken = did_rest seen none (each_job lines_stage (log_names logs 0 (length images)) based) (based images)
       (λ ending text h. images_told seen.store_after ending text seen.store none.store logs 0 images based files h) x
-      (subst (λ (n : ℕ). DidJob seen x (each_job lines_stage (image_names logs 0 n) based)) (sym as_many) read) in
+      (subst (λ (n : ℕ). DidJob seen x (each_job lines_stage (log_names logs 0 n) based)) (sym as_many) read) in
       by_base fine (base_in k.means heads scripts images) refl taken
 
   -- so it is where they give something to as many threads

@@ -14,16 +14,16 @@ use Rattle.onll_text.specs.Wording.{Wording}
 use Rattle.onll_outside.specs.Views.{StoreView}
 use Rattle.onll_task.specs.declared.ending.Ending.{Ending}
 use Rattle.onll_task.specs.declared.ending.Ending.TheVariants.{Done, Usage, Refused, BadLog, WriteFault, Faulty, Judged}
-use Rattle.onll_task.specs.ImageNames.{image_names}
+use Rattle.onll_open.specs.Names.{log_names}
 use Rattle.onll_task.specs.Images.{images_stage}
 use Rattle.onll_task.specs.Job.{Job, Threads, JobEnds}
-use Rattle.onll_task.specs.Reading.{Refuses}
+use Rattle.onll_task.specs.Reading.{RefusesFile}
 use Rattle.onll_recovery.specs.AgainJob.{resume_ending}
 use Rattle.onll_recovery.specs.ReplayJob.{ReadScripts, scripts_stage}
 use Rattle.onll_runner.specs.ResumeJob.{based_task, reopened_task, resume_task}
 use Rattle.onll_jobs.specs.Command.{Resume, form_of}
 use Rattle.onll_jobs.specs.Over.{ResumeOver, object_task}
-use Rattle.onll_jobs.specs.ResumePromises.{ResumedWhole, ResumedBroken, ResumedNoDevice, HasNoBase, HasBadBase, RefusesScript, HasRefused, InitRefused}
+use Rattle.onll_jobs.specs.ResumePromises.{ResumedWhole, ResumedBroken, ResumedNoDevice, HasNoBase, HasBadBase, RefusesScript, RefusesByScript, InitRefused}
 use Rattle.onll_jobs.specs.RunPromises.{OfText, RunPut}
 use Rattle.onll_jobs.specs.Says.{PutWhole}
 use Rattle.onll_jobs.specs.Seen.{Seen}
@@ -55,7 +55,7 @@ module _ (after : StoreView) (ending : Ending) (text : List ℕ) (kind : Kind) (
   reopened_ends held h =
       let k = kind_at kind in
       let base : List (List (List ℕ)) → Result Found ResumeFault = λ images. base_in k.means (created_heads k.code init scripts) scripts images in
-      let taken = images_read after ending text held store (image_names logs 0 (length scripts)) (λ images. (based_task k (Threads kind) init logs names s scripts (base images)).job) h in
+      let taken = images_read after ending text held store (log_names logs 0 (length scripts)) (λ images. (based_task k (Threads kind) init logs names s scripts (base images)).job) h in
       based_ends taken.images taken.known (base taken.images) refl taken.ends
 
 module _ (after : StoreView) (text : List ℕ) where
@@ -82,7 +82,7 @@ module _ (after : StoreView) (text : List ℕ) {State Op Query Reply : Type 0} (
 
   first_or : (name : List ℕ) (names : List (List ℕ)) (next : List (List (Call State Op Query Reply)) → Job)
       → ((script : List (Call State Op Query Reply)) → JobEnds store after ((scripts_stage w names).job (λ scripts. next (script ∷ scripts))) Refused text → RefusedOr names (λ scripts. next (script ∷ scripts)))
-      → ((Refused ≡ Refused) × Refuses store (script_of w) name text) ⊎ FirstEnds name names next → RefusedOr (name ∷ names) next
+      → ((Refused ≡ Refused) × RefusesFile store (script_of w) name text) ⊎ FirstEnds name names next → RefusedOr (name ∷ names) next
   first_or name names next go (inl refuses) = inl (inl refuses.1)
   first_or name names next go (inr first) = rest_or name names next first (go first.value first.ends)
 
@@ -94,7 +94,7 @@ module _ (after : StoreView) (text : List ℕ) {State Op Query Reply : Type 0} (
 
 module _ (after : StoreView) (text : List ℕ) (kind : Kind) (init : List ℕ) (s : (kind_at kind).State) (store : StoreView) (logs : List ℕ) (names : List (List ℕ)) where
   abbrev RefusedSo : Type 0
-  RefusedSo = HasRefused (kind_at kind) init s store after logs names text
+  RefusedSo = RefusesByScript (kind_at kind) init s store after logs names text
 
   base_refused : ResumeEnded after Refused text (kind_at kind) init s store logs names → RefusedSo
   base_refused (inl run) = absurd (never_of (Some run.0) (kind_at kind) init s store after logs names text Refused (λ e. cc e) (λ e. cc e) (λ e. cc e) run.1)
@@ -187,14 +187,14 @@ module _ (seen : Seen) (init logs : List ℕ) (names : List (List ℕ)) (form : 
       (resume_ends seen.store_after h.text Judged (tt, λ e. cc e) kind bytes s seen.store logs names e))
 
   -- a text is refused, or a script has too many updates
-  pub resume_refused : PutWhole seen Refused → InitRefused seen init ⊎ RunPut seen init logs names HasRefused
+  pub resume_refused : PutWhole seen Refused → InitRefused seen init ⊎ RunPut seen init logs names RefusesByScript
   resume_refused h =
       by (whole_or seen.store_after Refused h.text tt seen.store init init_of (λ bytes object. (object_task (ResumeOver logs names) bytes object).job)
       (over_ends seen init logs names (ResumeOver logs names) form Refused h))
     where
-      by : ((Refused ≡ Refused) × Refuses seen.store init_of init h.text) ⊎ WholeEnds seen.store seen.store_after init init_of (λ bytes object. (object_task (ResumeOver logs names) bytes object).job) Refused h.text
-          → InitRefused seen init ⊎ RunPut seen init logs names HasRefused
+      by : ((Refused ≡ Refused) × RefusesFile seen.store init_of init h.text) ⊎ WholeEnds seen.store seen.store_after init init_of (λ bytes object. (object_task (ResumeOver logs names) bytes object).job) Refused h.text
+          → InitRefused seen init ⊎ RunPut seen init logs names RefusesByScript
       by (inl refuses) = inl (record { text = h.text; refuses = refuses.1; put = h.put })
       by (inr read) =
-          inr (over_read_put seen init logs names (ResumeOver logs names) form Refused h HasRefused
+          inr (over_read_put seen init logs names (ResumeOver logs names) form Refused h RefusesByScript
           (λ kind bytes s e. resume_refused_so seen.store_after h.text kind bytes s seen.store logs names e) read)

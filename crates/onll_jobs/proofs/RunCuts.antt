@@ -16,7 +16,7 @@ use Rattle.onll_text.specs.Wording.{Wording}
 use Rattle.onll_text.proofs.EachKind.{kind_goes}
 use Rattle.onll_outside.specs.Views.{StoreView}
 use Rattle.onll_task.specs.Doing.{Task, lines_stage, each_job, AreKnown}
-use Rattle.onll_task.specs.ImageNames.{image_names}
+use Rattle.onll_open.specs.Names.{log_names}
 use Rattle.onll_task.specs.Job.{Job, Threads, JobCut, on_value, reading_whole}
 use Rattle.onll_task.specs.Reading.{ReadsWhole}
 use Rattle.onll_task.specs.Running.{RunPlan, RunLeft, RunCut, broken_threads}
@@ -133,18 +133,18 @@ module _ (kind : Kind) (init : List ℕ) (s : (kind_at kind).State) (store after
     abbrev base : List (List (List ℕ)) → Result Found ResumeFault
     base images = base_in (kind_at kind).means (created_heads (kind_at kind).code init scripts) scripts images
 
-    based_cut : (images : List (List (List ℕ))) → AreKnown lines_stage (image_names logs 0 (length scripts)) store images → (r : Result Found ResumeFault) → base images ≡ r
+    based_cut : (images : List (List (List ℕ))) → AreKnown lines_stage (log_names logs 0 (length scripts)) store images → (r : Result Found ResumeFault) → base images ≡ r
         → JobCut store after (based_task (kind_at kind) (Threads kind) init logs names s scripts r).job → FilesStay store after ⊎ ResumedCut (kind_at kind) init s store after logs names
     based_cut images known (Ok found) e h = inr (found, calls_cut (Some found) kind init s store after logs names scripts read (record { images = images; held = known; gives = e }) h)
     based_cut images known (Err fault) e h = inl h
 
     reopened_cut : JobCut store after (reopened_task (kind_at kind) (Threads kind) init logs names s scripts).job → FilesStay store after ⊎ ResumedCut (kind_at kind) init s store after logs names
-    reopened_cut h = by (images_cut store after (image_names logs 0 (length scripts)) next h)
+    reopened_cut h = by (images_cut store after (log_names logs 0 (length scripts)) next h)
       where
         next : List (List (List ℕ)) → Job
         next images = (based_task (kind_at kind) (Threads kind) init logs names s scripts (base images)).job
 
-        by : FilesStay store after ⊎ ImagesCut store after (image_names logs 0 (length scripts)) next → FilesStay store after ⊎ ResumedCut (kind_at kind) init s store after logs names
+        by : FilesStay store after ⊎ ImagesCut store after (log_names logs 0 (length scripts)) next → FilesStay store after ⊎ ResumedCut (kind_at kind) init s store after logs names
         by (inl stay) = inl stay
         by (inr taken) = based_cut taken.images taken.known (base taken.images) refl taken.cut
 

@@ -16,7 +16,7 @@ use Rattle.onll_task.specs.declared.ending.Exit.TheVariants as exits
 use Rattle.onll_task.specs.Doing.{Task}
 use Rattle.onll_task.specs.Job.{Job, Threads, JobEnds}
 use Rattle.onll_task.specs.Printed.{status_of, exit_status}
-use Rattle.onll_task.specs.Reading.{IsTold}
+use Rattle.onll_task.specs.Reading.{FileIsTold}
 use Rattle.onll_runner.specs.RunJob.{run_plan, run_task, calls_task}
 use Rattle.onll_jobs.specs.Command.{OverInit, Run, form_of}
 use Rattle.onll_jobs.specs.Over.{OverForm, RunOver, over_task, object_task}
@@ -42,7 +42,7 @@ module _ (seen : Seen) (none : NoneRose seen) where
   did_rest job rest f exits.NoMemory did = did
 
   -- over the initial state that is told
-  pub did_over : (init bytes logs : List ℕ) (names : List (List ℕ)) (object : AnyObject) (over : OverForm) → form_of seen.words ≡ Some (OverInit init over) → IsTold seen.store init bytes → init_of bytes ≡ Ok object
+  pub did_over : (init bytes logs : List ℕ) (names : List (List ℕ)) (object : AnyObject) (over : OverForm) → form_of seen.words ≡ Some (OverInit init over) → FileIsTold seen.store init bytes → init_of bytes ≡ Ok object
       → (x : Exit) → ExitSays seen x → DidJob seen x (object_task over bytes object).job
   did_over init bytes logs names object over form told accepted (exits.Said ending) h =
       (h.text, told_ends seen.store_after ending h.text seen.store none.store init init_of (λ bytes object. (object_task over bytes object).job) bytes object told accepted (over_ends seen init logs names over form ending h), h.put)

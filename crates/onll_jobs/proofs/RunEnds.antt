@@ -15,10 +15,11 @@ use Rattle.onll_outside.specs.Views.{StoreView, counted}
 use Rattle.onll_task.specs.declared.ending.Ending.{Ending}
 use Rattle.onll_task.specs.declared.ending.Ending.TheVariants.{Done, Usage, Refused, BadLog, ReadFault, WriteFault, Faulty, Judged}
 use Rattle.onll_task.specs.Doing.{Task}
-use Rattle.onll_task.specs.ImageNames.{image_name}
+use Rattle.onll_open.specs.Names.{log_name}
 use Rattle.onll_task.specs.Job.{Threads, JobEnds}
-use Rattle.onll_task.specs.Running.{RunPlan, RunLeft, HoldsLog, HoldsLogs, HasKept, HeaderFault, DeviceFault, RunStops, broken_threads}
-use Rattle.onll_task.specs.Writing.{FilesStay, SameCounts}
+use Rattle.onll_task.specs.Running.{RunPlan, RunLeft, FileHoldsLog, HoldsLogs, HasKept, HeaderFault, DeviceFault, RunStops, broken_threads}
+use Rattle.onll_task.specs.Writing.{FilesStay}
+use Rattle.onll_open.specs.Files.{SameCounts}
 use Rattle.onll_recovery.specs.ReplayJob.{ReadScripts}
 use Rattle.onll_runner.specs.RunJob.{run_plan, run_task, calls_task, said_task}
 use Rattle.onll_runner.specs.RunReport.{plan_report}
@@ -31,7 +32,7 @@ use Rattle.onll_jobs.specs.Seen.{Seen}
 use Rattle.onll_jobs.proofs.SaidEnds.{IsRead, WholeEnds, many_scripts, whole_ends, scripts_end}
 
 -- ---- what is kept stays kept where no file changes
-holds_after : (kept after : StoreView) (name : List ℕ) (log : LogLeft) (failed : Option ℕ) → FilesStay kept after → HoldsLog kept name log failed → HoldsLog after name log failed
+holds_after : (kept after : StoreView) (name : List ℕ) (log : LogLeft) (failed : Option ℕ) → FilesStay kept after → FileHoldsLog kept name log failed → FileHoldsLog after name log failed
 holds_after kept after name log None stay h = λ told. let tells = sym stay.tells ∙ told in stay.file tells name ∙ h tells
 holds_after kept after name log (Some place) stay h =
     λ told. let tells = sym stay.tells ∙ told in let image = h tells in (image.0, image.1, stay.file tells name ∙ image.2)
@@ -42,7 +43,7 @@ logs_after kept after logs t [] [] stay h = tt
 logs_after kept after logs t [] (e ∷ ends) stay h = absurd h
 logs_after kept after logs t (log ∷ left) [] stay h = absurd h
 logs_after kept after logs t (log ∷ left) (e ∷ ends) stay h =
-    (holds_after kept after (image_name logs t) log (failed_in e) stay h.0, logs_after kept after logs (suc t) left ends stay h.1)
+    (holds_after kept after (log_name logs t) log (failed_in e) stay h.0, logs_after kept after logs (suc t) left ends stay h.1)
 
 kept_after : {k : ObjectKind} (plan : RunPlan k) (left : RunLeft k) (store kept after : StoreView) → HasKept plan left store kept → FilesStay kept after → SameCounts kept after
     → HasKept plan left store after

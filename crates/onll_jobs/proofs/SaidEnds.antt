@@ -13,8 +13,8 @@ use Rattle.onll_outside.specs.Views.{StoreView}
 use Rattle.onll_task.specs.declared.ending.Ending.{Ending}
 use Rattle.onll_task.specs.declared.ending.Ending.TheVariants.{Done, Usage, Refused, BadLog, ReadFault, WriteFault, Faulty, Judged}
 use Rattle.onll_task.specs.Doing.{lines_stage, each_job, AreKnown}
-use Rattle.onll_task.specs.ImageNames.{image_names}
-use Rattle.onll_task.specs.Reading.{ReadsWhole, Refuses, CannotRead}
+use Rattle.onll_open.specs.Names.{log_names}
+use Rattle.onll_task.specs.Reading.{ReadsWhole, RefusesFile, CannotRead}
 use Rattle.onll_task.specs.Writing.{CannotWrite}
 use Rattle.onll_task.specs.Job.{Job, JobEnds, on_value, reading_whole}
 use Rattle.onll_recovery.specs.ReplayJob.{ReadScripts, scripts_stage}
@@ -101,12 +101,12 @@ pub record ImagesEnd (store after : StoreView) (names : List (List ℕ)) (next :
 module _ (after : StoreView) (ending : Ending) (text : List ℕ) (held : IsHeld ending) where
   -- a text is refused, or it was read
   pub whole_or : {A : Type 0} (store : StoreView) (name : List ℕ) (grammar : List ℕ → Result A Refusal) (next : List ℕ → A → Job) → JobEnds store after (reading_whole name grammar next) ending text
-      → ((ending ≡ Refused) × Refuses store grammar name text) ⊎ WholeEnds store after name grammar next ending text
+      → ((ending ≡ Refused) × RefusesFile store grammar name text) ⊎ WholeEnds store after name grammar next ending text
   whole_or store name grammar next (inl h) = absurd (can_read store after name ending text held h.0)
   whole_or {A = A} store name grammar next (inr h) = by (grammar h.0) refl h.1.1
     where
       by : (r : Result A Refusal) → grammar h.0 ≡ r → JobEnds store after (on_value name (next h.0) r) ending text
-          → ((ending ≡ Refused) × Refuses store grammar name text) ⊎ WholeEnds store after name grammar next ending text
+          → ((ending ≡ Refused) × RefusesFile store grammar name text) ⊎ WholeEnds store after name grammar next ending text
       by (Ok value) e k = inr (record { bytes = h.0; value = value; read = record { held = h.1.0; accepted = e }; ends = k })
       by (Err refusal) e k = inl (k.0, record { bytes = h.0; refusal = refusal; held = h.1.0; outside = e; line = k.1 })
 
@@ -121,7 +121,7 @@ module _ (after : StoreView) (ending : Ending) (text : List ℕ) (was : IsRead e
   pub whole_ends : {A : Type 0} (store : StoreView) (name : List ℕ) (grammar : List ℕ → Result A Refusal) (next : List ℕ → A → Job) → JobEnds store after (reading_whole name grammar next) ending text → WholeEnds store after name grammar next ending text
   whole_ends {A = A} store name grammar next h = by (whole_or after ending text was.0 store name grammar next h)
     where
-      by : ((ending ≡ Refused) × Refuses store grammar name text) ⊎ WholeEnds store after name grammar next ending text → WholeEnds store after name grammar next ending text
+      by : ((ending ≡ Refused) × RefusesFile store grammar name text) ⊎ WholeEnds store after name grammar next ending text → WholeEnds store after name grammar next ending text
       by (inl refused) = absurd (was.1 refused.0)
       by (inr read) = read
 
@@ -149,7 +149,7 @@ module _ {State Op Query Reply : Type 0} (w : Wording State Op Query Reply) (sto
   few_updates (name ∷ names) (script ∷ scripts) h = ((few_calls w h.0.bytes script h.0.accepted).0, few_updates names scripts h.1)
 
 -- an image was read for each thread
-pub known_many : (store : StoreView) (logs : List ℕ) (i n : ℕ) (images : List (List (List ℕ))) → AreKnown lines_stage (image_names logs i n) store images → length images ≡ n
+pub known_many : (store : StoreView) (logs : List ℕ) (i n : ℕ) (images : List (List (List ℕ))) → AreKnown lines_stage (log_names logs i n) store images → length images ≡ n
 known_many store logs i zero [] h = refl
 known_many store logs i zero (image ∷ images) h = absurd h
 known_many store logs i (suc n) [] h = absurd h

@@ -5,7 +5,7 @@ use Rattle.std.specs.List.{AllByRecursion, flat_map}
 use Rattle.std.proofs.lemmas.List.{take_all}
 use Rattle.std.proofs.lemmas.Slice.Eq.{bytes_eq-Decides}
 use Rattle.onll_words.specs.Texts.{line_text}
-use Rattle.onll_core.specs.Created.{heads_from}
+use Rattle.onll_log.specs.Head.{heads_from}
 use Rattle.onll_merge.specs.Recovered.{Recovered, expected_heads, state_recovered}
 use Rattle.onll_outside.specs.Views.{StoreView, Puts}
 use Rattle.onll_standby.specs.Stream.{Course, Shown, course}
@@ -18,12 +18,12 @@ use Rattle.onll_task.specs.declared.ending.Ending.{Ending}
 use Rattle.onll_task.specs.declared.ending.Ending.TheVariants.{Done, BadLog}
 use Rattle.onll_task.specs.declared.ending.Exit.{Exit}
 use Rattle.onll_task.specs.Doing.{Task}
-use Rattle.onll_task.specs.ImageNames.{image_names}
+use Rattle.onll_open.specs.Names.{log_names}
 use Rattle.onll_task.specs.FileLines.{FitFile}
 use Rattle.onll_task.specs.Images.{images_stage}
 use Rattle.onll_task.specs.Job.{Job, JobEnds, Threads, Decides, on_value}
 use Rattle.onll_task.specs.Printed.{exit_status}
-use Rattle.onll_task.specs.Reading.{IsTold}
+use Rattle.onll_task.specs.Reading.{FileIsTold}
 use Rattle.onll_task.specs.Writing.{written}
 use Rattle.onll_shipping.specs.declared.ship_fault.ShipFault.{ShipFault}
 use Rattle.onll_shipping.specs.FollowJob.{FollowData, longest_stream, course_task, follow_data, follow_data_lines, follow_task, followed_task}
@@ -46,8 +46,8 @@ written_here store name bytes = ap (λ (b : Bool). cond {A = Option (List ℕ)} 
 
 module _ (seen : Seen) (logs out : List ℕ) (threads : ℕ) (form : form_of seen.words ≡ Some (Ship logs threads out)) where
   images_end : (ending : Ending) → IsSaid ending → (h : PutWhole seen ending)
-      → ImagesEnd seen.store seen.store_after (image_names logs 0 threads) (λ images. (ship_logs_task out (ready images)).job) ending h.text
-  images_end ending said h = images_read seen.store_after ending h.text (said_read ending said).0 seen.store (image_names logs 0 threads)
+      → ImagesEnd seen.store seen.store_after (log_names logs 0 threads) (λ images. (ship_logs_task out (ready images)).job) ending h.text
+  images_end ending said h = images_read seen.store_after ending h.text (said_read ending said).0 seen.store (log_names logs 0 threads)
       (λ images. (ship_logs_task out (ready images)).job)
       (subst (λ form. JobEnds seen.store seen.store_after (job_of form) ending h.text) form h.allowed)
 
@@ -142,7 +142,7 @@ module _ (seen : Seen) (init stream : List ℕ) (threads piece : ℕ) (form : fo
 
 -- ---- follow of what ship wrote
 -- a stream that is told, is no longer than is read and shows no fault decides what is said
-course_decides : (store : StoreView) (k : ObjectKind) (init stream stream_bytes : List ℕ) (threads : ℕ) (s : k.State) → IsTold store stream stream_bytes
+course_decides : (store : StoreView) (k : ObjectKind) (init stream stream_bytes : List ℕ) (threads : ℕ) (s : k.State) → FileIsTold store stream stream_bytes
     → length stream_bytes ≤ longest_stream → (course_over k init threads stream_bytes).shown ≡ None
     → Decides store (follow_task k init stream threads s).job Done
     (flat_map line_text (follow_data_lines k.wording (follow_data k.means s (length stream_bytes) (course_over k init threads stream_bytes))))
@@ -161,7 +161,7 @@ course_decides store k init stream stream_bytes threads s told within no_fault =
 
 -- the call says what the told files decide
 module _ (seen : Seen) (x : Exit) (says : ExitSays seen x) (init stream bytes : List ℕ) (threads piece : ℕ) (object : AnyObject)
-    (form : form_of seen.words ≡ Some (Follow init threads stream piece)) (told : IsTold seen.store init bytes) (accepted : init_of bytes ≡ Ok object) (none : NoneRose seen) where
+    (form : form_of seen.words ≡ Some (Follow init threads stream piece)) (told : FileIsTold seen.store init bytes) (accepted : init_of bytes ≡ Ok object) (none : NoneRose seen) where
   object_says : (text : List ℕ) → Decides seen.store (object_task (FollowOver threads stream piece) bytes object).job Done text
       → SaysThis seen (exit_status x) Done text
   object_says text d =
@@ -173,7 +173,7 @@ module _ (seen : Seen) (x : Exit) (says : ExitSays seen x) (init stream bytes : 
   shipped_says : (k : ObjectKind) (s : k.State)
       → ((text : List ℕ) → Decides seen.store (follow_task k bytes stream threads s).job Done text → SaysThis seen (exit_status x) Done text)
       → (images : List (List (List ℕ))) (shipped : List HeadedLog) → length images ≡ threads → AllByRecursion FitFile images → ready images ≡ Ok shipped
-      → IsTold seen.store stream (shipped_bytes shipped) → (r : Recovered) → state_recovered k.means (expected_heads k.code bytes images) images ≡ Ok r
+      → FileIsTold seen.store stream (shipped_bytes shipped) → (r : Recovered) → state_recovered k.means (expected_heads k.code bytes images) images ≡ Ok r
       → SaysThis seen (exit_status x) Done (flat_map line_text (follow_data_lines k.wording (shipped_data k.means s shipped r)))
   shipped_says k s say images shipped many fit is_ready held r recovered =
       let few = few-followed seen.words init stream threads piece form in

@@ -10,9 +10,9 @@ use Rattle.onll_text.specs.Script.{script_of}
 use Rattle.onll_outside.specs.Views.{StoreView, Rose}
 use Rattle.onll_task.specs.declared.ending.Ending.{Ending}
 use Rattle.onll_task.specs.Doing.{lines_stage, each_job, AreKnown}
-use Rattle.onll_task.specs.ImageNames.{image_name, image_names}
+use Rattle.onll_open.specs.Names.{log_name, log_names}
 use Rattle.onll_task.specs.Job.{Job, JobEnds, on_value, reading_whole}
-use Rattle.onll_task.specs.Reading.{IsTold}
+use Rattle.onll_task.specs.Reading.{FileIsTold}
 use Rattle.onll_task.proofs.Jobs.{held_bytes, cannot}
 use Rattle.onll_recovery.specs.ReplayJob.{ReadScripts, scripts_stage}
 use Rattle.onll_jobs.specs.AgainPromises.{TellScripts}
@@ -34,13 +34,13 @@ module _ {State Op Query Reply : Type 0} (w : Wording State Op Query Reply) (sto
       let rest = tell_scripts names h.1 in
       (h.0.value ∷ rest.0, (record { bytes = h.0.bytes; told = h.0.told; accepted = h.0.accepted }, rest.1))
 
-pub told_known : (store : StoreView) (logs : List ℕ) (i : ℕ) (images : List (List (List ℕ))) → TellImages store logs i images → AreKnown lines_stage (image_names logs i (length images)) store images
+pub told_known : (store : StoreView) (logs : List ℕ) (i : ℕ) (images : List (List (List ℕ))) → TellImages store logs i images → AreKnown lines_stage (log_names logs i (length images)) store images
 told_known store logs i [] h = tt
 told_known store logs i (image ∷ images) h = (record { bytes = h.0.bytes; held = λ tells. h.0.told.file; image = h.0.image }, told_known store logs (suc i) images h.1)
 
 -- ---- what is read is what is told
 module _ (after : StoreView) (ending : Ending) (text : List ℕ) (store : StoreView) (none : Rose store.faults after.faults → ⊥) where
-  pub told_ends : {A : Type 0} (name : List ℕ) (grammar : List ℕ → Result A Refusal) (next : List ℕ → A → Job) (bytes : List ℕ) (value : A) → IsTold store name bytes → grammar bytes ≡ Ok value
+  pub told_ends : {A : Type 0} (name : List ℕ) (grammar : List ℕ → Result A Refusal) (next : List ℕ → A → Job) (bytes : List ℕ) (value : A) → FileIsTold store name bytes → grammar bytes ≡ Ok value
       → JobEnds store after (reading_whole name grammar next) ending text → JobEnds store after (next bytes value) ending text
   told_ends name grammar next bytes value told accepted (inl h) = absurd (none (cannot store after name ending text h.0))
   told_ends {A} name grammar next bytes value told accepted (inr h) =
@@ -58,11 +58,11 @@ module _ (after : StoreView) (ending : Ending) (text : List ℕ) (store : StoreV
       (told_ends name (script_of w) (λ bytes calls. (scripts_stage w names).job (λ more. next (calls ∷ more))) tell.0.bytes script tell.0.told tell.0.accepted h)
 
   pub images_told : (logs : List ℕ) (i : ℕ) (images : List (List (List ℕ))) (next : List (List (List ℕ)) → Job)
-      → TellImages store logs i images → JobEnds store after (each_job lines_stage (image_names logs i (length images)) next) ending text → JobEnds store after (next images) ending text
+      → TellImages store logs i images → JobEnds store after (each_job lines_stage (log_names logs i (length images)) next) ending text → JobEnds store after (next images) ending text
   images_told logs i [] next tell h = h
-  images_told logs i (image ∷ images) next tell (inl h) = absurd (none (cannot store after (image_name logs i) ending text h.0))
+  images_told logs i (image ∷ images) next tell (inl h) = absurd (none (cannot store after (log_name logs i) ending text h.0))
   images_told logs i (image ∷ images) next tell (inr h) =
-      let same = held_bytes store (image_name logs i) tell.0.bytes h.0 tell.0.told h.1.0 in
-      let here = subst (λ (b : List ℕ). JobEnds store after (each_job lines_stage (image_names logs (suc i) (length images)) (λ more. next (image_lines b ∷ more))) ending text) same h.1.1 in
-      let there = subst (λ (lines : List (List ℕ)). JobEnds store after (each_job lines_stage (image_names logs (suc i) (length images)) (λ more. next (lines ∷ more))) ending text) (sym tell.0.image) here in
+      let same = held_bytes store (log_name logs i) tell.0.bytes h.0 tell.0.told h.1.0 in
+      let here = subst (λ (b : List ℕ). JobEnds store after (each_job lines_stage (log_names logs (suc i) (length images)) (λ more. next (image_lines b ∷ more))) ending text) same h.1.1 in
+      let there = subst (λ (lines : List (List ℕ)). JobEnds store after (each_job lines_stage (log_names logs (suc i) (length images)) (λ more. next (lines ∷ more))) ending text) (sym tell.0.image) here in
       images_told logs (suc i) images (λ more. next (image ∷ more)) tell.1 there

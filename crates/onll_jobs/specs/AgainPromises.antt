@@ -5,13 +5,14 @@ use Rattle.onll_model.specs.declared.call.Call.{Call}
 use Rattle.onll_core.specs.declared.fault.ResumeFault.{ResumeFault}
 use Rattle.onll_core.specs.declared.fault.ResumeFault.TheVariants.{TooMany}
 use Rattle.onll_core.specs.Core.{CoreState}
-use Rattle.onll_core.specs.Created.{heads_from, created_heads}
+use Rattle.onll_core.specs.Created.{created_heads}
+use Rattle.onll_log.specs.Head.{heads_from}
 use Rattle.onll_core.specs.Crash.{images_of, RecoversAll}
 use Rattle.onll_core.specs.Durable.{AlwaysDurable}
 use Rattle.onll_core.specs.Resume.{found_in, resumed}
 use Rattle.onll_core.specs.Step.{steps_of}
 use Rattle.onll_core.specs.Turns.{turns_of}
-use Rattle.onll_run.specs.Left.{Recovers}
+use Rattle.onll_run.specs.Left.{ImagesRecover}
 use Rattle.onll_text.specs.declared.any_object.AnyObject.{AnyObject}
 use Rattle.onll_text.specs.declared.schedule.Schedule.{Schedule}
 use Rattle.onll_text.specs.Init.{init_of}
@@ -23,13 +24,13 @@ use Rattle.onll_text.specs.Wording.{Wording}
 use Rattle.onll_outside.specs.Views.{StoreView}
 use Rattle.onll_task.specs.declared.ending.Ending.TheVariants.{Done, Refused, BadLog}
 use Rattle.onll_task.specs.Images.{images_stage}
-use Rattle.onll_task.specs.Reading.{IsTold, Reads}
+use Rattle.onll_task.specs.Reading.{FileIsTold, Reads}
 use Rattle.onll_task.specs.Writing.{FilesStay}
 use Rattle.onll_merge.specs.Recovered.{recovered_with}
 use Rattle.onll_recovery.specs.AgainJob.{resume_ending, resume_text}
 use Rattle.onll_recovery.specs.ReplayJob.{ReadScripts, replay_report}
 use Rattle.onll_jobs.specs.Command.{Again, form_of}
-use Rattle.onll_jobs.specs.Durable.{TellImages, IsLeft, LeavesAll, with_images}
+use Rattle.onll_jobs.specs.Durable.{TellImages, AreLeftFiles, FilesLeaveAll, with_images}
 use Rattle.onll_jobs.specs.RunPromises.{plan_from}
 use Rattle.onll_jobs.specs.RunRecovers.{IsLeftByRun}
 use Rattle.onll_jobs.specs.Says.{NoneRose, SaysThis, PutOverInit}
@@ -39,7 +40,7 @@ use Rattle.onll_jobs.specs.Seen.{Seen}
 module _ (k : ObjectKind) (init : List ℕ) (s : k.State) (store : StoreView) (schedule logs : List ℕ)
     (names : List (List ℕ)) where
   -- the files hold these scripts, this schedule of them, and as logs these images
-  pub record HasRead (scripts : List (List (Call k.State k.Op k.Query k.Reply))) (plan : Schedule)
+  pub record HasReadFiles (scripts : List (List (Call k.State k.Op k.Query k.Reply))) (plan : Schedule)
       (images : List (List (List ℕ))) : Type 0 where
     pub read : ReadScripts k.wording store names scripts
     pub planned : Reads store (schedule_of (length scripts)) schedule plan
@@ -49,11 +50,11 @@ module _ (k : ObjectKind) (init : List ℕ) (s : k.State) (store : StoreView) (s
   -- the images in the files of the logs. Every run of these scripts from there on, by any schedule, is durable at each step; and what is
   -- printed of this one is its calls and its trace, which begins with what the images gave, and the front of that trace which the
   -- images of its crash recover to. They are in the files of the logs.
-  pub record HasGoneOn (after : StoreView) (text : List ℕ) : Type 0 where
+  pub record IsResumedReport (after : StoreView) (text : List ℕ) : Type 0 where
     pub scripts : List (List (Call k.State k.Op k.Query k.Reply))
     pub plan : Schedule
     pub images : List (List (List ℕ))
-    pub files_read : HasRead scripts plan images
+    pub files_read : HasReadFiles scripts plan images
     pub begun : CoreState k.State k.Op k.Query k.Reply
     pub goes_on : resumed k.means k.code init s images scripts ≡ Ok begun
     pub durable : AlwaysDurable k.means k.code init s scripts begun
@@ -69,7 +70,7 @@ module _ (k : ObjectKind) (init : List ℕ) (s : k.State) (store : StoreView) (s
     pub scripts : List (List (Call k.State k.Op k.Query k.Reply))
     pub plan : Schedule
     pub images : List (List (List ℕ))
-    pub files_read : HasRead scripts plan images
+    pub files_read : HasReadFiles scripts plan images
     pub fault : ResumeFault
     pub refused : resumed k.means k.code init s images scripts ≡ Err fault
     pub bad : resume_ending fault ≡ BadLog
@@ -79,7 +80,7 @@ module _ (k : ObjectKind) (init : List ℕ) (s : k.State) (store : StoreView) (s
 -- the named file is told, and its text is accepted as this value
 pub record TellsValue {A : Type 0} (store : StoreView) (grammar : List ℕ → Result A Refusal) (name : List ℕ) (value : A) : Type 0 where
   pub bytes : List ℕ
-  pub told : IsTold store name bytes
+  pub told : FileIsTold store name bytes
   pub accepted : grammar bytes ≡ Ok value
 
 -- so are a script for each name
@@ -115,13 +116,13 @@ module _ (k : ObjectKind) (init : List ℕ) (s : k.State) (seen : Seen) (status 
   -- From the files of the logs, whatever a crash left of them after any number of generations, these scripts go on: from what the core
   -- went on from, every returned update and all that returned reads saw.
   pub record SaysOnLeft (texts : TellsPlan k seen.store schedule names)
-      (left : IsLeft k init s seen.store logs (length names)) : Type 0 where
-    pub leaves : LeavesAll k init s seen.store logs (length names) left
+      (left : AreLeftFiles k init s seen.store logs (length names)) : Type 0 where
+    pub leaves : FilesLeaveAll k init s seen.store logs (length names) left
     pub says : SaysOn k init s seen status logs names texts.scripts texts.plan (resumed k.means k.code init s left.images texts.scripts)
 
   abbrev pub GoesOnLeft : Type 0
   GoesOnLeft = (texts : TellsPlan k seen.store schedule names)
-      → (left : IsLeft k init s seen.store logs (length names)) → SaysOnLeft texts left
+      → (left : AreLeftFiles k init s seen.store logs (length names)) → SaysOnLeft texts left
 
   -- So they do from the logs that a run on threads kept, which give the front of its trace that they recover to, with all that the run
   -- went on from, every answered update and the place of every answered read.
@@ -129,7 +130,7 @@ module _ (k : ObjectKind) (init : List ℕ) (s : k.State) (seen : Seen) (status 
       (left : IsLeftByRun k init s seen.store logs (length names)) : Type 0 where
     pub images : List (List (List ℕ))
     pub files : TellImages seen.store logs 0 images
-    pub recovers : Recovers k.means (plan_from left.from k init logs s left.reported.scripts).run left.reported.left images
+    pub recovers : ImagesRecover k.means (plan_from left.from k init logs s left.reported.scripts).run left.reported.left images
     pub gives : found_in k.means (heads_from (length names) k.code init 0 (length names)) images
         ≡ Ok (record { logs = recovers.logs; nodes = recovers.nodes })
     pub says : SaysOn k init s seen status logs names texts.scripts texts.plan (resumed k.means k.code init s images texts.scripts)
@@ -139,11 +140,11 @@ module _ (k : ObjectKind) (init : List ℕ) (s : k.State) (seen : Seen) (status 
       → (left : IsLeftByRun k init s seen.store logs (length names)) → SaysOnRun texts left
 
 -- a run that goes on, by the words, over the initial state that a file tells, where no call of the store or of the sink failed
-abbrev pub GoesOn : Seen
+abbrev pub RunGoesOn : Seen
     → ((k : ObjectKind) → List ℕ → k.State → (schedule logs : List ℕ) → List (List ℕ) → Type 0) → Type 0
-GoesOn seen Holds = (init schedule logs bytes : List ℕ) (names : List (List ℕ)) (object : AnyObject)
+RunGoesOn seen Holds = (init schedule logs bytes : List ℕ) (names : List (List ℕ)) (object : AnyObject)
     → form_of seen.words ≡ Some (Again init schedule logs names)
-    → IsTold seen.store init bytes → init_of bytes ≡ Ok object → NoneRose seen
+    → FileIsTold seen.store init bytes → init_of bytes ≡ Ok object → NoneRose seen
     → on_object (λ k s. Holds k bytes s schedule logs names) object
 
 -- What a run that goes on promises beside. What it prints is one run of scripts from what the images gave, every run of which is durable at
@@ -151,8 +152,8 @@ GoesOn seen Holds = (init schedule logs bytes : List ℕ) (names : List (List �
 -- that a crash or a run on threads left it goes on, unless a script has too many updates.
 pub record AgainPromises (seen : Seen) (status : ℕ) : Type 0 where
   pub durable : (init schedule logs : List ℕ) (names : List (List ℕ)) → form_of seen.words ≡ Some (Again init schedule logs names)
-      → status ≡ 0 → PutOverInit seen init (λ k bytes s store after text. HasGoneOn k bytes s store schedule logs names after text)
+      → status ≡ 0 → PutOverInit seen init (λ k bytes s store after text. IsResumedReport k bytes s store schedule logs names after text)
   pub bad_logs : (init schedule logs : List ℕ) (names : List (List ℕ)) → form_of seen.words ≡ Some (Again init schedule logs names)
       → status ≡ 4 → PutOverInit seen init (λ k bytes s store after text. HasBadLogs k bytes s store schedule logs names after text)
-  pub left : GoesOn seen (λ k bytes s schedule logs names. GoesOnLeft k bytes s seen status schedule logs names)
-  pub run : GoesOn seen (λ k bytes s schedule logs names. GoesOnRun k bytes s seen status schedule logs names)
+  pub left : RunGoesOn seen (λ k bytes s schedule logs names. GoesOnLeft k bytes s seen status schedule logs names)
+  pub run : RunGoesOn seen (λ k bytes s schedule logs names. GoesOnRun k bytes s seen status schedule logs names)

@@ -13,7 +13,7 @@ use Rattle.onll_audit.specs.Legality.{IsLegalReport}
 use Rattle.onll_audit.specs.Verdict.{verdict_of}
 use Rattle.onll_outside.specs.Views.{StoreView}
 use Rattle.onll_task.specs.declared.ending.Ending.TheVariants.{Done}
-use Rattle.onll_task.specs.Reading.{IsTold, ReadsWhole}
+use Rattle.onll_task.specs.Reading.{FileIsTold, ReadsWhole}
 use Rattle.onll_task.specs.Running.{RunLeft, PlanReads}
 use Rattle.onll_recovery.specs.ReplayJob.{ReadScripts}
 use Rattle.onll_runner.specs.RunJob.{run_plan}
@@ -68,14 +68,14 @@ pub record IsReportOfRun (k : ObjectKind) (init : List ℕ) (s : k.State) (store
   pub left : RunLeft k
   pub run : HasRun k.means (run_plan k init logs s scripts).run left
   pub reads : PlanReads (run_plan k init logs s scripts) left
-  pub told : IsTold store report (plan_report (run_plan k init logs s scripts) left)
+  pub told : FileIsTold store report (plan_report (run_plan k init logs s scripts) left)
 
 -- it is found legal, over the initial state that a file tells, where no call of the store or of the sink failed; or memory could not
 -- be had
 abbrev pub FindsRunsLegal : Seen → ℕ → Type 0
 FindsRunsLegal seen status = (init report bytes : List ℕ) (names : List (List ℕ)) (object : AnyObject)
     → form_of seen.words ≡ Some (Audit init report names)
-    → IsTold seen.store init bytes → init_of bytes ≡ Ok object → NoneRose seen
+    → FileIsTold seen.store init bytes → init_of bytes ≡ Ok object → NoneRose seen
     → on_object (λ k s. IsReportOfRun k bytes s seen.store report names → SaysThis seen status Done legal_text) object
 
 -- the text is the report of a run of the scripts that the files hold, and is judged legal by these

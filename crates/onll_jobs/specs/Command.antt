@@ -10,7 +10,7 @@ use Rattle.onll_workload.specs.Workload.{IsWorkload}
 use Rattle.onll_eras.specs.Names.{EraNames, names_of}
 use Rattle.onll_jobs.specs.declared.command.Command.{Command}
 use Rattle.onll_jobs.specs.declared.command.Command.TheVariants as commands
-use Rattle.onll_jobs.specs.Over.{OverForm, FoldOver, RecoverOver, ReplayOver, AgainOver, ResumeOver, RunOver, DetectOver, FollowOver, AuditOver, over_in, is_over, IsOver}
+use Rattle.onll_jobs.specs.Over.{OverForm, FoldOver, RecoverOver, ReplayOver, AgainOver, ResumeOver, RunOver, DetectOver, FollowOver, AuditOver, over_in, is_over, OverFits}
 
 -- A form of the program's words: a command over the object whose initial state a file holds, or one of an image, or a workload, or a
 -- command over the areas of checkpoints, or over eras of so many threads, or the stream of so many threads' logs.
@@ -177,7 +177,7 @@ form_in (commands.Ship logs threads out) = Ship logs.now threads out.now
 
 -- it is within the limits
 abbrev pub IsCommand : Command → Type 0
-IsCommand (commands.OverInit init over) = IsOver over
+IsCommand (commands.OverInit init over) = OverFits over
 IsCommand (commands.Show image) = Unit {0}
 IsCommand (commands.Make workload) = IsWorkload workload
 IsCommand (commands.Areas ckpt) = Unit {0}

@@ -18,11 +18,11 @@ use Rattle.onll_text.specs.Kinds.{ObjectKind, on_object}
 use Rattle.onll_text.specs.Lines.{call_line}
 use Rattle.onll_text.specs.Wording.{Wording}
 use Rattle.onll_task.specs.declared.ending.Ending.TheVariants.{Done}
-use Rattle.onll_task.specs.Reading.{IsTold}
+use Rattle.onll_task.specs.Reading.{FileIsTold}
 use Rattle.onll_recovery.specs.DetectJob.{detect_lines}
 use Rattle.onll_jobs.specs.AgainPromises.{TellScripts}
 use Rattle.onll_jobs.specs.Command.{Detect, form_of}
-use Rattle.onll_jobs.specs.Durable.{IsLeft, LeavesAll}
+use Rattle.onll_jobs.specs.Durable.{AreLeftFiles, FilesLeaveAll}
 use Rattle.onll_jobs.specs.Says.{NoneRose, SaysThis}
 use Rattle.onll_jobs.specs.Seen.{Seen}
 
@@ -38,7 +38,7 @@ module _ (k : ObjectKind) (init : List ℕ) (s : k.State) (seen : Seen) (logs : 
   -- A crash left the files of the logs, and the core ran the very scripts that the other files hold, from the initial state on.
   pub record IsLeftByFirst (scripts : List (List (Call k.State k.Op k.Query k.Reply))) : Type 0 where
     pub tell : TellScripts k.wording seen.store names scripts
-    pub left : IsLeft k init s seen.store logs (length names)
+    pub left : AreLeftFiles k init s seen.store logs (length names)
     pub ran : left.scripts ≡ scripts
     pub anew : created_core s k.code init scripts ≡ left.first
 
@@ -46,7 +46,7 @@ module _ (k : ObjectKind) (init : List ℕ) (s : k.State) (seen : Seen) (logs : 
   -- and its place; or memory could not be had.
   pub record TellsLeft (status : ℕ) (scripts : List (List (Call k.State k.Op k.Query k.Reply)))
       (first : IsLeftByFirst scripts) : Type 0 where
-    pub leaves : LeavesAll k init s seen.store logs (length names) first.left
+    pub leaves : FilesLeaveAll k init s seen.store logs (length names) first.left
     pub lines : List (List (List ℕ))
     pub lines_are : lines
         ≡ detect_lines k.wording (table_of k.means s leaves.all.recovers.nodes) scripts (length leaves.all.recovers.nodes)
@@ -57,7 +57,7 @@ module _ (k : ObjectKind) (init : List ℕ) (s : k.State) (seen : Seen) (logs : 
 abbrev pub TellsCrashes : Seen → ℕ → Type 0
 TellsCrashes seen status = (init logs bytes : List ℕ) (names : List (List ℕ)) (object : AnyObject)
     → form_of seen.words ≡ Some (Detect init logs names)
-    → IsTold seen.store init bytes → init_of bytes ≡ Ok object → NoneRose seen
+    → FileIsTold seen.store init bytes → init_of bytes ≡ Ok object → NoneRose seen
     → on_object (λ k s. (scripts : List (List (Call k.State k.Op k.Query k.Reply)))
     (first : IsLeftByFirst k bytes s seen logs names scripts)
     → TellsLeft k bytes s seen logs names status scripts first) object

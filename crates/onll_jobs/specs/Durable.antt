@@ -4,9 +4,10 @@ use Rattle.std.specs.Prelude.{ℕ, suc, ◌≡◌, List, [], ◌∷◌, length, 
 use Rattle.onll_model.specs.declared.call.Call.{Call}
 use Rattle.onll_log.specs.ImageFile.{image_lines}
 use Rattle.onll_core.specs.Core.{CoreState}
-use Rattle.onll_core.specs.Created.{heads_from, created_heads, created_core, IsWithinLimits}
+use Rattle.onll_core.specs.Created.{created_heads, created_core, IsWithinLimits}
+use Rattle.onll_log.specs.Head.{heads_from}
 use Rattle.onll_core.specs.Crash.{images_of, AreImages, RecoversAll}
-use Rattle.onll_core.specs.Durable.{AlwaysDurable, Begins}
+use Rattle.onll_core.specs.Durable.{AlwaysDurable, CoreBegins}
 use Rattle.onll_core.specs.Resume.{found_in}
 use Rattle.onll_core.specs.Step.{steps_of}
 use Rattle.onll_text.specs.declared.any_object.AnyObject.{AnyObject}
@@ -18,9 +19,9 @@ use Rattle.onll_outside.specs.Views.{StoreView, Puts}
 use Rattle.onll_task.specs.declared.ending.Ending.TheVariants.{Done}
 use Rattle.onll_jobs.specs.Seen.{Seen}
 use Rattle.onll_jobs.specs.Command.{Recover, Replay, form_of}
-use Rattle.onll_task.specs.Reading.{IsTold, Reads, ReadsWhole}
+use Rattle.onll_task.specs.Reading.{FileIsTold, Reads, ReadsWhole}
 use Rattle.onll_task.specs.Writing.{FilesStay, written}
-use Rattle.onll_task.specs.ImageNames.{image_name}
+use Rattle.onll_open.specs.Names.{log_name}
 use Rattle.onll_task.specs.Images.{image_bytes}
 use Rattle.onll_merge.specs.Recovered.{recovered_with}
 use Rattle.onll_recovery.specs.RecoverJob.{recover_report}
@@ -31,7 +32,7 @@ use Rattle.onll_jobs.specs.Says.{NoneRose, SaysThis}
 -- the store after the images of threads, from thread i on, were made files
 abbrev pub with_images : StoreView → List ℕ → ℕ → List (List (List ℕ)) → StoreView
 with_images store logs i [] = store
-with_images store logs i (image ∷ images) = with_images (written store (image_name logs i) (image_bytes image)) logs (suc i) images
+with_images store logs i (image ∷ images) = with_images (written store (log_name logs i) (image_bytes image)) logs (suc i) images
 
 -- This text is the report of a run of the scripts that the files hold, by the schedule that a file holds. Every run of these
 -- scripts, by any schedule, is durable at each step; and what is printed of this one is its calls and its trace, and the front
@@ -73,22 +74,22 @@ ReplayIsDurable seen status = (init schedule logs : List ℕ) (names : List (Lis
 -- the named file is told, and holds an image with these lines
 pub record TellsImage (store : StoreView) (name : List ℕ) (lines : List (List ℕ)) : Type 0 where
   pub bytes : List ℕ
-  pub told : IsTold store name bytes
+  pub told : FileIsTold store name bytes
   pub image : lines ≡ image_lines bytes
 
 -- the files of the threads from i on are told, and hold these images
 abbrev pub TellImages : StoreView → List ℕ → ℕ → List (List (List ℕ)) → Type 0
 TellImages store logs i [] = Unit {0}
-TellImages store logs i (image ∷ images) = TellsImage store (image_name logs i) image × TellImages store logs (suc i) images
+TellImages store logs i (image ∷ images) = TellsImage store (log_name logs i) image × TellImages store logs (suc i) images
 
 -- A crash left the files of the logs: a core ran some scripts within the limits, by any steps of its threads, anew or going on from any
 -- images, and so after any number of generations; each file holds any of the images that its device may have.
-pub record IsLeft (k : ObjectKind) (init : List ℕ) (s : k.State) (store : StoreView) (logs : List ℕ) (threads : ℕ) : Type 0 where
+pub record AreLeftFiles (k : ObjectKind) (init : List ℕ) (s : k.State) (store : StoreView) (logs : List ℕ) (threads : ℕ) : Type 0 where
   pub scripts : List (List (Call k.State k.Op k.Query k.Reply))
   pub within : IsWithinLimits k.code scripts
   pub many : length scripts ≡ threads
   pub first : CoreState k.State k.Op k.Query k.Reply
-  pub begins : Begins k.means k.code init s scripts first
+  pub begins : CoreBegins k.means k.code init s scripts first
   pub steps : List ℕ
   pub images : List (List (List ℕ))
   pub left : AreImages (steps_of k.means first steps).threads images
@@ -96,8 +97,8 @@ pub record IsLeft (k : ObjectKind) (init : List ℕ) (s : k.State) (store : Stor
 
 -- Its images recover to the front of the core's trace which holds all that it went on from, every returned update and all that returned
 -- reads saw; and that is what they give to as many scripts.
-pub record LeavesAll (k : ObjectKind) (init : List ℕ) (s : k.State) (store : StoreView) (logs : List ℕ) (threads : ℕ)
-    (left : IsLeft k init s store logs threads) : Type 0 where
+pub record FilesLeaveAll (k : ObjectKind) (init : List ℕ) (s : k.State) (store : StoreView) (logs : List ℕ) (threads : ℕ)
+    (left : AreLeftFiles k init s store logs threads) : Type 0 where
   pub all : RecoversAll k.means (created_heads k.code init left.scripts) (steps_of k.means left.first left.steps) left.images
   pub front : take (length left.first.trace) all.recovers.nodes ≡ left.first.trace
   pub gives : found_in k.means (heads_from threads k.code init 0 threads) left.images
@@ -105,21 +106,21 @@ pub record LeavesAll (k : ObjectKind) (init : List ℕ) (s : k.State) (store : S
 
 -- What is printed is that front, and the state after it; or memory could not be had.
 pub record RecoversLeft (k : ObjectKind) (init : List ℕ) (s : k.State) (seen : Seen) (status : ℕ) (logs : List ℕ) (threads : ℕ)
-    (left : IsLeft k init s seen.store logs threads) : Type 0 where
-  pub leaves : LeavesAll k init s seen.store logs threads left
+    (left : AreLeftFiles k init s seen.store logs threads) : Type 0 where
+  pub leaves : FilesLeaveAll k init s seen.store logs threads left
   pub says : SaysThis seen status Done (recover_report k.means k.wording s
       (recovered_with leaves.all.recovers.logs leaves.all.recovers.nodes))
 
 -- the same for an object of any kind
 abbrev pub RecoversLeftAny : (init : List ℕ) → Seen → (status : ℕ) → (logs : List ℕ) → (threads : ℕ) → AnyObject → Type 0
 RecoversLeftAny init seen status logs threads object =
-    on_object (λ k s. (left : IsLeft k init s seen.store logs threads) → RecoversLeft k init s seen status logs threads left) object
+    on_object (λ k s. (left : AreLeftFiles k init s seen.store logs threads) → RecoversLeft k init s seen status logs threads left) object
 
 -- a recovery over the initial state that a file tells, where no call of the store or of the sink failed
 abbrev pub RecoversCrashes : Seen → ℕ → Type 0
 RecoversCrashes seen status = (init logs bytes : List ℕ) (threads : ℕ) (object : AnyObject)
     → form_of seen.words ≡ Some (Recover init logs threads)
-    → IsTold seen.store init bytes → init_of bytes ≡ Ok object → NoneRose seen → RecoversLeftAny bytes seen status logs threads object
+    → FileIsTold seen.store init bytes → init_of bytes ≡ Ok object → NoneRose seen → RecoversLeftAny bytes seen status logs threads object
 
 -- What a recovery promises beside: from the files of the logs, whatever a crash left of them after whatever generations, it prints that
 -- front, or the status is 9.

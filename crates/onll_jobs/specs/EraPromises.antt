@@ -3,7 +3,7 @@
 use Rattle.std.specs.Prelude.{ℕ, ◌≡◌, ◌+◌, ◌^◌, ◌<◌, ◌⊎◌, true, List, Some}
 use Rattle.onll_outside.specs.Views.{Puts, counted}
 use Rattle.onll_task.specs.declared.ending.Ending.TheVariants.{Done}
-use Rattle.onll_eras.specs.Begun.{AreApart, BeginsNext}
+use Rattle.onll_eras.specs.Begun.{AreNamesApart, BeginsNext}
 use Rattle.onll_eras.specs.EndingLaws.{HasFenceFault, HasFileFault}
 use Rattle.onll_eras.specs.EraReports.{checkpoint_text}
 use Rattle.onll_eras.specs.Eras.{next_area}
@@ -45,7 +45,7 @@ pub record HasCheckpoint (seen : Seen) (names : EraNames) (threads : ℕ) : Type
   pub text : List ℕ
   pub was : Restores seen.store names threads place text
   pub put : Puts seen.sink seen.sink_after (checkpoint_text ((era_in was).number + 1) place text)
-  pub begins : AreApart names (next_area (era_in was)) threads → BeginsNext was seen.store_after
+  pub begins : AreNamesApart names (next_area (era_in was)) threads → BeginsNext was seen.store_after
 
 -- the line of a fence that failed was put
 pub record HasPutFence (seen : Seen) (threads : ℕ) : Type 0 where
@@ -70,7 +70,7 @@ pub record NoDeviceFailed (seen : Seen) : Type 0 where
 pub record CheckpointPromises (seen : Seen) (status : ℕ) : Type 0 where
   pub kept : (names : EraNames) (threads place : ℕ) (text : List ℕ) → form_of seen.words ≡ Some (Checkpoint names threads)
       → seen.store.tells ≡ true → (r : Restores seen.store names threads place text)
-      → AreApart names (next_area (era_in r)) threads → Restores seen.store_after names threads place text
+      → AreNamesApart names (next_area (era_in r)) threads → Restores seen.store_after names threads place text
   pub done : (names : EraNames) (threads : ℕ) → form_of seen.words ≡ Some (Checkpoint names threads) → seen.store.tells ≡ true
       → status ≡ 0 → HasCheckpoint seen names threads
   pub fence : (names : EraNames) (threads : ℕ) → form_of seen.words ≡ Some (Checkpoint names threads) → status ≡ 7

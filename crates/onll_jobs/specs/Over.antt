@@ -10,13 +10,13 @@ use Rattle.onll_text.specs.Kinds.{ObjectKind, kind_at, on_kind}
 use Rattle.onll_jobs.specs.declared.objects.Over.{Over}
 use Rattle.onll_jobs.specs.declared.objects.Over.TheVariants as overs
 use Rattle.onll_task.specs.declared.answer.Stop.{Stop}
-use Rattle.onll_task.specs.Doing.{Task, Work, Does, after_stage, whole_stage}
+use Rattle.onll_task.specs.Doing.{Task, Work, Fulfils, after_stage, whole_stage}
 use Rattle.onll_task.specs.Job.{Job, Threads}
 use Rattle.onll_task.specs.Running.{RunPlan, RunLeft}
 use Rattle.onll_task.specs.Standing.{StandsForRuns}
 use Rattle.onll_jobs.specs.AuditJob.{audit_task}
 use Rattle.onll_jobs.specs.FoldJob.{script_task}
-use Rattle.onll_task.specs.ImageNames.{image_names}
+use Rattle.onll_open.specs.Names.{log_names}
 use Rattle.onll_recovery.specs.RecoverJob.{logs_task}
 use Rattle.onll_recovery.specs.ReplayJob.{scripts_task}
 use Rattle.onll_recovery.specs.AgainJob.{again_task}
@@ -66,16 +66,16 @@ is_over (FollowOver threads stream piece) =
 is_over (AuditOver report names) = nat_le 1 (length names) && nat_le (length names) most_threads
 
 -- the same of the code's words
-abbrev pub IsOver : Over → Type 0
-IsOver (overs.Fold script) = Unit {0}
-IsOver (overs.Recover logs threads) = (1 ≤ threads) × (threads ≤ most_threads)
-IsOver (overs.Replay schedule logs scripts) = (1 ≤ length scripts.now) × (length scripts.now ≤ most_threads)
-IsOver (overs.Again schedule logs scripts) = (1 ≤ length scripts.now) × (length scripts.now ≤ most_threads)
-IsOver (overs.Resume logs scripts) = (1 ≤ length scripts.now) × (length scripts.now ≤ most_threads)
-IsOver (overs.Run logs scripts) = (1 ≤ length scripts.now) × (length scripts.now ≤ most_threads)
-IsOver (overs.Detect logs scripts) = (1 ≤ length scripts.now) × (length scripts.now ≤ most_threads)
-IsOver (overs.Follow threads stream piece) = (1 ≤ threads) × (threads ≤ most_threads) × (1 ≤ piece) × (piece ≤ longest_piece)
-IsOver (overs.Audit report scripts) = (1 ≤ length scripts.now) × (length scripts.now ≤ most_threads)
+abbrev pub OverFits : Over → Type 0
+OverFits (overs.Fold script) = Unit {0}
+OverFits (overs.Recover logs threads) = (1 ≤ threads) × (threads ≤ most_threads)
+OverFits (overs.Replay schedule logs scripts) = (1 ≤ length scripts.now) × (length scripts.now ≤ most_threads)
+OverFits (overs.Again schedule logs scripts) = (1 ≤ length scripts.now) × (length scripts.now ≤ most_threads)
+OverFits (overs.Resume logs scripts) = (1 ≤ length scripts.now) × (length scripts.now ≤ most_threads)
+OverFits (overs.Run logs scripts) = (1 ≤ length scripts.now) × (length scripts.now ≤ most_threads)
+OverFits (overs.Detect logs scripts) = (1 ≤ length scripts.now) × (length scripts.now ≤ most_threads)
+OverFits (overs.Follow threads stream piece) = (1 ≤ threads) × (threads ≤ most_threads) × (1 ≤ piece) × (piece ≤ longest_piece)
+OverFits (overs.Audit report scripts) = (1 ≤ length scripts.now) × (length scripts.now ≤ most_threads)
 
 -- the task over a state of this kind, which these bytes say; a part of its job that runs scripts on threads is made so
 abbrev pub over_task : OverForm → (k : ObjectKind) → (RunPlan k → (RunLeft k → Job) → Job) → List ℕ → k.State → Task
@@ -97,10 +97,10 @@ object_task over init object = on_kind (λ kind s. over_task over (kind_at kind)
 abbrev pub over_writes : OverForm → List (List ℕ)
 over_writes (FoldOver script) = []
 over_writes (RecoverOver logs threads) = []
-over_writes (ReplayOver schedule logs names) = image_names logs 0 (length names)
-over_writes (AgainOver schedule logs names) = image_names logs 0 (length names)
-over_writes (ResumeOver logs names) = image_names logs 0 (length names)
-over_writes (RunOver logs names) = image_names logs 0 (length names)
+over_writes (ReplayOver schedule logs names) = log_names logs 0 (length names)
+over_writes (AgainOver schedule logs names) = log_names logs 0 (length names)
+over_writes (ResumeOver logs names) = log_names logs 0 (length names)
+over_writes (RunOver logs names) = log_names logs 0 (length names)
 over_writes (DetectOver logs names) = []
 over_writes (FollowOver threads stream piece) = []
 over_writes (AuditOver report names) = []
@@ -109,7 +109,7 @@ over_writes (AuditOver report names) = []
 pub record DoesOver {A : Type 0} (over : OverForm) (k : ObjectKind) (store after : StoreView) (init : List ℕ) (s : k.State)
     (result : Result (Vec ℕ A) Stop) : Type 0 where
   pub by : (threads : RunPlan k → (RunLeft k → Job) → Job) → StandsForRuns k threads
-      → Does (over_writes over) store after (over_task over k threads init s) result
+      → Fulfils (over_writes over) store after (over_task over k threads init s) result
 
 -- the initial state is read first
 abbrev pub over_work : (init : List ℕ) → OverForm → Work

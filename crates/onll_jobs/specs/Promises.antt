@@ -11,18 +11,18 @@ use Rattle.onll_jobs.specs.DetectPromises.{DetectPromises}
 use Rattle.onll_jobs.specs.EraPromises.{RestorePromises, CheckpointPromises}
 use Rattle.onll_jobs.specs.Durable.{RecoverPromises, ReplayPromises}
 use Rattle.onll_task.specs.Job.{Decides}
-use Rattle.onll_jobs.specs.Says.{job_of, writes_of, Ended, IsDetermined, NoneRose, NothingFailed, OutOfMemory, PutWhole, SaysThis, SinkFailed}
+use Rattle.onll_jobs.specs.Says.{job_of, writes_of, HasExited, IsDetermined, NoneRose, NothingFailed, OutOfMemory, PutWhole, SaysThis, SinkFailed}
 use Rattle.onll_jobs.specs.ResumePromises.{ResumePromises}
 use Rattle.onll_jobs.specs.RunPromises.{RunPromises}
 use Rattle.onll_jobs.specs.RunRecovers.{RecoversRuns}
 use Rattle.onll_jobs.specs.MakePromises.{MakePromises}
 use Rattle.onll_jobs.specs.ShipPromises.{ShipPromises, FollowPromises}
 use Rattle.onll_jobs.specs.Seen.{Seen}
-use Rattle.onll_task.specs.Writing.{SameBut}
+use Rattle.onll_open.specs.Files.{SameBut}
 
 pub record Promises (seen : Seen) (status : ℕ) : Type 0 where
   -- The status is that of an exit, which says this of the words, the files and what was put.
-  pub ended : Ended seen status
+  pub ended : HasExited seen status
   -- What each status says.
   pub done : status ≡ 0 → PutWhole seen Done
   pub usage : status ≡ 2 → (form_of seen.words ≡ None) × Puts seen.sink seen.sink_after usage_text

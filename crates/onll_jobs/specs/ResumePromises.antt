@@ -4,9 +4,10 @@ use Rattle.std.specs.Prelude.{ℕ, ◌≡◌, ◌⊎◌, List, [], ◌∷◌, le
 use Rattle.onll_model.specs.declared.call.Call.{Call}
 use Rattle.onll_core.specs.declared.fault.ResumeFault.{ResumeFault}
 use Rattle.onll_core.specs.declared.fault.ResumeFault.TheVariants.{TooMany}
-use Rattle.onll_core.specs.Created.{heads_from, created_heads}
+use Rattle.onll_core.specs.Created.{created_heads}
+use Rattle.onll_log.specs.Head.{heads_from}
 use Rattle.onll_core.specs.Resume.{Found, found_in, base_in}
-use Rattle.onll_run.specs.Left.{Recovers}
+use Rattle.onll_run.specs.Left.{ImagesRecover}
 use Rattle.onll_text.specs.declared.any_object.AnyObject.{AnyObject}
 use Rattle.onll_text.specs.Init.{init_of}
 use Rattle.onll_text.specs.Kinds.{ObjectKind, on_object}
@@ -16,12 +17,12 @@ use Rattle.onll_outside.specs.Views.{StoreView, Puts}
 use Rattle.onll_task.specs.declared.ending.Ending.{Ending}
 use Rattle.onll_task.specs.declared.ending.Ending.TheVariants.{Refused, BadLog}
 use Rattle.onll_task.specs.Images.{images_stage}
-use Rattle.onll_task.specs.Reading.{IsTold, Reads, Refuses}
+use Rattle.onll_task.specs.Reading.{FileIsTold, Reads, RefusesFile}
 use Rattle.onll_recovery.specs.AgainJob.{resume_ending, resume_text}
 use Rattle.onll_recovery.specs.ReplayJob.{ReadScripts}
 use Rattle.onll_jobs.specs.AgainPromises.{TellScripts}
 use Rattle.onll_jobs.specs.Command.{Resume, form_of}
-use Rattle.onll_jobs.specs.Durable.{TellImages, IsLeft, LeavesAll}
+use Rattle.onll_jobs.specs.Durable.{TellImages, AreLeftFiles, FilesLeaveAll}
 use Rattle.onll_jobs.specs.RunPromises.{RanWhole, RanBroken, HasNoDevice, HasCut, OfFiles, RunIsCut, RunPut, SaysRan, plan_from}
 use Rattle.onll_jobs.specs.RunRecovers.{IsLeftByRun}
 use Rattle.onll_jobs.specs.Says.{NoneRose, SaysThis, SinkFailed}
@@ -64,18 +65,18 @@ ResumedCut k init s store after logs names = (found : Found) × HasCut (Some fou
 -- this text refuses a script, and those before it are accepted
 abbrev pub RefusesScript : {State Op Query Reply : Type 0} → Wording State Op Query Reply → StoreView → List (List ℕ) → List ℕ → Type 0
 RefusesScript w store [] text = ⊥
-RefusesScript {State} {Op} {Query} {Reply} w store (name ∷ names) text = Refuses store (script_of w) name text
+RefusesScript {State} {Op} {Query} {Reply} w store (name ∷ names) text = RefusesFile store (script_of w) name text
     ⊎ ((script : List (Call State Op Query Reply)) × Reads store (script_of w) name script × RefusesScript w store names text)
 
 -- this text refuses the first script that is refused; or, where all are accepted, one that has too many updates
-abbrev pub HasRefused : (k : ObjectKind) → List ℕ → k.State → StoreView → StoreView → List ℕ → List (List ℕ) → List ℕ → Type 0
-HasRefused k init s store after logs names text =
+abbrev pub RefusesByScript : (k : ObjectKind) → List ℕ → k.State → StoreView → StoreView → List ℕ → List (List ℕ) → List ℕ → Type 0
+RefusesByScript k init s store after logs names text =
     RefusesScript k.wording store names text ⊎ HasNoBase k init s store after logs names text Refused
 
 -- the initial state is refused, which was put
 pub record InitRefused (seen : Seen) (init : List ℕ) : Type 0 where
   pub text : List ℕ
-  pub refuses : Refuses seen.store init_of init text
+  pub refuses : RefusesFile seen.store init_of init text
   pub put : Puts seen.sink seen.sink_after text
 
 -- ---- when it is done
@@ -94,13 +95,13 @@ module _ (k : ObjectKind) (init : List ℕ) (s : k.State) (seen : Seen) (status 
   -- From the files of the logs, whatever a crash left of them after any number of generations, these scripts go on: from what the core
   -- went on from, every returned update and all that returned reads saw.
   pub record SaysFromLeft (scripts : List (List (Call k.State k.Op k.Query k.Reply)))
-      (left : IsLeft k init s seen.store logs (length names)) : Type 0 where
-    pub leaves : LeavesAll k init s seen.store logs (length names) left
+      (left : AreLeftFiles k init s seen.store logs (length names)) : Type 0 where
+    pub leaves : FilesLeaveAll k init s seen.store logs (length names) left
     pub says : SaysFrom (base_of scripts left.images)
 
   abbrev pub ResumesLeft : Type 0
   ResumesLeft = (scripts : List (List (Call k.State k.Op k.Query k.Reply))) → TellScripts k.wording seen.store names scripts
-      → (left : IsLeft k init s seen.store logs (length names)) → SaysFromLeft scripts left
+      → (left : AreLeftFiles k init s seen.store logs (length names)) → SaysFromLeft scripts left
 
   -- So they do from the logs that a run on threads kept, which give the front of its trace that they recover to, with all that the run
   -- went on from, every answered update and the place of every answered read.
@@ -108,7 +109,7 @@ module _ (k : ObjectKind) (init : List ℕ) (s : k.State) (seen : Seen) (status 
       (left : IsLeftByRun k init s seen.store logs (length names)) : Type 0 where
     pub images : List (List (List ℕ))
     pub files : TellImages seen.store logs 0 images
-    pub recovers : Recovers k.means (plan_from left.from k init logs s left.reported.scripts).run left.reported.left images
+    pub recovers : ImagesRecover k.means (plan_from left.from k init logs s left.reported.scripts).run left.reported.left images
     pub gives : found_in k.means (heads_from (length names) k.code init 0 (length names)) images
         ≡ Ok (record { logs = recovers.logs; nodes = recovers.nodes })
     pub says : SaysFrom (base_of scripts images)
@@ -121,7 +122,7 @@ module _ (k : ObjectKind) (init : List ℕ) (s : k.State) (seen : Seen) (status 
 abbrev pub Resumes : Seen → ((k : ObjectKind) → List ℕ → k.State → (logs : List ℕ) → List (List ℕ) → Type 0) → Type 0
 Resumes seen Holds = (init logs bytes : List ℕ) (names : List (List ℕ)) (object : AnyObject)
     → form_of seen.words ≡ Some (Resume init logs names)
-    → IsTold seen.store init bytes → init_of bytes ≡ Ok object → NoneRose seen
+    → FileIsTold seen.store init bytes → init_of bytes ≡ Ok object → NoneRose seen
     → on_object (λ k s. Holds k bytes s logs names) object
 
 -- What a run that goes on promises beside, for any store: what is printed is what its threads did from what the logs gave, which the
@@ -137,7 +138,7 @@ pub record ResumePromises (seen : Seen) (status : ℕ) : Type 0 where
   pub device : (init logs : List ℕ) (names : List (List ℕ)) → form_of seen.words ≡ Some (Resume init logs names)
       → status ≡ 6 → SinkFailed seen ⊎ RunPut seen init logs names ResumedNoDevice
   pub refused : (init logs : List ℕ) (names : List (List ℕ)) → form_of seen.words ≡ Some (Resume init logs names)
-      → status ≡ 3 → InitRefused seen init ⊎ RunPut seen init logs names HasRefused
+      → status ≡ 3 → InitRefused seen init ⊎ RunPut seen init logs names RefusesByScript
   pub bad_logs : (init logs : List ℕ) (names : List (List ℕ)) → form_of seen.words ≡ Some (Resume init logs names)
       → status ≡ 4 → RunPut seen init logs names HasBadBase
   pub memory : (init logs : List ℕ) (names : List (List ℕ)) → form_of seen.words ≡ Some (Resume init logs names)

@@ -14,7 +14,7 @@ use Rattle.onll_text.specs.declared.any_object.AnyObject.{AnyObject}
 use Rattle.onll_text.specs.Kinds.{ObjectKind, on_object}
 use Rattle.onll_outside.specs.Views.{StoreView, Puts, WentUp, counted}
 use Rattle.onll_task.specs.Images.{images_stage}
-use Rattle.onll_task.specs.Reading.{IsTold, ReadsWhole}
+use Rattle.onll_task.specs.Reading.{FileIsTold, ReadsWhole}
 use Rattle.onll_task.specs.Running.{RunPlan, RunLeft, PlanReads, HasKept, HeaderFault, DeviceFault, RunCut}
 use Rattle.onll_task.specs.Writing.{FilesStay}
 use Rattle.onll_recovery.specs.ReplayJob.{ReadScripts}
@@ -149,7 +149,7 @@ module _ (k : ObjectKind) (init : List ℕ) (s : k.State) (seen : Seen) (status 
 pub record TellsText {A : Type 0} (store : StoreView) (grammar : List ℕ → Result A Refusal) (name : List ℕ) : Type 0 where
   pub bytes : List ℕ
   pub value : A
-  pub told : IsTold store name bytes
+  pub told : FileIsTold store name bytes
   pub accepted : grammar bytes ≡ Ok value
 
 -- so are an initial state and scripts for its kind of object
@@ -162,7 +162,7 @@ abbrev pub IsRun : Seen → ℕ → Type 0
 IsRun seen status = (status ≡ 0) ⊎ ((status ≡ 7) × DeviceFailed seen) ⊎ (status ≡ 9)
 
 -- the words are those of a run, which begins anew or goes on
-pub record IsOfRun (seen : Seen) : Type 0 where
+pub record AreRunWords (seen : Seen) : Type 0 where
   pub init : List ℕ
   pub logs : List ℕ
   pub names : List (List ℕ)
@@ -183,7 +183,7 @@ pub record RunPromises (seen : Seen) (status : ℕ) : Type 0 where
       → status ≡ 0 → RunPut seen init logs names (RanWhole None)
   pub broken : (init logs : List ℕ) (names : List (List ℕ)) → form_of seen.words ≡ Some (Run init logs names)
       → status ≡ 7 → RunPut seen init logs names (RanBroken None)
-  pub only : status ≡ 7 → IsOfRun seen ⊎ IsOfCheckpoint seen
+  pub only : status ≡ 7 → AreRunWords seen ⊎ IsOfCheckpoint seen
   pub device : (init logs : List ℕ) (names : List (List ℕ)) → form_of seen.words ≡ Some (Run init logs names)
       → status ≡ 6 → SinkFailed seen ⊎ RunPut seen init logs names (HasNoDevice None)
   pub recovers : (init logs : List ℕ) (names : List (List ℕ)) → form_of seen.words ≡ Some (Run init logs names)

@@ -3,15 +3,15 @@
 use Rattle.std.specs.Prelude.{ℕ, ◌≡◌, List, true, length, map, Option, Some, Ok}
 use Rattle.std.specs.List.{AllByRecursion}
 use Rattle.onll_core.specs.Resume.{Found}
-use Rattle.onll_run.specs.Left.{Recovers, content_in}
+use Rattle.onll_run.specs.Left.{ImagesRecover, content_in}
 use Rattle.onll_merge.specs.Recovered.{recovered_with}
 use Rattle.onll_text.specs.declared.any_object.AnyObject.{AnyObject}
 use Rattle.onll_text.specs.Init.{init_of}
 use Rattle.onll_text.specs.Kinds.{ObjectKind, on_object}
 use Rattle.onll_outside.specs.Views.{StoreView}
 use Rattle.onll_task.specs.declared.ending.Ending.TheVariants.{Done}
-use Rattle.onll_task.specs.ImageNames.{image_names}
-use Rattle.onll_task.specs.Reading.{IsTold}
+use Rattle.onll_open.specs.Names.{log_names}
+use Rattle.onll_task.specs.Reading.{FileIsTold}
 use Rattle.onll_recovery.specs.RecoverJob.{recover_report}
 use Rattle.onll_jobs.specs.Command.{Recover, form_of}
 use Rattle.onll_jobs.specs.Durable.{TellImages}
@@ -20,8 +20,8 @@ use Rattle.onll_jobs.specs.Says.{NoneRose, SaysThis}
 use Rattle.onll_jobs.specs.Seen.{Seen}
 
 -- the files of these threads' logs are as in the other store
-abbrev pub SameLogs : StoreView → StoreView → List ℕ → ℕ → Type 0
-SameLogs store other logs threads = AllByRecursion (λ name. store.file name ≡ other.file name) (image_names logs 0 threads)
+abbrev pub SameLogFiles : StoreView → StoreView → List ℕ → ℕ → Type 0
+SameLogFiles store other logs threads = AllByRecursion (λ name. store.file name ≡ other.file name) (log_names logs 0 threads)
 
 module _ (k : ObjectKind) (init : List ℕ) (s : k.State) where
   -- A run left the files of the logs: so many scripts were run from this initial state, anew or going on from what files gave, and
@@ -35,7 +35,7 @@ module _ (k : ObjectKind) (init : List ℕ) (s : k.State) where
     pub reported : HasReported from k init s before after logs names text
     pub many : length names ≡ threads
     pub tells : after.tells ≡ true
-    pub same : SameLogs store after logs threads
+    pub same : SameLogFiles store after logs threads
 
   -- The files are images of that run's logs, and what is printed is the front of its trace that they recover to, with all that it went
   -- on from, every answered update and the place of every answered read, and the state after it; or memory could not be had. Where the
@@ -44,7 +44,7 @@ module _ (k : ObjectKind) (init : List ℕ) (s : k.State) where
       (left : IsLeftByRun seen.store logs threads) : Type 0 where
     pub images : List (List (List ℕ))
     pub files : TellImages seen.store logs 0 images
-    pub recovers : Recovers k.means (plan_from left.from k init logs s left.reported.scripts).run left.reported.left images
+    pub recovers : ImagesRecover k.means (plan_from left.from k init logs s left.reported.scripts).run left.reported.left images
     pub whole : fault_count left.reported.left.ends ≡ 0
         → (recovers.logs ≡ map content_in left.reported.left.logs) × (recovers.nodes ≡ left.reported.left.nodes)
     pub says : SaysThis seen status Done (recover_report k.means k.wording s (recovered_with recovers.logs recovers.nodes))
@@ -53,5 +53,5 @@ module _ (k : ObjectKind) (init : List ℕ) (s : k.State) where
 abbrev pub RecoversRuns : Seen → ℕ → Type 0
 RecoversRuns seen status = (init logs bytes : List ℕ) (threads : ℕ) (object : AnyObject)
     → form_of seen.words ≡ Some (Recover init logs threads)
-    → IsTold seen.store init bytes → init_of bytes ≡ Ok object → NoneRose seen
+    → FileIsTold seen.store init bytes → init_of bytes ≡ Ok object → NoneRose seen
     → on_object (λ k s. (left : IsLeftByRun k bytes s seen.store logs threads) → RecoversRun k bytes s seen status logs threads left) object

@@ -41,13 +41,13 @@ abbrev pub writes_of : Option Form → List (List ℕ)
 writes_of form = (work_of form).writes
 
 -- the words and the files allow this ending with this text
-abbrev pub Allows : Seen → Ending → List ℕ → Type 0
-Allows seen ending text = JobEnds seen.store seen.store_after (job_of (form_of seen.words)) ending text
+abbrev pub AllowsEnding : Seen → Ending → List ℕ → Type 0
+AllowsEnding seen ending text = JobEnds seen.store seen.store_after (job_of (form_of seen.words)) ending text
 
 -- a text that is allowed was put whole
 pub record PutWhole (seen : Seen) (ending : Ending) : Type 0 where
   pub text : List ℕ
-  pub allowed : Allows seen ending text
+  pub allowed : AllowsEnding seen ending text
   pub put : Puts seen.sink seen.sink_after text
   pub count : seen.sink_after.faults ≡ seen.sink.faults
 
@@ -55,7 +55,7 @@ pub record PutWhole (seen : Seen) (ending : Ending) : Type 0 where
 pub record PutSome (seen : Seen) : Type 0 where
   pub ending : Ending
   pub text : List ℕ
-  pub allowed : Allows seen ending text
+  pub allowed : AllowsEnding seen ending text
   pub put : PutsFront seen.sink seen.sink_after text
 
 -- nothing was put
@@ -86,7 +86,7 @@ ExitSays seen SinkFault = SinkFailed seen
 ExitSays seen NoMemory = OutOfMemory seen
 
 -- the call ended so
-pub record Ended (seen : Seen) (status : ℕ) : Type 0 where
+pub record HasExited (seen : Seen) (status : ℕ) : Type 0 where
   pub exit : Exit
   pub is : status ≡ exit_status exit
   pub says : ExitSays seen exit

@@ -3,11 +3,11 @@
 use Rattle.std.specs.Prelude.{ℕ, ◌≡◌, List, length, Some, None, Ok, Err}
 use Rattle.std.specs.List.{AllByRecursion, flat_map}
 use Rattle.onll_words.specs.Texts.{line_text}
-use Rattle.onll_core.specs.Created.{heads_from}
+use Rattle.onll_log.specs.Head.{heads_from}
 use Rattle.onll_merge.specs.Recovered.{Recovered, expected_heads, state_recovered}
 use Rattle.onll_model.specs.Object.{Behaviour}
 use Rattle.onll_model.specs.Trace.{state_after}
-use Rattle.onll_outside.specs.Views.{StoreView, Holds, Puts}
+use Rattle.onll_outside.specs.Views.{StoreView, FileHolds, Puts}
 use Rattle.onll_standby.specs.Stream.{Course, Shown, course}
 use Rattle.onll_text.specs.declared.any_object.AnyObject.{AnyObject}
 use Rattle.onll_text.specs.Init.{init_of}
@@ -15,7 +15,7 @@ use Rattle.onll_text.specs.Kinds.{ObjectKind, on_object}
 use Rattle.onll_task.specs.declared.ending.Ending.TheVariants.{Done}
 use Rattle.onll_task.specs.FileLines.{FitFile}
 use Rattle.onll_task.specs.Images.{images_stage}
-use Rattle.onll_task.specs.Reading.{IsTold, Reads}
+use Rattle.onll_task.specs.Reading.{FileIsTold, Reads}
 use Rattle.onll_task.specs.Writing.{FilesStay, written}
 use Rattle.onll_shipping.specs.declared.ship_fault.ShipFault.{ShipFault}
 use Rattle.onll_shipping.specs.FollowJob.{FollowData, follow_data, follow_data_lines, stream_fault_line, stream_in}
@@ -34,7 +34,7 @@ pub record HasShipped (seen : Seen) (logs : List ℕ) (threads : ℕ) (out : Lis
   pub ready_to_ship : ready images ≡ Ok shipped
   pub put : Puts seen.sink seen.sink_after (flat_map line_text (ship_data_lines (ship_data shipped)))
   pub files : FilesStay (written seen.store out (shipped_bytes shipped)) seen.store_after
-  pub stream : Holds seen.store_after out (shipped_bytes shipped)
+  pub stream : FileHolds seen.store_after out (shipped_bytes shipped)
 
 -- they hold images that can't be shipped, and why was put; no file changed
 pub record HasRefusedLogs (seen : Seen) (logs : List ℕ) (threads : ℕ) : Type 0 where
@@ -90,9 +90,9 @@ shipped_data b s shipped r = record {
 abbrev pub FollowsShipped : Seen → ℕ → Type 0
 FollowsShipped seen status = (init stream bytes : List ℕ) (threads piece : ℕ) (object : AnyObject)
     (images : List (List (List ℕ))) (shipped : List HeadedLog)
-    → form_of seen.words ≡ Some (Follow init threads stream piece) → IsTold seen.store init bytes → init_of bytes ≡ Ok object
+    → form_of seen.words ≡ Some (Follow init threads stream piece) → FileIsTold seen.store init bytes → init_of bytes ≡ Ok object
     → length images ≡ threads → AllByRecursion FitFile images → ready images ≡ Ok shipped
-    → IsTold seen.store stream (shipped_bytes shipped) → NoneRose seen
+    → FileIsTold seen.store stream (shipped_bytes shipped) → NoneRose seen
     → on_object (λ k s. (r : Recovered) → state_recovered k.means (expected_heads k.code bytes images) images ≡ Ok r
     → SaysThis seen status Done (flat_map line_text (follow_data_lines k.wording (shipped_data k.means s shipped r)))) object
 

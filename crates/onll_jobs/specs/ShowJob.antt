@@ -112,5 +112,5 @@ abbrev pub show_work : (image : List ℕ) → Work
 show_work image = record { task = after_stage (lines_stage image) (λ lines. shown_task (content_of lines)); writes = [] }
 
 -- the entry's nodes stand at places from 1 on
-abbrev pub IsPlaced : Segment → Type 0
-IsPlaced s = length s.nodes ≤ s.place
+abbrev pub IsPlacedEntry : Segment → Type 0
+IsPlacedEntry s = length s.nodes ≤ s.place

@@ -5,7 +5,7 @@ ghost use Rattle.onll_words.specs.Texts.{line_text, IsWord};
 ghost use Rattle.onll_outside.specs.Views.{StoreView};
 ghost use Rattle.onll_text.specs.Kinds.{kind_by};
 ghost use Rattle.onll_audit.specs.Values.{IsFault};
-ghost use Rattle.onll_task.specs.Doing.{Does, Begins, text_stage};
+ghost use Rattle.onll_task.specs.Doing.{Fulfils, DoesStage, text_stage};
 ghost use Rattle.onll_task.specs.Stop.{StopSays};
 ghost use Rattle.onll_jobs.specs.AuditJob.{verdict_within, judged_of, wrong_line, verdict_task, report_judged_task, audit_task};
 
@@ -48,7 +48,7 @@ fn judge_file<O: Texted + Drop, S: Store>(
 ) -> Result<Verdict, Stop>
     ensures { let k = kind_by O.means O.wording O.CODE in
         let stage = text_stage report.now (judged_of k object (map (λ script. script.items) scripts.now)) in
-        Begins [] (S.seen store.old) (S.seen store.new) stage (λ verdict. verdict) result }
+        DoesStage [] (S.seen store.old) (S.seen store.new) stage (λ verdict. verdict) result }
 {
     let text = match read_bytes(alloc, report, LONGEST_REPORT as u64 + 1, store) {
         Ok(text) => text,
@@ -118,7 +118,7 @@ fn legal(alloc: Global) -> Result<Vec<u8>, NoMemory>
 
 /// What is said of a verdict.
 fn said(alloc: Global, verdict: Verdict) -> Result<Vec<u8>, Stop>
-    ensures { (store : StoreView) → Does [] store store (verdict_task verdict) result }
+    ensures { (store : StoreView) → Fulfils [] store store (verdict_task verdict) result }
 {
     match verdict {
         Verdict::Legal => Ok(legal(alloc)?),
@@ -136,7 +136,7 @@ fn audit_file<O: Texted + Drop, S: Store>(
 ) -> Result<Vec<u8>, Stop>
     ensures { let k = kind_by O.means O.wording O.CODE in
         let task = report_judged_task k object report.now (map (λ script. script.items) scripts.now) in
-        Does [] (S.seen store.old) (S.seen store.new) task result }
+        Fulfils [] (S.seen store.old) (S.seen store.new) task result }
 {
     match judge_file(alloc, object, scripts, report, store) {
         Ok(verdict) => said(alloc, verdict),
@@ -153,7 +153,7 @@ pub(crate) fn audit_on<O: Texted + Drop, S: Store>(
     store: &mut S,
 ) -> Result<Vec<u8>, Stop>
     ensures { let task = audit_task (kind_by O.means O.wording O.CODE) report.now (map string_bytes scripts.now) object in
-        Does [] (S.seen store.old) (S.seen store.new) task result }
+        Fulfils [] (S.seen store.old) (S.seen store.new) task result }
 {
     match script_files::<O, S>(alloc, scripts, store) {
         Ok(calls) => audit_file(alloc, object, &calls, report, store),

@@ -8,7 +8,7 @@ ghost use Rattle.onll_text.specs.Lines.{call_lines, node_lines};
 ghost use Rattle.onll_text.specs.Reports.{EndsRead, NodeReads, FoldDataReads};
 ghost use Rattle.onll_jobs.specs.Fold.{fold_report};
 ghost use Rattle.onll_jobs.specs.FoldJob.{fold_data, script_task};
-ghost use Rattle.onll_task.specs.Doing.{Does};
+ghost use Rattle.onll_task.specs.Doing.{Fulfils};
 
 use onll_model::{Call, CallEnd, Node};
 use onll_outside::Store;
@@ -103,7 +103,7 @@ pub(crate) fn fold_object<O: Texted, S: Store>(
     store: &mut S,
 ) -> Result<Vec<u8>, Stop>
     ensures { let task = script_task O.means O.wording object.old script.now in
-        Does [] (S.seen store.old) (S.seen store.new) task result }
+        Fulfils [] (S.seen store.old) (S.seen store.new) task result }
 {
     match script_file::<O, S>(alloc, script, store) {
         Ok(calls) => Ok(fold_script(alloc, object, &calls)?),

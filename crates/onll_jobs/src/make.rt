@@ -1,7 +1,7 @@
 //! The command `make`: a large workload, run on threads over devices in memory.
 
 ghost use Rattle.onll_outside.specs.Views.{StoreView};
-ghost use Rattle.onll_task.specs.Doing.{Does};
+ghost use Rattle.onll_task.specs.Doing.{Fulfils};
 ghost use Rattle.onll_workload.specs.Workload.{IsWorkload};
 ghost use Rattle.onll_jobs.specs.MakeJob.{make_work};
 
@@ -20,7 +20,7 @@ pub(crate) fn answer<R: Threads + Wait + Sync, G: Gate + Sync>(
     gate: &G,
 ) -> Result<Vec<u8>, Stop>
     requires { IsWorkload workload }
-    ensures { (store : StoreView) → let work = make_work workload in Does work.writes store store work.task result }
+    ensures { (store : StoreView) → let work = make_work workload in Fulfils work.writes store store work.task result }
 {
     Ok(make_report(rt, alloc, workload, gate)?)
 }

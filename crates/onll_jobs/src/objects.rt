@@ -2,13 +2,14 @@
 
 ghost use Rattle.std.specs.Prelude.{◌≡◌, true};
 ghost use Rattle.onll_text.specs.Kinds.{kind_by, on_object};
-ghost use Rattle.onll_task.specs.Doing.{Does};
-ghost use Rattle.onll_jobs.specs.Over.{over_in, is_over, IsOver, DoesOver, over_work};
+ghost use Rattle.onll_task.specs.Doing.{Fulfils};
+ghost use Rattle.onll_jobs.specs.Over.{over_in, is_over, OverFits, DoesOver, over_work};
 
 use crate::{audit, fold};
 use onll_model::MOST_THREADS;
 use onll_outside::{Gate, Store};
-use onll_recovery::{again_on, detect_on, recover_logs, replay_on};
+use onll_recovery::{again_on, detect_on, recover_files, replay_on};
+use onll_run::Surroundings;
 use onll_runner::{resume_on, run_on};
 use onll_shipping::{LONGEST_PIECE, follow_on};
 use onll_task::{Stop, init_file};
@@ -64,7 +65,7 @@ impl Over<'_> {
     /// Whether its numbers are within the limits.
     pub(crate) fn is_within(&self) -> bool
         ensures form { result ≡ is_over (over_in self.now) }
-        ensures over { result ≡ true → IsOver self.now }
+        ensures over { result ≡ true → OverFits self.now }
     {
         match self {
             Over::Fold { .. } => true,
@@ -86,22 +87,21 @@ impl Over<'_> {
 
 /// Does it over an object, whose initial state these bytes say.
 fn over_one<R: Threads + Wait + Sync, O: Texted + Drop + Send + Sync, S: Store, G: Gate + Sync>(
-    rt: &R,
-    alloc: Global,
+    around: &Surroundings<'_, R, G>,
     mut object: O,
     init: &[u8],
     over: Over<'_>,
-    gate: &G,
     store: &mut S,
 ) -> Result<Vec<u8>, Stop>
-    requires { IsOver over }
+    requires { OverFits over }
     ensures { let k = kind_by O.means O.wording O.CODE in
         DoesOver (over_in over.entry) k (S.seen store.old) (S.seen store.new) init.now object result }
 {
+    let alloc = around.alloc;
     match over {
         Over::Fold { script } => fold::fold_object(alloc, &mut object, script, store),
         Over::Recover { logs, threads } => {
-            recover_logs(alloc, &mut object, init, logs, threads, store)
+            recover_files(alloc, &mut object, init, logs, threads, store)
         }
         Over::Replay {
             schedule,
@@ -113,12 +113,8 @@ fn over_one<R: Threads + Wait + Sync, O: Texted + Drop + Send + Sync, S: Store, 
             logs,
             scripts,
         } => again_on(alloc, object, init, schedule, logs, scripts, store),
-        Over::Resume { logs, scripts } => {
-            resume_on(rt, alloc, object, init, logs, scripts, gate, store)
-        }
-        Over::Run { logs, scripts } => {
-            run_on(rt, alloc, object, init, logs, scripts, gate, store)
-        }
+        Over::Resume { logs, scripts } => resume_on(around, object, init, logs, scripts, store),
+        Over::Run { logs, scripts } => run_on(around, object, init, logs, scripts, store),
         Over::Detect { logs, scripts } => detect_on(alloc, object, init, logs, scripts, store),
         Over::Follow {
             threads,
@@ -131,23 +127,21 @@ fn over_one<R: Threads + Wait + Sync, O: Texted + Drop + Send + Sync, S: Store, 
 
 /// Does it over an object of any kind.
 fn over_any<R: Threads + Wait + Sync, S: Store, G: Gate + Sync>(
-    rt: &R,
-    alloc: Global,
+    around: &Surroundings<'_, R, G>,
     object: AnyObject,
     init: &[u8],
     over: Over<'_>,
-    gate: &G,
     store: &mut S,
 ) -> Result<Vec<u8>, Stop>
-    requires { IsOver over }
+    requires { OverFits over }
     ensures { let form = over_in over.entry in
         on_object (λ k s. DoesOver form k (S.seen store.old) (S.seen store.new) init.now s result) object }
 {
     match object {
-        AnyObject::Bank(bank) => over_one(rt, alloc, bank, init, over, gate, store),
-        AnyObject::Map(map) => over_one(rt, alloc, map, init, over, gate, store),
-        AnyObject::Queue(queue) => over_one(rt, alloc, queue, init, over, gate, store),
-        AnyObject::Lease(lease) => over_one(rt, alloc, lease, init, over, gate, store),
+        AnyObject::Bank(bank) => over_one(around, bank, init, over, store),
+        AnyObject::Map(map) => over_one(around, map, init, over, store),
+        AnyObject::Queue(queue) => over_one(around, queue, init, over, store),
+        AnyObject::Lease(lease) => over_one(around, lease, init, over, store),
     }
 }
 
@@ -160,12 +154,15 @@ pub(crate) fn answer<R: Threads + Wait + Sync, S: Store, G: Gate + Sync>(
     gate: &G,
     store: &mut S,
 ) -> Result<Vec<u8>, Stop>
-    requires { IsOver over }
+    requires { OverFits over }
     ensures { let work = over_work init.now (over_in over.entry) in
-        Does work.writes (S.seen store.old) (S.seen store.new) work.task result }
+        Fulfils work.writes (S.seen store.old) (S.seen store.new) work.task result }
 {
     match init_file(alloc, init, store) {
-        Ok(read) => over_any(rt, alloc, read.object, &read.text, over, gate, store),
+        Ok(read) => {
+            let around = Surroundings { rt, alloc, gate };
+            over_any(&around, read.object, &read.text, over, store)
+        }
         Err(stop) => Err(stop),
     }
 }

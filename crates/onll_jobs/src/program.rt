@@ -4,10 +4,10 @@ ghost use Rattle.std.specs.Prelude.{map, string_bytes, Some};
 ghost use Rattle.onll_jobs.specs.Command.{form_of, form_in, IsCommand};
 ghost use Rattle.onll_jobs.specs.Exits.{PutExits};
 ghost use Rattle.onll_jobs.specs.Seen.{seen_by};
-ghost use Rattle.onll_task.specs.Writing.{SameBut};
+ghost use Rattle.onll_open.specs.Files.{SameBut};
 ghost use Rattle.onll_jobs.specs.Says.{work_of, writes_of, ExitSays, ExitDetermined};
 ghost use Rattle.onll_jobs.specs.Promises.{Promises};
-ghost use Rattle.onll_task.specs.Doing.{Does};
+ghost use Rattle.onll_task.specs.Doing.{Fulfils};
 
 use crate::command::{Command, usage};
 use crate::{make, objects, show};
@@ -29,7 +29,7 @@ fn command_answer<R: Threads + Wait + Sync, S: Store, G: Gate + Sync>(
 ) -> Result<Vec<u8>, Stop>
     requires { IsCommand command }
     ensures { let work = work_of (Some (form_in command.entry)) in
-        Does work.writes (S.seen store.old) (S.seen store.new) work.task result }
+        Fulfils work.writes (S.seen store.old) (S.seen store.new) work.task result }
 {
     match command {
         Command::OverInit { init, over } => objects::answer(rt, alloc, init, over, gate, store),
@@ -51,7 +51,7 @@ fn answer_to<R: Threads + Wait + Sync, S: Store, G: Gate + Sync>(
     store: &mut S,
 ) -> Result<Vec<u8>, Stop>
     ensures { let work = work_of (form_of (map string_bytes words.now)) in
-        Does work.writes (S.seen store.old) (S.seen store.new) work.task result }
+        Fulfils work.writes (S.seen store.old) (S.seen store.new) work.task result }
 {
     match Command::read(words) {
         Some(command) => command_answer(rt, alloc, command, gate, store),

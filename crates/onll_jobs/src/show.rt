@@ -8,8 +8,8 @@ ghost use Rattle.onll_log.specs.Grammar.{content_of, used_by};
 ghost use Rattle.onll_log.specs.Cursor.{entries_left, lines_passed, first_nodes};
 ghost use Rattle.onll_text.specs.Bytes.{begins_line, with_words, with_lines};
 ghost use Rattle.onll_outside.specs.Views.{StoreView};
-ghost use Rattle.onll_jobs.specs.ShowJob.{head_line, row_line, row_lines, entry_words, entry_lines, entries_lines, count_words, content_lines, show_report, RowReads, EntryReads, ShowReads, show_data, shown_task, show_work, IsPlaced};
-ghost use Rattle.onll_task.specs.Doing.{Does};
+ghost use Rattle.onll_jobs.specs.ShowJob.{head_line, row_line, row_lines, entry_words, entry_lines, entries_lines, count_words, content_lines, show_report, RowReads, EntryReads, ShowReads, show_data, shown_task, show_work, IsPlacedEntry};
+ghost use Rattle.onll_task.specs.Doing.{Fulfils};
 
 use onll_log::{EntryView, LogCursor, LogHead, LogImage, TestedImage};
 use onll_model::Node;
@@ -117,7 +117,7 @@ fn put_entry(
 fn put_entries(cursor: &mut LogCursor<'_>, out: &mut Report) -> Result<(), NoMemory>
     requires begins { begins_line out.old ≡ true }
     requires first { cursor.old.passed ≡ 0 }
-    requires placed { AllByRecursion IsPlaced cursor.old.content.entries }
+    requires placed { AllByRecursion IsPlacedEntry cursor.old.content.entries }
     ensures lines { OnOk result (out.new ≡ with_lines out.old (entries_lines 0 cursor.old.content.entries)) }
     ensures begins { OnOk result (begins_line out.new ≡ true) }
     ensures reads { OnOk result (All EntryReads cursor.old.content.entries) }
@@ -151,7 +151,7 @@ fn put_log(head: LogHead, mut cursor: LogCursor<'_>, out: &mut Report) -> Result
     requires first { cursor.passed ≡ 0 }
     requires head { cursor.content.head ≡ Some head }
     requires object { IfSome cursor.content.head (λ head. (1 ≤ head.object) × (head.object ≤ greatest_code)) }
-    requires placed { AllByRecursion IsPlaced cursor.content.entries }
+    requires placed { AllByRecursion IsPlacedEntry cursor.content.entries }
     ensures lines { let content = cursor.entry.content in
         OnOk result (out.new ≡ with_lines out.old (content_lines content.head content.entries (used_by content))) }
     ensures reads { OnOk result (ShowReads (show_data cursor.entry.content)) }
@@ -166,7 +166,7 @@ fn put_content(cursor: LogCursor<'_>, out: &mut Report) -> Result<(), NoMemory>
     requires begins { begins_line out.old ≡ true }
     requires first { cursor.passed ≡ 0 }
     requires object { IfSome cursor.content.head (λ head. (1 ≤ head.object) × (head.object ≤ greatest_code)) }
-    requires placed { AllByRecursion IsPlaced cursor.content.entries }
+    requires placed { AllByRecursion IsPlacedEntry cursor.content.entries }
     ensures lines { let content = cursor.entry.content in
         OnOk result (out.new ≡ with_lines out.old (content_lines content.head content.entries (used_by content))) }
     ensures reads { OnOk result (ShowReads (show_data cursor.entry.content)) }
@@ -181,7 +181,7 @@ fn put_content(cursor: LogCursor<'_>, out: &mut Report) -> Result<(), NoMemory>
 fn report(alloc: Global, cursor: LogCursor<'_>) -> Result<Vec<u8>, NoMemory>
     requires first { cursor.passed ≡ 0 }
     requires object { IfSome cursor.content.head (λ head. (1 ≤ head.object) × (head.object ≤ greatest_code)) }
-    requires placed { AllByRecursion IsPlaced cursor.content.entries }
+    requires placed { AllByRecursion IsPlacedEntry cursor.content.entries }
     ensures report { IfOk result (λ bytes. bytes.items ≡ show_report cursor.entry.content) }
     ensures reads { OnOk result (ShowReads (show_data cursor.entry.content)) }
 {
@@ -192,7 +192,7 @@ fn report(alloc: Global, cursor: LogCursor<'_>) -> Result<Vec<u8>, NoMemory>
 
 /// What is said of an image.
 fn shown(alloc: Global, image: &TestedImage<'_>) -> Result<Vec<u8>, Stop>
-    ensures { (store : StoreView) → Does [] store store (shown_task (content_of image.now)) result }
+    ensures { (store : StoreView) → Fulfils [] store store (shown_task (content_of image.now)) result }
 {
     match image.open() {
         Some(cursor) => Ok(report(alloc, cursor)?),
@@ -202,7 +202,7 @@ fn shown(alloc: Global, image: &TestedImage<'_>) -> Result<Vec<u8>, Stop>
 
 /// Shows the image of a file: its report, or what is said in its place.
 pub(crate) fn answer<S: Store>(alloc: Global, image: &str, store: &mut S) -> Result<Vec<u8>, Stop>
-    ensures { Does [] (S.seen store.old) (S.seen store.new) (show_work image.now).task result }
+    ensures { Fulfils [] (S.seen store.old) (S.seen store.new) (show_work image.now).task result }
 {
     match image_file(alloc, image, store) {
         Ok(image) => shown(alloc, &image),

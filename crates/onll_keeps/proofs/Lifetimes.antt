@@ -9,7 +9,7 @@ use Rattle.onll_balance.specs.Floor.{Floor, NoneFailed, floor_of, measure_of}
 use Rattle.onll_balance.specs.Measure.{Measure, back_by, out_by}
 use Rattle.onll_balance.proofs.Exactly.{all_replied}
 use Rattle.onll_serve.specs.Lives.{ServedGeneration}
-use Rattle.onll_keeps.specs.Facts.{AllTold, ToldLaw}
+use Rattle.onll_keeps.specs.Facts.{AllTold, FactToldLaw}
 use Rattle.onll_keeps.specs.Lifetimes.{EndsLives, IsLegalGeneration, IsWholeLife, LifeBalanceLaw, LifeFloorLaw, ToldInLives, tally_in_life}
 
 module _ {State Op Query Reply : Type 0} (b : Behaviour State Op Query Reply) (first : State) where
@@ -74,7 +74,7 @@ module _ {State Op Query Reply : Type 0} (b : Behaviour State Op Query Reply) (f
         omega (arith, most, least, backs, outs));
   })
 
-  module _ {holds : State → Type 0} {says : Op → Reply → Type 0} (told : ToldLaw b holds says) (so : holds first) where
+  module _ {holds : State → Type 0} {says : Op → Reply → Type 0} (told : FactToldLaw b holds says) (so : holds first) where
     told_each : (life : List (ServedGeneration State Op Query Reply)) → AllByRecursion (IsLegalGeneration b first) life
         → AllByRecursion (λ (g : ServedGeneration State Op Query Reply). AllTold says g.scripts g.ends) life
     told_each [] l = tt

@@ -12,7 +12,7 @@ use Rattle.onll_model.specs.Trace.{after_row, node_at, state_after}
 use Rattle.onll_model.proofs.Lists.{same_some, some_not_none}
 use Rattle.onll_model.proofs.Placed.{each_end_at, own_node}
 use Rattle.onll_balance.proofs.Nodes.{next_state}
-use Rattle.onll_keeps.specs.Orders.{OrderLaw, WasAnswered}
+use Rattle.onll_keeps.specs.Orders.{OrdersLaw, WasAnswered}
 use Rattle.onll_keeps.proofs.Telling.{fact_so}
 
 none_taken : (d : ℕ) → take {A = Node} d [] ≡ []
@@ -77,7 +77,7 @@ module _ {State Op Query Reply : Type 0} (b : Behaviour State Op Query Reply) wh
       (begins : (s : State) (op : Op) → since op (b.reply s op) (b.next s op))
       (goes_on : (op : Op) (reply : Reply) (s : State) (more : Op) → since op reply s → since op reply (b.next s more))
       (follows : (op : Op) (reply : Reply) (s : State) (later : Op) → since op reply s → then_so op reply later (b.reply s later)) where
-    pub ordered : OrderLaw b then_so
+    pub ordered : OrdersLaw b then_so
     ordered first base scripts trace ends legal op later reply later_reply place later_place w w' low =
         let d = done first base scripts trace ends legal op reply place w in
         let e = done first base scripts trace ends legal later later_reply later_place w' in

@@ -8,7 +8,7 @@ use Rattle.onll_model.specs.declared.node.Node.{Node}
 use Rattle.onll_model.specs.Legal.{AreLegalThreads, EachEnd, HasReply}
 use Rattle.onll_model.specs.Object.{Behaviour}
 use Rattle.onll_model.specs.Trace.{after_row, state_after}
-use Rattle.onll_keeps.specs.Facts.{AllTold, FactLaw, IsTold, ToldLaw}
+use Rattle.onll_keeps.specs.Facts.{AllTold, FactLaw, IsTold, FactToldLaw}
 
 module _ {State Op Query Reply : Type 0} (b : Behaviour State Op Query Reply) (holds : State → Type 0)
     (stays : (s : State) (op : Op) → holds s → holds (b.next s op)) where
@@ -41,6 +41,6 @@ module _ {State Op Query Reply : Type 0} (b : Behaviour State Op Query Reply) (h
     told_all low t (calls ∷ scripts) [] l = tt
     told_all low t (calls ∷ scripts) (es ∷ ends) l = (told_each calls es l.0.replies, told_all low (t + 1) scripts ends l.1)
 
-  pub told_so : (says : Op → Reply → Type 0) → ((s : State) (op : Op) → holds s → says op (b.reply s op)) → ToldLaw b holds says
+  pub told_so : (says : Op → Reply → Type 0) → ((s : State) (op : Op) → holds s → says op (b.reply s op)) → FactToldLaw b holds says
   told_so says told first base scripts trace ends legal h =
       told_all says told first h trace (length base) 0 scripts ends legal.outcomes

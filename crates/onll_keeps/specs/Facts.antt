@@ -32,7 +32,7 @@ module _ {State Op Query Reply : Type 0} (b : Behaviour State Op Query Reply) (h
   FactLaw = (first : State) (nodes : List Node) → holds first → holds (state_after b first nodes)
 
   -- so each update that was answered in a legal history, from where it began, has with its reply what the fact makes of it
-  abbrev pub ToldLaw : (Op → Reply → Type 0) → Type 0
-  ToldLaw says = (first : State) (base : List Node) (scripts : List (List (Call State Op Query Reply))) (trace : List Node)
+  abbrev pub FactToldLaw : (Op → Reply → Type 0) → Type 0
+  FactToldLaw says = (first : State) (base : List Node) (scripts : List (List (Call State Op Query Reply))) (trace : List Node)
       (ends : List (List (CallEnd State Op Query Reply))) → IsLegal b first base scripts trace ends → holds first
       → AllTold says scripts ends

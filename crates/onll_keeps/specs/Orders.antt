@@ -21,8 +21,8 @@ pub record WasAnswered {State Op Query Reply : Type 0} (scripts : List (List (Ca
   pub end_is : slice_get outcomes index ≡ Some (Answered reply place)
 
 -- Of two updates that were answered in a legal history, the one at the later place has this with the one before.
-abbrev pub OrderLaw : {State Op Query Reply : Type 0} → Behaviour State Op Query Reply → (Op → Reply → Op → Reply → Type 0) → Type 0
-OrderLaw {State} {Op} {Query} {Reply} b then_so = (first : State) (base : List Node) (scripts : List (List (Call State Op Query Reply)))
+abbrev pub OrdersLaw : {State Op Query Reply : Type 0} → Behaviour State Op Query Reply → (Op → Reply → Op → Reply → Type 0) → Type 0
+OrdersLaw {State} {Op} {Query} {Reply} b then_so = (first : State) (base : List Node) (scripts : List (List (Call State Op Query Reply)))
     (trace : List Node) (ends : List (List (CallEnd State Op Query Reply))) → IsLegal b first base scripts trace ends
     → (op later : Op) (reply later_reply : Reply) (place later_place : ℕ) → WasAnswered scripts ends op reply place
     → WasAnswered scripts ends later later_reply later_place → place < later_place → then_so op reply later later_reply

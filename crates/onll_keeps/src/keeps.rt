@@ -1,7 +1,7 @@
 //! The trait of an object that keeps a fact.
 
 ghost use Rattle.std.specs.Prelude.{◌≡◌, true, false};
-ghost use Rattle.onll_keeps.specs.Facts.{FactLaw, ToldLaw};
+ghost use Rattle.onll_keeps.specs.Facts.{FactLaw, FactToldLaw};
 
 use onll_model::Object;
 use onll_rows::{Plain, PlainState};
@@ -66,7 +66,7 @@ fn kept_so<O: Keeps>()
 /// history has with its reply what the fact makes of it. It does nothing when called.
 pub fn keep_law<O: Keeps>()
     ensures fact { FactLaw O.means O.holds }
-    ensures told { ToldLaw O.means O.holds O.says }
+    ensures told { FactToldLaw O.means O.holds O.says }
 {
     kept_so::<O>();
 }

@@ -1,6 +1,6 @@
 //! The trait of an object whose replies follow each other in an order.
 
-ghost use Rattle.onll_keeps.specs.Orders.{OrderLaw};
+ghost use Rattle.onll_keeps.specs.Orders.{OrdersLaw};
 
 use onll_model::Object;
 
@@ -32,7 +32,7 @@ fn ordered_so<O: Orders>()
 /// Of two updates that were answered in a legal history, by whatever threads, the one at the later place follows the other so. It does
 /// nothing when called.
 pub fn order_law<O: Orders>()
-    ensures { OrderLaw O.means O.then_so }
+    ensures { OrdersLaw O.means O.then_so }
 {
     ordered_so::<O>();
 }

@@ -35,8 +35,8 @@ RisingLaw = (s : List LeaseEntry) (ops : List LeaseOp) (r : ℕ)
     → AllPairs (λ earlier later. earlier < later) ((entry_at s r).token ∷ tokens_granted r s ops)
 
 -- a resource's token rises by one with each grant, and by nothing else
-abbrev pub CountLaw : Type 0
-CountLaw = (s : List LeaseEntry) (ops : List LeaseOp) (r : ℕ)
+abbrev pub TokenCountLaw : Type 0
+TokenCountLaw = (s : List LeaseEntry) (ops : List LeaseOp) (r : ℕ)
     → (entry_at (leases_after s ops) r).token ≡ (entry_at s r).token + length (tokens_granted r s ops)
 
 -- while a resource is held at a moment, a grant at that moment is refused and changes nothing
@@ -52,8 +52,8 @@ IsOfOthers r e (Renew q t now ttl) = q ≡ r → t ≢ e.token
 IsOfOthers r e (Release q t) = q ≡ r → t ≢ e.token
 
 -- others never take a held resource, nor change its entry
-abbrev pub KeptLaw : Type 0
-KeptLaw = (s : List LeaseEntry) (ops : List LeaseOp) (r : ℕ) → AllByRecursion (IsOfOthers r (entry_at s r)) ops
+abbrev pub HeldStaysLaw : Type 0
+HeldStaysLaw = (s : List LeaseEntry) (ops : List LeaseOp) (r : ℕ) → AllByRecursion (IsOfOthers r (entry_at s r)) ops
     → (entry_at (leases_after s ops) r ≡ entry_at s r) × (tokens_granted r s ops ≡ [])
 
 -- the operation is refused as stale, and changes nothing
@@ -73,8 +73,8 @@ is_done Released = true
 is_done reply = false
 
 -- what is refused changes nothing
-abbrev pub RefusedLaw : Type 0
-RefusedLaw = (s : List LeaseEntry) (op : LeaseOp) → is_done (lease_reply s op) ≡ false → lease_next s op ≡ s
+abbrev pub LeaseRefusedLaw : Type 0
+LeaseRefusedLaw = (s : List LeaseEntry) (op : LeaseOp) → is_done (lease_reply s op) ≡ false → lease_next s op ≡ s
 
 -- a resource that was never granted has no holder and no end, after whatever operations
 abbrev pub EntryLaw : Type 0

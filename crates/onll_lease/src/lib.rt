@@ -26,7 +26,7 @@
 //! );
 //! ```
 //!
-//! The test `lease` of `onll_uses` runs this.
+//! The test `lease` of `tests_uses` runs this.
 #![tactic(auto)]
 
 mod entry;

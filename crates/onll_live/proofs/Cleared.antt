@@ -7,14 +7,14 @@ use Rattle.onll_outside.specs.declared.OutsideFault.{OutsideFault}
 use Rattle.onll_outside.specs.declared.OutsideFault.TheVariants.{Failed, NoMemory}
 use Rattle.onll_outside.specs.declared.store.FaultKind.TheVariants as kinds
 use Rattle.onll_outside.specs.Views.{StoreView, Rose, SameFaults, SameOthers}
-use Rattle.onll_open.specs.Files.{IsMade, is_made}
+use Rattle.onll_open.specs.Files.{FileIsMade, is_made}
 use Rattle.onll_open.specs.Names.{log_name}
 use Rattle.onll_open.proofs.Handing.{faults_more, name_differs}
 use Rattle.onll_live.specs.Beginning.{LogsAreEmpty, ClearFaults, ClearFileFaults, LogNotCleared}
 use Rattle.onll_live.specs.Refusals.{of_clear}
 
 -- one more
-pub cleared_next : (mid new : StoreView) (logs : List ℕ) (t : ℕ) → t < 2 ^ 64 → LogsAreEmpty mid logs t → IsMade new (log_name logs t) false
+pub cleared_next : (mid new : StoreView) (logs : List ℕ) (t : ℕ) → t < 2 ^ 64 → LogsAreEmpty mid logs t → FileIsMade new (log_name logs t) false
     → SameOthers (log_name logs t) mid new → LogsAreEmpty new logs (t + 1)
 cleared_next mid new logs t fits before made others i l tells = elim (cases_lt i t) [
   | inl less ↦ ap is_made (others.file (log_name logs i) (λ e. (let same = name_differs logs i t (omega arith) fits e in omega arith))) ∙ before i less (sym others.tells ∙ tells)

@@ -18,7 +18,8 @@ use Rattle.onll_outside.specs.Views.{StoreView}
 use Rattle.onll_open.specs.declared.fault.FilesFault.{FilesFault}
 use Rattle.onll_open.specs.declared.fault.FilesFault.TheVariants.{Gone, OldFormat, Threads}
 use Rattle.onll_open.specs.Files.{FilesHold}
-use Rattle.onll_open.specs.Heads.{heads_from, heads_of}
+use Rattle.onll_open.specs.Heads.{heads_of}
+use Rattle.onll_log.specs.Head.{heads_from}
 use Rattle.onll_open.specs.Misfits.{first_gone, first_headless, first_old, found_in, have_entries, misfit, other_threads, with_misfit}
 use Rattle.onll_open.specs.Opening.{FilesGive}
 use Rattle.onll_open.proofs.GivenLogs.{give_same}

@@ -13,15 +13,16 @@ use Rattle.onll_merge.specs.declared.fault.RecoverFault.{RecoverFault}
 use Rattle.onll_merge.specs.Merge.{nodes_to, refusal, top_of, unless}
 use Rattle.onll_merge.specs.Recovered.{Recovered}
 use Rattle.onll_outside.specs.Views.{StoreView}
-use Rattle.onll_open.specs.Files.{FilesHold, HoldsLogImage, IsMade, is_made}
-use Rattle.onll_open.specs.Heads.{heads_from, heads_of}
+use Rattle.onll_open.specs.Files.{FilesHold, HoldsLogImage, FileIsMade, is_made}
+use Rattle.onll_open.specs.Heads.{heads_of}
+use Rattle.onll_log.specs.Head.{heads_from}
 use Rattle.onll_open.specs.Names.{log_name}
 use Rattle.onll_open.specs.Opening.{FilesGive}
 use Rattle.onll_open.proofs.GivenLogs.{contents_are, found_parts}
 use Rattle.onll_live.specs.Beginning.{LogsAreEmpty}
 
 -- what is held of the file of a log that was emptied
-empty_image : (store : StoreView) (file : List ℕ) (image : List (List ℕ)) → store.tells ≡ true → IsMade store file false
+empty_image : (store : StoreView) (file : List ℕ) (image : List (List ℕ)) → store.tells ≡ true → FileIsMade store file false
     → HoldsLogImage store file image → image ≡ zero_lines 1
 empty_image store file image on empty (inl h) =
     let made : is_made (store.file file) ≡ true = h.made on in

@@ -18,7 +18,7 @@ use Rattle.onll_log.specs.Head.{word}
 use Rattle.onll_log.specs.ImageFile.{whole_lines}
 use Rattle.onll_outside.specs.LineFiles.{IsWholeLine, IsFileFront, FrontHasLines, GivesLines}
 use Rattle.onll_outside.specs.Directory.{SizeOf}
-use Rattle.onll_outside.specs.Views.{StoreView, Holds, KeepsDevice, SameFiles, SameOthers, BeginsWith, MayWipe, MayKeep, KeptOrZeros, AreZeros, HoldsImageOf, IsFresh, image_bytes, with_zeros}
+use Rattle.onll_outside.specs.Views.{StoreView, FileHolds, KeepsDevice, SameFiles, SameOthers, BeginsWith, MayWipe, MayKeep, KeptOrZeros, AreZeros, HoldsImageOf, IsFresh, image_bytes, with_zeros}
 use Rattle.onll_outside.proofs.WholeLines.{whole_to_end}
 use Rattle.onll_checkpoint.specs.Checkpoint.{CheckpointState}
 use Rattle.onll_checkpoint.specs.Text.{lines_of_text, text_in}
@@ -140,15 +140,15 @@ module _ (old mid : StoreView) (same : SameFiles old mid) (name read again : Lis
     read_all (Some bytes) k = (refl, ap whole_lines k.whole ∙ whole_back all k.rest each k.short)
 
     -- where it is those lines alone, it was written once more
-    pub lines_alone : Holds new again (image_bytes lines) → IsRewritten old new name
+    pub lines_alone : FileHolds new again (image_bytes lines) → IsRewritten old new name
     lines_alone holds = record {
       bytes = bytes_in (old.file name);
       was = λ on. (read_all (old.file name) (given on)).0;
       now = λ on. holds_so (tells ∙ on) ∙ ap (λ (ls : List (List ℕ)). Some (image_bytes ls)) (sym (read_all (old.file name) (given on)).1);
     }
       where
-        holds_so : Holds new name (image_bytes all)
-        holds_so = subst (λ ls. Holds new name (image_bytes ls)) lines_are (subst (λ n. Holds new n (image_bytes lines)) is_again holds)
+        holds_so : FileHolds new name (image_bytes all)
+        holds_so = subst (λ ls. FileHolds new name (image_bytes ls)) lines_are (subst (λ n. FileHolds new n (image_bytes lines)) is_again holds)
 
 -- ---- a device that is kept
 -- one of all the lines that are handed in
@@ -175,7 +175,7 @@ module _ (name : List ℕ) (old mid new : StoreView) (d : DeviceView) (lines : L
       at (inl e) = let w = wiped (sym (others.tells ∙ made.tells) ∙ on) in (w.rest, e ∙ w.now)
       at (inr k) = ([], kept_bytes on k ∙ ap Some (sym (append-nil (image_bytes lines))))
 
-  pub kept_alone : KeepsDevice new name d → Holds new name (image_bytes lines)
+  pub kept_alone : KeepsDevice new name d → FileHolds new name (image_bytes lines)
   kept_alone kept on = kept_bytes on (kept on)
 
   -- of zeros
@@ -201,7 +201,7 @@ zero_bytes = subst AreZeros (sym same) (All-replicate (λ (x : ℕ). x ≡ 0) 64
     same = refl
 
 -- ---- an area without a checkpoint is wiped
-pub zeros_whole : (s : StoreView) (file : List ℕ) → Holds s file (image_bytes (zero_lines 1)) → IsUntorn s file
+pub zeros_whole : (s : StoreView) (file : List ℕ) → FileHolds s file (image_bytes (zero_lines 1)) → IsUntorn s file
 zeros_whole s file h on = subst IsUntornFile (sym (h on)) (inl zero_bytes)
 
 -- one that is not there, or has no byte, is not

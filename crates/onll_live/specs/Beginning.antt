@@ -15,7 +15,7 @@ use Rattle.onll_open.specs.declared.fault.FilesFault.{FilesFault}
 use Rattle.onll_open.specs.declared.fault.FilesFault.TheVariants as files
 use Rattle.onll_open.specs.declared.fault.OpenFault.TheVariants.{Full}
 use Rattle.onll_open.specs.Asking.{room_refused}
-use Rattle.onll_open.specs.Files.{IsMade, LogCallFailed, SameCounts}
+use Rattle.onll_open.specs.Files.{FileIsMade, LogCallFailed, SameCounts}
 use Rattle.onll_open.specs.Names.{log_name, log_names}
 use Rattle.onll_open.specs.Opening.{FilesGive, FilesRefuse}
 use Rattle.onll_live.specs.declared.era.Era.{Era}
@@ -25,7 +25,7 @@ use Rattle.onll_live.specs.Eras.{IsInEra, area_name, era_heads, era_logs}
 
 -- where the store tells its files, those of the logs of so many threads are empty, or not there
 abbrev pub LogsAreEmpty : StoreView → List ℕ → ℕ → Type 0
-LogsAreEmpty store logs threads = (thread : ℕ) → thread < threads → IsMade store (log_name logs thread) false
+LogsAreEmpty store logs threads = (thread : ℕ) → thread < threads → FileIsMade store (log_name logs thread) false
 
 -- so are those of as many logs as an object may have, of however many threads they were
 abbrev pub AreCleared : StoreView → List ℕ → Type 0

@@ -9,7 +9,7 @@ use Rattle.onll_merge.specs.Recovered.{Recovered}
 use Rattle.onll_outside.specs.Views.{StoreView}
 use Rattle.onll_checkpoint.specs.Checkpoint.{CheckpointState}
 use Rattle.onll_areas.specs.Newest.{AreaHolds, newest_of}
-use Rattle.onll_open.specs.Files.{IsMade}
+use Rattle.onll_open.specs.Files.{FileIsMade}
 use Rattle.onll_open.specs.Heads.{heads_of}
 use Rattle.onll_open.specs.Names.{log_lock_name, log_name}
 use Rattle.onll_open.specs.Opening.{FilesGive}
@@ -35,7 +35,7 @@ era_lock name = log_lock_name (era_base name)
 -- ---- areas
 -- what the file of an area holds; one that is not there, or is empty, holds no checkpoint
 abbrev pub AreaGives : StoreView → List ℕ → Option CheckpointState → Type 0
-AreaGives store name found = AreaHolds store name found ⊎ (IsMade store name false × (found ≡ None))
+AreaGives store name found = AreaHolds store name found ⊎ (FileIsMade store name false × (found ≡ None))
 
 -- the number of the era that a checkpoint begins, 0 where there is none
 abbrev pub number_of : Option CheckpointState → ℕ

@@ -11,7 +11,7 @@ use Rattle.onll_shared.specs.Passes.{OnllView, PassView}
 use Rattle.onll_open.specs.Files.{FilesHold, SameBut}
 use Rattle.onll_open.specs.Names.{held_names}
 use Rattle.onll_open.specs.Opening.{HasOpened}
-use Rattle.onll_serve.specs.Linking.{IsOver}
+use Rattle.onll_serve.specs.Linking.{IsOverFiles}
 use Rattle.onll_serve.specs.Moments.{HaveCome, generation_at}
 use Rattle.onll_live.specs.declared.era.Era.{Era}
 use Rattle.onll_live.specs.Eras.{IsInEra, era_heads, era_logs}
@@ -41,7 +41,7 @@ module _ {State Op Query Reply Device : Type 0} (b : Behaviour State Op Query Re
     -- each answered call.
     abbrev pub StandsKilled : (before after : StoreView) (era : Era State) → IsKilled before after era → Type 0
     StandsKilled before after era k = IsInEra read_of first after name era
-        × IsOver b (era_logs name era.number) (era_heads code description threads era.state) before after
+        × IsOverFiles b (era_logs name era.number) (era_heads code description threads era.state) before after
         (generation_at k.onll k.frame k.scripts k.ends)
 
   -- It is so whenever they are killed, where the store tells its files.

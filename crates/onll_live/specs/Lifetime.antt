@@ -10,7 +10,7 @@ use Rattle.onll_pmem.specs.Pmem.{DeviceView}
 use Rattle.onll_merge.specs.Recovered.{Recovered}
 use Rattle.onll_outside.specs.Views.{StoreView}
 use Rattle.onll_open.specs.Opening.{FilesGive}
-use Rattle.onll_serve.specs.Linking.{IsOver}
+use Rattle.onll_serve.specs.Linking.{IsOverFiles}
 use Rattle.onll_serve.specs.Lives.{IsLifeFront, generation_of}
 use Rattle.onll_serve.specs.Serving.{HasHistory, HasServed}
 use Rattle.onll_live.specs.declared.era.Era.{Era}
@@ -34,7 +34,7 @@ module _ {State Op Query Reply Device Work Answer : Type 0} (b : Behaviour State
   -- These nodes are a front of what the works of a service did, with what its era's logs held before, and with each answered call.
   pub record IsServiceFront (s : EraService State Device Work Answer Op Query Reply) (h : WasServed s) (nodes : List Node) : Type 0 where
     pub history : HasHistory b means h.onll h.worked.ended.runs
-    pub over : IsOver b (era_logs name s.era.number) (era_heads code description (length s.works) s.era.state) s.before s.after
+    pub over : IsOverFiles b (era_logs name s.era.number) (era_heads code description (length s.works) s.era.state) s.before s.after
         (generation_of b means h.onll h.worked.ended.runs history)
     pub front : IsLifeFront (generation_of b means h.onll h.worked.ended.runs history) nodes
 

@@ -5,7 +5,7 @@ ghost use Rattle.onll_model.specs.Limits.{most_threads};
 ghost use Rattle.onll_outside.specs.Views.{SameDevices, SameFiles, SameOthers};
 ghost use Rattle.onll_live.specs.Eras.{IsInEra, area_name, era_logs};
 ghost use Rattle.onll_areas.specs.Keeping.{OthersStay};
-ghost use Rattle.onll_open.specs.Files.{IsMade, SameBut, SameCounts};
+ghost use Rattle.onll_open.specs.Files.{FileIsMade, SameBut, SameCounts};
 ghost use Rattle.onll_open.specs.Names.{log_names};
 ghost use Rattle.onll_live.specs.Refusals.{of_clear, of_keep};
 ghost use Rattle.onll_live.specs.Beginning.{AreCleared, BeginFaults, BeginsEra, ClearFaults, ClearFileFaults, EndsBy, EntersEra};
@@ -29,7 +29,7 @@ use std::alloc::Global;
 
 /// Empties a file, where it is there. One that is empty is written once more: that it is so may not be durable.
 fn clear_file<S: Directory>(alloc: Global, store: &mut S, file: &str) -> Result<(), OutsideFault>
-    ensures cleared { OnOk result (IsMade (S.seen store.new) file.now false) }
+    ensures cleared { OnOk result (FileIsMade (S.seen store.new) file.now false) }
     ensures faults { ClearFileFaults file.now (S.seen store.old) (S.seen store.new) result }
     ensures devices { SameDevices (S.seen store.old) (S.seen store.new) }
     ensures others { SameOthers file.now (S.seen store.old) (S.seen store.new) }

@@ -2,7 +2,7 @@
 
 ghost use Rattle.std.specs.Prelude.{◌≡◌, ◌∷◌, ◌≤◌, ◌<◌, [], true, false, length, is_some, Option, None, IfOk, IfErr, OnOk};
 ghost use Rattle.onll_pmem.specs.Pmem.{words_of};
-ghost use Rattle.onll_outside.specs.Views.{BeginsWith, FaultsOf, Holds, SameFiles, SameOthers, image_bytes, with_zeros};
+ghost use Rattle.onll_outside.specs.Views.{BeginsWith, FaultsOf, FileHolds, SameFiles, SameOthers, image_bytes, with_zeros};
 ghost use Rattle.onll_outside.specs.declared.store.FaultKind.TheVariants as kinds;
 ghost use Rattle.onll_areas.specs.Keeping.{StaysOrZeros};
 ghost use Rattle.onll_open.specs.Files.{SameBut};
@@ -58,7 +58,7 @@ fn rewrite<S: Store>(
 ) -> Result<(), OutsideFault>
     requires few { length lines.now ≤ 1000000 }
     requires begins { BeginsWith (S.seen store.old) file.now (image_bytes (words_of lines.now)) }
-    ensures alone { OnOk result (Holds (S.seen store.new) file.now (image_bytes (words_of lines.now))) }
+    ensures alone { OnOk result (FileHolds (S.seen store.new) file.now (image_bytes (words_of lines.now))) }
     ensures begins { BeginsWith (S.seen store.new) file.now (image_bytes (words_of lines.now)) }
     ensures faults { AreaDeviceFaults kinds.Reopen file.now (S.seen store.old) (S.seen store.new) result }
     ensures others { SameOthers file.now (S.seen store.old) (S.seen store.new) }

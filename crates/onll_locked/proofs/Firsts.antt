@@ -16,7 +16,7 @@ use Rattle.std.specs.Prelude.{is_some}
 use Rattle.onll_model.specs.Segment.{last_place}
 use Rattle.onll_log.specs.Grammar.{lines_in}
 use Rattle.onll_log.specs.Log.{LogState, free_of}
-use Rattle.onll_locked.specs.DoNext.{IsLogOf}
+use Rattle.onll_locked.specs.DoNext.{IsThreadLog}
 use Rattle.onll_locked.proofs.Updates.{say_of}
 use Rattle.onll_locked.specs.Locked.{own_places, failed_at, updates_left, LockedThread, LockedState, first_thread, first_state, last_in}
 use Rattle.onll_locked.specs.Kept.{KeepsThread, KeepsLocked}
@@ -71,7 +71,7 @@ module _ {State Op Query Reply : Type 0} where
   -- ---- a new log
   pub first_log : {Device : Type 0} (initial : State) (scripts : List (List (Call State Op Query Reply))) (script : List (Call State Op Query Reply)) (t : ℕ) (log : LogState Device) (lines : ℕ)
       → slice_get scripts t ≡ Some script → log.head.thread ≡ t → log.head.threads ≡ length scripts → log.entries ≡ [] → log.broken ≡ false → 1 + (length scripts + 1) * updates_in script ≤ lines
-      → IsLogOf (first_state initial scripts) t log lines
+      → IsThreadLog (first_state initial scripts) t log lines
   first_log initial scripts script t log lines at thread threads empty whole room =
       let c : LockedState State Op Query Reply = first_state initial scripts in
       let here : slice_get c.threads t ≡ Some (first_thread script) = get_map first_thread scripts t script at in

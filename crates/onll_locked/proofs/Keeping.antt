@@ -21,7 +21,7 @@ use Rattle.onll_model.proofs.Ends.{each_end_more, placed_update, placed_ask, row
 use Rattle.onll_log.specs.Encoding.{CanHold}
 use Rattle.onll_locked.specs.declared.ends.LockedEnd.{LockedEnd}
 use Rattle.onll_locked.specs.declared.ends.LockedEnd.TheVariants.{Answered, FenceFailed, Broken}
-use Rattle.onll_locked.specs.Locked.{LockedThread, LockedState, end_of, ends_of, script_of, next_call, failed_in, failed_at, places_of, own_places, last_in, updates_left, update_end, HasNoNode, HasNode}
+use Rattle.onll_locked.specs.Locked.{LockedThread, LockedState, end_of, ends_of, script_of, next_call, failed_in, failed_at, places_of, own_places, last_in, updates_left, update_end, HasNoNode, EndHasNode}
 use Rattle.onll_locked.specs.DoNext.{with_end, after_end, after_node, EndsSo}
 use Rattle.onll_locked.specs.Kept.{EachLocked, AgreeCounts, IsWithin, KeepsThread, KeepsLocked, IsLegalLocked}
 use Rattle.onll_locked.proofs.Places.{last_more, failed_more, places_more, left_update, left_ask}
@@ -245,8 +245,8 @@ module _ {State Op Query Reply : Type 0} (b : Behaviour State Op Query Reply) wh
       places_end : (f : Bool) → places_of (Update op) (end f) ≡ place ∷ []
       places_end f = ap option_to_list (placed_end f)
 
-      pub end_has_node : (f : Bool) → HasNode (next_call th) (end f)
-      end_has_node f = subst (λ (z : Option (Call State Op Query Reply)). HasNode z (end f)) (sym is) (ap length (places_end f))
+      pub end_has_node : (f : Bool) → EndHasNode (next_call th) (end f)
+      end_has_node f = subst (λ (z : Option (Call State Op Query Reply)). EndHasNode z (end f)) (sym is) (ap length (places_end f))
 
       end_within : (f : Bool) → IsWithin (length longer) (Update op) (end_of (end f))
       end_within true = let l = one_more in omega arith

@@ -14,8 +14,8 @@ use Rattle.onll_log.specs.Log.{LogState}
 use Rattle.onll_locked.specs.declared.ends.LockedEnd.{LockedEnd}
 use Rattle.onll_locked.specs.declared.ends.Next.{Next}
 use Rattle.onll_locked.specs.declared.ends.Next.TheVariants as nexts
-use Rattle.onll_locked.specs.Locked.{LockedThread, LockedState, next_call, failed_at, own_places, update_end, HasNode, HasNoNode}
-use Rattle.onll_locked.specs.DoNext.{with_end, after_end, after_node, IsLogOf, IsNewest, HasDone, EndsSo}
+use Rattle.onll_locked.specs.Locked.{LockedThread, LockedState, next_call, failed_at, own_places, update_end, EndHasNode, HasNoNode}
+use Rattle.onll_locked.specs.DoNext.{with_end, after_end, after_node, IsThreadLog, IsNewestPlace, HasDone, EndsSo}
 use Rattle.onll_locked.specs.Kept.{KeepsLocked}
 use Rattle.onll_locked.proofs.Places.{next_inside}
 use Rattle.onll_locked.proofs.Keeping.{kept_node, kept_end, end_free, one_more, short, few_own, end_has_node}
@@ -27,7 +27,7 @@ use Rattle.onll_locked.proofs.Updates.{at_read, said_of, say_of, MayAppend, HasA
 pub record UpdateMade {State Op Query Reply Device : Type 0} (b : Behaviour State Op Query Reply) (nodes flags : ℕ) (object : State) (new now : LockedState State Op Query Reply) (t : ℕ) (log log' : LogState Device) (was is : DeviceView) (next : Next) : Type 0 where
   pub kept : KeepsLocked b nodes flags object new
   pub done : IfSome (slice_get now.threads t) (λ th. HasDone b now t th new log log' was is next)
-  pub ready : IsLogOf new t log' (length is.read)
+  pub ready : IsThreadLog new t log' (length is.read)
 
 module _ {State Op Query Reply : Type 0} (b : Behaviour State Op Query Reply) (nodes flags : ℕ) (object : State) (c : LockedState State Op Query Reply) (k : KeepsLocked b nodes flags object c) (now : LockedState State Op Query Reply) (view : c ≡ now)
     (t : ℕ) (th : LockedThread State Op Query Reply) (there : t < length now.threads) (read : th ≡ get_or c.threads t th) where
@@ -80,7 +80,7 @@ module _ {State Op Query Reply : Type 0} (b : Behaviour State Op Query Reply) (n
     flags_left n e = let s = short b nodes flags object c k t th reads op facts.0 facts.1 in let r = k.flags_room in let m = k.as_many in omega arith
 
     module _ (ordered : ℕ) (row : OpRow) (ordered_is : ordered ≡ length (own_places th)) (row_is : row ≡ b.row_of op) (items : List Node) (items_is : items ≡ c.trace ++ record { thread = t; number = ordered + 1; row = row } ∷ [])
-        (below : ℕ) (newest : IsNewest c.flags below) where
+        (below : ℕ) (newest : IsNewestPlace c.flags below) where
       abbrev longer : List Node
       longer = c.trace ++ next_node c.trace t (b.row_of op) ∷ []
 
@@ -93,9 +93,9 @@ module _ {State Op Query Reply : Type 0} (b : Behaviour State Op Query Reply) (n
       pub below_within : below ≤ length items
       below_within = let l = below_low b nodes flags object c k t th reads op facts.0 facts.1 below newest in let s = size in omega arith
 
-      module _ {Device : Type 0} (log : LogState Device) (lines : ℕ) (ready : IsLogOf now t log lines) (place : ℕ) (place_is : place ≡ length items) (ns : List Node) (ns_is : ns ≡ nodes_between items below (length items)) where
-        ready_c : IsLogOf c t log lines
-        ready_c = subst (λ (s : LockedState State Op Query Reply). IsLogOf s t log lines) (sym view) ready
+      module _ {Device : Type 0} (log : LogState Device) (lines : ℕ) (ready : IsThreadLog now t log lines) (place : ℕ) (place_is : place ≡ length items) (ns : List Node) (ns_is : ns ≡ nodes_between items below (length items)) where
+        ready_c : IsThreadLog c t log lines
+        ready_c = subst (λ (s : LockedState State Op Query Reply). IsThreadLog s t log lines) (sym view) ready
 
         pub may : MayAppend log lines place ns
         may = may_append b nodes flags object c k t th reads op facts.0 facts.1 below newest log lines ready_c place ns (place_is ∙ ap length longer_is) (ns_is ∙ ap (λ (l : List Node). nodes_between l below (length l)) longer_is)
@@ -108,8 +108,8 @@ module _ {State Op Query Reply : Type 0} (b : Behaviour State Op Query Reply) (n
           end_is : e ≡ update_end (length c.trace + 1) (reply_after b c.initial c.trace op) fenced
           end_is = e_is ∙ here
 
-          pub has_node : HasNode (next_call th) e
-          has_node = subst (HasNode (next_call th)) (sym end_is) (end_has_node b nodes flags object c k t th reads op facts.0 facts.1 fenced)
+          pub has_node : EndHasNode (next_call th) e
+          has_node = subst (EndHasNode (next_call th)) (sym end_is) (end_has_node b nodes flags object c k t th reads op facts.0 facts.1 fenced)
 
           pub update_made : (w : LockedThread State Op Query Reply) (marks : List Bool) (object' : State) (nodes' flags' : ℕ) (answer : Next) → w ≡ with_end th e → marks ≡ c.flags ++ fenced ∷ [] → object' ≡ b.next object op → nodes' ≡ nodes → flags' ≡ flags
               → (fenced ≡ true → answer ≡ nexts.Answered) → (fenced ≡ false → answer ≡ nexts.FenceFailed place)
@@ -125,5 +125,5 @@ module _ {State Op Query Reply : Type 0} (b : Behaviour State Op Query Reply) (n
                 done = say_of (λ (z : LockedThread State Op Query Reply). HasDone b now t z new log log' was is answer) (slice_get now.threads t) th reads_now
                     (subst (λ (z : LockedState State Op Query Reply × LockedState State Op Query Reply). HasDone b z.0 t th z.1 log log' was is answer) (λ i. (view i, same i))
                     (has_done b nodes flags object c k t th reads op facts.0 facts.1 below newest log lines ready_c log' was is lines_is r whole_entry fenced fenced_is answer ok (λ h. failed h ∙ ap nexts.FenceFailed (place_is ∙ size))));
-                ready = subst (λ (s : LockedState State Op Query Reply). IsLogOf s t log' (length is.read)) same (is_ready b nodes flags object c k t th reads op facts.0 facts.1 below newest log lines ready_c log' was is lines_is r whole_entry fenced fenced_is);
+                ready = subst (λ (s : LockedState State Op Query Reply). IsThreadLog s t log' (length is.read)) same (is_ready b nodes flags object c k t th reads op facts.0 facts.1 below newest log lines ready_c log' was is lines_is r whole_entry fenced fenced_is);
               }

@@ -24,7 +24,7 @@ use Rattle.onll_merge.proofs.FrameLogs.{within_logs}
 use Rattle.onll_locked.specs.declared.ends.Next.{Next}
 use Rattle.onll_locked.specs.declared.ends.Next.TheVariants as nexts
 use Rattle.onll_locked.specs.Locked.{LockedThread, LockedState, next_call, IsUpdate}
-use Rattle.onll_locked.specs.DoNext.{IsLogged, IsAnswered, HasDone}
+use Rattle.onll_locked.specs.DoNext.{IsLogged, CallIsAnswered, HasDone}
 use Rattle.onll_locked.specs.Whole.{HoldWhole, AreEmpty, content_read}
 use Rattle.onll_locked.specs.Laws.{AnswersSo}
 
@@ -144,7 +144,7 @@ module _ {State Op Query Reply Device : Type 0} (b : Behaviour State Op Query Re
     grows row trace logged = subst (λ (l : List Node). HoldWhole l heads (set logs t (content_read log'))) (sym trace)
         (logged_whole c.trace (next_node c.trace t row) refl c.flags log log' was is (subst (λ (l : List Node). IsLogged c.flags l log log' was is) trace logged) t heads logs at h)
 
-    answered_whole : (call : Option (Call State Op Query Reply)) → IsAnswered b c t th new log log' was is call → Still
+    answered_whole : (call : Option (Call State Op Query Reply)) → CallIsAnswered b c t th new log log' was is call → Still
     answered_whole None d = absurd d
     answered_whole (Some (Update op)) d = grows (b.row_of op) (ap (λ (s : LockedState State Op Query Reply). s.trace) d.state) d.logged
     answered_whole (Some (Ask query)) d = stays (ap (λ (s : LockedState State Op Query Reply). s.trace) d.state) d.log_stays
@@ -156,7 +156,7 @@ module _ {State Op Query Reply Device : Type 0} (b : Behaviour State Op Query Re
     done_whole (nexts.Broken place) d = stays (ap (λ (s : LockedState State Op Query Reply). s.trace) d.state) d.log_stays
 
   -- ---- when each answer comes
-  answered_so : (call : Option (Call State Op Query Reply)) → next_call th ≡ call → IsAnswered b c t th new log log' was is call → AnswersSo b Device c new t th was is nexts.Answered
+  answered_so : (call : Option (Call State Op Query Reply)) → next_call th ≡ call → CallIsAnswered b c t th new log log' was is call → AnswersSo b Device c new t th was is nexts.Answered
   answered_so None e d = absurd d
   answered_so (Some (Update op)) e d = record {
     at_end = (λ h. absurd (cc), λ h. some_not_none (Update op) (sym e ∙ h));

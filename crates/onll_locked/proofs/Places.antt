@@ -7,7 +7,7 @@ use Rattle.onll_model.specs.Calls.{updates_in}
 use Rattle.onll_model.proofs.Lists.{same_some, some_not_none, inside}
 use Rattle.onll_locked.specs.declared.ends.LockedEnd.{LockedEnd}
 use Rattle.onll_locked.specs.declared.ends.LockedEnd.TheVariants.{Answered, FenceFailed, Broken}
-use Rattle.onll_locked.specs.Locked.{LockedThread, failed_in, failed_at, places_of, places_in, own_places, last_in, HasNode, HasNoNode, next_call}
+use Rattle.onll_locked.specs.Locked.{LockedThread, failed_in, failed_at, places_of, places_in, own_places, last_in, EndHasNode, HasNoNode, next_call}
 use Rattle.onll_locked.specs.DoNext.{with_end}
 use Rattle.onll_locked.specs.Kept.{KeepsProgress}
 
@@ -65,7 +65,7 @@ module _ {State Op Query Reply : Type 0} where
 
   -- a call that has a node
   pub placed_progress : (most ordered : ℕ) (failed : Option ℕ) (th : LockedThread State Op Query Reply) (o : Option (Call State Op Query Reply)) (e : LockedEnd State Op Query Reply)
-      → KeepsProgress most ordered failed th → next_call th ≡ o → HasNode o e → failed_at th.ends ≡ None → KeepsProgress most (ordered + 1) (failed_in e) (with_end th e)
+      → KeepsProgress most ordered failed th → next_call th ≡ o → EndHasNode o e → failed_at th.ends ≡ None → KeepsProgress most (ordered + 1) (failed_in e) (with_end th e)
   placed_progress most ordered failed th None e k is node whole = absurd node
   placed_progress most ordered failed th (Some c) e k is node whole =
       let n = k.ordered_is in
@@ -99,9 +99,9 @@ module _ {State Op Query Reply : Type 0} where
     as_made : (ordered' : ℕ) (failed' is : Option ℕ) → is ≡ failed' → KeepsProgress most ordered' failed' (with_end th e) → KeepsProgress most' ordered' is (record { script = th.script; ends = ends })
     as_made ordered' failed' is e₁ h = subst (λ (z : ℕ × Option ℕ × List (LockedEnd State Op Query Reply)). KeepsProgress z.0 ordered' z.1 (record { script = th.script; ends = z.2 })) (λ i. (sym same i, sym e₁ i, sym more i)) h
 
-    pub order_made : (failed' : Option ℕ) → failed' ≡ failed_in e → HasNode (next_call now) e → failed_at now.ends ≡ None → KeepsProgress most' (ordered + 1) failed' (record { script = th.script; ends = ends })
+    pub order_made : (failed' : Option ℕ) → failed' ≡ failed_in e → EndHasNode (next_call now) e → failed_at now.ends ≡ None → KeepsProgress most' (ordered + 1) failed' (record { script = th.script; ends = ends })
     order_made failed' is node whole = as_made (ordered + 1) (failed_in e) failed' is
-        (placed_progress most ordered failed th (next_call th) e k refl (subst (λ (z : LockedThread State Op Query Reply). HasNode (next_call z) e) (sym view) node) (ap (λ (z : LockedThread State Op Query Reply). failed_at z.ends) view ∙ whole))
+        (placed_progress most ordered failed th (next_call th) e k refl (subst (λ (z : LockedThread State Op Query Reply). EndHasNode (next_call z) e) (sym view) node) (ap (λ (z : LockedThread State Op Query Reply). failed_at z.ends) view ∙ whole))
 
     pub put_made : HasNoNode (next_call now) e → KeepsProgress most' ordered failed (record { script = th.script; ends = ends })
     put_made free = as_made ordered failed failed refl

@@ -16,7 +16,7 @@ use Rattle.onll_locked.specs.declared.ends.LockedEnd.TheVariants as ended
 use Rattle.onll_locked.specs.declared.ends.Next.{Next}
 use Rattle.onll_locked.specs.declared.ends.Next.TheVariants as nexts
 use Rattle.onll_locked.specs.Locked.{LockedThread, LockedState, next_call, failed_in, failed_at, places_of, own_places, last_in, updates_left}
-use Rattle.onll_locked.specs.DoNext.{with_end, after_end, IsLogOf, IsAnswered, HasDone}
+use Rattle.onll_locked.specs.DoNext.{with_end, after_end, IsThreadLog, CallIsAnswered, HasDone}
 use Rattle.onll_locked.proofs.Places.{failed_more, places_more, left_update, left_ask}
 use Rattle.onll_locked.proofs.Updates.{said_of, say_of}
 
@@ -32,7 +32,7 @@ left_less th (Ask query) e is = let l = left_ask th.script (length th.ends) quer
 
 module _ {State Op Query Reply Device : Type 0} (c : LockedState State Op Query Reply) (t : ℕ) (th : LockedThread State Op Query Reply) (at : slice_get c.threads t ≡ Some th) where
   -- ---- the log of the thread itself, after a call that has no node
-  ready_end : (call : Call State Op Query Reply) (e : LockedEnd State Op Query Reply) → next_call th ≡ Some call → places_of call e ≡ [] → failed_in e ≡ None → (log : LogState Device) (lines : ℕ) → IsLogOf c t log lines → IsLogOf (after_end c t th e) t log lines
+  ready_end : (call : Call State Op Query Reply) (e : LockedEnd State Op Query Reply) → next_call th ≡ Some call → places_of call e ≡ [] → failed_in e ≡ None → (log : LogState Device) (lines : ℕ) → IsThreadLog c t log lines → IsThreadLog (after_end c t th e) t log lines
   ready_end call e is none whole log lines ready =
       let w : LockedThread State Op Query Reply = with_end th e in
       let here : slice_get (set c.threads t w) t ≡ Some w = set_here c.threads t w th at in
@@ -54,12 +54,12 @@ module _ {State Op Query Reply Device : Type 0} (c : LockedState State Op Query 
       }
 
   pub end_ready : (call : Call State Op Query Reply) (e : LockedEnd State Op Query Reply) (new : LockedState State Op Query Reply) → next_call th ≡ Some call → places_of call e ≡ [] → failed_in e ≡ None
-      → IfSome (slice_get c.threads t) (λ z. new ≡ after_end c t z e) → (log : LogState Device) (lines : ℕ) → IsLogOf c t log lines → IsLogOf new t log lines
-  end_ready call e new is none whole made log lines ready = subst (λ (s : LockedState State Op Query Reply). IsLogOf s t log lines) (sym (said_of (λ (z : LockedThread State Op Query Reply). new ≡ after_end c t z e) (slice_get c.threads t) th at made))
+      → IfSome (slice_get c.threads t) (λ z. new ≡ after_end c t z e) → (log : LogState Device) (lines : ℕ) → IsThreadLog c t log lines → IsThreadLog new t log lines
+  end_ready call e new is none whole made log lines ready = subst (λ (s : LockedState State Op Query Reply). IsThreadLog s t log lines) (sym (said_of (λ (z : LockedThread State Op Query Reply). new ≡ after_end c t z e) (slice_get c.threads t) th at made))
       (ready_end call e is none whole log lines ready)
 
   -- ---- the logs of the others
-  others_stay : (new : LockedState State Op Query Reply) (w : LockedThread State Op Query Reply) → new.threads ≡ set c.threads t w → (u : ℕ) (other : LogState Device) (lines : ℕ) → u ≢ t → IsLogOf c u other lines → IsLogOf new u other lines
+  others_stay : (new : LockedState State Op Query Reply) (w : LockedThread State Op Query Reply) → new.threads ≡ set c.threads t w → (u : ℕ) (other : LogState Device) (lines : ℕ) → u ≢ t → IsThreadLog c u other lines → IsThreadLog new u other lines
   others_stay new w threads u other lines not ready =
       let many : length new.threads ≡ length c.threads = ap length threads ∙ length-set c.threads t w in
       let same : slice_get new.threads u ≡ slice_get c.threads u = ap (λ (l : List (LockedThread State Op Query Reply)). slice_get l u) threads ∙ set_else c.threads t u w not in
@@ -71,21 +71,21 @@ module _ {State Op Query Reply Device : Type 0} (c : LockedState State Op Query 
         room = subst (λ (x : Option (LockedThread State Op Query Reply) × ℕ). IfSome x.0 (λ z. (x.1 + 1) * updates_left z ≤ free_of lines other.entries)) (λ i. (sym same i, sym many i)) ready.room;
       }
 
-  pub end_others : (e : LockedEnd State Op Query Reply) (new : LockedState State Op Query Reply) → IfSome (slice_get c.threads t) (λ z. new ≡ after_end c t z e) → (u : ℕ) (other : LogState Device) (lines : ℕ) → u ≢ t → IsLogOf c u other lines → IsLogOf new u other lines
+  pub end_others : (e : LockedEnd State Op Query Reply) (new : LockedState State Op Query Reply) → IfSome (slice_get c.threads t) (λ z. new ≡ after_end c t z e) → (u : ℕ) (other : LogState Device) (lines : ℕ) → u ≢ t → IsThreadLog c u other lines → IsThreadLog new u other lines
   end_others e new made = others_stay new (with_end th e) (ap (λ (s : LockedState State Op Query Reply). s.threads) (said_of (λ (z : LockedThread State Op Query Reply). new ≡ after_end c t z e) (slice_get c.threads t) th at made))
 
   module _ (b : Behaviour State Op Query Reply) (new : LockedState State Op Query Reply) (log log' : LogState Device) (was is : DeviceView) where
     abbrev Stay : Type 0
-    Stay = (u : ℕ) (other : LogState Device) (lines : ℕ) → u ≢ t → IsLogOf c u other lines → IsLogOf new u other lines
+    Stay = (u : ℕ) (other : LogState Device) (lines : ℕ) → u ≢ t → IsThreadLog c u other lines → IsThreadLog new u other lines
 
-    answered_others : (call : Option (Call State Op Query Reply)) → IsAnswered b c t th new log log' was is call → Stay
+    answered_others : (call : Option (Call State Op Query Reply)) → CallIsAnswered b c t th new log log' was is call → Stay
     answered_others None d = absurd d
     answered_others (Some (Update op)) d = others_stay new _ (ap (λ (s : LockedState State Op Query Reply). s.threads) d.state)
     answered_others (Some (Ask query)) d = others_stay new _ (ap (λ (s : LockedState State Op Query Reply). s.threads) d.state)
 
     done_others : (next : Next) → HasDone b c t th new log log' was is next → Stay
     done_others nexts.Answered d = answered_others (next_call th) d
-    done_others nexts.Done d = λ u other lines not ready. subst (λ (s : LockedState State Op Query Reply). IsLogOf s u other lines) (sym d.state) ready
+    done_others nexts.Done d = λ u other lines not ready. subst (λ (s : LockedState State Op Query Reply). IsThreadLog s u other lines) (sym d.state) ready
     done_others (nexts.FenceFailed place) d = others_stay new _ (ap (λ (s : LockedState State Op Query Reply). s.threads) d.state)
     done_others (nexts.Broken place) d = others_stay new _ (ap (λ (s : LockedState State Op Query Reply). s.threads) d.state)
 

@@ -26,7 +26,7 @@ use Rattle.onll_locked.specs.declared.ends.LockedEnd.TheVariants as ended
 use Rattle.onll_locked.specs.declared.ends.Next.{Next}
 use Rattle.onll_locked.specs.declared.ends.Next.TheVariants as nexts
 use Rattle.onll_locked.specs.Locked.{LockedThread, LockedState, next_call, failed_in, failed_at, own_places, last_in, updates_left, places_of, update_end}
-use Rattle.onll_locked.specs.DoNext.{with_end, after_node, IsLogOf, IsNewest, IsLogged, IsAnswered, HasDone}
+use Rattle.onll_locked.specs.DoNext.{with_end, after_node, IsThreadLog, IsNewestPlace, IsLogged, CallIsAnswered, HasDone}
 use Rattle.onll_locked.specs.Kept.{KeepsLocked}
 use Rattle.onll_locked.proofs.Places.{last_more, failed_more, places_more}
 use Rattle.onll_locked.proofs.Keeping.{node_fits, one_more, short, fewer}
@@ -80,7 +80,7 @@ module _ {State Op Query Reply : Type 0} (b : Behaviour State Op Query Reply) (n
   size : length longer ≡ length c.trace + 1
   size = one_more b nodes flags object c k t th at op is whole
 
-  module _ (below : ℕ) (newest : IsNewest c.flags below) where
+  module _ (below : ℕ) (newest : IsNewestPlace c.flags below) where
     pub below_low : below ≤ length c.trace
     below_low = let l = available_low c.flags below newest.available in let m = k.as_many in omega arith
 
@@ -125,7 +125,7 @@ module _ {State Op Query Reply : Type 0} (b : Behaviour State Op Query Reply) (n
         longer_fits : AllByRecursion (CanHold (length c.threads)) longer
         longer_fits = all_append (CanHold (length c.threads)) c.trace (x ∷ []) k.fits (node_fits b nodes flags object c k t th at op is whole, tt)
 
-    module _ {Device : Type 0} (log : LogState Device) (lines : ℕ) (ready : IsLogOf c t log lines) where
+    module _ {Device : Type 0} (log : LogState Device) (lines : ℕ) (ready : IsThreadLog c t log lines) where
       pub may_append : (place : ℕ) (ns : List Node) → place ≡ length longer → ns ≡ nodes_between longer below (length longer) → MayAppend log lines place ns
       may_append place ns place_is ns_is =
           let s = size in
@@ -177,7 +177,7 @@ module _ {State Op Query Reply : Type 0} (b : Behaviour State Op Query Reply) (n
             by : (q : Result Unit FenceFailed) → r ≡ q → HasDone b c t th after log log' was is' next
             by (Ok u) e₁ =
                 let set_now : fenced ≡ true = fenced_is ∙ ap is_ok e₁ in
-                subst (HasDone b c t th after log log' was is') (sym (ok set_now)) (subst (IsAnswered b c t th after log log' was is') (sym is) record {
+                subst (HasDone b c t th after log log' was is') (sym (ok set_now)) (subst (CallIsAnswered b c t th after log log' was is') (sym is) record {
                   whole = whole;
                   state = ap (λ (f : Bool). after_node c t th (b.row_of op) f (update_end (length c.trace + 1) (reply_after b c.initial c.trace op) f)) set_now;
                   logged = logged;
@@ -200,7 +200,7 @@ module _ {State Op Query Reply : Type 0} (b : Behaviour State Op Query Reply) (n
                 }
 
         -- and the log stands ready for the next one
-        pub is_ready : IsLogOf after t log' (length is'.read)
+        pub is_ready : IsThreadLog after t log' (length is'.read)
         is_ready =
             let w : LockedThread State Op Query Reply = with_end th e in
             let here : slice_get after.threads t ≡ Some w = set_here c.threads t w th at in

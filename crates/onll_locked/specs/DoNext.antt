@@ -22,7 +22,7 @@ use Rattle.onll_locked.specs.Locked.{LockedThread, LockedState, next_call, faile
 
 -- The log is the thread's, over a device of this many lines: its head says so; it is broken exactly where a fence of the
 -- thread has failed; it ends at the thread's last update; and it has room for those that are left.
-pub record IsLogOf {State Op Query Reply Device : Type 0} (c : LockedState State Op Query Reply) (t : ℕ)
+pub record IsThreadLog {State Op Query Reply Device : Type 0} (c : LockedState State Op Query Reply) (t : ℕ)
     (log : LogState Device) (lines : ℕ) : Type 0 where
   pub thread : log.head.thread ≡ t
   pub threads : log.head.threads ≡ length c.threads
@@ -60,7 +60,7 @@ after_node c t th row flag e = record {
 }
 
 -- the newest place that is available: it is 0 or flagged, and no later one is flagged
-pub record IsNewest (flags : List Bool) (place : ℕ) : Type 0 where
+pub record IsNewestPlace (flags : List Bool) (place : ℕ) : Type 0 where
   pub available : is_available flags place ≡ true
   pub none_later : (q : ℕ) → place < q → is_available flags q ≡ false
 
@@ -69,7 +69,7 @@ pub record IsNewest (flags : List Bool) (place : ℕ) : Type 0 where
 pub record IsLogged {Device : Type 0} (flags : List Bool) (trace : List Node) (old new : LogState Device)
     (was is : DeviceView) : Type 0 where
   pub below : ℕ
-  pub newest : IsNewest flags below
+  pub newest : IsNewestPlace flags below
   pub own : below < length trace
   pub head : new.head ≡ old.head
   pub entries : new.entries ≡ old.entries ++ window trace below (length trace) ∷ []
@@ -110,7 +110,7 @@ module _ {State Op Query Reply Device : Type 0} (b : Behaviour State Op Query Re
     pub log_stays : log' ≡ log
 
   -- a read is answered at the end of the trace
-  pub record IsRead (query : Query) : Type 0 where
+  pub record ReadIsAnswered (query : Query) : Type 0 where
     pub state : new ≡ after_end c t th (ended.Answered (length c.trace) (answer_after b c.initial c.trace query))
     pub log_stays : log' ≡ log
 
@@ -120,14 +120,14 @@ module _ {State Op Query Reply Device : Type 0} (b : Behaviour State Op Query Re
     pub state : new ≡ c
     pub log_stays : log' ≡ log
 
-  abbrev pub IsAnswered : Option (Call State Op Query Reply) → Type 0
-  IsAnswered None = ⊥
-  IsAnswered (Some (Update op)) = IsUpdated op
-  IsAnswered (Some (Ask query)) = IsRead query
+  abbrev pub CallIsAnswered : Option (Call State Op Query Reply) → Type 0
+  CallIsAnswered None = ⊥
+  CallIsAnswered (Some (Update op)) = IsUpdated op
+  CallIsAnswered (Some (Ask query)) = ReadIsAnswered query
 
   -- what the thread's next call did, by what was answered
   abbrev pub HasDone : Next → Type 0
-  HasDone Answered = IsAnswered (next_call th)
+  HasDone Answered = CallIsAnswered (next_call th)
   HasDone Done = IsDone
   HasDone (FenceFailed place) = IsFailed place
   HasDone (Broken place) = IsBroken place

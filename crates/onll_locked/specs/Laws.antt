@@ -12,7 +12,7 @@ use Rattle.onll_merge.specs.Laws.{HeadsFit}
 use Rattle.onll_locked.specs.declared.ends.Next.{Next}
 use Rattle.onll_locked.specs.declared.ends.Next.TheVariants.{Done, FenceFailed, Broken}
 use Rattle.onll_locked.specs.Locked.{LockedThread, LockedState, first_state, next_call, failed_at, IsUpdate}
-use Rattle.onll_locked.specs.DoNext.{IsLogOf, HasDone}
+use Rattle.onll_locked.specs.DoNext.{IsThreadLog, HasDone}
 use Rattle.onll_locked.specs.Whole.{HoldWhole, AreEmpty, content_read}
 
 -- Laws of what a call does, whatever code does it.
@@ -27,8 +27,8 @@ MergedLaw = (trace : List Node) (heads : List LogHead) (logs : List Content) →
 
 module _ {State Op Query Reply : Type 0} (b : Behaviour State Op Query Reply) (Device : Type 0) where
   -- each call leaves logs that hold the whole trace, where the thread's log was the one at its number
-  abbrev pub KeptLaw : Type 0
-  KeptLaw = (c new : LockedState State Op Query Reply) (t : ℕ) (th : LockedThread State Op Query Reply)
+  abbrev pub WholeLogsLaw : Type 0
+  WholeLogsLaw = (c new : LockedState State Op Query Reply) (t : ℕ) (th : LockedThread State Op Query Reply)
       (log log' : LogState Device) (was is : DeviceView) (next : Next) (heads : List LogHead) (logs : List Content)
       → HasDone b c t th new log log' was is next → slice_get logs t ≡ Some (content_read log)
       → HoldWhole c.trace heads logs → HoldWhole new.trace heads (slice_set logs t (content_read log'))
@@ -54,4 +54,4 @@ FirstLogLaw State Op Query Reply Device =
     (t : ℕ) (log : LogState Device) (lines : ℕ)
     → slice_get scripts t ≡ Some script → log.head.thread ≡ t → log.head.threads ≡ length scripts → log.entries ≡ []
     → log.broken ≡ false → 1 + (length scripts + 1) * updates_in script ≤ lines
-    → IsLogOf (first_state initial scripts) t log lines
+    → IsThreadLog (first_state initial scripts) t log lines

@@ -85,9 +85,9 @@ HasNoNode None e = ⊥
 HasNoNode (Some c) e = (places_of c e ≡ []) × (failed_in e ≡ None)
 
 -- and one that ends so has one
-abbrev pub HasNode : {State Op Query Reply : Type 0} → Option (Call State Op Query Reply) → LockedEnd State Op Query Reply → Type 0
-HasNode None e = ⊥
-HasNode (Some c) e = length (places_of c e) ≡ 1
+abbrev pub EndHasNode : {State Op Query Reply : Type 0} → Option (Call State Op Query Reply) → LockedEnd State Op Query Reply → Type 0
+EndHasNode None e = ⊥
+EndHasNode (Some c) e = length (places_of c e) ≡ 1
 
 -- what becomes of an update that has a node, by whether its fence succeeded
 abbrev pub update_end : {State Op Query Reply : Type 0} → ℕ → Reply → Bool → LockedEnd State Op Query Reply

@@ -1,6 +1,6 @@
 //! The laws of the object under one lock: its logs merge to its trace.
 
-ghost use Rattle.onll_locked.specs.Laws.{BegunLaw, MergedLaw, KeptLaw, AnswerLaw, FirstLogLaw};
+ghost use Rattle.onll_locked.specs.Laws.{BegunLaw, MergedLaw, WholeLogsLaw, AnswerLaw, FirstLogLaw};
 
 use onll_model::Object;
 use onll_pmem::Pmem;
@@ -9,7 +9,7 @@ use onll_pmem::Pmem;
 /// logs that hold the whole trace merge to it.
 pub fn whole_laws<O: Object, P: Pmem>()
     ensures begun { BegunLaw }
-    ensures kept { KeptLaw O.means P }
+    ensures kept { WholeLogsLaw O.means P }
     ensures merged { MergedLaw }
 {}
 

@@ -9,7 +9,7 @@ ghost use Rattle.onll_model.specs.Trace.{state_after};
 ghost use Rattle.onll_model.specs.Segment.{nodes_between};
 ghost use Rattle.onll_log.specs.Log.{LogState};
 ghost use Rattle.onll_locked.specs.Locked.{first_thread, first_state, next_call, failed_at, IsUpdate};
-ghost use Rattle.onll_locked.specs.DoNext.{IsLogOf, IsNewest, EndsSo, after_end, HasDone};
+ghost use Rattle.onll_locked.specs.DoNext.{IsThreadLog, IsNewestPlace, EndsSo, after_end, HasDone};
 ghost use Rattle.onll_locked.specs.Kept.{EachLocked, AgreeCounts, FlagsTell, IsLegalLocked};
 
 use crate::ends::{LockedEnd, Next};
@@ -26,7 +26,7 @@ const NAMES: usize = MOST_UPDATES as usize;
 
 /// The newest place whose flag is set, 0 where there is none.
 fn newest_available(flags: &[bool]) -> u64
-    ensures { IsNewest flags.now result }
+    ensures { IsNewestPlace flags.now result }
 {
     let mut place = flags.len();
     while place > 0 && !flags[place - 1] {
@@ -195,11 +195,11 @@ impl<O: Object + Drop> Locked<O> {
     fn update<P: Pmem>(&mut self, thread: u64, op: O::Op, log: &mut ThreadLog<P>) -> Next
         requires next { IfSome (slice_get self.old.threads thread) (λ th. (next_call th ≡ Some (Update op)) × (failed_at th.ends ≡ None)) }
         requires there { thread < length self.old.threads }
-        requires log { IsLogOf self.old thread log.old (length (P.means log.old.device).read) }
+        requires log { IsThreadLog self.old thread log.old (length (P.means log.old.device).read) }
         ensures done { IfSome (slice_get self.old.threads thread)
             (λ th. HasDone O.means self.old thread th self.new log.old log.new (P.means log.old.device)
             (P.means log.new.device) result) }
-        ensures ready { IsLogOf self.new thread log.new (length (P.means log.new.device).read) }
+        ensures ready { IsThreadLog self.new thread log.new (length (P.means log.new.device).read) }
     {
         let below = newest_available(&self.flags);
         let progress = &mut self.threads[thread as usize];
@@ -220,14 +220,14 @@ impl<O: Object + Drop> Locked<O> {
     /// Does the thread's next call in full. An update appends one entry to the log, with one fence: the operations from the
     /// newest flagged place, without it, to its own place. It takes no memory.
     pub fn do_next<P: Pmem>(&mut self, thread: u64, log: &mut ThreadLog<P>) -> Next
-        requires { IsLogOf self.old thread log.old (length (P.means log.old.device).read) }
+        requires { IsThreadLog self.old thread log.old (length (P.means log.old.device).read) }
         ensures done { IfSome (slice_get self.old.threads thread)
             (λ th. HasDone O.means self.old thread th self.new log.old log.new (P.means log.old.device)
             (P.means log.new.device) result) }
         ensures there { thread < length self.old.threads }
-        ensures ready { IsLogOf self.new thread log.new (length (P.means log.new.device).read) }
-        ensures others { (u : ℕ) (other : LogState P) (lines : ℕ) → u ≢ thread → IsLogOf self.old u other lines
-            → IsLogOf self.new u other lines }
+        ensures ready { IsThreadLog self.new thread log.new (length (P.means log.new.device).read) }
+        ensures others { (u : ℕ) (other : LogState P) (lines : ℕ) → u ≢ thread → IsThreadLog self.old u other lines
+            → IsThreadLog self.new u other lines }
     {
         let _ = log.device();
         let progress = &self.threads[thread as usize];

@@ -2,7 +2,7 @@
 
 ghost use Rattle.std.specs.Prelude.{◌≡◌, ◌+◌, ◌<◌, ◌≤◌, ◌++◌, ◌∷◌, [], None, length, IfOk};
 ghost use Rattle.std.specs.Vec.{vec_capacity};
-ghost use Rattle.onll_locked.specs.Locked.{first_thread, next_call, failed_at, own_places, HasNode, HasNoNode};
+ghost use Rattle.onll_locked.specs.Locked.{first_thread, next_call, failed_at, own_places, EndHasNode, HasNoNode};
 ghost use Rattle.onll_locked.specs.DoNext.{with_end};
 
 use crate::ends::LockedEnd;
@@ -88,7 +88,7 @@ impl<O: Object> Progress<O> {
     /// The next call, an update, has ended so, and has a node.
     pub fn order(&mut self, end: LockedEnd<O>)
         requires next { length self.old.ends < length self.old.script }
-        requires node { HasNode (next_call self.old) end }
+        requires node { EndHasNode (next_call self.old) end }
         requires whole { failed_at self.old.ends ≡ None }
         ensures { self.new ≡ with_end self.old end }
     {

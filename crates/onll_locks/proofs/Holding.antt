@@ -18,7 +18,7 @@ use Rattle.onll_locks.specs.declared.locks.LockReply.{LockReply}
 use Rattle.onll_locks.specs.declared.locks.LockReply.TheVariants as gives
 use Rattle.onll_locks.specs.Locks.{after_acquire, after_release, granting, held_by, is_holder, lock_next, lock_reply}
 use Rattle.onll_locks.specs.Locks.{lock_at, lock_of, locks, never, next, reply}
-use Rattle.onll_locks.specs.Laws.{AloneLaw, GrantLaw, GrantedAt, HoldsLaw, IsGrantOf, ReleasedBetween, RisingLaw, lock_before}
+use Rattle.onll_locks.specs.Laws.{AloneLaw, GrantLaw, GrantedAt, HoldsLaw, IsGrantOf, ReleasedBetween, GrantsRiseLaw, lock_before}
 
 -- ---- one lock
 -- its token never falls
@@ -221,7 +221,7 @@ grant_law first nodes l c t (suc i) g =
     let z : i ≡ suc i - 1 = omega arith in
     subst (λ (x : ℕ). IsGrantOf (lock_at (at_index first nodes x) l) t) z (given first nodes l c t i g).grant
 
-pub rising_law : RisingLaw
+pub rising_law : GrantsRiseLaw
 rising_law first nodes l c t zero d u q g h low = some_not_none g.node (sym g.here)
 rising_law first nodes l c t (suc i) d u zero g h low = some_not_none h.node (sym h.here)
 rising_law first nodes l c t (suc i) d u (suc j) g h low =

@@ -26,14 +26,14 @@ use Rattle.onll_locks.specs.declared.locks.Locks.{Locks}
 use Rattle.onll_locks.specs.declared.locks.LockOp.{LockOp}
 use Rattle.onll_locks.specs.declared.locks.LockQuery.{LockQuery}
 use Rattle.onll_locks.specs.declared.locks.LockReply.{LockReply}
-use Rattle.onll_locks.specs.Laws.{EachStands, StandAll, StandsAnswered, StandsAt}
+use Rattle.onll_locks.specs.Laws.{EachStands, StandAll, StandsAnswered, OpStandsAt}
 use Rattle.onll_locks.specs.Locks.{locks}
-use Rattle.onll_locks.specs.Serving.{AllStand, LockRun, StandClosed}
+use Rattle.onll_locks.specs.Serving.{AllAnswersStand, LockRun, StandClosed}
 
 module _ {State Op Query Reply : Type 0} (b : Behaviour State Op Query Reply) (first : State) (trace : List Node) where
   -- an update that was answered, with its node
   stands : (t : ℕ) (op : Op) (reply : Reply) (place : ℕ) → IsOwnNode trace t (b.row_of op) place
-      → reply ≡ reply_after b first (take (place - 1) trace) op → StandsAt b first trace op reply place
+      → reply ≡ reply_after b first (take (place - 1) trace) op → OpStandsAt b first trace op reply place
   stands t op reply place n r = record { node = n.node; here = n.here; op_is = ap b.op_at n.row_is ∙ b.op_of_its_row op; reply_is = r }
 
   -- the calls of a thread from the one at an index on
@@ -84,8 +84,8 @@ module _ {State Op Query Reply : Type 0} (b : Behaviour State Op Query Reply) (f
     get_taken (x ∷ xs) zero (suc k) low = refl
     get_taken (x ∷ xs) (suc i) (suc k) low = get_taken xs i k (omega (arith, low))
 
-    front_stands : (op : Op) (reply : Reply) (place : ℕ) → place ≤ length nodes → StandsAt b first trace op reply place
-        → StandsAt b first nodes op reply place
+    front_stands : (op : Op) (reply : Reply) (place : ℕ) → place ≤ length nodes → OpStandsAt b first trace op reply place
+        → OpStandsAt b first nodes op reply place
     front_stands op reply zero low s = some_not_none s.node (sym s.here)
     front_stands op reply (suc i) low s = record {
       node = s.node;
@@ -118,7 +118,7 @@ module _ {State Op Query Reply : Type 0} (b : Behaviour State Op Query Reply) (f
 
 -- ---- locks that were served
 module _ {Device : Type 0} (means : Device → DeviceView) (onll : OnllView Locks) (runs : List (LockRun Device)) where
-  answers_stand : (h : HasHistory (behaviour_of locks) means onll runs) → AllStand means onll runs h
+  answers_stand : (h : HasHistory (behaviour_of locks) means onll runs) → AllAnswersStand means onll runs h
   answers_stand h =
       let trace = h.closed.ended.frame.trace in
       let scripts = map script_of runs in

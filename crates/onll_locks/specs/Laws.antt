@@ -16,7 +16,7 @@ use Rattle.onll_locks.specs.Locks.{held_by, lock_at, locks}
 
 -- ---- what stands in a trace
 -- the update at a place of these nodes is this operation, and this is its reply
-pub record StandsAt {State Op Query Reply : Type 0} (b : Behaviour State Op Query Reply) (first : State) (nodes : List Node) (op : Op)
+pub record OpStandsAt {State Op Query Reply : Type 0} (b : Behaviour State Op Query Reply) (first : State) (nodes : List Node) (op : Op)
     (reply : Reply) (place : ℕ) : Type 0 where
   pub node : Node
   pub here : node_at nodes place ≡ Some node
@@ -26,7 +26,7 @@ pub record StandsAt {State Op Query Reply : Type 0} (b : Behaviour State Op Quer
 -- an update that was answered stands at its place, with its reply
 abbrev pub StandsAnswered : {State Op Query Reply : Type 0} → Behaviour State Op Query Reply → State → List Node
     → Call State Op Query Reply → CallEnd State Op Query Reply → Type 0
-StandsAnswered b first nodes (Update op) (Answered reply place) = StandsAt b first nodes op reply place
+StandsAnswered b first nodes (Update op) (Answered reply place) = OpStandsAt b first nodes op reply place
 StandsAnswered b first nodes (Update op) Running = Unit {0}
 StandsAnswered b first nodes (Update op) (Ordered place) = Unit {0}
 StandsAnswered b first nodes (Update op) (FenceFailed place) = Unit {0}
@@ -53,14 +53,14 @@ module _ (first : Locks) (nodes : List Node) where
 
   -- at this place the lock was granted to the client, with this token
   abbrev pub GrantedAt : (lock client token place : ℕ) → Type 0
-  GrantedAt lock client token place = StandsAt (behaviour_of locks) first nodes (Acquire lock client) (gives.Granted token) place
+  GrantedAt lock client token place = OpStandsAt (behaviour_of locks) first nodes (Acquire lock client) (gives.Granted token) place
 
   -- between two places the client released the lock that it held with this token
   pub record ReleasedBetween (lock client token low high : ℕ) : Type 0 where
     pub place : ℕ
     pub above : low < place
     pub below : place < high
-    pub there : StandsAt (behaviour_of locks) first nodes (Release lock client token) gives.Released place
+    pub there : OpStandsAt (behaviour_of locks) first nodes (Release lock client token) gives.Released place
 
 -- ---- laws
 -- a lock is granted only where nobody holds it, with the token that comes after its last one
@@ -73,8 +73,8 @@ GrantLaw = (first : Locks) (nodes : List Node) (lock client token place : ℕ) �
     → IsGrantOf (lock_before first nodes lock place) token
 
 -- of two grants of one lock the later has the greater token
-abbrev pub RisingLaw : Type 0
-RisingLaw = (first : Locks) (nodes : List Node) (lock c t p d u q : ℕ) → GrantedAt first nodes lock c t p
+abbrev pub GrantsRiseLaw : Type 0
+GrantsRiseLaw = (first : Locks) (nodes : List Node) (lock c t p d u q : ℕ) → GrantedAt first nodes lock c t p
     → GrantedAt first nodes lock d u q → p < q → t < u
 
 -- who was granted a lock holds it with that token up to any later place, or has released it before

@@ -40,7 +40,7 @@ promises_nothing old new calls ends ending = Unit {0}
 module _ {Device : Type 0} (means : Device → DeviceView) (onll : OnllView Locks) where
   -- Each update that was answered stands at its place with its reply, in the trace that begins with all that the files held; and in
   -- whatever a crash leaves of it.
-  pub record AllStand (runs : List (LockRun Device)) (h : HasHistory (behaviour_of locks) means onll runs) : Type 0 where
+  pub record AllAnswersStand (runs : List (LockRun Device)) (h : HasHistory (behaviour_of locks) means onll runs) : Type 0 where
     pub now : EachStands (behaviour_of locks) onll.first h.closed.ended.frame.trace (map script_of runs) (map ends_of runs)
     pub crash : (nodes : List Node) → IsLifeFront (generation_of (behaviour_of locks) means onll runs h) nodes
         → EachStands (behaviour_of locks) onll.first nodes (map script_of runs) (map ends_of runs)
@@ -49,8 +49,8 @@ module _ {Device : Type 0} (means : Device → DeviceView) (onll : OnllView Lock
   abbrev pub StandClosed : (runs : List (LockRun Device)) (afters : List (PassView Locks Device)) (logs : List ℕ) (old new : StoreView)
       (kept : Result (Unit {0}) (CloseFault Locks Device LockOp LockQuery LockReply))
       → ClosedSo (behaviour_of locks) means onll runs afters logs old new kept → Type 0
-  StandClosed runs afters logs old new (Ok x) c = AllStand runs c.0
-  StandClosed runs afters logs old new (Err (NotKept fault)) c = AllStand runs c.0
+  StandClosed runs afters logs old new (Ok x) c = AllAnswersStand runs c.0
+  StandClosed runs afters logs old new (Err (NotKept fault)) c = AllAnswersStand runs c.0
   StandClosed runs afters logs old new (Err (NoMemory unclosed)) c = Unit {0}
 
 -- In whatever way locks were served, what was answered stands.

@@ -19,7 +19,7 @@ use Rattle.onll_log.specs.Decoded.{segment_in, segments_in, content_in}
 use Rattle.onll_log.specs.Grammar.{content_of, are_zero_lines, lines_in, used_with, used_by}
 use Rattle.onll_log.specs.Written.{IsWritten}
 use Rattle.onll_log.specs.Torn.{IsLine, Holds, log_image}
-use Rattle.onll_log.specs.Log.{entries_read, free_of, but_last, placed_lines, Puts, HoldsLog, KeepsLog, EndsInZeros, IsClean, HasHeader, IsMade, Appends}
+use Rattle.onll_log.specs.Log.{entries_read, free_of, but_last, placed_lines, PutsLines, HoldsLog, KeepsLog, EndsInZeros, IsClean, HasHeader, IsMade, Appends}
 use Rattle.onll_log.proofs.Lines.{AreLines-entry_lines}
 use Rattle.onll_log.proofs.Encoded.{entries_from-entries_lines, entries_from-zero_lines, length-entry_lines, length-log_lines, FitEntries-append}
 use Rattle.onll_log.proofs.Torn.{log_image-more, Holds-log_image}
@@ -83,7 +83,7 @@ pub ToldBacked-settled : (told : Option Told) (read : List (List ℕ)) → ToldL
 ToldBacked-settled told read lines settled t e = subst (λ (fenced : List (List ℕ)). AllBacked t.backed fenced read) (sym (settled t e)) (AllBacked-even t.backed read (lines t e))
 
 -- ---- a log is made
-pub HasHeader-written : (old mid new : DeviceView) (head : LogHead) (line : List ℕ) → IsClean old.read → line ≡ head_line head → Puts old mid 0 (line ∷ []) → new.read ≡ mid.read → new.fences ≡ mid.fences + 1 → HasHeader old new head
+pub HasHeader-written : (old mid new : DeviceView) (head : LogHead) (line : List ℕ) → IsClean old.read → line ≡ head_line head → PutsLines old mid 0 (line ∷ []) → new.read ≡ mid.read → new.fences ≡ mid.fences + 1 → HasHeader old new head
 HasHeader-written old mid new head line clean e p read fences = record {
   clean = clean;
   read = header;
@@ -187,14 +187,14 @@ KeepsLog-opened d log head used count last eight lines told few settled h found 
 -- ---- an entry is appended
 -- the lines that the append wrote
 pub Puts-entry : (old mid : DeviceView) (head : LogHead) (ss : List Segment) (s : Segment) (used count : ℕ) (first : List ℕ) → used ≡ 1 + lines_in ss → count ≡ length ss
-    → first ≡ entry_line head (count + 1 - 1) s → Puts old mid used (first ∷ node_lines s.nodes) → Puts old mid (1 + lines_in ss) (entry_lines head (length ss) s)
+    → first ≡ entry_line head (count + 1 - 1) s → PutsLines old mid used (first ∷ node_lines s.nodes) → PutsLines old mid (1 + lines_in ss) (entry_lines head (length ss) s)
 Puts-entry old mid head ss s used count first u n e p =
     let number : count + 1 - 1 ≡ length ss = omega arith in
     let line : first ≡ entry_line head (length ss) s = e ∙ ap (λ (k : ℕ). entry_line head k s) number in
-    subst (λ (l : List ℕ). Puts old mid (1 + lines_in ss) (l ∷ node_lines s.nodes)) line (subst (λ (k : ℕ). Puts old mid k (first ∷ node_lines s.nodes)) u p)
+    subst (λ (l : List ℕ). PutsLines old mid (1 + lines_in ss) (l ∷ node_lines s.nodes)) line (subst (λ (k : ℕ). PutsLines old mid k (first ∷ node_lines s.nodes)) u p)
 
 pub Appends-written : (old mid new : DeviceView) (head : LogHead) (ss : List Segment) (s : Segment) → HoldsLog old head ss false → FitsEntry head.threads s → length s.nodes + 1 ≤ free_of (length old.read) ss
-    → Puts old mid (1 + lines_in ss) (entry_lines head (length ss) s) → new.read ≡ mid.read → new.fences ≡ mid.fences + 1
+    → PutsLines old mid (1 + lines_in ss) (entry_lines head (length ss) s) → new.read ≡ mid.read → new.fences ≡ mid.fences + 1
     → Appends old new (1 + lines_in ss) (entry_lines head (length ss) s)
 Appends-written old mid new head ss s h f room p read fences =
     let within = h.within in
@@ -292,7 +292,7 @@ pub record Appended {T E : Type 0} (r : Result T E) (old new : DeviceView) (head
 
 pub Appended-entry : {T E : Type 0} (r : Result T E) (old mid new : DeviceView) (head : LogHead) (ss : List Segment) (s : Segment) (used count last fences : ℕ) (was broken : Bool) (first : List ℕ)
     → KeepsLog old head ss used count last fences was → was ≡ false → FitsEntry head.threads s → length s.nodes + 1 ≤ free_of (length old.read) ss
-    → first ≡ entry_line head (count + 1 - 1) s → Puts old mid used (first ∷ node_lines s.nodes)
+    → first ≡ entry_line head (count + 1 - 1) s → PutsLines old mid used (first ∷ node_lines s.nodes)
     → new.read ≡ mid.read → new.fences ≡ mid.fences + 1 → OnOk r (new.told ≡ told_fenced mid.told mid.read) → OnErr r (new.told ≡ mid.told) → broken ≡ is_err r
     → Appended r old new head ss s used count fences broken
 Appended-entry r old mid new head ss s used count last fences was broken first k w f room line p read fenced durable kept b =

@@ -12,7 +12,7 @@ use Rattle.onll_pmem.proofs.Devices.{KeepsTold-backed}
 use Rattle.onll_pmem.proofs.Lines.{length-words_of}
 use Rattle.onll_log.specs.Encoding.{node_lines}
 use Rattle.onll_log.specs.Grammar.{is_zero_line}
-use Rattle.onll_log.specs.Log.{placed_lines, Puts}
+use Rattle.onll_log.specs.Log.{placed_lines, PutsLines}
 use Rattle.onll_log.proofs.Accepted.{both_true}
 use Rattle.onll_log.proofs.Placed.{placed_lines-none, placed_lines-one, placed_lines-append, length-placed_lines}
 
@@ -53,7 +53,7 @@ ToldSettled-put (Some u) line durable h t e = only (record u { backed = set (set
 pub Puts-one : (old mid new : DeviceView) (line : ℕ) (value : List ℕ) → line < length old.read
     → mid.read ≡ set old.read line value → mid.fences ≡ old.fences → mid.faults ≡ old.faults → mid.told ≡ told_written old.told line
     → new.read ≡ mid.read → new.fences ≡ mid.fences → new.faults ≡ mid.faults → new.told ≡ told_backed mid.told line
-    → Puts old new line (value ∷ [])
+    → PutsLines old new line (value ∷ [])
 Puts-one old mid new line value l read fences faults told read2 fences2 faults2 told2 =
     let told_is : told_backed (told_written old.told line) line ≡ new.told = sym (told2 ∙ ap (λ (t : Option Told). told_backed t line) told) in
     let read_is : set old.read line value ≡ new.read = sym (read2 ∙ read) in
@@ -66,11 +66,11 @@ Puts-one old mid new line value l read fences faults told read2 fences2 faults2 
     }
 
 -- ---- more lines
-pub Puts-none : (d : DeviceView) (from : ℕ) → Puts d d from []
+pub Puts-none : (d : DeviceView) (from : ℕ) → PutsLines d d from []
 Puts-none d from = record { read = sym (placed_lines-none d.read from); fences = refl; faults = refl; backed = λ a. a; fenced = λ durable s. s }
 
 pub Puts-then : (old mid new : DeviceView) (from next : ℕ) (xs ys : List (List ℕ)) → from + length xs ≤ length old.read → next ≡ from + length xs
-    → Puts old mid from xs → Puts mid new next ys → Puts old new from (xs ++ ys)
+    → PutsLines old mid from xs → PutsLines mid new next ys → PutsLines old new from (xs ++ ys)
 Puts-then old mid new from next xs ys l e p q = record {
   read = q.read ∙ (ap (λ (ls : List (List ℕ)). placed_lines ls next ys) p.read ∙ (ap (λ (n : ℕ). placed_lines (placed_lines old.read from xs) n ys) e ∙ placed_lines-append old.read from xs ys l));
   fences = q.fences ∙ p.fences;
@@ -79,13 +79,13 @@ Puts-then old mid new from next xs ys l e p q = record {
   fenced = λ durable s. q.fenced durable (p.fenced durable s);
 }
 
-pub length-Puts : (old new : DeviceView) (from : ℕ) (lines : List (List ℕ)) → Puts old new from lines → from + length lines ≤ length old.read → length new.read ≡ length old.read
+pub length-Puts : (old new : DeviceView) (from : ℕ) (lines : List (List ℕ)) → PutsLines old new from lines → from + length lines ≤ length old.read → length new.read ≡ length old.read
 length-Puts old new from lines p l = ap length p.read ∙ length-placed_lines old.read from lines l
 
 -- the line of one node more
 pub Puts-node : (old mid new : DeviceView) (from i : ℕ) (nodes : List Node) (d : Node) (value : List ℕ) → from + length nodes ≤ length old.read → i < length nodes → value ≡ words_of_node (get_or nodes i d)
-    → Puts old mid from (node_lines (take i nodes)) → Puts mid new (from + i) (value ∷ []) → Puts old new from (node_lines (take (i + 1) nodes))
+    → PutsLines old mid from (node_lines (take i nodes)) → PutsLines mid new (from + i) (value ∷ []) → PutsLines old new from (node_lines (take (i + 1) nodes))
 Puts-node old mid new from i nodes d value l i_in e p q =
     let so_far : length (node_lines (take i nodes)) ≡ i = length-map (take i nodes) words_of_node ∙ length-take-le i nodes (omega arith) in
     let to : node_lines (take i nodes) ++ value ∷ [] ≡ node_lines (take (i + 1) nodes) = ap (λ (v : List ℕ). node_lines (take i nodes) ++ v ∷ []) e ∙ sym (map_more words_of_node nodes i d i_in) in
-    subst (Puts old new from) to (Puts-then old mid new from (from + i) (node_lines (take i nodes)) (value ∷ []) (omega arith) (omega arith) p q)
+    subst (PutsLines old new from) to (Puts-then old mid new from (from + i) (node_lines (take i nodes)) (value ∷ []) (omega arith) (omega arith) p q)

@@ -1,4 +1,4 @@
-use Rattle.std.specs.Prelude.{ℕ, ◌≤◌, ◌<◌, ◌≡◌, ◌==◌, ◌&&◌, ◌||◌, ◌++◌, Bool, List, [], ◌∷◌, length, take, drop, nat_le, nat_lt, slice_index_or}
+use Rattle.std.specs.Prelude.{ℕ, zero, suc, ◌≤◌, ◌<◌, ◌≡◌, ◌==◌, ◌&&◌, ◌||◌, ◌++◌, Bool, List, [], ◌∷◌, length, take, drop, nat_le, nat_lt, slice_index_or}
 use Rattle.onll_model.specs.Limits.{most_threads, greatest_code}
 use Rattle.sha2.specs.Sha256.{sha256}
 use Rattle.onll_words.specs.Lines.{bytes_of_words}
@@ -31,6 +31,11 @@ head_for format thread threads object init = record {
   digest = digest_words (bytes_of_words (head_front format thread threads object) ++ init);
   format = format;
 }
+
+-- the heads of this many logs, of threads t and above among `count`
+abbrev pub heads_from : ℕ → ℕ → List ℕ → ℕ → ℕ → List LogHead
+heads_from count object init t zero = []
+heads_from count object init t (suc n) = head_for 2 t count object init ∷ heads_from count object init (suc t) n
 
 abbrev pub head_line : LogHead → List ℕ
 head_line head = head_front head.format head.thread head.threads head.object ++ head.digest

@@ -71,8 +71,8 @@ PartLaw = (head : LogHead) (ss : List Segment) (s : Segment) (before after : ℕ
 
 -- from a device that holds a log, with no word pending, to where it reads as that log with an entry more:
 -- every image of every state on the way holds the entry more exactly where it is the whole
-abbrev pub CrashLaw : Type 0
-CrashLaw = (head : LogHead) (ss : List Segment) (s : Segment) (before after : ℕ) (d : DeviceState)
+abbrev pub LogCrashLaw : Type 0
+LogCrashLaw = (head : LogHead) (ss : List Segment) (s : Segment) (before after : ℕ) (d : DeviceState)
     (done rest : List Step) (image : List (List ℕ)) → FitsHead head → head.format ≡ 2
     → FitEntries head.threads ss → FitsEntry head.threads s → NonePending d → d.read ≡ log_image head ss before → AreLegal d (done ++ rest)
     → (after_steps d (done ++ rest)).read ≡ log_image head (ss ++ s ∷ []) after → IsImage (after_steps d done) image

@@ -57,7 +57,7 @@ pub record KeepsLog (d : DeviceView) (head : LogHead) (ss : List Segment) (used 
   pub fewer : fences ≤ length ss
 
 -- lines from this one on are written, and wait for the next fence
-pub record Puts (old new : DeviceView) (from : ℕ) (lines : List (List ℕ)) : Type 0 where
+pub record PutsLines (old new : DeviceView) (from : ℕ) (lines : List (List ℕ)) : Type 0 where
   pub read : new.read ≡ placed_lines old.read from lines
   pub fences : new.fences ≡ old.fences
   pub faults : new.faults ≡ old.faults
@@ -94,7 +94,7 @@ pub record HasHeader (old new : DeviceView) (head : LogHead) : Type 0 where
   pub fences : new.fences ≡ old.fences + 1
 
 -- a device whose fence failed: the header is written, and isn't durable
-pub record IsPending (old new : DeviceView) (head : LogHead) : Type 0 where
+pub record IsHeaderPending (old new : DeviceView) (head : LogHead) : Type 0 where
   pub header : HasHeader old new head
   pub faults : new.faults ≡ old.faults + 1
   pub pending : ToldSettled new.told old.read
@@ -103,7 +103,7 @@ pub record IsPending (old new : DeviceView) (head : LogHead) : Type 0 where
 abbrev pub NotMade : MakeCause → DeviceView → DeviceView → LogHead → Type 0
 NotMade Small old new head = length old.read ≡ 0
 NotMade (Dirty line) old new head = IsDirty old.read line
-NotMade FenceFailed old new head = IsPending old new head
+NotMade FenceFailed old new head = IsHeaderPending old new head
 
 -- what a log that was made holds
 pub record IsMade (old new : DeviceView) (head : LogHead) : Type 0 where

@@ -1,6 +1,6 @@
 //! What the grammar of logs promises, whatever code reads and writes them.
 
-ghost use Rattle.onll_log.specs.Laws.{HeadLaw, EntriesLaw, ZerosLaw, ContentLaw, EmptyLaw, MoreLaw, EightLaw, LinesLaw, WrittenLaw, NoHeadLaw, MasksLaw, TornLaw, PartLaw, CrashLaw, FrontLaw, AppendLaw, LeavesLaw, WipedLaw, CutLaw, UsedLaw, CursorEndLaw};
+ghost use Rattle.onll_log.specs.Laws.{HeadLaw, EntriesLaw, ZerosLaw, ContentLaw, EmptyLaw, MoreLaw, EightLaw, LinesLaw, WrittenLaw, NoHeadLaw, MasksLaw, TornLaw, PartLaw, LogCrashLaw, FrontLaw, AppendLaw, LeavesLaw, WipedLaw, CutLaw, UsedLaw, CursorEndLaw};
 
 /// What is encoded is read back, in either format.
 pub fn encoded_laws()
@@ -29,7 +29,7 @@ pub fn masks_law()
 pub fn torn_laws()
     ensures torn { TornLaw }
     ensures part { PartLaw }
-    ensures crash { CrashLaw }
+    ensures crash { LogCrashLaw }
     ensures front { FrontLaw }
     ensures append { AppendLaw }
 {}

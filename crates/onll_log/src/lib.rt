@@ -21,7 +21,7 @@
 //! assert!(rt; decoded.entries.as_slice().len() == 1);
 //! ```
 //!
-//! The test `log` of `onll_uses` runs this.
+//! The test `log` of `tests_uses` runs this.
 #![tactic(auto)]
 
 mod cause;

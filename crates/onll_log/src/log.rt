@@ -12,7 +12,7 @@ ghost use Rattle.onll_log.specs.Decoded.{segments_in, content_in};
 ghost use Rattle.onll_log.specs.Encoding.{log_lines, node_lines, entry_lines, CanHold};
 ghost use Rattle.onll_log.specs.Grammar.{content_of, lines_in};
 ghost use Rattle.onll_log.specs.Torn.{log_image};
-ghost use Rattle.onll_log.specs.Log.{free_of, IsNewest, EndsInZeros, HoldsLog, Puts, IsDirty, IsClean, IsMade, IsPending, NotMade, Appends};
+ghost use Rattle.onll_log.specs.Log.{free_of, IsNewest, EndsInZeros, HoldsLog, PutsLines, IsDirty, IsClean, IsMade, IsHeaderPending, NotMade, Appends};
 
 use crate::cause::MakeCause;
 use crate::decoded::{Decoded, Entry};
@@ -86,7 +86,7 @@ fn front_of<P: Pmem>(
 pub fn put<P: Pmem>(device: &mut P, line: u64, value: Line)
     requires within { line < length (P.means device.old).read }
     requires zero { line_at (P.means device.old).read line ≡ zero_line }
-    ensures { Puts (P.means device.old) (P.means device.new) line (value.w ∷ []) }
+    ensures { PutsLines (P.means device.old) (P.means device.new) line (value.w ∷ []) }
 {
     device.write(line, value);
     device.write_back(line);
@@ -98,7 +98,7 @@ fn put_nodes<P: Pmem>(device: &mut P, from: u64, nodes: &[Node])
     requires few { from + length nodes.now < 2 ^ 64 }
     requires zeros { (line : ℕ) → from ≤ line → line < from + length nodes.now → line_at (P.means device.old).read line ≡ zero_line }
     requires nodes { All (CanHold most_threads) nodes.now }
-    ensures lines { Puts (P.means device.old) (P.means device.new) from (node_lines nodes.now) }
+    ensures lines { PutsLines (P.means device.old) (P.means device.new) from (node_lines nodes.now) }
     ensures rows { All (λ n. length n.row.w ≡ 7) nodes.now }
 {
     for (i, node) in nodes.iter().enumerate() {
@@ -112,7 +112,7 @@ fn put_entry<P: Pmem>(device: &mut P, from: u64, first: Line, nodes: &[Node])
     requires few { from + 1 + length nodes.now < 2 ^ 64 }
     requires zeros { (line : ℕ) → from ≤ line → line < from + 1 + length nodes.now → line_at (P.means device.old).read line ≡ zero_line }
     requires nodes { All (CanHold most_threads) nodes.now }
-    ensures lines { Puts (P.means device.old) (P.means device.new) from (first.w ∷ node_lines nodes.now) }
+    ensures lines { PutsLines (P.means device.old) (P.means device.new) from (first.w ∷ node_lines nodes.now) }
     ensures rows { All (λ n. length n.row.w ≡ 7) nodes.now }
 {
     put(device, from, first);
@@ -211,7 +211,7 @@ impl<P: Pmem> ThreadLog<P> {
         ensures whole { IfOk result (λ log. log.broken ≡ false) }
         ensures made { IfOk result (λ log. IsMade (P.means device) (P.means log.device) head) }
         ensures cause { IfErr result (λ fault. fault.cause ≡ MakeCause.FenceFailed) }
-        ensures refused { IfErr result (λ fault. IsPending (P.means device) (P.means fault.device) head) }
+        ensures refused { IfErr result (λ fault. IsHeaderPending (P.means device) (P.means fault.device) head) }
     {
         put(&mut device, 0, head.line());
         match device.fence() {

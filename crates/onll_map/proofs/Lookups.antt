@@ -12,7 +12,7 @@ use Rattle.onll_map.specs.declared.operation.MapOp.TheVariants.{Put, Del}
 use Rattle.onll_map.specs.declared.operation.MapReply.{MapReply}
 use Rattle.onll_map.specs.declared.operation.MapReply.TheVariants.{New, Old, Full, Absent, Key}
 use Rattle.onll_map.specs.Map.{Entries, Pairs, IsMap, IsLeastFrom, NoneFrom, key_cmp, value_at, key_from, has_room, put_reply, pairs_put, map_next, map_reply, value_answer, key_answer}
-use Rattle.onll_map.specs.Lookups.{PutLaw, DelLaw, OthersLaw, FullLaw, NextLaw, NoNextLaw, KeptLaw}
+use Rattle.onll_map.specs.Lookups.{PutLaw, DelLaw, OthersLaw, FullLaw, NextKeyLaw, NoNextLaw, KeptLaw}
 use Rattle.onll_map.proofs.Maps.{key_total, IsMap-next}
 use Rattle.onll_map.proofs.Sets.{put_sets, del_sets}
 use Rattle.onll_map.proofs.Least.{key_from-least}
@@ -82,7 +82,7 @@ least_once pairs k p q f g = same_key p q (by (key_cmp p q) (g.least p f.there f
     by Equal h e = refl
     by Greater h e = absurd (false≢true (sym e))
 
-pub next_law : NextLaw
+pub next_law : NextKeyLaw
 next_law s k q h = (from (key_from s.pairs k) (key_from-least s.pairs k h.rising), to (key_from s.pairs k) (key_from-least s.pairs k h.rising))
   where
     from : (o : Option ShortText) → MatchOption o (NoneFrom s.pairs k) (IsLeastFrom s.pairs k) → key_answer o ≡ Key q → IsLeastFrom s.pairs k q

@@ -35,8 +35,8 @@ abbrev pub FullLaw : Type 0
 FullLaw = (s : Entries) (k v : ShortText) → map_reply s (Put k v) ≡ Full → map_next s (Put k v) ≡ s
 
 -- the next key is the least of the keys that are not below
-abbrev pub NextLaw : Type 0
-NextLaw = (s : Entries) (k q : ShortText) → IsMap s → (next s k ≡ Key q) ↔ IsLeastFrom s.pairs k q
+abbrev pub NextKeyLaw : Type 0
+NextKeyLaw = (s : Entries) (k q : ShortText) → IsMap s → (next s k ≡ Key q) ↔ IsLeastFrom s.pairs k q
 
 -- there is none exactly where each key is below
 abbrev pub NoNextLaw : Type 0

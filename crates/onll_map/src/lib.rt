@@ -9,7 +9,7 @@
 //! assert!(rt; map.ask(MapQuery::Count) == MapReply::Count(1));
 //! ```
 //!
-//! The test `map` of `onll_uses` runs this.
+//! The test `map` of `tests_uses` runs this.
 #![tactic(auto)]
 
 mod laws;

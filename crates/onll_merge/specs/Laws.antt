@@ -33,8 +33,8 @@ pub record HoldOne (trace : List Node) (heads : List LogHead) (logs : List Conte
   pub numbered : IsNumbered trace
 
 -- logs that hold one trace merge to its front, as far as the greatest place
-abbrev pub FrontLaw : Type 0
-FrontLaw = (trace : List Node) (heads : List LogHead) (logs : List Content) → HoldOne trace heads logs
+abbrev pub MergedFrontLaw : Type 0
+MergedFrontLaw = (trace : List Node) (heads : List LogHead) (logs : List Content) → HoldOne trace heads logs
     → merge heads logs ≡ Ok (take (top_of logs) trace)
 
 -- which holds each place of a segment

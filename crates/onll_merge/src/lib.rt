@@ -12,10 +12,10 @@
 //! assert!(rt; bank.ask(BankQuery::Total) == BankReply::Amount(5));
 //! ```
 //!
-//! The test `merge` of `onll_uses` runs this.
+//! The test `merge` of `tests_uses` runs this.
 #![tactic(auto)]
 
-ghost use Rattle.onll_merge.specs.Laws.{FrontLaw, TopLaw, BackLaw, StandsLaw, NoOtherLaw, OnceLaw};
+ghost use Rattle.onll_merge.specs.Laws.{MergedFrontLaw, TopLaw, BackLaw, StandsLaw, NoOtherLaw, OnceLaw};
 ghost use Rattle.onll_merge.specs.FrameLogs.{FrameLogsLaw};
 ghost use Rattle.onll_merge.specs.Resumed.{ResumableLaw};
 
@@ -37,7 +37,7 @@ pub use recovery::{Recovery, expected_heads, merge_images, recover_images, recov
 /// Logs that hold one trace merge to a front of it that has each of their places, and logs that merge hold the trace
 /// that they merge to.
 pub fn merge_laws()
-    ensures front { FrontLaw }
+    ensures front { MergedFrontLaw }
     ensures top { TopLaw }
     ensures back { BackLaw }
 {}

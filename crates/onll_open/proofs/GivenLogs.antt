@@ -26,21 +26,21 @@ use Rattle.onll_merge.proofs.Backs.{merge-back}
 use Rattle.onll_outside.specs.Views.{StoreView}
 use Rattle.onll_shared.specs.Found.{content_held, head_held}
 use Rattle.onll_shared.specs.Passes.{OnllView, PassView, log_of, spot_of}
-use Rattle.onll_shared.specs.Starts.{IsLogOf, HasBegun, IsNewcomer, room_of}
+use Rattle.onll_shared.specs.Starts.{IsWholeLogOf, HasBegun, IsNewcomer, room_of}
 use Rattle.onll_run.specs.Making.{AreHeads, StandsBy, AllCanOpen, AreOpen}
 use Rattle.onll_run.proofs.Headers.{opened_lines}
 use Rattle.onll_run.proofs.Merging.{SameEntries, merge_filled}
 use Rattle.onll_open.specs.Names.{log_name}
 use Rattle.onll_open.specs.Files.{FilesHold, StandsFor, StandFor, FilesBegin, AreRead, SameLogs, front_in}
-use Rattle.onll_open.specs.Devices.{AreHeld, AreReopened, AreWithin, fronts_by}
+use Rattle.onll_open.specs.Devices.{AreHeld, AreReopened, AreWithin, HaveHeadLines, fronts_by}
 use Rattle.onll_open.specs.Rooms.{lines_with, lines_for, most_lines}
 use Rattle.onll_open.specs.declared.fault.FilesFault.{FilesFault}
 use Rattle.onll_open.specs.declared.fault.FilesFault.TheVariants as files
 use Rattle.onll_open.specs.Misfits.{head_in, head_of_content, has_entries, content_has_entries, is_old, other_number, first_old, other_threads, have_entries, first_headless, first_gone, misfit, with_misfit, found_in}
-use Rattle.onll_open.specs.Opening.{FilesGive, FilesRefuse, HasFound, HasRoomIn, AreOpenLogs, HaveLines, IsRoomy, IsShort}
+use Rattle.onll_open.specs.Opening.{FilesGive, FilesRefuse, HasFound, HasRoomIn, AreOpenLogs, HaveLines, IsRoomy, IsShortLog}
 use Rattle.onll_open.proofs.ReadImages.{begins_there, holds_there, stand_long}
 use Rattle.onll_open.proofs.RoomSteps.{HaveRoom, have_room}
-use Rattle.onll_open.proofs.Reopening.{AreSound, are_sound, are_within, AreReady, can_open, fronts_as}
+use Rattle.onll_open.proofs.Reopening.{AreSound, are_sound, are_within, head_lines, AreReady, can_open, fronts_as}
 
 -- ---- files that are the same
 pub hold_same : (a b : StoreView) (logs : List ℕ) (t : ℕ) (images : List (List (List ℕ))) → SameLogs logs a b → FilesHold logs t images a → FilesHold logs t images b
@@ -179,13 +179,13 @@ found_parts b heads images found e =
 some_there : {A : Type 0} (o : Option A) (x : A) → o ≡ Some x → IsSome o
 some_there o x e = subst (λ (p : Option _). IsSome p) (sym e) refl
 
-all_logs : (images : List (List (List ℕ))) (logs : List Content) → map content_of images ≡ map Some logs → AllByRecursion (λ image. IsSome (content_of image)) images
+pub all_logs : (images : List (List (List ℕ))) (logs : List Content) → map content_of images ≡ map Some logs → AllByRecursion (λ image. IsSome (content_of image)) images
 all_logs [] logs e = tt
 all_logs (image ∷ images) [] e = absurd (omega (arith, ap length e))
 all_logs (image ∷ images) (log ∷ logs) e = let here : content_of image ≡ Some log = (cc) in let rest : map content_of images ≡ map Some logs = (cc) in (some_there (content_of image) log here, all_logs images logs rest)
 
 -- what is held is what was found
-held_same : (images : List (List (List ℕ))) (logs found : List Content) → AreHeld images logs → map content_of images ≡ map Some found → logs ≡ found
+pub held_same : (images : List (List (List ℕ))) (logs found : List Content) → AreHeld images logs → map content_of images ≡ map Some found → logs ≡ found
 held_same [] [] [] h e = refl
 held_same [] [] (f ∷ found) h e = absurd (omega (arith, ap length e))
 held_same [] (log ∷ logs) found h e = absurd h
@@ -217,7 +217,7 @@ module _ {Device : Type 0} (means : Device → DeviceView) where
   open_long (h ∷ heads) (b ∷ befores) (d ∷ devices) (l ∷ logs) a = ap suc (open_long heads befores devices logs a.1)
 
   log_each : (count t : ℕ) (heads : List LogHead) (befores : List Content) (devices : List Device) (logs : List (LogState Device)) → AreHeads count t heads → AreOpen means heads befores devices logs
-      → (i : ℕ) (log : LogState Device) → slice_get logs i ≡ Some log → IsLogOf count (t + i) log
+      → (i : ℕ) (log : LogState Device) → slice_get logs i ≡ Some log → IsWholeLogOf count (t + i) log
   log_each count t [] [] [] [] h a i log e = some_not_none log (sym e)
   log_each count t [] [] [] (l ∷ logs) h a i log e = absurd a
   log_each count t [] [] (d ∷ devices) logs h a i log e = absurd a
@@ -227,7 +227,7 @@ module _ {Device : Type 0} (means : Device → DeviceView) where
   log_each count t (k ∷ heads) (b ∷ befores) (d ∷ devices) [] h a i log e = absurd a
   log_each count t (k ∷ heads) (b ∷ befores) (d ∷ devices) (l ∷ logs) h a zero log e =
       let is : l ≡ log = same_some l log e in
-      subst (λ (z : LogState Device). IsLogOf count (t + 0) z) is (record {
+      subst (λ (z : LogState Device). IsWholeLogOf count (t + 0) z) is (record {
         thread = ap (λ (x : LogHead). x.thread) a.0.head_is ∙ (let n = h.0.thread in omega arith);
         threads = ap (λ (x : LogHead). x.threads) a.0.head_is ∙ h.0.threads;
         format = ap (λ (x : LogHead). x.format) a.0.head_is ∙ h.0.format;
@@ -235,7 +235,7 @@ module _ {Device : Type 0} (means : Device → DeviceView) where
       })
   log_each count t (k ∷ heads) (b ∷ befores) (d ∷ devices) (l ∷ logs) h a (suc i) log e =
       let n : t + 1 + i ≡ t + suc i = omega arith in
-      subst (λ (z : ℕ). IsLogOf count z log) n (log_each count (t + 1) heads befores devices logs h.1 a.1 i log e)
+      subst (λ (z : ℕ). IsWholeLogOf count z log) n (log_each count (t + 1) heads befores devices logs h.1 a.1 i log e)
 
   heads_open : (heads : List LogHead) (befores : List Content) (devices : List Device) (logs : List (LogState Device)) → AreOpen means heads befores devices logs → map head_held logs ≡ heads
   heads_open [] [] [] [] a = refl
@@ -286,7 +286,7 @@ module _ {Device : Type 0} (means : Device → DeviceView) where
 
   -- no device has more lines than a log can have
   short_left : (threads t : ℕ) (nodes : List Node) (heads : List LogHead) (befores : List Content) (rooms : List ℕ) (devices : List Device) (logs : List (LogState Device)) → length rooms ≡ length befores
-      → HaveRoom threads nodes t (map log_counts befores) rooms → AreReady means befores (lines_for threads (map log_counts befores) rooms) devices → AreOpen means heads befores devices logs → AllByRecursion (IsShort means) logs
+      → HaveRoom threads nodes t (map log_counts befores) rooms → AreReady means befores (lines_for threads (map log_counts befores) rooms) devices → AreOpen means heads befores devices logs → AllByRecursion (IsShortLog means) logs
   short_left threads t nodes heads befores rooms devices [] many room r a = tt
   short_left threads t nodes [] [] rooms [] (l ∷ logs) many room r a = absurd a
   short_left threads t nodes [] [] rooms (d ∷ devices) (l ∷ logs) many room r a = absurd a
@@ -343,6 +343,9 @@ module _ {State Op Query Reply : Type 0} (b : Behaviour State Op Query Reply) (s
     sound : AreSound held lines
     sound = are_sound (length rooms) 0 heads held lines (h.has.count ∙ held_many) h.has.heads_are fit (used_all lines h.has.read.images h.has.read.stand) is
 
+    pub head_lines_of : HaveHeadLines found.logs lines
+    head_lines_of = subst (λ (ls : List LogCounts). HaveHeadLines ls lines) (sym counts) (head_lines held lines sound)
+
     pub within : AreWithin lines (lines_for (length rooms) found.logs rooms)
     within = subst (λ (ls : List LogCounts). AreWithin lines (lines_for (length rooms) ls rooms)) (sym counts) (are_within (length rooms) held lines rooms sound held_many)
 
@@ -362,7 +365,7 @@ module _ {State Op Query Reply : Type 0} (b : Behaviour State Op Query Reply) (s
           record {
             many = long;
             are_logs = λ i log at. let n : 0 + i ≡ i = omega arith in
-                subst (λ (z : ℕ × ℕ). IsLogOf z.0 z.1 log) (λ j. (sym long j, n j)) (log_each means (length rooms) 0 heads held devices begun h.has.heads_are a i log at);
+                subst (λ (z : ℕ × ℕ). IsWholeLogOf z.0 z.1 log) (λ j. (sym long j, n j)) (log_each means (length rooms) 0 heads held devices begun h.has.heads_are a i log at);
             heads_are = hs;
             merged = ap (λ (x : List LogHead). merge x (map content_held begun)) hs ∙ merge_filled heads held (map content_held begun) found.nodes e.0 e.1 merged_is;
             lines = lines_left means (length rooms) heads held rooms devices begun held_many both.1 a;

@@ -1,5 +1,5 @@
 -- Devices that are given up where a header's fence failed.
-use Rattle.std.proofs.Common.{ℕ, zero, suc, List, [], ◌∷◌, ◌≡◌, ◌+◌, ◌≤◌, length, map, reverse, sum_by, is_some, refl, sym, ap, ◌∙◌, arith}
+use Rattle.std.proofs.Common.{ℕ, zero, suc, false, List, [], ◌∷◌, ◌≡◌, ◌+◌, ◌≤◌, length, map, reverse, sum_by, is_some, refl, sym, ap, ◌∙◌, arith}
 use Rattle.std.proofs.lemmas.List.{length-map, length-reverse}
 use Rattle.std.proofs.lemmas.List.Sorted.{sum_by-IsPermutation, IsPermutation-reverse}
 use Rattle.std.proofs.lemmas.List.Sums.{sum_by-cons}
@@ -9,18 +9,17 @@ use Rattle.onll_log.specs.Grammar.{Content}
 use Rattle.onll_merge.specs.Recovered.{log_counts}
 use Rattle.onll_outside.specs.Views.{StoreView, counted}
 use Rattle.onll_run.specs.Making.{HeaderFailed, HeadersTo}
-use Rattle.onll_open.specs.Devices.{HandsEach, risen, fault_of}
-use Rattle.onll_open.specs.Opening.{IsHeadless}
+use Rattle.onll_open.specs.Devices.{HandsEach, HeadIs, risen, fault_of}
 
-counted_twice : (n a b : ℕ) → counted (counted n a) b ≡ counted n (a + b)
+pub counted_twice : (n a b : ℕ) → counted (counted n a) b ≡ counted n (a + b)
 counted_twice n a b = omega arith
 
 -- a count after each of these devices is the count after all of them
-risen_all : (g : DeviceView → ℕ) (n : ℕ) (d : DeviceView) (ds : List DeviceView) → risen n (map g (d ∷ ds)) ≡ counted n (sum_by g (d ∷ ds))
+pub risen_all : (g : DeviceView → ℕ) (n : ℕ) (d : DeviceView) (ds : List DeviceView) → risen n (map g (d ∷ ds)) ≡ counted n (sum_by g (d ∷ ds))
 risen_all g n d [] = let one = sum_by-cons g d [] in ap (counted n) (omega (arith, one))
 risen_all g n d (e ∷ ds) = risen_all g (counted n (g d)) e ds ∙ counted_twice n (g d) (sum_by g (e ∷ ds)) ∙ ap (counted n) (sym (sum_by-cons g d (e ∷ ds)))
 
-risen_some : (g : DeviceView → ℕ) (n : ℕ) (ds : List DeviceView) → 1 ≤ length ds → risen n (map g ds) ≡ counted n (sum_by g ds)
+pub risen_some : (g : DeviceView → ℕ) (n : ℕ) (ds : List DeviceView) → 1 ≤ length ds → risen n (map g ds) ≡ counted n (sum_by g ds)
 risen_some g n [] some = absurd (omega arith)
 risen_some g n (d ∷ ds) some = risen_all g n d ds
 
@@ -33,7 +32,7 @@ module _ {Device : Type 0} (means : Device → DeviceView) where
       let rest = sum_means g ds in
       omega (arith, here, there, rest)
 
-  given_back : (g : DeviceView → ℕ) (n : ℕ) (ds : List Device) → 1 ≤ length ds → risen n (map g (map means (reverse ds))) ≡ counted n (sum_by (λ (d : Device). g (means d)) ds)
+  pub given_back : (g : DeviceView → ℕ) (n : ℕ) (ds : List Device) → 1 ≤ length ds → risen n (map g (map means (reverse ds))) ≡ counted n (sum_by (λ (d : Device). g (means d)) ds)
   given_back g n ds some =
       let mapped = length-map (reverse ds) means in
       let long = length-reverse ds in
@@ -54,7 +53,7 @@ module _ {Device : Type 0} (means : Device → DeviceView) where
   some_back (suc t) (x ∷ heads) (c ∷ logs) (o ∷ olds) (n ∷ news) h = omega arith
 
   -- the log whose header failed had no head
-  pub headless : (t : ℕ) (heads : List LogHead) (logs : List Content) (olds news : List Device) → HeadersTo means t heads logs olds news → IsHeadless t (map log_counts logs)
+  pub headless : (t : ℕ) (heads : List LogHead) (logs : List Content) (olds news : List Device) → HeadersTo means t heads logs olds news → HeadIs false t (map log_counts logs)
   headless zero [] logs olds news h = absurd h
   headless zero (x ∷ heads) [] olds news h = absurd h
   headless zero (x ∷ heads) (c ∷ logs) [] news h = absurd h

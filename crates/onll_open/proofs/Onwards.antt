@@ -16,10 +16,11 @@ use Rattle.onll_open.specs.declared.fault.FilesFault.TheVariants as files
 use Rattle.onll_open.specs.declared.fault.OpenFault.{OpenFault}
 use Rattle.onll_open.specs.declared.fault.OpenFault.TheVariants.{Files, NoRoom, Full, NotMade, NotReopened, HeaderFailed, NoMemory}
 use Rattle.onll_open.specs.Asking.{RoomRefused, room_refused}
+use Rattle.onll_open.specs.Devices.{IsDeviceOf}
 use Rattle.onll_open.specs.Faults.{of_device, of_files}
 use Rattle.onll_open.specs.Names.{log_name}
 use Rattle.onll_open.specs.Files.{KeepFronts, KeepsFront, DeviceFaults, LogCallFailed, SameBut, SameCounts, SameLogs}
-use Rattle.onll_open.specs.Opening.{CannotGoOn, CannotOpen, FilesGive, FilesRefuse, GivesRoom, HasFound, HasOpened, HeldFaults, NothingLost, ReadFaults}
+use Rattle.onll_open.specs.Opening.{NotOpenedOver, CannotOpen, FilesGive, FilesRefuse, GivesRoom, HasFound, HasOpened, HeldFaults, NothingLost, ReadFaults}
 use Rattle.onll_open.proofs.Handing.{faults_more, counts_more}
 use Rattle.onll_open.proofs.GivenLogs.{read_there, give_same}
 use Rattle.onll_open.proofs.Locked.{logs_back, logs_more, logs_of_files}
@@ -71,8 +72,8 @@ module _ {State Op Query Reply : Type 0} (b : Behaviour State Op Query Reply) (o
   cannot_there threads asked (Files files.NoMemory) h = h
   cannot_there threads asked (NoRoom thread) h = (h.0, give_there _ h.1, h.2)
   cannot_there threads asked (Full thread) h = (h.0, give_there _ h.1, h.2)
-  cannot_there threads asked (NotMade thread) h = (h.0, room_back threads asked h.0 h.1)
-  cannot_there threads asked (NotReopened thread) h = (h.0, room_back threads asked h.0 h.1)
+  cannot_there threads asked (NotMade thread) h = (h.0, room_back threads asked h.0 h.1, h.2)
+  cannot_there threads asked (NotReopened thread) h = (h.0, room_back threads asked h.0 h.1, h.2)
   cannot_there threads asked (HeaderFailed thread) h = (h.0, room_back threads asked h.0 h.1, h.2)
   cannot_there threads asked NoMemory h = tt
 
@@ -165,10 +166,10 @@ faults_of T U logs threads old new (files.NotRead thread) same devices h = (h, d
 faults_of T U logs threads old new files.NoMemory same devices h = h
 
 -- a device that was not had
-pub device_cannot : (found : Recovered) (fault : DeviceFault) → CannotGoOn found (of_device fault)
-device_cannot found (devices.NotMade thread) = tt
-device_cannot found (devices.NotReopened thread) = tt
-device_cannot found devices.NoMemory = tt
+pub device_cannot : (found : Recovered) (fault : DeviceFault) → IsDeviceOf found.logs fault → NotOpenedOver found (of_device fault)
+device_cannot found (devices.NotMade thread) h = h
+device_cannot found (devices.NotReopened thread) h = h
+device_cannot found devices.NoMemory h = tt
 
 pub device_faults : (T U : Type 0) (logs : List ℕ) (threads many : ℕ) (old new : StoreView) (fault : DeviceFault) → many ≡ threads → DeviceFaults {T = T} logs many old new (Err fault) → HeldFaults {T = U} logs threads old new (Err (of_device fault))
 device_faults T U logs threads many old new (devices.NotMade thread) e h = subst (λ n. LogCallFailed Device logs n thread old new) e h
@@ -187,12 +188,12 @@ module _ {State Op Query Reply : Type 0} (b : Behaviour State Op Query Reply) (s
   room_cannot NoMemory h = tt
 
   -- where each has room, and the logs could not be opened
-  pub go_on_cannot : room_refused threads asked found ≡ None → (fault : OpenFault) → CannotGoOn found fault → CannotOpen b store logs heads threads asked fault
+  pub go_on_cannot : room_refused threads asked found ≡ None → (fault : OpenFault) → NotOpenedOver found fault → CannotOpen b store logs heads threads asked fault
   go_on_cannot room (Files fault) h = absurd h
   go_on_cannot room (NoRoom thread) h = absurd h
   go_on_cannot room (Full thread) h = absurd h
-  go_on_cannot room (NotMade thread) h = (found, (gives, room))
-  go_on_cannot room (NotReopened thread) h = (found, (gives, room))
+  go_on_cannot room (NotMade thread) h = (found, (gives, room), h)
+  go_on_cannot room (NotReopened thread) h = (found, (gives, room), h)
   go_on_cannot room (HeaderFailed thread) h = (found, (gives, room), h)
   go_on_cannot room NoMemory h = tt
 

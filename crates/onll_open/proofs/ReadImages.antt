@@ -14,7 +14,7 @@ use Rattle.onll_outside.specs.Views.{StoreView, SameFiles, BeginsWith, with_zero
 use Rattle.onll_outside.specs.LineFiles.{FrontHasLines, GivesLines, IsWholeLine}
 use Rattle.onll_open.specs.Names.{log_name}
 use Rattle.onll_open.specs.Devices.{front_by}
-use Rattle.onll_open.specs.Files.{is_made, IsMade, HasLogLines, HoldsLogImage, FilesHold, StandsFor, StandFor, BeginsAs, FilesBegin, IsRead, AreRead, front_in}
+use Rattle.onll_open.specs.Files.{is_made, FileIsMade, HasLogLines, HoldsLogImage, FilesHold, StandsFor, StandFor, BeginsAs, FilesBegin, IsRead, AreRead, front_in}
 use Rattle.onll_open.specs.Misfits.{head_in}
 
 -- ---- lines that stand for an image
@@ -85,7 +85,7 @@ stand_long (x ∷ lines) [] h = absurd h
 stand_long (x ∷ lines) (i ∷ images) h = ap suc (stand_long lines images h.1)
 
 -- ---- a file's view in a store where it is the same
-made_there : (a b : StoreView) (name : List ℕ) (made : Bool) → b.tells ≡ a.tells → b.file name ≡ a.file name → IsMade a name made → IsMade b name made
+made_there : (a b : StoreView) (name : List ℕ) (made : Bool) → b.tells ≡ a.tells → b.file name ≡ a.file name → FileIsMade a name made → FileIsMade b name made
 made_there a b name made tells file h on = ap is_made file ∙ h (sym tells ∙ on)
 
 lines_there : (a b : StoreView) (name : List ℕ) (image : List (List ℕ)) → b.tells ≡ a.tells → b.file name ≡ a.file name → HasLogLines a name image → HasLogLines b name image
@@ -120,7 +120,7 @@ begins_by false store name lines h = tt
 begins_by true store name [] h = tt
 begins_by true store name (line ∷ lines) h = h
 
-pub made_read : (store : StoreView) (name : List ℕ) (lines front : List (List ℕ)) (count : ℕ) → IsMade store name true → AllByRecursion IsWholeLine front → (front ≡ [] → count ≡ 0) → GivesLines store name longest_image front count
+pub made_read : (store : StoreView) (name : List ℕ) (lines front : List (List ℕ)) (count : ℕ) → FileIsMade store name true → AllByRecursion IsWholeLine front → (front ≡ [] → count ≡ 0) → GivesLines store name longest_image front count
     → lines ≡ take (used_in (content_of front)) front → IsRead store name lines
 made_read store name lines front count made each empty gives is = record {
   image = with_zeros front count;

@@ -15,14 +15,16 @@ use Rattle.onll_log.proofs.Deciding.{content_zeros}
 use Rattle.onll_merge.specs.declared.counts.LogCounts.{LogCounts}
 use Rattle.onll_merge.specs.Laws.{HeadsFit}
 use Rattle.onll_merge.specs.Recovered.{log_counts}
-use Rattle.onll_outside.specs.Views.{StoreView, SameOthers, SameFiles, IsFresh, BeginsWith, AreWiped, AreZeros, KeptOrZeros, MayWipe, word_bytes, image_bytes, with_zeros}
-use Rattle.onll_run.specs.Making.{AreHeads, StandsBy, StandsAt, AllCanOpen}
+use Rattle.onll_outside.specs.Views.{StoreView, SameOthers, SameFiles, IsFresh, BeginsWith, AreWipedWords, AreZeros, KeptOrZeros, MayWipe, word_bytes, image_bytes, with_zeros}
+use Rattle.onll_run.specs.Making.{AreHeads, StandsBy, HeldBefore, AllCanOpen}
 use Rattle.onll_open.specs.Names.{log_name}
 use Rattle.onll_open.specs.Files.{BeginsAs, FilesBegin, KeepsFront, KeepFronts, front_in}
 use Rattle.onll_open.specs.Misfits.{head_of_content}
-use Rattle.onll_open.specs.Devices.{AreReopened, AreHeld, AreWithin, front_by, fronts_by}
+use Rattle.onll_open.specs.declared.fault.DeviceFault.{DeviceFault}
+use Rattle.onll_open.specs.declared.fault.DeviceFault.TheVariants.{NotMade, NotReopened, NoMemory}
+use Rattle.onll_open.specs.Devices.{AreReopened, AreHeld, AreWithin, HasHeadLine, HaveHeadLines, HeadIs, IsDeviceAt, IsDeviceOf, front_by, fronts_by}
 use Rattle.onll_open.specs.Rooms.{lines_for, lines_with}
-use Rattle.onll_open.proofs.Handing.{name_differs}
+use Rattle.onll_open.proofs.Handing.{IsUnused, name_differs, unused_more}
 use Rattle.onll_open.proofs.ReadImages.{begins_there}
 
 -- ---- files that begin with lines
@@ -73,7 +75,7 @@ wipes_two name front old mid new tells h k on =
       rest = b.rest;
       before = a.before;
       now = b.now;
-      wiped = λ word. word_wiped (word_bytes a.was word) (word_bytes b.was word) (word_bytes b.rest word) (subst (λ r. AreWiped a.was r) same a.wiped word) (b.wiped word);
+      wiped = λ word. word_wiped (word_bytes a.was word) (word_bytes b.was word) (word_bytes b.rest word) (subst (λ r. AreWipedWords a.was r) same a.wiped word) (b.wiped word);
     }
 
 zeros_two : (name : List ℕ) (old mid new : StoreView) → KeptOrZeros name old mid → KeptOrZeros name mid new → KeptOrZeros name old new
@@ -163,9 +165,14 @@ module _ {Device : Type 0} (means : Device → DeviceView) where
   pub record ReopenedSo (fronts : List (List (List ℕ))) (lines : List ℕ) (devices : List Device) (thread : ℕ) : Type 0 where
     pub made : (rest : List Device) → AreReopened means (drop thread fronts) (drop thread lines) rest → AreReopened means fronts lines (devices ++ rest)
     pub count : length devices ≡ thread
+    pub unused : AllByRecursion (IsUnused means) devices
 
   pub reopened_start : (fronts : List (List (List ℕ))) (lines : List ℕ) (devices : List Device) → devices ≡ [] → ReopenedSo fronts lines devices 0
-  reopened_start fronts lines devices none = record { made = λ rest h. subst (λ (l : List Device). AreReopened means fronts lines (l ++ rest)) (sym none) h; count = ap length none }
+  reopened_start fronts lines devices none = record {
+    made = λ rest h. subst (λ (l : List Device). AreReopened means fronts lines (l ++ rest)) (sym none) h;
+    count = ap length none;
+    unused = subst (AllByRecursion (IsUnused means)) (sym none) tt;
+  }
 
   pub reopened_next : (fronts : List (List (List ℕ))) (lines : List ℕ) (devices pushed : List Device) (d : Device) (thread n : ℕ) (front : List (List ℕ)) → thread < length fronts → thread < length lines → n ≡ get_or lines thread 0
       → front ≡ get_or fronts thread [] → pushed ≡ devices ++ d ∷ [] → ReopenedSo fronts lines devices thread → IsFresh (with_zeros front n) (means d) → ReopenedSo fronts lines pushed (thread + 1)
@@ -178,6 +185,7 @@ module _ {Device : Type 0} (means : Device → DeviceView) where
         subst (λ l. AreReopened means (drop thread fronts) l (d ∷ rest)) ns (subst (λ f. AreReopened means f (n ∷ drop (thread + 1) lines) (d ∷ rest)) fs here) in
         subst (AreReopened means fronts lines) (sym (ap (λ (l : List Device). l ++ rest) p ∙ append_assoc devices (d ∷ []) rest)) (so.made (d ∷ rest) first);
     count = ap length p ∙ length-append devices (d ∷ []) ∙ ap (λ m. m + 1) so.count;
+    unused = unused_more means devices pushed d (with_zeros front n) p fresh so.unused;
   }
 
   pub reopened_end : (fronts : List (List (List ℕ))) (lines : List ℕ) (devices : List Device) (thread : ℕ) → drop thread fronts ≡ [] → drop thread lines ≡ [] → ReopenedSo fronts lines devices thread → AreReopened means fronts lines devices
@@ -257,29 +265,87 @@ are_sound count t (head ∷ heads) (log ∷ logs) (image ∷ images) many hs fit
 )
 
 -- a log with a head uses all these lines
-all_used : (log : Content) (image : List (List ℕ)) (head : LogHead) → IsSound log image → log.head ≡ Some head → (length image ≡ used_by log) × (1 ≤ length image)
+pub all_used : (log : Content) (image : List (List ℕ)) (head : LogHead) → IsSound log image → log.head ≡ Some head → (length image ≡ used_by log) × (1 ≤ length image)
 all_used log image head s e =
     let used : used_by log ≡ 1 + lines_in log.entries = ap (λ (o : Option LogHead). used_with o log.entries) e in
     let most = s.most in
     let least = s.least in
     (omega (arith, used, most, least), omega (arith, used, most, least))
 
+-- so a log with a head has a line
+pub head_lines : (logs : List Content) (images : List (List (List ℕ))) → AreSound logs images → HaveHeadLines (map log_counts logs) images
+head_lines [] images s = tt
+head_lines (log ∷ logs) [] s = tt
+head_lines (log ∷ logs) (image ∷ images) s = (by log.head refl, head_lines logs images s.1)
+  where
+    by : (o : Option LogHead) → log.head ≡ o → HasHeadLine (is_some log.head) image
+    by None e = subst (λ (o : Option LogHead). HasHeadLine (is_some o) image) (sym e) tt
+    by (Some head) e = subst (λ (o : Option LogHead). HasHeadLine (is_some o) image) (sym e) (all_used log image head s.0 e).1
+
+-- ---- a device that was not had
+pub made_at : (front : List (List ℕ)) (thread : ℕ) → length front ≡ 0 → IsDeviceAt front thread (NotMade thread)
+made_at [] thread e = refl
+made_at (line ∷ front) thread e = absurd (omega (arith, e))
+
+pub again_at : (front : List (List ℕ)) (thread : ℕ) → 0 < length front → IsDeviceAt front thread (NotReopened thread)
+again_at [] thread some = absurd (omega (arith, some))
+again_at (line ∷ front) thread some = refl
+
+pub memory_at : (front : List (List ℕ)) (thread : ℕ) → IsDeviceAt front thread NoMemory
+memory_at [] thread = tt
+memory_at (line ∷ front) thread = tt
+
+no_front : (head : Bool) (image : List (List ℕ)) → HasHeadLine head image → front_by head image ≡ [] → head ≡ false
+no_front false image line e = refl
+no_front true image line e = let none = ap length e in absurd (omega (arith, line, none))
+
+some_front : (head : Bool) (image front : List (List ℕ)) (first : List ℕ) → front_by head image ≡ first ∷ front → head ≡ true
+some_front false image front first e = absurd (omega (arith, ap length e))
+some_front true image front first e = refl
+
+made_for : (held : List LogCounts) (images : List (List (List ℕ))) (t : ℕ) → length held ≡ length images → t < length images → HaveHeadLines held images → get_or (fronts_by held images) t [] ≡ [] → HeadIs false t held
+made_for [] [] t many low lines e = absurd (omega (arith, low))
+made_for [] (image ∷ images) t many low lines e = absurd (omega (arith, many))
+made_for (log ∷ held) [] t many low lines e = absurd (omega (arith, many))
+made_for (log ∷ held) (image ∷ images) zero many low lines e = no_front log.head image lines.0 e
+made_for (log ∷ held) (image ∷ images) (suc t) many low lines e = made_for held images t (omega (arith, many)) (omega (arith, low)) lines.1 e
+
+again_for : (held : List LogCounts) (images : List (List (List ℕ))) (t : ℕ) (front : List (List ℕ)) (first : List ℕ) → length held ≡ length images → t < length images → get_or (fronts_by held images) t [] ≡ first ∷ front
+    → HeadIs true t held
+again_for [] [] t front first many low e = absurd (omega (arith, low))
+again_for [] (image ∷ images) t front first many low e = absurd (omega (arith, many))
+again_for (log ∷ held) [] t front first many low e = absurd (omega (arith, many))
+again_for (log ∷ held) (image ∷ images) zero front first many low e = some_front log.head image front first e
+again_for (log ∷ held) (image ∷ images) (suc t) front first many low e = again_for held images t front first (omega (arith, many)) (omega (arith, low)) e
+
+pub device_of_head : (held : List LogCounts) (images : List (List (List ℕ))) (t : ℕ) (fault : DeviceFault) → length held ≡ length images → t < length images → HaveHeadLines held images
+    → IsDeviceAt (get_or (fronts_by held images) t []) t fault → IsDeviceOf held fault
+device_of_head held images t fault many low lines h = by (get_or (fronts_by held images) t []) refl fault h
+  where
+    by : (front : List (List ℕ)) → get_or (fronts_by held images) t [] ≡ front → (fault : DeviceFault) → IsDeviceAt front t fault → IsDeviceOf held fault
+    by [] e (NotMade thread) h = subst (λ n. HeadIs false n held) (sym h) (made_for held images t many low lines e)
+    by [] e (NotReopened thread) h = absurd h
+    by [] e NoMemory h = tt
+    by (first ∷ front) e (NotMade thread) h = absurd h
+    by (first ∷ front) e (NotReopened thread) h = subst (λ n. HeadIs true n held) (sym h) (again_for held images t front first many low e)
+    by (first ∷ front) e NoMemory h = tt
+
 -- ---- what devices read
 zeros_are : (n : ℕ) → are_zero_lines (zero_lines n) ≡ true
 zeros_are zero = refl
 zeros_are (suc n) = zeros_are n
 
-long_zeros : (front : List (List ℕ)) (n : ℕ) → length front ≤ n → length (with_zeros front n) ≡ n
+pub long_zeros : (front : List (List ℕ)) (n : ℕ) → length front ≤ n → length (with_zeros front n) ≡ n
 long_zeros front n low =
     let all = length-append front (zero_lines (n - length front)) in
     let zeros : length (zero_lines (n - length front)) ≡ n - length front = length-replicate (n - length front) zero_line in
     omega (arith, all, zeros, low)
 
-front_short : (head : Bool) (image : List (List ℕ)) → length (front_by head image) ≤ length image
+pub front_short : (head : Bool) (image : List (List ℕ)) → length (front_by head image) ≤ length image
 front_short false image = omega arith
 front_short true image = omega arith
 
-stands_at : (log : Content) (image : List (List ℕ)) (n : ℕ) → IsSound log image → 1 ≤ n → length image ≤ n → StandsAt log (with_zeros (front_by (is_some log.head) image) n)
+pub stands_at : (log : Content) (image : List (List ℕ)) (n : ℕ) → IsSound log image → 1 ≤ n → length image ≤ n → HeldBefore log (with_zeros (front_by (is_some log.head) image) n)
 stands_at log image n s some_ low = by log.head refl
   where
     by : (o : Option LogHead) → log.head ≡ o → StandsBy o log (with_zeros (front_by (is_some o) image) n)
@@ -309,7 +375,7 @@ module _ {Device : Type 0} (means : Device → DeviceView) where
   pub record IsReady (log : Content) (lines : ℕ) (d : Device) : Type 0 where
     pub fences : (means d).fences ≡ 0
     pub faults : (means d).faults ≡ 0
-    pub stands : StandsAt log (means d).read
+    pub stands : HeldBefore log (means d).read
     pub many : length (means d).read ≡ lines
 
   abbrev pub AreReady : List Content → List ℕ → List Device → Type 0
@@ -327,7 +393,7 @@ module _ {Device : Type 0} (means : Device → DeviceView) where
       record {
         fences = fresh.fences;
         faults = fresh.faults;
-        stands = subst (StandsAt log) (sym fresh.read) (stands_at log image n s (omega arith) low);
+        stands = subst (HeldBefore log) (sym fresh.read) (stands_at log image n s (omega arith) low);
         many = ap length fresh.read ∙ long_zeros (front_by (is_some log.head) image) n (omega (arith, low, short));
       }
 

@@ -67,12 +67,12 @@ is_made (Some []) = false
 is_made (Some (byte ∷ bytes)) = true
 
 -- so is the file of this name or not, where the store tells its files
-abbrev pub IsMade : StoreView → List ℕ → Bool → Type 0
-IsMade store name made = store.tells ≡ true → is_made (store.file name) ≡ made
+abbrev pub FileIsMade : StoreView → List ℕ → Bool → Type 0
+FileIsMade store name made = store.tells ≡ true → is_made (store.file name) ≡ made
 
 -- where the store tells its files, these are the lines of the file of this name, of eight words each, up to the limit of an image
 pub record HasLogLines (store : StoreView) (name : List ℕ) (image : List (List ℕ)) : Type 0 where
-  pub made : IsMade store name true
+  pub made : FileIsMade store name true
   pub front : List (List ℕ)
   pub count : ℕ
   pub each : AllByRecursion IsWholeLine front
@@ -81,7 +81,7 @@ pub record HasLogLines (store : StoreView) (name : List ℕ) (image : List (List
 
 -- What the file of this name holds: its lines, or a line of zeros where it is not made, which is a log that is not begun.
 abbrev pub HoldsLogImage : StoreView → List ℕ → List (List ℕ) → Type 0
-HoldsLogImage store name image = HasLogLines store name image ⊎ (IsMade store name false × (image ≡ zero_lines 1))
+HoldsLogImage store name image = HasLogLines store name image ⊎ (FileIsMade store name false × (image ≡ zero_lines 1))
 
 -- so each thread's file holds the image at its place, from thread t on
 abbrev pub FilesHold : List ℕ → ℕ → List (List (List ℕ)) → StoreView → Type 0

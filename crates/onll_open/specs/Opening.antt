@@ -1,5 +1,5 @@
 -- How an object is opened over the files of its logs, and why it isn't.
-use Rattle.std.specs.Prelude.{ℕ, zero, suc, false, List, [], ◌∷◌, ◌+◌, ◌*◌, ◌≤◌, ◌≡◌, ◌⊎◌, length, map, Result, Ok, Err, Option, Some, None}
+use Rattle.std.specs.Prelude.{ℕ, true, false, List, [], ◌∷◌, ◌+◌, ◌*◌, ◌≤◌, ◌≡◌, ◌⊎◌, length, map, Result, Ok, Err, Option, Some, None}
 use Rattle.std.specs.List.{AllByRecursion}
 use Rattle.onll_model.specs.declared.node.Node.{Node}
 use Rattle.onll_model.specs.Object.{Behaviour}
@@ -21,7 +21,7 @@ use Rattle.onll_open.specs.declared.fault.FilesFault.TheVariants as files
 use Rattle.onll_open.specs.declared.fault.OpenFault.{OpenFault}
 use Rattle.onll_open.specs.declared.fault.OpenFault.TheVariants.{Files, NoRoom, Full, NotMade, NotReopened, HeaderFailed, NoMemory}
 use Rattle.onll_open.specs.Asking.{rooms_of, room_refused}
-use Rattle.onll_open.specs.Devices.{fronts_by}
+use Rattle.onll_open.specs.Devices.{HeadIs, fronts_by}
 use Rattle.onll_open.specs.Files.{FilesHold, AreRead, KeepFronts, LogCallFailed, SameCounts, SameLogs}
 use Rattle.onll_open.specs.Locking.{LockFailed}
 use Rattle.onll_open.specs.Misfits.{found_in}
@@ -39,8 +39,8 @@ HaveLines means threads (room ∷ rooms) (log ∷ logs) =
 HaveLines means threads rooms logs = ⊥
 
 -- the log's device has no more lines than a log can have, so whoever opens the log next reads all of them
-abbrev pub IsShort : {Device : Type 0} → (Device → DeviceView) → LogState Device → Type 0
-IsShort means log = length (means log.device).read ≤ most_lines
+abbrev pub IsShortLog : {Device : Type 0} → (Device → DeviceView) → LogState Device → Type 0
+IsShortLog means log = length (means log.device).read ≤ most_lines
 
 -- The logs of all threads are open, with these heads; they hold these nodes, and have lines for the updates to come, and not too many.
 pub record AreOpenLogs {Device : Type 0} (means : Device → DeviceView) (heads : List LogHead) (rooms : List ℕ) (nodes : List Node)
@@ -50,13 +50,7 @@ pub record AreOpenLogs {Device : Type 0} (means : Device → DeviceView) (heads 
   pub heads_are : map head_held logs ≡ heads
   pub merged : merge (map head_held logs) (map content_held logs) ≡ Ok nodes
   pub lines : HaveLines means (length rooms) rooms logs
-  pub short : AllByRecursion (IsShort means) logs
-
--- the log of this thread has no head
-abbrev pub IsHeadless : ℕ → List LogCounts → Type 0
-IsHeadless t [] = ⊥
-IsHeadless zero (log ∷ logs) = log.head ≡ false
-IsHeadless (suc t) (log ∷ logs) = IsHeadless t logs
+  pub short : AllByRecursion (IsShortLog means) logs
 
 module _ {State Op Query Reply Device : Type 0} (b : Behaviour State Op Query Reply) (means : Device → DeviceView) where
   -- The object goes on from these nodes, with a pass for each log, which has room for the updates that it may order and has made no call.
@@ -69,7 +63,7 @@ module _ {State Op Query Reply Device : Type 0} (b : Behaviour State Op Query Re
     pub heads_are : map head_held opened ≡ heads
     pub begun : HasBegun b means onll opened rooms passes
     pub roomy : AllByRecursion (IsRoomy means onll) passes
-    pub short : AllByRecursion (IsShort means) opened
+    pub short : AllByRecursion (IsShortLog means) opened
 
 module _ {State Op Query Reply : Type 0} (b : Behaviour State Op Query Reply) (store : StoreView) (logs : List ℕ)
     (heads : List LogHead) where
@@ -122,10 +116,12 @@ module _ {State Op Query Reply : Type 0} (b : Behaviour State Op Query Reply) (s
       (found : Recovered) × FilesGive (Ok found) × (room_refused threads asked found ≡ Some (NoRoom thread))
   CannotOpen threads asked (Full thread) =
       (found : Recovered) × FilesGive (Ok found) × (room_refused threads asked found ≡ Some (Full thread))
-  CannotOpen threads asked (NotMade thread) = (found : Recovered) × GivesRoom threads asked found
-  CannotOpen threads asked (NotReopened thread) = (found : Recovered) × GivesRoom threads asked found
+  CannotOpen threads asked (NotMade thread) =
+      (found : Recovered) × GivesRoom threads asked found × HeadIs false thread found.logs
+  CannotOpen threads asked (NotReopened thread) =
+      (found : Recovered) × GivesRoom threads asked found × HeadIs true thread found.logs
   CannotOpen threads asked (HeaderFailed thread) =
-      (found : Recovered) × GivesRoom threads asked found × IsHeadless thread found.logs
+      (found : Recovered) × GivesRoom threads asked found × HeadIs false thread found.logs
   CannotOpen threads asked NoMemory = Unit {0}
 
   -- Nothing that the logs hold is lost, whatever the answer: no thread's file changed; or the files give nodes, and each that holds a log
@@ -136,12 +132,12 @@ module _ {State Op Query Reply : Type 0} (b : Behaviour State Op Query Reply) (s
       × (room_refused threads asked found ≡ None) × KeepFronts logs 0 (fronts_by found.logs lines) store new)
 
 -- why logs were not opened over what was found, where each thread has room
-abbrev pub CannotGoOn : Recovered → OpenFault → Type 0
-CannotGoOn found (NotMade thread) = Unit {0}
-CannotGoOn found (NotReopened thread) = Unit {0}
-CannotGoOn found (HeaderFailed thread) = IsHeadless thread found.logs
-CannotGoOn found NoMemory = Unit {0}
-CannotGoOn found fault = ⊥
+abbrev pub NotOpenedOver : Recovered → OpenFault → Type 0
+NotOpenedOver found (NotMade thread) = HeadIs false thread found.logs
+NotOpenedOver found (NotReopened thread) = HeadIs true thread found.logs
+NotOpenedOver found (HeaderFailed thread) = HeadIs false thread found.logs
+NotOpenedOver found NoMemory = Unit {0}
+NotOpenedOver found fault = ⊥
 
 -- ---- what is left of the store
 -- a call for the logs, which are locked, failed exactly where that is the answer

@@ -10,7 +10,8 @@ ghost use Rattle.onll_merge.specs.Merge.{contents_in};
 ghost use Rattle.onll_outside.specs.Views.{SameFiles, SameFaults, SameDevices, SameOthers, IsFresh, with_zeros};
 ghost use Rattle.onll_open.specs.Names.{log_name, log_names};
 ghost use Rattle.onll_open.specs.Files.{BeginsAs, DeviceFaults, FilesBegin, KeepFronts, KeepsFront, SameBut, SameCounts};
-ghost use Rattle.onll_open.specs.Devices.{AreReopened, IsHeld, AreHeld, AreWithin, HandsEach, front_by, fronts_by};
+ghost use Rattle.onll_open.specs.Devices.{AreReopened, IsHeld, AreHeld, AreWithin, HandsEach, HaveHeadLines, IsDeviceAt, IsDeviceOf};
+ghost use Rattle.onll_open.specs.Devices.{NoneCounted, front_by, fronts_by};
 
 use crate::fault::DeviceFault;
 use crate::names::log_name;
@@ -78,6 +79,7 @@ fn open_device<S: Store>(
     ensures made { IfOk result (λ device. IsFresh (with_zeros (words_of front.now) lines) (S.Dev.means device)) }
     ensures counts { OnOk result (SameCounts (S.seen store.old) (S.seen store.new)) }
     ensures faults { DeviceFaults logs.now (thread + 1) (S.seen store.old) (S.seen store.new) result }
+    ensures which { IfErr result (IsDeviceAt (words_of front.now) thread) }
     ensures file { KeepsFront (log_name logs.now thread) (words_of front.now) (S.seen store.old) (S.seen store.new) }
     ensures others { SameOthers (log_name logs.now thread) (S.seen store.old) (S.seen store.new) }
     ensures devices { SameDevices (S.seen store.old) (S.seen store.new) }
@@ -113,9 +115,12 @@ pub fn open_devices<S: Store>(
     requires short { All (λ n. n ≤ 1000000) lines.now }
     requires room { AreWithin images.now lines.now }
     requires begins { FilesBegin logs.now 0 (fronts_by held.now images.now) (S.seen store.old) }
+    requires heads { HaveHeadLines held.now images.now }
     ensures made { IfOk result (λ devices. AreReopened S.Dev.means (fronts_by held.now images.now) lines.now devices.items) }
     ensures counts { OnOk result (SameCounts (S.seen store.old) (S.seen store.new)) }
+    ensures none { NoneCounted (S.seen store.old) (S.seen store.new) }
     ensures faults { DeviceFaults logs.now (length images.now) (S.seen store.old) (S.seen store.new) result }
+    ensures which { IfErr result (IsDeviceOf held.now) }
     ensures files { KeepFronts logs.now 0 (fronts_by held.now images.now) (S.seen store.old) (S.seen store.new) }
     ensures others { SameBut (log_names logs.now 0 (length images.now)) (S.seen store.old) (S.seen store.new) }
 {

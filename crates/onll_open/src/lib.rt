@@ -1,6 +1,7 @@
 //! Objects that threads share over the files of their logs: opened from what the files hold, used, and kept.
 #![tactic(auto)]
 
+mod anew;
 mod devices;
 mod fault;
 mod heads;
@@ -14,6 +15,7 @@ mod reading;
 mod recovery;
 mod rooms;
 
+pub use anew::new_found;
 pub use devices::{decode_logs, give_up_all, open_devices};
 pub use fault::{DeviceFault, FileFault, FilesFault, NotKept, OpenFault};
 pub use heads::new_heads;

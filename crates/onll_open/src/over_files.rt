@@ -11,7 +11,7 @@ ghost use Rattle.onll_open.specs.Files.{KeepFronts, SameBut};
 ghost use Rattle.onll_open.specs.Heads.{heads_of};
 ghost use Rattle.onll_open.specs.Locking.{OpenLocks};
 ghost use Rattle.onll_open.specs.Rooms.{first_full};
-ghost use Rattle.onll_open.specs.Opening.{AreOpenLogs, CannotGoOn, CannotOpen, FilesRefuse, GoesOn, HasFound, HasOpened, HasRoomIn};
+ghost use Rattle.onll_open.specs.Opening.{AreOpenLogs, NotOpenedOver, CannotOpen, FilesRefuse, GoesOn, HasFound, HasOpened, HasRoomIn};
 ghost use Rattle.onll_open.specs.Opening.{HeldFaults, NothingLost, OpenFaults, ReadFaults};
 
 use crate::devices::{decode_logs, give_up_all, open_devices};
@@ -123,7 +123,7 @@ fn open_all<O: Object, S: Store>(
     requires found { HasRoomIn O.means (S.seen store.old) logs.now found.now.heads.items rooms.now found.now.images.items
         (recovered_in found.now.recovery) }
     ensures logs { IfOk result (λ ls. AreOpenLogs S.Dev.means found.now.heads.items rooms.now found.now.recovery.nodes.items ls.items) }
-    ensures refused { IfErr result (CannotGoOn (recovered_in found.now.recovery)) }
+    ensures refused { IfErr result (NotOpenedOver (recovered_in found.now.recovery)) }
     ensures faults { HeldFaults logs.now (length rooms.now) (S.seen store.old) (S.seen store.new) result }
     ensures kept { KeepFronts logs.now 0 (fronts_by found.now.recovery.logs.items found.now.images.items)
         (S.seen store.old) (S.seen store.new) }
@@ -163,7 +163,7 @@ fn open_found<O: Object + Drop, S: Store>(
         o.onll o.passes.items) }
     ensures recovered { IfOk result (λ o. o.recovered ≡ length o.onll.trace.plan.base) }
     ensures passes { IfOk result (λ o. length o.passes.items ≡ length rooms.now) }
-    ensures refused { IfErr result (CannotGoOn (recovered_in found.now.recovery)) }
+    ensures refused { IfErr result (NotOpenedOver (recovered_in found.now.recovery)) }
     ensures faults { HeldFaults logs.now (length rooms.now) (S.seen store.old) (S.seen store.new) result }
     ensures kept { KeepFronts logs.now 0 (fronts_by found.now.recovery.logs.items found.now.images.items)
         (S.seen store.old) (S.seen store.new) }

@@ -4,7 +4,7 @@ ghost use Rattle.std.specs.Prelude.{◌≡◌, ◌≤◌, true, length, IfOk};
 ghost use Rattle.onll_pmem.specs.Device.{zero_lines};
 ghost use Rattle.onll_outside.specs.Views.{SameDevices, SameFiles, FaultsOf};
 ghost use Rattle.onll_outside.specs.declared.store.FaultKind.TheVariants as kinds;
-ghost use Rattle.onll_open.specs.Files.{AreRead, IsMade, IsRead, LogFaults};
+ghost use Rattle.onll_open.specs.Files.{AreRead, FileIsMade, IsRead, LogFaults};
 ghost use Rattle.onll_open.specs.Names.{log_name};
 
 use crate::fault::{FileFault, fault_at};
@@ -17,7 +17,7 @@ use std::borrow::CowSlice;
 
 /// Whether a file is there, and has a byte.
 fn is_made<S: Directory>(alloc: Global, store: &mut S, name: &str) -> Result<bool, OutsideFault>
-    ensures made { IfOk result (λ made. IsMade (S.seen store.old) name.now made) }
+    ensures made { IfOk result (λ made. FileIsMade (S.seen store.old) name.now made) }
     ensures faults { FaultsOf (record { kind = kinds.Read; name = name.now }) (S.seen store.old) (S.seen store.new) result }
     ensures same { SameFiles (S.seen store.old) (S.seen store.new) }
     ensures devices { SameDevices (S.seen store.old) (S.seen store.new) }
@@ -30,7 +30,7 @@ fn is_made<S: Directory>(alloc: Global, store: &mut S, name: &str) -> Result<boo
 }
 
 /// A log that is not begun.
-fn empty_image(alloc: Global) -> Result<TestedImage<'static>, AllocError>
+pub(crate) fn empty_image(alloc: Global) -> Result<TestedImage<'static>, AllocError>
     ensures { IfOk result (λ lines. lines ≡ zero_lines 1) }
 {
     let lines = vec![in alloc; Line { w: [0; 8] }; 1]?;
@@ -43,7 +43,7 @@ fn read_lines<S: Directory>(
     store: &mut S,
     name: &str,
 ) -> Result<TestedImage<'static>, OutsideFault>
-    requires made { IsMade (S.seen store.old) name.now true }
+    requires made { FileIsMade (S.seen store.old) name.now true }
     ensures read { IfOk result (λ lines. IsRead (S.seen store.old) name.now lines) }
     ensures faults { FaultsOf (record { kind = kinds.Read; name = name.now }) (S.seen store.old) (S.seen store.new) result }
     ensures same { SameFiles (S.seen store.old) (S.seen store.new) }

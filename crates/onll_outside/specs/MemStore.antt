@@ -15,7 +15,7 @@ use Rattle.onll_outside.specs.declared.mem_store.FenceAt.{FenceAt}
 use Rattle.onll_pmem.specs.Device.{new_device, fenced_device, image_of}
 use Rattle.onll_pmem.specs.Pmem.{DeviceView, words_of}
 use Rattle.onll_pmem.specs.Memory.{MemoryState}
-use Rattle.onll_outside.specs.Views.{Last, StoreView, IsFront, counted, one_fault, with_zeros, image_bytes}
+use Rattle.onll_outside.specs.Views.{Last, StoreView, IsFrontOfFile, counted, one_fault, with_zeros, image_bytes}
 use Rattle.onll_outside.specs.Faults.{one_more}
 use Rattle.onll_outside.specs.LineFiles.{FrontHasLines}
 use Rattle.onll_outside.specs.declared.directory.LockFault.{LockFault}
@@ -74,7 +74,7 @@ failed s this = record (called s) { faults = one_more s.faults; last = Some this
 
 -- a read is Failed only where nothing is found, and Ok only with the first bytes of what is found
 abbrev pub MemReads : {A : Type 0} → FilesHeld → FilesHeld → List ℕ → ℕ → Result (Vec ℕ A) OutsideFault → Type 0
-MemReads old new name limit (Ok v) = IsFront limit (found old name) v.items × (new ≡ called old)
+MemReads old new name limit (Ok v) = IsFrontOfFile limit (found old name) v.items × (new ≡ called old)
 MemReads old new name limit (Err Failed) =
     (found old name ≡ None) × (new ≡ failed old (record { kind = Read; name = name }))
 MemReads old new name limit (Err NoMemory) = new ≡ called old

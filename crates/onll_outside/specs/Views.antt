@@ -50,17 +50,17 @@ pub record SameOthers (name : List ℕ) (old new : StoreView) : Type 0 where
   pub file : (other : List ℕ) → (other ≡ name → ⊥) → new.file other ≡ old.file other
 
 -- where the store tells its files, the named one holds these bytes
-abbrev pub Holds : StoreView → List ℕ → List ℕ → Type 0
-Holds view name bytes = view.tells ≡ true → view.file name ≡ Some bytes
+abbrev pub FileHolds : StoreView → List ℕ → List ℕ → Type 0
+FileHolds view name bytes = view.tells ≡ true → view.file name ≡ Some bytes
 
 -- at most the first limit bytes of a file that is there
-abbrev pub IsFront : ℕ → Option (List ℕ) → List ℕ → Type 0
-IsFront limit None bytes = ⊥
-IsFront limit (Some all) bytes = bytes ≡ take limit all
+abbrev pub IsFrontOfFile : ℕ → Option (List ℕ) → List ℕ → Type 0
+IsFrontOfFile limit None bytes = ⊥
+IsFrontOfFile limit (Some all) bytes = bytes ≡ take limit all
 
 -- where the store tells its files, the named one is there and gives these bytes
 abbrev pub Gives : StoreView → List ℕ → ℕ → List ℕ → Type 0
-Gives view name limit bytes = view.tells ≡ true → IsFront limit (view.file name) bytes
+Gives view name limit bytes = view.tells ≡ true → IsFrontOfFile limit (view.file name) bytes
 
 -- neither the count of faults nor the last of them changed
 abbrev pub SameFaults : StoreView → StoreView → Type 0
@@ -147,8 +147,8 @@ abbrev pub word_bytes : List ℕ → ℕ → List ℕ
 word_bytes bytes word = take 8 (drop (8 * word) bytes)
 
 -- each word is as it was, or zero, or the bytes end before it
-abbrev pub AreWiped : List ℕ → List ℕ → Type 0
-AreWiped old new = (word : ℕ) → (word_bytes new word ≡ word_bytes old word) ⊎ AreZeros (word_bytes new word)
+abbrev pub AreWipedWords : List ℕ → List ℕ → Type 0
+AreWipedWords old new = (word : ℕ) → (word_bytes new word ≡ word_bytes old word) ⊎ AreZeros (word_bytes new word)
 
 -- the named file begins with these bytes as before, and what follows is wiped in part or not
 pub record WipesAfter (name front : List ℕ) (old new : StoreView) : Type 0 where
@@ -156,7 +156,7 @@ pub record WipesAfter (name front : List ℕ) (old new : StoreView) : Type 0 whe
   pub rest : List ℕ
   pub before : old.file name ≡ Some (front ++ was)
   pub now : new.file name ≡ Some (front ++ rest)
-  pub wiped : AreWiped was rest
+  pub wiped : AreWipedWords was rest
 
 -- the same where the store tells its files
 abbrev pub MayWipe : List ℕ → List ℕ → StoreView → StoreView → Type 0

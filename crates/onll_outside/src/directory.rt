@@ -37,7 +37,8 @@ pub trait Directory: Store {
 
     /// Takes a name, which nobody else is given until it is unlocked or the store is dropped. Its file may be made,
     /// empty, where it is not there. What is locked over the system's files is the file that now has the name: a call
-    /// that puts another in its place, as `keep` of a device under a name that isn't its own, leaves that one unlocked.
+    /// that puts another in its place, as `write` of some bytes, or `keep` of a device under a name that isn't its own,
+    /// leaves that one unlocked.
     fn lock(&mut self, alloc: Global, name: &str) -> Result<(), LockFault>
         ensures locks { LocksOf (Self.seen self.old) name.now (locked self.old) (locked self.new) result }
         ensures others { SameOthers name.now (Self.seen self.old) (Self.seen self.new) }

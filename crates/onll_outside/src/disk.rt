@@ -5,6 +5,7 @@ ghost use Rattle.onll_pmem.specs.Pmem.{words_of};
 ghost use Rattle.onll_outside.specs.LineFiles.{IsFileFront, IsGathered};
 
 use crate::FileLines;
+use crate::beside::{Opened, create_beside, settle, sync_folder, take_name};
 use crate::gather::{ZEROS, ended, gather};
 use onll_pmem::{FilePmem, Pmem};
 use onll_words::{Line, line_bytes};
@@ -12,7 +13,6 @@ use std::alloc::{AllocError, Global};
 use std::fs::{OpenFile, OpenOptions};
 use std::io::{ErrorKind, Read, Write};
 use std::os::unix::fs::{FileExt, MetadataExt};
-use std::path::Path;
 use std::rt::Files;
 use std::{fs, io};
 
@@ -21,17 +21,6 @@ const LINE: u64 = 64;
 
 /// The lines of the parts in which a file is read and written.
 const PART: usize = 1024;
-
-/// How many names are tried for a file beside another.
-const BESIDE: u64 = 100;
-
-/// Makes durable that a file of this name is in its folder.
-fn sync_folder<R: Files>(files: &R, name: &str) -> io::Result<()> {
-    match Path::new(name).parent() {
-        Some(folder) if !folder.as_str().is_empty() => fs::open(files, folder)?.sync_all(),
-        _ => fs::open(files, ".")?.sync_all(),
-    }
-}
 
 /// Writes zeros from one byte of a file on and before another.
 fn fill<F: FileExt>(file: &F, from: u64, to: u64) -> io::Result<()> {
@@ -152,12 +141,10 @@ pub fn part_buffer(alloc: Global) -> Result<Vec<u8>, AllocError> {
     Vec::with_capacity(alloc, PART * LINE as usize)
 }
 
-/// Makes these lines, and then lines of zeros, `count` in all, the whole of an empty file, durably. Zeros at the end are not written:
-/// the file is only made longer.
-pub fn fill_with_lines<R: Files>(
-    files: &R,
-    name: &str,
-    file: &mut R::File,
+/// Writes these lines, and then lines of zeros, `count` in all, into an empty file, durably. Zeros at the end are not written: the file
+/// is only made longer.
+fn fill_lines<F: Write + OpenFile>(
+    file: &mut F,
     buffer: &mut Vec<u8>,
     front: &[Line],
     count: u64,
@@ -167,20 +154,13 @@ pub fn fill_with_lines<R: Files>(
     if count > written.len() as u64 {
         file.set_len(count.saturating_mul(LINE))?;
     }
-    file.sync_all()?;
-    sync_folder(files, name)
+    file.sync_all()
 }
 
-/// Makes these bytes the whole of an empty file, durably.
-pub fn fill_with<R: Files>(
-    files: &R,
-    name: &str,
-    file: &mut R::File,
-    bytes: &[u8],
-) -> io::Result<()> {
+/// Writes these bytes into an empty file, durably.
+fn fill_bytes<F: Write + OpenFile>(file: &mut F, bytes: &[u8]) -> io::Result<()> {
     file.write_all(bytes)?;
-    file.sync_all()?;
-    sync_folder(files, name)
+    file.sync_all()
 }
 
 /// Makes a file of so many lines of zeros. It has its whole length before this answers, durably, so that no later
@@ -241,17 +221,31 @@ fn is_replaceable<R: Files>(files: &R, name: &str) -> bool {
     }
 }
 
-/// An empty file in the folder of this one, and its name, which no other file had.
-fn create_beside<R: Files>(files: &R, alloc: Global, name: &str) -> io::Result<(String, R::File)> {
-    for number in 0..BESIDE {
-        let beside = format!(in alloc; "{name}.new{number}")?;
-        match fs::File::create_new(files, beside.as_str()) {
-            Ok(file) => return Ok((beside, file)),
-            Err(e) if e.kind() == ErrorKind::AlreadyExists => {}
-            Err(e) => return Err(e),
-        }
-    }
-    Err(io::Error::from(ErrorKind::AlreadyExists))
+/// Makes these lines, and then lines of zeros, `count` in all, the file of this name, durably. Whatever ends this leaves the old file or
+/// the new one whole, where it was opened beside.
+pub fn fill_with_lines<R: Files>(
+    files: &R,
+    name: &str,
+    opened: Opened<R::File>,
+    buffer: &mut Vec<u8>,
+    front: &[Line],
+    count: u64,
+) -> io::Result<()> {
+    let Opened { mut file, beside } = opened;
+    let filled = fill_lines(&mut file, buffer, front, count);
+    settle(files, name, beside, filled)
+}
+
+/// Makes these bytes the file of this name, durably, as `fill_with_lines` does.
+pub fn fill_with<R: Files>(
+    files: &R,
+    name: &str,
+    opened: Opened<R::File>,
+    bytes: &[u8],
+) -> io::Result<()> {
+    let Opened { mut file, beside } = opened;
+    let filled = fill_bytes(&mut file, bytes);
+    settle(files, name, beside, filled)
 }
 
 /// Makes the lines of a device, as they read, the whole of an empty file, durably.
@@ -280,16 +274,8 @@ where
         return Err(io::Error::from(ErrorKind::AlreadyExists));
     }
     let (beside, mut file) = create_beside(files, alloc, name)?;
-    let mut moved = write_device::<R>(&mut file, device);
-    if moved.is_ok() {
-        moved = fs::rename(files, beside.as_str(), name);
-    }
-    if let Err(fault) = moved {
-        // What could not take the name is removed where that can be.
-        let _ = fs::remove_file(files, beside.as_str());
-        return Err(fault);
-    }
-    sync_folder(files, name)
+    let filled = write_device::<R>(&mut file, device);
+    take_name(files, name, beside.as_str(), filled)
 }
 
 /// Makes the file of that name hold an image of a device, durably. Where it is the device's own it does so already.

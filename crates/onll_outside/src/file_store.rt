@@ -4,6 +4,7 @@ ghost use Rattle.std.specs.Prelude.{◌≡◌, [], None, Some, MatchOption};
 ghost use Rattle.std.proofs.Common.{true≢false, sym};
 ghost use Rattle.onll_outside.specs.Faults.{CountsSeen, untold};
 
+use crate::beside::open_to_fill;
 use crate::disk::{
     cut_file, fill_with, fill_with_lines, keep_device, length_of, make_file, part_buffer,
     read_lines,
@@ -30,6 +31,7 @@ struct Lock<F> {
 
 /// The files of the system. What they hold is not told, only how many calls failed and the last of them, and what the devices
 /// counted that were handed back.
+/// A regular file that is written is made beside and then takes its name, so whatever ends the call leaves the old one or the new one.
 #[derive(Drop)]
 pub struct FileStore<R: Files + Drop> {
     files: R,
@@ -141,21 +143,21 @@ where
         }
     }
 
-    // Memory for the fault's name is taken before the file is opened. A system that has no memory once the
-    // file is open has emptied it, which is a fault.
+    // Memory for the fault's name is taken before the file is opened. One that is written in place is empty once it is open, so a
+    // system that has no memory then is a fault.
     fn write(&mut self, alloc: Global, name: &str, bytes: &[u8]) -> Result<(), OutsideFault> {
         let Ok(kept) = String::from_str(alloc, name) else {
             return Err(OutsideFault::NoMemory);
         };
-        let mut file = match fs::create(&self.files, name) {
-            Ok(file) => file,
+        let opened = match open_to_fill(&self.files, alloc, name, bytes.is_empty()) {
+            Ok(opened) => opened,
             Err(e) if e.kind() == ErrorKind::OutOfMemory => return Err(OutsideFault::NoMemory),
             Err(e) => return Err(
                 self.faults
                     .raise_named(FaultKind::Write, kept, e.raw_os_error()),
             ),
         };
-        match fill_with(&self.files, name, &mut file, bytes) {
+        match fill_with(&self.files, name, opened, bytes) {
             Ok(()) => Ok(()),
             Err(e) => Err(
                 self.faults
@@ -178,15 +180,15 @@ where
         let Ok(mut buffer) = part_buffer(alloc) else {
             return Err(OutsideFault::NoMemory);
         };
-        let mut file = match fs::create(&self.files, name) {
-            Ok(file) => file,
+        let opened = match open_to_fill(&self.files, alloc, name, count == 0) {
+            Ok(opened) => opened,
             Err(e) if e.kind() == ErrorKind::OutOfMemory => return Err(OutsideFault::NoMemory),
             Err(e) => return Err(
                 self.faults
                     .raise_named(FaultKind::Write, kept, e.raw_os_error()),
             ),
         };
-        match fill_with_lines(&self.files, name, &mut file, &mut buffer, front, count) {
+        match fill_with_lines(&self.files, name, opened, &mut buffer, front, count) {
             Ok(()) => Ok(()),
             Err(e) => Err(
                 self.faults

@@ -11,9 +11,10 @@
 //! assert!(rt; sink.faults() == 1);
 //! ```
 //!
-//! The test `outside` of `onll_uses` runs this.
+//! The test `outside` of `tests_uses` runs this.
 #![tactic(auto)]
 
+mod beside;
 mod bytes;
 mod directory;
 mod disk;

@@ -5,7 +5,7 @@ ghost use Rattle.std.specs.Option.{option_copied};
 ghost use Rattle.onll_pmem.specs.Device.{zero_lines, fenced_device, image_of, IsImage};
 ghost use Rattle.onll_pmem.specs.Pmem.{words_of};
 ghost use Rattle.onll_pmem.specs.Memory.{memory_view};
-ghost use Rattle.onll_outside.specs.Views.{SameFiles, SameOthers, Holds, Gives, FaultsOf, SameDevices, HandsBack, IsFresh, KeptOrZeros, BeginsWith, MayWipe, KeepsDevice, MayKeep, with_zeros, image_bytes, one_fault};
+ghost use Rattle.onll_outside.specs.Views.{SameFiles, SameOthers, FileHolds, Gives, FaultsOf, SameDevices, HandsBack, IsFresh, KeptOrZeros, BeginsWith, MayWipe, KeepsDevice, MayKeep, with_zeros, image_bytes, one_fault};
 ghost use Rattle.onll_outside.specs.LineFiles.{IsFileFront, GivesLines};
 ghost use Rattle.onll_outside.specs.MemStore.{FilesHeld, texts_of, file_in, place_in, with_file, store_of, call_fails, called, MemReads, MemReadsLines, MemWrites, MemMakes, MemReopens, MemStores, MemSizes, MemLocks, back, failing_of, reopened};
 ghost use Rattle.onll_outside.specs.Directory.{SizeOf, LocksOf, LockFaults, is_locked, without_name};
@@ -347,7 +347,7 @@ impl Store for MemStore {
     }
 
     fn write(&mut self, alloc: Global, name: &str, bytes: &[u8]) -> Result<(), OutsideFault>
-        ensures written { OnOk result (Holds (store_of self.new) name.now bytes.now) }
+        ensures written { OnOk result (FileHolds (store_of self.new) name.now bytes.now) }
         ensures others { SameOthers name.now (store_of self.old) (store_of self.new) }
         ensures kept { IfErr result (λ e. e ≡ OutsideFault.NoMemory → SameFiles (store_of self.old) (store_of self.new)) }
         ensures faults { FaultsOf (record { kind = FaultKind.Write; name = name.now }) (store_of self.old) (store_of self.new) result }
@@ -374,7 +374,7 @@ impl Store for MemStore {
         count: u64,
     ) -> Result<(), OutsideFault>
         requires { length front.now ≤ count }
-        ensures written { OnOk result (Holds (store_of self.new) name.now (image_bytes (with_zeros (words_of front.now) count))) }
+        ensures written { OnOk result (FileHolds (store_of self.new) name.now (image_bytes (with_zeros (words_of front.now) count))) }
         ensures others { SameOthers name.now (store_of self.old) (store_of self.new) }
         ensures kept { IfErr result (λ e. e ≡ OutsideFault.NoMemory → SameFiles (store_of self.old) (store_of self.new)) }
         ensures faults { FaultsOf (record { kind = FaultKind.Write; name = name.now }) (store_of self.old) (store_of self.new) result }

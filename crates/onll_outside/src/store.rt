@@ -3,7 +3,7 @@
 ghost use Rattle.std.specs.Prelude.{◌≡◌, ◌≤◌, ◌*◌, ℕ, true, length, IfOk, IfErr, OnOk};
 ghost use Rattle.onll_pmem.specs.Device.{zero_lines};
 ghost use Rattle.onll_pmem.specs.Pmem.{words_of};
-ghost use Rattle.onll_outside.specs.Views.{StoreView, SameFiles, SameFaults, SameOthers, SameDevices, Holds, Gives, FaultsOf, HandsBack, IsFresh, KeptOrZeros, BeginsWith, MayWipe, KeepsDevice, MayKeep, with_zeros, image_bytes};
+ghost use Rattle.onll_outside.specs.Views.{StoreView, SameFiles, SameFaults, SameOthers, SameDevices, FileHolds, Gives, FaultsOf, HandsBack, IsFresh, KeptOrZeros, BeginsWith, MayWipe, KeepsDevice, MayKeep, with_zeros, image_bytes};
 ghost use Rattle.onll_outside.specs.LineFiles.{IsFileFront, GivesLines};
 
 use crate::OutsideFault;
@@ -75,7 +75,7 @@ pub trait Store {
     /// Makes these bytes the file `name`. A write that fails may leave anything in that file; where memory
     /// can't be had, the file is as it was.
     fn write(&mut self, alloc: Global, name: &str, bytes: &[u8]) -> Result<(), OutsideFault>
-        ensures written { OnOk result (Holds (seen self.new) name.now bytes.now) }
+        ensures written { OnOk result (FileHolds (seen self.new) name.now bytes.now) }
         ensures others { SameOthers name.now (seen self.old) (seen self.new) }
         ensures kept { IfErr result (λ e. e ≡ OutsideFault.NoMemory → SameFiles (seen self.old) (seen self.new)) }
         ensures faults { FaultsOf (record { kind = FaultKind.Write; name = name.now }) (seen self.old) (seen self.new) result }
@@ -90,7 +90,7 @@ pub trait Store {
         count: u64,
     ) -> Result<(), OutsideFault>
         requires { length front.now ≤ count }
-        ensures written { OnOk result (Holds (seen self.new) name.now (image_bytes (with_zeros (words_of front.now) count))) }
+        ensures written { OnOk result (FileHolds (seen self.new) name.now (image_bytes (with_zeros (words_of front.now) count))) }
         ensures others { SameOthers name.now (seen self.old) (seen self.new) }
         ensures kept { IfErr result (λ e. e ≡ OutsideFault.NoMemory → SameFiles (seen self.old) (seen self.new)) }
         ensures faults { FaultsOf (record { kind = FaultKind.Write; name = name.now }) (seen self.old) (seen self.new) result }

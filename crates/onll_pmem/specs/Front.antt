@@ -15,6 +15,6 @@ abbrev pub marks_view : List Bool → ℕ → List Bool
 marks_view front count = followed false front count
 
 -- what is held is a part, and all have room
-pub record HasRoom (held count room : ℕ) : Type 0 where
+pub record FitsRoom (held count room : ℕ) : Type 0 where
   pub within : held ≤ count
   pub room_for : count ≤ room

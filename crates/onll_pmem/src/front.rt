@@ -57,13 +57,13 @@ impl Model for Front {
     ghost use Rattle.std.specs.Prelude.{List, ℕ, length};
     ghost use Rattle.std.specs.Vec.{vec_capacity};
     ghost use Rattle.onll_pmem.specs.Pmem.{words_of};
-    ghost use Rattle.onll_pmem.specs.Front.{front_view, HasRoom};
+    ghost use Rattle.onll_pmem.specs.Front.{front_view, FitsRoom};
 
     ghost Value = { List (List ℕ) };
 
     ghost view = { λ f. front_view (words_of f.front.items) f.count };
 
-    ghost invariant = { λ f. HasRoom (length (words_of f.front.items)) f.count (vec_capacity f.front) };
+    ghost invariant = { λ f. FitsRoom (length (words_of f.front.items)) f.count (vec_capacity f.front) };
 }
 
 impl Front {

@@ -29,13 +29,13 @@ pub struct Marks {
 impl Model for Marks {
     ghost use Rattle.std.specs.Prelude.{List, Bool, length};
     ghost use Rattle.std.specs.Vec.{vec_capacity};
-    ghost use Rattle.onll_pmem.specs.Front.{marks_view, HasRoom};
+    ghost use Rattle.onll_pmem.specs.Front.{marks_view, FitsRoom};
 
     ghost Value = { List Bool };
 
     ghost view = { λ m. marks_view m.front.items m.count };
 
-    ghost invariant = { λ m. HasRoom (length m.front.items) m.count (vec_capacity m.front) };
+    ghost invariant = { λ m. FitsRoom (length m.front.items) m.count (vec_capacity m.front) };
 }
 
 impl Marks {

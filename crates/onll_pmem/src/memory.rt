@@ -54,13 +54,13 @@ pub struct MemPmem {
 }
 
 impl Model for MemPmem {
-    ghost use Rattle.onll_pmem.specs.Memory.{MemoryState, memory_of, Keeps};
+    ghost use Rattle.onll_pmem.specs.Memory.{MemoryState, memory_of, KeepsMemory};
 
     ghost Value = { MemoryState };
 
     ghost view = { λ m. memory_of m.fenced m.read m.backed m.fences m.failing.items };
 
-    ghost invariant = { λ m. Keeps (memory_of m.fenced m.read m.backed m.fences m.failing.items) m.waiting.marks m.faults };
+    ghost invariant = { λ m. KeepsMemory (memory_of m.fenced m.read m.backed m.fences m.failing.items) m.waiting.marks m.faults };
 }
 
 impl MemPmem {

@@ -6,7 +6,7 @@ use Rattle.onll_queue.specs.declared.operation.QueueOp.{QueueOp}
 use Rattle.onll_queue.specs.declared.operation.QueueOp.TheVariants.{Push, Pop}
 use Rattle.onll_queue.specs.declared.operation.QueueReply.TheVariants.{Done, Full}
 use Rattle.onll_queue.specs.Queue.{items_in, first_of, queue_next}
-use Rattle.onll_queue.specs.Order.{queue_after, replies_of, taken_in, given_out, OrderLaw, BoundLaw}
+use Rattle.onll_queue.specs.Order.{queue_after, replies_of, taken_in, given_out, FifoLaw, RoomLaw}
 
 -- the order law of these operations
 abbrev Ordered : List QueueOp → Items → Type 0
@@ -26,7 +26,7 @@ ordered_pop : (room : ℕ) (items : List ℕ) (ops : List QueueOp) → ((s : Ite
 ordered_pop room [] ops h = h (items_in room [])
 ordered_pop room (x ∷ items) ops h = ap (λ l. x ∷ l) (h (items_in room items))
 
-pub order_law : OrderLaw
+pub order_law : FifoLaw
 order_law s [] = append-nil s.items
 order_law s (Push x ∷ ops) = ordered_push (length s.items == s.room) s.room x s.items ops (λ t. order_law t ops)
 order_law s (Pop ∷ ops) = ordered_pop s.room s.items ops (λ t. order_law t ops)
@@ -38,7 +38,7 @@ push_within room x items false e h =
     omega (arith, less, length-append items (x ∷ []))
 push_within room x items true e h = h
 
-pub bound_law : BoundLaw
+pub bound_law : RoomLaw
 bound_law s [] h = h
 bound_law s (Push x ∷ ops) h = bound_law (queue_next s (Push x)) ops (push_within s.room x s.items (length s.items == s.room) refl h)
 bound_law s (Pop ∷ ops) h = bound_law (queue_next s Pop) ops (omega (arith, length-drop 1 s.items))

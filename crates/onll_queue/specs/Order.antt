@@ -33,10 +33,10 @@ given_out (reply ∷ replies) = given_out replies
 
 -- The items that were there and then those taken in are the items given out and then those that are left: they leave
 -- in the order in which they came, each once.
-abbrev pub OrderLaw : Type 0
-OrderLaw = (s : Items) (ops : List QueueOp)
+abbrev pub FifoLaw : Type 0
+FifoLaw = (s : Items) (ops : List QueueOp)
     → s.items ++ taken_in ops (replies_of s ops) ≡ given_out (replies_of s ops) ++ (queue_after s ops).items
 
 -- there are never more items than there is room for
-abbrev pub BoundLaw : Type 0
-BoundLaw = (s : Items) (ops : List QueueOp) → length s.items ≤ s.room → length (queue_after s ops).items ≤ s.room
+abbrev pub RoomLaw : Type 0
+RoomLaw = (s : Items) (ops : List QueueOp) → length s.items ≤ s.room → length (queue_after s ops).items ≤ s.room

@@ -7,7 +7,7 @@
 //! assert!(rt; queue.ask(QueueQuery::Length) == QueueReply::Length(1));
 //! ```
 //!
-//! The test `queue` of `onll_uses` runs this.
+//! The test `queue` of `tests_uses` runs this.
 #![tactic(auto)]
 
 mod laws;

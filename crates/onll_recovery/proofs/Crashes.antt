@@ -10,14 +10,14 @@ use Rattle.onll_model.specs.Recovered.{operations_front, where_some}
 use Rattle.onll_model.specs.Frames.{Thread}
 use Rattle.onll_model.proofs.Lists.{same_some, some_not_none}
 use Rattle.onll_log.specs.declared.head.LogHead.{LogHead}
-use Rattle.onll_log.specs.Head.{word, is_head, head_of, head_for}
+use Rattle.onll_log.specs.Head.{word, is_head, head_of, head_for, heads_from}
 use Rattle.onll_log.specs.Grammar.{Content, content_of, entries_from, are_zero_lines, format_in}
 use Rattle.onll_merge.specs.Merge.{merge, top_of}
 use Rattle.onll_merge.specs.FrameLogs.{AreLogsOf}
 use Rattle.onll_core.specs.Core.{CoreThread, CoreState}
 use Rattle.onll_core.specs.CoreFrame.{frame_thread}
 use Rattle.onll_core.specs.Step.{steps_of}
-use Rattle.onll_core.specs.Created.{heads_from, created_heads, created_core}
+use Rattle.onll_core.specs.Created.{created_heads, created_core}
 use Rattle.onll_core.specs.Consistent.{IsConsistent}
 use Rattle.onll_core.specs.Crash.{AreImages, heads_of, Recovers}
 use Rattle.onll_core.proofs.Created.{length-heads_from}

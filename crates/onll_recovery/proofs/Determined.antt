@@ -23,7 +23,7 @@ use Rattle.onll_merge.specs.Recovered.{Recovered}
 use Rattle.onll_recovery.specs.RecoverJob.{content_line, log_lines, lines_with}
 use Rattle.onll_recovery.specs.ReplayJob.{begun_lines, crash_line, fenced_lines, resumed_lines, replay_report}
 use Rattle.onll_recovery.specs.RecoverJob.{HeldData, RecoverData, held_line, held_lines, recover_data_lines, HeldReads, RecoverReads, held_with, held_of, data_with, recover_data}
-use Rattle.onll_recovery.specs.ReplayJob.{RunData, run_data_lines, RunReads, counts_of, replay_data}
+use Rattle.onll_recovery.specs.ReplayJob.{CrashedRunData, run_data_lines, CrashedRunReads, counts_of, replay_data}
 use Rattle.onll_recovery.proofs.ReplaySteps.{resumed_in_words, crash_in_words}
 use Rattle.onll_recovery.proofs.RecoverSteps.{recovered_in_words}
 
@@ -261,18 +261,18 @@ module _ {State Op Query Reply : Type 0} where
   no_resumed w t ((c ∷ s) ∷ scripts) ((x ∷ es) ∷ ends) lines h = λ rest e. cc e
 
   -- the lines of a run after that one
-  abbrev played_lines : Behaviour State Op Query Reply → Wording State Op Query Reply → List (List (Call State Op Query Reply)) → RunData State Op Query Reply → List (List (List ℕ))
+  abbrev played_lines : Behaviour State Op Query Reply → Wording State Op Query Reply → List (List (Call State Op Query Reply)) → CrashedRunData State Op Query Reply → List (List (List ℕ))
   played_lines b w scripts said =
       (thread_lines w 0 scripts said.ends ++ (trace_line (length said.nodes) ∷ flagged_lines b w 0 said.nodes said.flags))
       ++ (crash_line said.keep ∷ (counted_lines 0 said.logs ++ (recovered_line said.recovered ∷ state_lines w said.state)))
 
-  none_resumed : (b : Behaviour State Op Query Reply) (w : Wording State Op Query Reply) (scripts : List (List (Call State Op Query Reply))) (said : RunData State Op Query Reply) → NoResumedNext (played_lines b w scripts said)
+  none_resumed : (b : Behaviour State Op Query Reply) (w : Wording State Op Query Reply) (scripts : List (List (Call State Op Query Reply))) (said : CrashedRunData State Op Query Reply) → NoResumedNext (played_lines b w scripts said)
   none_resumed b w scripts said =
       let trace = trace_line (length said.nodes) ∷ flagged_lines b w 0 said.nodes said.flags in
       let crash = crash_line said.keep ∷ (counted_lines 0 said.logs ++ (recovered_line said.recovered ∷ state_lines w said.state)) in
       subst NoResumedNext (sym (append_assoc (thread_lines w 0 scripts said.ends) trace crash)) (no_resumed w 0 scripts said.ends (trace ++ crash) (λ rest e. cc e))
 
-  run_meaningful : (b : Behaviour State Op Query Reply) (w : Wording State Op Query Reply) (scripts : List (List (Call State Op Query Reply))) (said : RunData State Op Query Reply) → AreMeaningful (run_data_lines b w scripts said)
+  run_meaningful : (b : Behaviour State Op Query Reply) (w : Wording State Op Query Reply) (scripts : List (List (Call State Op Query Reply))) (said : CrashedRunData State Op Query Reply) → AreMeaningful (run_data_lines b w scripts said)
   run_meaningful b w scripts said =
       let flagged = flagged_lines b w 0 said.nodes said.flags in
       let ending = recovered_line said.recovered ∷ state_lines w said.state in
@@ -288,7 +288,7 @@ module _ {State Op Query Reply : Type 0} where
       )
       )
 
-  run_same : (a b : RunData State Op Query Reply) → a.resumed ≡ b.resumed → a.ends ≡ b.ends → a.nodes ≡ b.nodes → a.flags ≡ b.flags → a.keep ≡ b.keep → a.logs ≡ b.logs → a.recovered ≡ b.recovered → a.state ≡ b.state → a ≡ b
+  run_same : (a b : CrashedRunData State Op Query Reply) → a.resumed ≡ b.resumed → a.ends ≡ b.ends → a.nodes ≡ b.nodes → a.flags ≡ b.flags → a.keep ≡ b.keep → a.logs ≡ b.logs → a.recovered ≡ b.recovered → a.state ≡ b.state → a ≡ b
   run_same a b e₀ e₁ e₂ e₃ e₄ e₅ e₆ e₇ = λ i. record {
     resumed = e₀ i;
     ends = e₁ i;
@@ -300,13 +300,13 @@ module _ {State Op Query Reply : Type 0} where
     state = e₇ i;
   }
 
-  run_determined : (b : Behaviour State Op Query Reply) (w : Wording State Op Query Reply) (scripts : List (List (Call State Op Query Reply))) (said other : RunData State Op Query Reply)
-      → RunReads b w scripts said → RunReads b w scripts other → flat_map line_text (run_data_lines b w scripts said) ≡ flat_map line_text (run_data_lines b w scripts other) → said ≡ other
+  run_determined : (b : Behaviour State Op Query Reply) (w : Wording State Op Query Reply) (scripts : List (List (Call State Op Query Reply))) (said other : CrashedRunData State Op Query Reply)
+      → CrashedRunReads b w scripts said → CrashedRunReads b w scripts other → flat_map line_text (run_data_lines b w scripts said) ≡ flat_map line_text (run_data_lines b w scripts other) → said ≡ other
   run_determined b w scripts said other g h e =
-      let ending : RunData State Op Query Reply → List (List (List ℕ)) = λ r. recovered_line r.recovered ∷ state_lines w r.state in
-      let crash : RunData State Op Query Reply → List (List (List ℕ)) = λ r. crash_line r.keep ∷ (counted_lines 0 r.logs ++ ending r) in
-      let flagged : RunData State Op Query Reply → List (List (List ℕ)) = λ r. flagged_lines b w 0 r.nodes r.flags in
-      let trace : RunData State Op Query Reply → List (List (List ℕ)) = λ r. trace_line (length r.nodes) ∷ flagged r in
+      let ending : CrashedRunData State Op Query Reply → List (List (List ℕ)) = λ r. recovered_line r.recovered ∷ state_lines w r.state in
+      let crash : CrashedRunData State Op Query Reply → List (List (List ℕ)) = λ r. crash_line r.keep ∷ (counted_lines 0 r.logs ++ ending r) in
+      let flagged : CrashedRunData State Op Query Reply → List (List (List ℕ)) = λ r. flagged_lines b w 0 r.nodes r.flags in
+      let trace : CrashedRunData State Op Query Reply → List (List (List ℕ)) = λ r. trace_line (length r.nodes) ∷ flagged r in
       let lines = text_determined (run_data_lines b w scripts said) (run_data_lines b w scripts other) (run_meaningful b w scripts said) (run_meaningful b w scripts other) e in
       let base = resumed_determined said.resumed other.resumed (played_lines b w scripts said) (played_lines b w scripts other) g.resumed h.resumed (none_resumed b w scripts said) (none_resumed b w scripts other) lines in
       let same = sym (append_assoc (thread_lines w 0 scripts said.ends) (trace said) (crash said)) ∙ base.1 ∙ append_assoc (thread_lines w 0 scripts other.ends) (trace other) (crash other) in
@@ -347,6 +347,6 @@ module _ {State Op Query Reply : Type 0} where
       (subst (λ (x : State). RecoverReads b w (data_with r x)) after h)
 
   pub replay_says : (b : Behaviour State Op Query Reply) (w : Wording State Op Query Reply) (resumed : Option ℕ) (c : CoreState State Op Query Reply) (keep : ℕ) (r : Recovered) (text : List ℕ) → text ≡ replay_report b w resumed c keep r
-      → RunReads b w (map script_of c.threads) (replay_data b resumed c keep r) → SaysOnly (run_data_lines b w (map script_of c.threads)) (RunReads b w (map script_of c.threads)) text (replay_data b resumed c keep r)
+      → CrashedRunReads b w (map script_of c.threads) (replay_data b resumed c keep r) → SaysOnly (run_data_lines b w (map script_of c.threads)) (CrashedRunReads b w (map script_of c.threads)) text (replay_data b resumed c keep r)
   replay_says b w resumed c keep r text e h =
-      says_only (run_data_lines b w (map script_of c.threads)) (RunReads b w (map script_of c.threads)) (run_determined b w (map script_of c.threads)) text (replay_data b resumed c keep r) (e ∙ replay_report-said b w resumed c keep r) h
+      says_only (run_data_lines b w (map script_of c.threads)) (CrashedRunReads b w (map script_of c.threads)) (run_determined b w (map script_of c.threads)) text (replay_data b resumed c keep r) (e ∙ replay_report-said b w resumed c keep r) h

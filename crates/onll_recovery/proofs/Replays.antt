@@ -17,7 +17,8 @@ use Rattle.onll_core.specs.Core.{CoreThread, CoreState}
 use Rattle.onll_core.specs.Step.{steps_of}
 use Rattle.onll_core.specs.Turns.{turns_of}
 use Rattle.onll_core.specs.First.{first_threads}
-use Rattle.onll_core.specs.Created.{heads_from, created_core}
+use Rattle.onll_core.specs.Created.{created_core}
+use Rattle.onll_log.specs.Head.{heads_from}
 use Rattle.onll_core.specs.Crash.{heads_of, images_of}
 use Rattle.onll_core.specs.Outcomes.{script_of}
 use Rattle.onll_core.proofs.Crashed.{steps_scripts}
@@ -29,9 +30,9 @@ use Rattle.onll_text.specs.declared.schedule.Schedule.{Schedule}
 use Rattle.onll_text.specs.Schedule.{schedule_of}
 use Rattle.onll_outside.specs.Views.{StoreView, with_zeros}
 use Rattle.onll_task.specs.declared.answer.Stop.{Stop}
-use Rattle.onll_task.specs.ImageNames.{image_names}
-use Rattle.onll_task.specs.Images.{StandFor, writing_stage}
-use Rattle.onll_task.specs.Doing.{text_stage, Does, Begins}
+use Rattle.onll_open.specs.Names.{log_names}
+use Rattle.onll_task.specs.Images.{AllDecide, writing_stage}
+use Rattle.onll_task.specs.Doing.{text_stage, Fulfils, DoesStage}
 use Rattle.onll_recovery.specs.ReplayJob.{played, run_task, crash_task, schedule_task}
 use Rattle.onll_recovery.proofs.Standing.{crash_stands}
 use Rattle.onll_task.proofs.Stages.{wrote_does, stop_does, read_does}
@@ -73,40 +74,40 @@ image_is keep ths t m front count less same is many =
 module _ {State Op Query Reply : Type 0} (b : Behaviour State Op Query Reply) (w : Wording State Op Query Reply) (logs : List ℕ) (resumed : Option ℕ) where
   -- the images were written, and the rest is said by lines that stand for them
   pub crash_does : {V A : Type 0} (scripts : List (List (Call State Op Query Reply))) (c : CoreState State Op Query Reply) (keep : ℕ) {store mid : StoreView} (lines : List (List (List ℕ))) {value : V → Unit {0}} {v : V} (r : Result (Vec ℕ A) Stop)
-      → StandFor lines (images_of keep c.threads)
-      → Begins (image_names logs 0 (length (images_of keep c.threads))) store mid (writing_stage logs (images_of keep c.threads)) value (Ok v)
-      → ((any : StoreView) → Does [] any any (run_task b w resumed scripts c keep (state_recovered b (heads_of c.threads) lines)) r)
-      → Does (image_names logs 0 (length c.threads)) store mid (crash_task b w logs resumed scripts c keep) r
+      → AllDecide lines (images_of keep c.threads)
+      → DoesStage (log_names logs 0 (length (images_of keep c.threads))) store mid (writing_stage logs (images_of keep c.threads)) value (Ok v)
+      → ((any : StoreView) → Fulfils [] any any (run_task b w resumed scripts c keep (state_recovered b (heads_of c.threads) lines)) r)
+      → Fulfils (log_names logs 0 (length c.threads)) store mid (crash_task b w logs resumed scripts c keep) r
   crash_does scripts c keep {store} {mid} lines r stand first says =
       let heads = heads_of c.threads in
       let images = images_of keep c.threads in
-      subst (λ m. Does (image_names logs 0 m) store mid (crash_task b w logs resumed scripts c keep) r) (images_count c keep)
+      subst (λ m. Fulfils (log_names logs 0 m) store mid (crash_task b w logs resumed scripts c keep) r) (images_count c keep)
       (wrote_does (λ _. run_task b w resumed scripts c keep (state_recovered b heads images)) first
-      (λ any. subst (λ recovered. Does [] any any (run_task b w resumed scripts c keep recovered) r) (crash_stands b heads lines images stand) (says any)))
+      (λ any. subst (λ recovered. Fulfils [] any any (run_task b w resumed scripts c keep recovered) r) (crash_stands b heads lines images stand) (says any)))
 
   -- one was not written
   pub crash_stops : {V A : Type 0} (scripts : List (List (Call State Op Query Reply))) (c : CoreState State Op Query Reply) (keep : ℕ) {store after : StoreView} {value : V → Unit {0}} (s : Stop)
-      → Begins (image_names logs 0 (length (images_of keep c.threads))) store after (writing_stage logs (images_of keep c.threads)) value (Err s)
-      → Does {A = A} (image_names logs 0 (length c.threads)) store after (crash_task b w logs resumed scripts c keep) (Err s)
+      → DoesStage (log_names logs 0 (length (images_of keep c.threads))) store after (writing_stage logs (images_of keep c.threads)) value (Err s)
+      → Fulfils {A = A} (log_names logs 0 (length c.threads)) store after (crash_task b w logs resumed scripts c keep) (Err s)
   crash_stops {V} {A} scripts c keep {store} {after} s first =
-      subst (λ m. Does {A = A} (image_names logs 0 m) store after (crash_task b w logs resumed scripts c keep) (Err s)) (images_count c keep)
+      subst (λ m. Fulfils {A = A} (log_names logs 0 m) store after (crash_task b w logs resumed scripts c keep) (Err s)) (images_count c keep)
       (stop_does (λ _. run_task b w resumed scripts c keep (state_recovered b (heads_of c.threads) (images_of keep c.threads))) first)
 
 -- ---- the schedule
 module _ {State Op Query Reply : Type 0} (b : Behaviour State Op Query Reply) (w : Wording State Op Query Reply) (logs : List ℕ) where
   -- the schedule was read, and its core crashes
   pub schedule_does : {A : Type 0} (code : ℕ) (init : List ℕ) (s : State) (schedule : List ℕ) (scripts : List (List (Call State Op Query Reply))) (n : ℕ) (plan : Schedule) (c : CoreState State Op Query Reply) {store mid after : StoreView} (r : Result (Vec ℕ A) Stop)
-      → Begins [] store mid (text_stage schedule (schedule_of (length scripts))) (λ (p : Schedule). p) (Ok plan) → c ≡ played b code init s scripts plan.turns → length c.threads ≡ n
-      → Does (image_names logs 0 (length c.threads)) mid after (crash_task b w logs None (map script_of c.threads) c plan.keep) r
-      → Does (image_names logs 0 n) store after (schedule_task (kind_by b w code) init s schedule logs scripts) r
+      → DoesStage [] store mid (text_stage schedule (schedule_of (length scripts))) (λ (p : Schedule). p) (Ok plan) → c ≡ played b code init s scripts plan.turns → length c.threads ≡ n
+      → Fulfils (log_names logs 0 (length c.threads)) mid after (crash_task b w logs None (map script_of c.threads) c plan.keep) r
+      → Fulfils (log_names logs 0 n) store after (schedule_task (kind_by b w code) init s schedule logs scripts) r
   schedule_does code init s schedule scripts n plan c {store} {mid} {after} r first e many says =
       let run : CoreState State Op Query Reply = played b code init s scripts plan.turns in
       let by : List (List (Call State Op Query Reply)) → CoreState State Op Query Reply → Type 0 =
-      λ scripts core. Does (image_names logs 0 n) mid after (crash_task b w logs None scripts core plan.keep) r in
+      λ scripts core. Fulfils (log_names logs 0 n) mid after (crash_task b w logs None scripts core plan.keep) r in
       read_does (λ (plan : Schedule). crash_task b w logs None scripts (played b code init s scripts plan.turns) plan.keep) first
       (subst (λ scripts. by scripts run) (played_scripts b code init s scripts plan.turns)
       (subst (λ (core : CoreState State Op Query Reply). by (map script_of core.threads) core) e
-      (subst (λ m. Does (image_names logs 0 m) mid after (crash_task b w logs None (map script_of c.threads) c plan.keep) r) many says)))
+      (subst (λ m. Fulfils (log_names logs 0 m) mid after (crash_task b w logs None (map script_of c.threads) c plan.keep) r) many says)))
 
 -- ---- the core
 -- each row of a core that was made and took steps is an operation's

@@ -37,9 +37,9 @@ use Rattle.onll_text.specs.Wording.{Wording}
 use Rattle.onll_outside.specs.Views.{StoreView}
 use Rattle.onll_task.specs.declared.ending.Ending.TheVariants.{Done}
 use Rattle.onll_task.specs.declared.answer.Stop.{Stop}
-use Rattle.onll_task.specs.ImageNames.{image_names}
-use Rattle.onll_task.specs.Images.{StandFor}
-use Rattle.onll_task.specs.Doing.{Does}
+use Rattle.onll_open.specs.Names.{log_names}
+use Rattle.onll_task.specs.Images.{AllDecide}
+use Rattle.onll_task.specs.Doing.{Fulfils}
 use Rattle.onll_task.specs.Stop.{StopSays}
 use Rattle.onll_task.proofs.Stages.{wider, says_does}
 use Rattle.onll_recovery.specs.ReplayJob.{crash_task}
@@ -153,7 +153,7 @@ module _ {State Op Query Reply : Type 0} (b : Behaviour State Op Query Reply) (c
       (core_on b s heads scripts count (found_in b heads images) (logs_there b heads (length scripts) (contents_from 0 images) (subst (λ n. ManyAs n (contents_from 0 images)) many (contents_many 0 images))))
 
   -- of lines that stand for images it is the same
-  pub resumed_stands : (lines images : List (List (List ℕ))) → StandFor lines images → resumed b code init s lines scripts ≡ resumed b code init s images scripts
+  pub resumed_stands : (lines images : List (List (List ℕ))) → AllDecide lines images → resumed b code init s lines scripts ≡ resumed b code init s images scripts
   resumed_stands lines images stand =
       let heads = created_heads code init scripts in ap (λ contents. going_on s heads scripts (found_logs b heads contents)) (contents_stand 0 lines images stand)
 
@@ -178,17 +178,17 @@ module _ {State Op Query Reply : Type 0} (b : Behaviour State Op Query Reply) (h
   pub resumed_does : {A : Type 0} (w : Wording State Op Query Reply) (logs : List ℕ) (names : List (List ℕ)) (plan : Schedule) (n : ℕ) (core : CoreState State Op Query Reply) (base : ℕ)
       {found : Result (CoreState State Op Query Reply) ResumeFault} {store after : StoreView} (r : Result (Vec ℕ A) Stop)
       → found ≡ Ok c → core ≡ steps_of b c (turns_of plan.turns) → base ≡ c.base → length core.threads ≡ n
-      → Does (image_names logs 0 (length core.threads)) store after (crash_task b w logs (Some base) (map script_of core.threads) core plan.keep) r
-      → Does (image_names logs 0 n) store after (resumed_task b w logs names scripts plan found) r
+      → Fulfils (log_names logs 0 (length core.threads)) store after (crash_task b w logs (Some base) (map script_of core.threads) core plan.keep) r
+      → Fulfils (log_names logs 0 n) store after (resumed_task b w logs names scripts plan found) r
   resumed_does w logs names plan n core base {found} {store} {after} r e steps at many does =
       let run : CoreState State Op Query Reply = steps_of b c (turns_of plan.turns) in
       let by : ℕ → List (List (Call State Op Query Reply)) → CoreState State Op Query Reply → Type 0 =
-      λ base scripts core. Does (image_names logs 0 n) store after (crash_task b w logs (Some base) scripts core plan.keep) r in
-      subst (λ (x : Result (CoreState State Op Query Reply) ResumeFault). Does (image_names logs 0 n) store after (resumed_task b w logs names scripts plan x) r) (sym e)
+      λ base scripts core. Fulfils (log_names logs 0 n) store after (crash_task b w logs (Some base) scripts core plan.keep) r in
+      subst (λ (x : Result (CoreState State Op Query Reply) ResumeFault). Fulfils (log_names logs 0 n) store after (resumed_task b w logs names scripts plan x) r) (sym e)
       (subst (λ base. by base scripts run) at
       (subst (λ scripts. by base scripts run) (steps_scripts b c (turns_of plan.turns) ∙ on.scripts_are)
       (subst (λ (core : CoreState State Op Query Reply). by base (map script_of core.threads) core) steps
-      (subst (λ m. Does (image_names logs 0 m) store after (crash_task b w logs (Some base) (map script_of core.threads) core plan.keep) r) many does))))
+      (subst (λ m. Fulfils (log_names logs 0 m) store after (crash_task b w logs (Some base) (map script_of core.threads) core plan.keep) r) many does))))
 
 -- ---- where there is none
 no_report : (fault : ResumeFault) → resume_ending fault ≡ Done → ⊥
@@ -202,10 +202,10 @@ no_report NoMemory e = cc e
 pub not_resumed_does : {A State Op Query Reply : Type 0} (b : Behaviour State Op Query Reply) (w : Wording State Op Query Reply) (logs : List ℕ) (names : List (List ℕ)) (scripts : List (List (Call State Op Query Reply))) (plan : Schedule)
     (all : List (List ℕ)) (fault : ResumeFault) {found : Result (CoreState State Op Query Reply) ResumeFault} (store : StoreView) (s : Stop)
     → found ≡ Err fault → StopSays s (λ end said. (end ≡ resume_ending fault) × (said ≡ resume_text names fault))
-    → Does {A = A} all store store (resumed_task b w logs names scripts plan found) (Err s)
+    → Fulfils {A = A} all store store (resumed_task b w logs names scripts plan found) (Err s)
 not_resumed_does {A} {State} {Op} {Query} {Reply} b w logs names scripts plan all fault {found} store s e says =
     let does = says_does {A = A} store (resume_ending fault) (resume_text names fault) s (no_report fault) says in
-    subst (λ (x : Result (CoreState State Op Query Reply) ResumeFault). Does {A = A} all store store (resumed_task b w logs names scripts plan x) (Err s)) (sym e)
+    subst (λ (x : Result (CoreState State Op Query Reply) ResumeFault). Fulfils {A = A} all store store (resumed_task b w logs names scripts plan x) (Err s)) (sym e)
     (record { done = tt; reports = tt; stops = does.stops; files = wider all store store does.files })
 
 -- ---- what images of format 2 give

@@ -9,18 +9,18 @@ use Rattle.onll_log.specs.Head.{head_for}
 use Rattle.onll_log.specs.Grammar.{Content, content_of, format_in}
 use Rattle.onll_merge.specs.declared.fault.ImagesFault.{ImagesFault}
 use Rattle.onll_merge.specs.Recovered.{content_before, contents_from, heads_for, expected_heads, merged, with_operations, state_recovered}
-use Rattle.onll_task.specs.Images.{StandsFor, StandFor}
+use Rattle.onll_task.specs.Images.{Decides, AllDecide}
 use Rattle.onll_task.proofs.ImageFiles.{standing_more}
 
 -- as many
-pub stand_many : (lines images : List (List (List ℕ))) → StandFor lines images → length lines ≡ length images
+pub stand_many : (lines images : List (List (List ℕ))) → AllDecide lines images → length lines ≡ length images
 stand_many [] [] s = refl
 stand_many [] (image ∷ images) s = absurd s
 stand_many (l ∷ lines) [] s = absurd s
 stand_many (l ∷ lines) (image ∷ images) s = ap suc (stand_many lines images s.1)
 
 -- they hold the same, or the same is no log
-pub contents_stand : (i : ℕ) (lines images : List (List (List ℕ))) → StandFor lines images → contents_from i lines ≡ contents_from i images
+pub contents_stand : (i : ℕ) (lines images : List (List (List ℕ))) → AllDecide lines images → contents_from i lines ≡ contents_from i images
 contents_stand i [] [] s = refl
 contents_stand i [] (image ∷ images) s = absurd s
 contents_stand i (l ∷ lines) [] s = absurd s
@@ -37,7 +37,7 @@ first_log i None rest h = absurd h
 first_log i (Some c) (Ok cs) h = (refl, tt)
 first_log i (Some c) (Err e) h = absurd h
 
-heads_stand : (code threads i : ℕ) (init : List ℕ) (lines images : List (List (List ℕ))) → StandFor lines images → AllLogs (contents_from i images)
+heads_stand : (code threads i : ℕ) (init : List ℕ) (lines images : List (List (List ℕ))) → AllDecide lines images → AllLogs (contents_from i images)
     → heads_for code init threads i lines ≡ heads_for code init threads i images
 heads_stand code threads i init [] [] s h = refl
 heads_stand code threads i init [] (image ∷ images) s h = absurd s
@@ -51,7 +51,7 @@ same_merged : (a b : List LogHead) (contents : Result (List Content) ImagesFault
 same_merged a b (Ok contents) same = ap (λ hs. merged hs (let c : Result (List Content) ImagesFault = Ok contents in c)) (same tt)
 same_merged a b (Err fault) same = refl
 
-pub state_stands : {State Op Query Reply : Type 0} (b : Behaviour State Op Query Reply) (code : ℕ) (init : List ℕ) (lines images : List (List (List ℕ))) → StandFor lines images
+pub state_stands : {State Op Query Reply : Type 0} (b : Behaviour State Op Query Reply) (code : ℕ) (init : List ℕ) (lines images : List (List (List ℕ))) → AllDecide lines images
     → state_recovered b (expected_heads code init lines) lines ≡ state_recovered b (expected_heads code init images) images
 state_stands b code init lines images s =
     let all = heads_for code init (length images) 0 images in
@@ -60,16 +60,16 @@ state_stands b code init lines images s =
     ∙ ap (with_operations b) (same_merged (heads_for code init (length images) 0 lines) all (contents_from 0 images) (heads_stand code (length images) 0 init lines images s)))
 
 -- images of a crash, with the heads of its logs
-pub crash_stands : {State Op Query Reply : Type 0} (b : Behaviour State Op Query Reply) (heads : List LogHead) (lines images : List (List (List ℕ))) → StandFor lines images
+pub crash_stands : {State Op Query Reply : Type 0} (b : Behaviour State Op Query Reply) (heads : List LogHead) (lines images : List (List (List ℕ))) → AllDecide lines images
     → state_recovered b heads lines ≡ state_recovered b heads images
 crash_stands b heads lines images s = ap (λ contents. with_operations b (merged heads contents)) (contents_stand 0 lines images s)
 
 -- lines that stand for one image more
-pub stand_next : (lines more images : List (List (List ℕ))) (l : List (List ℕ)) (i : ℕ) → i < length images → StandFor lines (take i images) → StandsFor l (get_or images i []) → more ≡ lines ++ l ∷ []
-    → StandFor more (take (i + 1) images)
+pub stand_next : (lines more images : List (List (List ℕ))) (l : List (List ℕ)) (i : ℕ) → i < length images → AllDecide lines (take i images) → Decides l (get_or images i []) → more ≡ lines ++ l ∷ []
+    → AllDecide more (take (i + 1) images)
 stand_next lines more images l i less so one e =
-    subst (λ ls. StandFor ls (take (i + 1) images)) (sym e)
-    (subst (StandFor (lines ++ l ∷ [])) (sym (take_more images i [] less)) (standing_more lines (take i images) l (get_or images i []) so one))
+    subst (λ ls. AllDecide ls (take (i + 1) images)) (sym e)
+    (subst (AllDecide (lines ++ l ∷ [])) (sym (take_more images i [] less)) (standing_more lines (take i images) l (get_or images i []) so one))
 
-pub all_stand : (lines images : List (List (List ℕ))) (i : ℕ) → length images ≤ i → StandFor lines (take i images) → StandFor lines images
-all_stand lines images i most so = subst (StandFor lines) (take_all i images most) so
+pub all_stand : (lines images : List (List (List ℕ))) (i : ℕ) → length images ≤ i → AllDecide lines (take i images) → AllDecide lines images
+all_stand lines images i most so = subst (AllDecide lines) (take_all i images most) so

@@ -79,7 +79,7 @@ replay_report b w resumed c keep r =
 -- ---- what the report says
 -- what a report of threads says: how many nodes they go on from, where they do, what became of the calls of each, the trace with
 -- its flags, the crash, the logs, how many nodes are recovered, and the state after them
-pub record RunData (State Op Query Reply : Type 0) : Type 0 where
+pub record CrashedRunData (State Op Query Reply : Type 0) : Type 0 where
   pub resumed : Option ℕ
   pub ends : List (List (CallEnd State Op Query Reply))
   pub nodes : List Node
@@ -91,7 +91,7 @@ pub record RunData (State Op Query Reply : Type 0) : Type 0 where
 
 -- the lines of all of it, for these scripts
 abbrev pub run_data_lines : {State Op Query Reply : Type 0} → Behaviour State Op Query Reply
-    → Wording State Op Query Reply → List (List (Call State Op Query Reply)) → RunData State Op Query Reply
+    → Wording State Op Query Reply → List (List (Call State Op Query Reply)) → CrashedRunData State Op Query Reply
     → List (List (List ℕ))
 run_data_lines b w scripts said =
     resumed_lines said.resumed
@@ -99,9 +99,9 @@ run_data_lines b w scripts said =
     ++ (crash_line said.keep ∷ (counted_lines 0 said.logs ++ (recovered_line said.recovered ∷ state_lines w said.state))))
 
 -- all that is said of these scripts' run reads back
-pub record RunReads {State Op Query Reply : Type 0} (b : Behaviour State Op Query Reply)
+pub record CrashedRunReads {State Op Query Reply : Type 0} (b : Behaviour State Op Query Reply)
     (w : Wording State Op Query Reply) (scripts : List (List (Call State Op Query Reply)))
-    (said : RunData State Op Query Reply) : Type 0 where
+    (said : CrashedRunData State Op Query Reply) : Type 0 where
   pub threads : length scripts ≤ 2 ^ 64
   pub resumed : IfSome said.resumed (λ nodes. nodes < 2 ^ 64)
   pub ends : EachReads w scripts said.ends
@@ -120,7 +120,7 @@ counts_of logs ths = []
 
 -- what the report of a replay says
 abbrev pub replay_data : {State Op Query Reply : Type 0} → Behaviour State Op Query Reply
-    → Option ℕ → CoreState State Op Query Reply → ℕ → Recovered → RunData State Op Query Reply
+    → Option ℕ → CoreState State Op Query Reply → ℕ → Recovered → CrashedRunData State Op Query Reply
 replay_data b resumed c keep r = record {
   resumed = resumed;
   ends = map ends_of c.threads;
@@ -137,7 +137,7 @@ replay_data b resumed c keep r = record {
 abbrev pub run_task : {State Op Query Reply : Type 0} → Behaviour State Op Query Reply → Wording State Op Query Reply
     → Option ℕ → List (List (Call State Op Query Reply)) → CoreState State Op Query Reply → ℕ → Result Recovered StateFault → Task
 run_task b w resumed scripts c keep (Ok r) = report_task (replay_report b w resumed c keep r)
-    (λ text. SaysOnly (run_data_lines b w scripts) (RunReads b w scripts) text (replay_data b resumed c keep r))
+    (λ text. SaysOnly (run_data_lines b w scripts) (CrashedRunReads b w scripts) text (replay_data b resumed c keep r))
 run_task b w resumed scripts c keep (Err fault) = say_task BadLog (fault_line fault)
 
 -- a core crashes: its images are written, and then recovered as logs with its heads

@@ -15,8 +15,8 @@ ghost use Rattle.onll_text.specs.Kinds.{kind_by};
 ghost use Rattle.onll_text.specs.Refusal.{refused};
 ghost use Rattle.onll_task.specs.Printed.{refusal_text};
 ghost use Rattle.onll_text.specs.Schedule.{IsPlayable};
-ghost use Rattle.onll_task.specs.Doing.{Does};
-ghost use Rattle.onll_task.specs.ImageNames.{image_names};
+ghost use Rattle.onll_task.specs.Doing.{Fulfils};
+ghost use Rattle.onll_open.specs.Names.{log_names};
 ghost use Rattle.onll_task.specs.Images.{images_in};
 ghost use Rattle.onll_task.specs.Stop.{StopSays};
 ghost use Rattle.onll_recovery.specs.AgainJob.{resume_ending, resume_text, resumed_task, goes_on_task, planned_task, again_task};
@@ -81,7 +81,7 @@ pub fn not_resumed(alloc: Global, names: &[String], fault: ResumeFault) -> Stop
 }
 
 /// A core goes on from these images, plays the schedule and crashes; or it is said why none does.
-fn go_on<O: Texted + Drop, S: Store>(
+fn resume_core<O: Texted + Drop, S: Store>(
     alloc: Global,
     object: O,
     init: &[u8],
@@ -99,7 +99,7 @@ fn go_on<O: Texted + Drop, S: Store>(
     ensures { let calls = map (λ script. script.items) scripts.items in
         let core = resumed O.means O.CODE init.now object (images_in images.now) calls in
         let task = resumed_task O.means O.wording logs.now (map string_bytes names.now) calls plan.now core in
-        Does (image_names logs.now 0 (length scripts.items)) (S.seen store.old) (S.seen store.new) task result }
+        Fulfils (log_names logs.now 0 (length scripts.items)) (S.seen store.old) (S.seen store.new) task result }
 {
     match Core::resume(alloc, object, init, images, scripts) {
         Ok(mut core) => {
@@ -129,12 +129,12 @@ fn read_on<O: Texted + Drop, S: Store>(
     ensures { let calls = map (λ script. script.items) scripts.items in
         let k = kind_by O.means O.wording O.CODE in
         let task = goes_on_task k init.now object logs.now (map string_bytes names.now) calls plan.now in
-        Does (image_names logs.now 0 (length scripts.items)) (S.seen store.old) (S.seen store.new) task result }
+        Fulfils (log_names logs.now 0 (length scripts.items)) (S.seen store.old) (S.seen store.new) task result }
 {
     match read_images(alloc, logs, scripts.len() as u64, store) {
         Ok(kept) => {
             let images = into_lines(alloc, kept.images)?;
-            go_on(
+            resume_core(
                 alloc, object, init, logs, names, scripts, plan, &images, store,
             )
         }
@@ -158,7 +158,7 @@ fn play_again<O: Texted + Drop, S: Store>(
     ensures { let calls = map (λ script. script.items) scripts.items in
         let k = kind_by O.means O.wording O.CODE in
         let task = planned_task k init.now object schedule.now logs.now (map string_bytes names.now) calls in
-        Does (image_names logs.now 0 (length scripts.items)) (S.seen store.old) (S.seen store.new) task result }
+        Fulfils (log_names logs.now 0 (length scripts.items)) (S.seen store.old) (S.seen store.new) task result }
 {
     match schedule_file(alloc, schedule, scripts.len() as u64, store) {
         Ok(plan) => read_on(alloc, object, init, logs, names, scripts, &plan, store),
@@ -179,7 +179,7 @@ pub fn again_on<O: Texted + Drop, S: Store>(
     requires { (1 ≤ length scripts.now) × (length scripts.now ≤ most_threads) }
     ensures { let names = map string_bytes scripts.now in
         let task = again_task (kind_by O.means O.wording O.CODE) init.now schedule.now logs.now names object in
-        Does (image_names logs.now 0 (length scripts.now)) (S.seen store.old) (S.seen store.new) task result }
+        Fulfils (log_names logs.now 0 (length scripts.now)) (S.seen store.old) (S.seen store.new) task result }
 {
     match script_files::<O, S>(alloc, scripts, store) {
         Ok(calls) => play_again(alloc, object, init, schedule, logs, scripts, calls, store),

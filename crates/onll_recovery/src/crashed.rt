@@ -13,12 +13,12 @@ ghost use Rattle.onll_core.specs.Outcomes.{returned_end, current_ends, ends_of, 
 ghost use Rattle.onll_merge.specs.Recovered.{recovered_in, state_recovered};
 ghost use Rattle.onll_pmem.specs.Pmem.{words_of};
 ghost use Rattle.std.specs.Cow.{cow_slice_items};
-ghost use Rattle.onll_task.specs.ImageNames.{image_name, image_names};
-ghost use Rattle.onll_task.specs.Images.{StandsFor, StandFor, image_bytes, writing_stage};
+ghost use Rattle.onll_open.specs.Names.{log_name, log_names};
+ghost use Rattle.onll_task.specs.Images.{Decides, AllDecide, image_bytes, writing_stage};
 ghost use Rattle.onll_task.specs.Stop.{StopSays};
 ghost use Rattle.onll_task.specs.Writing.{HasWritten, CannotWrite, WriteStops};
-ghost use Rattle.onll_recovery.specs.ReplayJob.{begun_lines, resumed_lines, crash_line, fenced_lines, run_lines, crash_lines, replay_report, RunReads, counts_of, replay_data, run_task, crash_task};
-ghost use Rattle.onll_task.specs.Doing.{Does, Begins};
+ghost use Rattle.onll_recovery.specs.ReplayJob.{begun_lines, resumed_lines, crash_line, fenced_lines, run_lines, crash_lines, replay_report, CrashedRunReads, counts_of, replay_data, run_task, crash_task};
+ghost use Rattle.onll_task.specs.Doing.{Fulfils, DoesStage};
 ghost use Rattle.onll_outside.specs.Views.{StoreView, SameOthers, with_zeros};
 
 use crate::faults::bad_logs;
@@ -210,7 +210,7 @@ fn report<O: Texted + Drop>(
     ensures report { let report = replay_report O.means O.wording resumed core.now keep (recovered_in recovery.now) in
         IfOk result (λ bytes. bytes.items ≡ report) }
     ensures reads { let said = replay_data O.means resumed core.now keep (recovered_in recovery.now) in
-        OnOk result (RunReads O.means O.wording (map script_of core.now.threads) said) }
+        OnOk result (CrashedRunReads O.means O.wording (map script_of core.now.threads) said) }
 {
     core.consistent();
     let mut out = Report::new(alloc);
@@ -234,7 +234,7 @@ fn answer_from<O: Texted + Drop>(
     requires images { length images.now ≡ length core.now.threads }
     ensures { let recovered = state_recovered O.means heads.now images.now in
         let task = run_task O.means O.wording resumed (map script_of core.now.threads) core.now keep recovered in
-        (store : StoreView) → Does [] store store task result }
+        (store : StoreView) → Fulfils [] store store task result }
 {
     let mut object = core.initial().copy(alloc)?;
     match recover_tested(alloc, &mut object, heads, images) {
@@ -256,7 +256,7 @@ fn crash_answer<O: Texted + Drop>(
     requires images { length images.now ≡ length core.now.threads }
     ensures { let recovered = state_recovered O.means (heads_of core.now.threads) images.now in
         let task = run_task O.means O.wording resumed (map script_of core.now.threads) core.now keep recovered in
-        (store : StoreView) → Does [] store store task result }
+        (store : StoreView) → Fulfils [] store store task result }
 {
     let heads = core.heads(alloc)?;
     answer_from(alloc, core, resumed, keep, &heads, images)
@@ -298,13 +298,13 @@ fn write_at<'a, O: Texted + Drop, S: Store>(
 ) -> Result<TestedImage<'a>, Stop>
     requires { thread < length core.now.threads }
     ensures written { let image = get_or (images_of keep core.now.threads) thread [] in
-        OnOk result (HasWritten (S.seen store.old) (S.seen store.new) (image_name logs.now thread) (image_bytes image)) }
+        OnOk result (HasWritten (S.seen store.old) (S.seen store.new) (log_name logs.now thread) (image_bytes image)) }
     ensures stands { let image = get_or (images_of keep core.now.threads) thread [] in
-        IfOk result (λ lines. StandsFor lines image) }
+        IfOk result (λ lines. Decides lines image) }
     ensures stop { IfErr result (λ stop. StopSays stop
-        (CannotWrite (S.seen store.old) (S.seen store.new) (image_name logs.now thread))) }
-    ensures cut { IfErr result (λ stop. WriteStops (S.seen store.old) (S.seen store.new) (image_name logs.now thread)) }
-    ensures others { SameOthers (image_name logs.now thread) (S.seen store.old) (S.seen store.new) }
+        (CannotWrite (S.seen store.old) (S.seen store.new) (log_name logs.now thread))) }
+    ensures cut { IfErr result (λ stop. WriteStops (S.seen store.old) (S.seen store.new) (log_name logs.now thread)) }
+    ensures others { SameOthers (log_name logs.now thread) (S.seen store.old) (S.seen store.new) }
 {
     let image = image_at(alloc, core, keep, thread)?;
     write_image(alloc, logs, thread, image.lines, image.count, store)
@@ -319,9 +319,9 @@ fn write_all<'a, O: Texted + Drop, S: Store>(
     store: &mut S,
 ) -> Result<Vec<TestedImage<'a>>, Stop>
     ensures begins { let images = images_of keep core.now.threads in
-        let names = image_names logs.now 0 (length images) in
-        Begins names (S.seen store.old) (S.seen store.new) (writing_stage logs.now images) (λ _. tt) result }
-    ensures stand { IfOk result (λ kept. StandFor kept.items (images_of keep core.now.threads)) }
+        let names = log_names logs.now 0 (length images) in
+        DoesStage names (S.seen store.old) (S.seen store.new) (writing_stage logs.now images) (λ _. tt) result }
+    ensures stand { IfOk result (λ kept. AllDecide kept.items (images_of keep core.now.threads)) }
 {
     let mut kept = Vec::new(alloc);
     for thread in 0..core.threads() {
@@ -346,7 +346,7 @@ pub(crate) fn crash<O: Texted + Drop, S: Store>(
     requires threads { (1 ≤ length core.now.threads) × (length core.now.threads ≤ most_threads) }
     ensures { let scripts = map script_of core.now.threads in
         let task = crash_task O.means O.wording logs.now resumed scripts core.now keep in
-        Does (image_names logs.now 0 (length core.now.threads)) (S.seen store.old) (S.seen store.new) task result }
+        Fulfils (log_names logs.now 0 (length core.now.threads)) (S.seen store.old) (S.seen store.new) task result }
 {
     match write_all(alloc, core, keep, logs, store) {
         Ok(images) => crash_answer(alloc, core, resumed, keep, &images),

@@ -12,7 +12,7 @@ ghost use Rattle.onll_detect.specs.Outcomes.{table_of, numbered_in};
 ghost use Rattle.onll_outside.specs.Views.{StoreView};
 ghost use Rattle.onll_text.specs.Bytes.{begins_line, with_lines};
 ghost use Rattle.onll_text.specs.Kinds.{kind_by};
-ghost use Rattle.onll_task.specs.Doing.{Does};
+ghost use Rattle.onll_task.specs.Doing.{Fulfils};
 ghost use Rattle.onll_task.specs.Stop.{StopSays};
 ghost use Rattle.onll_recovery.specs.DetectJob.{outcome_line, update_lines, scripts_lines, detect_lines, update_rows, is_in_script, stranger, stranger_to, stranger_line, lines_task, nodes_task, detected_task, outcomes_task, detect_images_task, detect_task};
 
@@ -259,7 +259,7 @@ fn tell<O: Texted + Drop>(
     requires rows { operations_front O.means nodes.now ≡ nodes.now }
     ensures { let calls = map (λ script. script.items) scripts.now in
         let task = lines_task (detect_lines O.wording (table_of O.means object nodes.now) calls (length nodes.now)) in
-        (store : StoreView) → Does [] store store task result }
+        (store : StoreView) → Fulfils [] store store task result }
 {
     match Outcomes::of(alloc, object, nodes) {
         Ok(outcomes) => Ok(report(alloc, scripts, &outcomes, nodes.len() as u64)?),
@@ -280,7 +280,7 @@ fn detect_nodes<O: Texted + Drop>(
     requires rows { operations_front O.means nodes.now ≡ nodes.now }
     ensures { let calls = map (λ script. script.items) scripts.now in
         let task = nodes_task O.means O.wording object calls nodes.now (stranger_to O.means calls nodes.now) in
-        (store : StoreView) → Does [] store store task result }
+        (store : StoreView) → Fulfils [] store store task result }
 {
     match stranger_to(alloc, scripts, nodes)? {
         Some(place) => Err(not_in_script(alloc, place)),
@@ -300,7 +300,7 @@ fn detect_with<O: Texted + Drop>(
     requires heads { length heads.now ≡ length images.now }
     ensures { let calls = map (λ script. script.items) scripts.now in
         let task = detected_task O.means O.wording object calls (state_recovered O.means heads.now images.now) in
-        (store : StoreView) → Does [] store store task result }
+        (store : StoreView) → Fulfils [] store store task result }
 {
     let mut recovered = object.copy(alloc)?;
     match recover_tested(alloc, &mut recovered, heads, images) {
@@ -322,7 +322,7 @@ fn detect_images<O: Texted + Drop>(
     requires images { length images.now ≤ most_threads }
     ensures { let calls = map (λ script. script.items) scripts.now in
         let task = outcomes_task (kind_by O.means O.wording O.CODE) init.now object calls images.now in
-        (store : StoreView) → Does [] store store task result }
+        (store : StoreView) → Fulfils [] store store task result }
 {
     let heads = expected_heads(alloc, O::CODE, init, images)?;
     detect_with(alloc, object, &heads, scripts, images)
@@ -340,7 +340,7 @@ fn detect_scripts<O: Texted + Drop, S: Store>(
     requires { length scripts.now ≤ most_threads }
     ensures { let calls = map (λ script. script.items) scripts.now in
         let task = detect_images_task (kind_by O.means O.wording O.CODE) init.now object logs.now calls in
-        Does [] (S.seen store.old) (S.seen store.new) task result }
+        Fulfils [] (S.seen store.old) (S.seen store.new) task result }
 {
     match read_images(alloc, logs, scripts.len() as u64, store) {
         Ok(images) => detect_images(alloc, object, init, scripts, &images.images),
@@ -361,7 +361,7 @@ pub fn detect_on<O: Texted + Drop, S: Store>(
     requires { length scripts.now ≤ most_threads }
     ensures { let names = map string_bytes scripts.now in
         let task = detect_task (kind_by O.means O.wording O.CODE) init.now logs.now names object in
-        Does [] (S.seen store.old) (S.seen store.new) task result }
+        Fulfils [] (S.seen store.old) (S.seen store.new) task result }
 {
     match script_files::<O, S>(alloc, scripts, store) {
         Ok(calls) => detect_scripts(alloc, object, init, logs, &calls, store),

@@ -14,5 +14,5 @@ pub use crashed::put_resumed;
 pub use detect::detect_on;
 pub use faults::bad_logs;
 pub use nodes::put_nodes;
-pub use recover::{put_count, put_logs, recover_logs, recover_tested};
+pub use recover::{put_count, put_logs, recover_files, recover_tested};
 pub use replay::{replay_on, script_files};

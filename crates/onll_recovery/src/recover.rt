@@ -11,7 +11,7 @@ ghost use Rattle.onll_merge.specs.Recovered.{recovered_in, state_recovered};
 ghost use Rattle.onll_text.specs.Bytes.{begins_line, with_lines};
 ghost use Rattle.onll_text.specs.Lines.{node_lines, state_lines, recovered_line};
 ghost use Rattle.onll_text.specs.Reports.{NodeReads, StateReads};
-ghost use Rattle.onll_task.specs.Doing.{Does};
+ghost use Rattle.onll_task.specs.Doing.{Fulfils};
 ghost use Rattle.onll_outside.specs.Views.{StoreView};
 ghost use Rattle.onll_text.specs.Kinds.{kind_by};
 ghost use Rattle.onll_recovery.specs.RecoverJob.{HeldReads, RecoverReads, held_of, data_with, content_line, log_lines, lines_with, recovered_task, images_task, logs_task};
@@ -121,7 +121,7 @@ fn recover_with<O: Texted>(
 ) -> Result<Vec<u8>, Stop>
     requires { length heads.now ≡ length images.now }
     ensures { let task = recovered_task O.means O.wording object.old (state_recovered O.means heads.now images.now) in
-        (store : StoreView) → Does [] store store task result }
+        (store : StoreView) → Fulfils [] store store task result }
 {
     match recover_tested(alloc, object, heads, images) {
         Ok(recovery) => Ok(report(alloc, object, &recovery)?),
@@ -139,14 +139,14 @@ fn recover_on<O: Texted>(
 ) -> Result<Vec<u8>, Stop>
     requires { (1 ≤ length images.now) × (length images.now ≤ most_threads) }
     ensures { let task = images_task (kind_by O.means O.wording O.CODE) init.now object.old images.now in
-        (store : StoreView) → Does [] store store task result }
+        (store : StoreView) → Fulfils [] store store task result }
 {
     let heads = expected_heads(alloc, O::CODE, init, images)?;
     recover_with(alloc, object, &heads, images)
 }
 
 /// Recovers an object, whose initial state these bytes say, from the images of the logs of so many threads.
-pub fn recover_logs<O: Texted, S: Store>(
+pub fn recover_files<O: Texted, S: Store>(
     alloc: Global,
     object: &mut O,
     init: &[u8],
@@ -156,7 +156,7 @@ pub fn recover_logs<O: Texted, S: Store>(
 ) -> Result<Vec<u8>, Stop>
     requires { (1 ≤ threads) × (threads ≤ most_threads) }
     ensures { let task = logs_task (kind_by O.means O.wording O.CODE) init.now logs.now threads object.old in
-        Does [] (S.seen store.old) (S.seen store.new) task result }
+        Fulfils [] (S.seen store.old) (S.seen store.new) task result }
 {
     match read_images(alloc, logs, threads, store) {
         Ok(images) => recover_on(alloc, object, init, &images.images),

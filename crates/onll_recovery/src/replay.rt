@@ -5,10 +5,10 @@ ghost use Rattle.onll_model.specs.Limits.{most_threads, most_updates};
 ghost use Rattle.std.specs.List.{AllByRecursion};
 ghost use Rattle.onll_model.specs.Calls.{updates_in};
 ghost use Rattle.onll_text.specs.Schedule.{IsPlayable};
-ghost use Rattle.onll_task.specs.ImageNames.{image_names};
+ghost use Rattle.onll_open.specs.Names.{log_names};
 ghost use Rattle.onll_text.specs.Kinds.{kind_by};
 ghost use Rattle.onll_recovery.specs.ReplayJob.{played, schedule_task, scripts_stage, scripts_task};
-ghost use Rattle.onll_task.specs.Doing.{Does, Begins};
+ghost use Rattle.onll_task.specs.Doing.{Fulfils, DoesStage};
 
 use crate::crashed::crash;
 use onll_core::Core;
@@ -47,7 +47,7 @@ pub fn script_files<O: Texted, S: Store>(
     store: &mut S,
 ) -> Result<Vec<Vec<Call<O>>>, Stop>
     ensures begins { let stage = scripts_stage O.wording (map string_bytes names.now) in
-        Begins [] (S.seen store.old) (S.seen store.new) stage (λ scripts. map (λ script. script.items) scripts.items) result }
+        DoesStage [] (S.seen store.old) (S.seen store.new) stage (λ scripts. map (λ script. script.items) scripts.items) result }
     ensures count { IfOk result (λ scripts. length scripts.items ≡ length names.now) }
     ensures updates { IfOk result (λ scripts. All (λ script. updates_in script.items ≤ most_updates) scripts.items) }
 {
@@ -75,7 +75,7 @@ fn replay_scripts<O: Texted + Drop, S: Store>(
     requires updates { All (λ script. updates_in script.items ≤ most_updates) scripts.items }
     ensures { let calls = map (λ script. script.items) scripts.items in
         let task = schedule_task (kind_by O.means O.wording O.CODE) init.now object schedule.now logs.now calls in
-        Does (image_names logs.now 0 (length scripts.items)) (S.seen store.old) (S.seen store.new) task result }
+        Fulfils (log_names logs.now 0 (length scripts.items)) (S.seen store.old) (S.seen store.new) task result }
 {
     match schedule_file(alloc, schedule, scripts.len() as u64, store) {
         Ok(plan) => {
@@ -99,7 +99,7 @@ pub fn replay_on<O: Texted + Drop, S: Store>(
     requires { (1 ≤ length scripts.now) × (length scripts.now ≤ most_threads) }
     ensures { let names = map string_bytes scripts.now in
         let task = scripts_task (kind_by O.means O.wording O.CODE) init.now schedule.now logs.now names object in
-        Does (image_names logs.now 0 (length scripts.now)) (S.seen store.old) (S.seen store.new) task result }
+        Fulfils (log_names logs.now 0 (length scripts.now)) (S.seen store.old) (S.seen store.new) task result }
 {
     match script_files::<O, S>(alloc, scripts, store) {
         Ok(calls) => replay_scripts(alloc, object, init, schedule, logs, calls, store),

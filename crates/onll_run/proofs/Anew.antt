@@ -17,7 +17,7 @@ use Rattle.onll_merge.specs.Merge.{top_of, AllRise, merge}
 use Rattle.onll_merge.specs.Laws.{all_segments, EachSegment, HeadsFit}
 use Rattle.onll_merge.proofs.Fronts.{merge-front}
 use Rattle.onll_outside.specs.Views.{IsFresh}
-use Rattle.onll_run.specs.Left.{Left, HasRun, no_base, begun_logs}
+use Rattle.onll_run.specs.Left.{AfterRun, HasRun, no_base, begun_logs}
 use Rattle.onll_run.specs.Ran.{IsRoomyFor, HaveNumbers, HasBase, going_on, anew}
 
 abbrev empty : Content
@@ -78,11 +78,9 @@ module _ {State Op Query Reply : Type 0} where
       }
 
 -- a run that goes on from such logs is one anew
-pub ran_anew : {State Op Query Reply : Type 0} (b : Behaviour State Op Query Reply) (state : State) (heads : List LogHead) (scripts : List (List (Call State Op Query Reply))) (left : Left State Op Query Reply) (base : List Content)
-    → base ≡ (no_base (length heads)).logs → ((nodes : List Node) → merge heads base ≡ Ok nodes → HasRun b (going_on state heads nodes base scripts) left) → HasRun b (anew state heads scripts) left
-ran_anew b state heads scripts left base is run =
-    subst (λ (logs : List Content). HasRun b (going_on state heads [] logs scripts) left) is
-    (run [] (ap (merge heads) is ∙ new_merge heads (length heads)))
+pub ran_anew : {State Op Query Reply : Type 0} (b : Behaviour State Op Query Reply) (state : State) (heads : List LogHead) (scripts : List (List (Call State Op Query Reply))) (left : AfterRun State Op Query Reply) (base : List Content)
+    → base ≡ (no_base (length heads)).logs → HasRun b (going_on state heads [] base scripts) left → HasRun b (anew state heads scripts) left
+ran_anew b state heads scripts left base is run = subst (λ (logs : List Content). HasRun b (going_on state heads [] logs scripts) left) is run
 
 -- so many of the first logs are begun
 pub begun_first : (n t : ℕ) → t < n → begun_logs (take (t + 1) (no_base n).logs) ≡ t + 1

@@ -7,11 +7,11 @@ use Rattle.onll_pmem.specs.Pmem.{DeviceView}
 use Rattle.onll_log.specs.Log.{LogState}
 use Rattle.onll_shared.specs.Passes.{OnllView, PassView, IsTied, log_of}
 use Rattle.onll_shared.specs.Starts.{HasBegun, IsNewcomer, room_of}
-use Rattle.onll_run.specs.Crew.{AreReady, AreFit}
+use Rattle.onll_run.specs.Crew.{AreReadyPasses, AreFit}
 
 module _ {State Op Query Reply Device : Type 0} (b : Behaviour State Op Query Reply) (means : Device → DeviceView) (onll : OnllView State) where
   ready : (ss : List (List (Call State Op Query Reply))) (ps : List (PassView State Device)) → AllByRecursion (IsTied b means onll) ps → AllByRecursion IsNewcomer ps
-      → AreFit means onll.trace.plan.threads ss (map room_of ps) (map log_of ps) → AreReady b means onll ss ps
+      → AreFit means onll.trace.plan.threads ss (map room_of ps) (map log_of ps) → AreReadyPasses b means onll ss ps
   ready [] [] t n f = tt
   ready [] (p ∷ ps) t n f = absurd f
   ready (s ∷ ss) [] t n f = absurd f
@@ -26,6 +26,6 @@ module _ {State Op Query Reply Device : Type 0} (b : Behaviour State Op Query Re
   )
 
   pub ready_all : (logs : List (LogState Device)) (rooms : List ℕ) (ss : List (List (Call State Op Query Reply))) (ps : List (PassView State Device)) → HasBegun b means onll logs rooms ps
-      → AreFit means onll.trace.plan.threads ss rooms logs → AreReady b means onll ss ps
+      → AreFit means onll.trace.plan.threads ss rooms logs → AreReadyPasses b means onll ss ps
   ready_all logs rooms ss ps h f = ready ss ps h.tied h.whole
       (subst (λ (z : List ℕ × List (LogState Device)). AreFit means onll.trace.plan.threads ss z.0 z.1) (λ i. (sym h.rooms_are i, sym h.logs_are i)) f)

@@ -29,7 +29,7 @@ use Rattle.onll_shared.specs.Passes.{OnllView, PassView, IsTied}
 use Rattle.onll_shared.specs.Calls.{IsSamePass, IsOrdered, HasOnlyLooked, HasUpdated}
 use Rattle.onll_run.specs.Outcomes.{CallDone, StandsIn, failed_in, RunsSo, HasRoomFor, HasGoneOn, fault_in}
 use Rattle.std.proofs.lemmas.List.{drop_more}
-use Rattle.onll_run.specs.Workers.{IsReady, HasWorked}
+use Rattle.onll_run.specs.Workers.{IsReadyPass, HasWorked}
 use Rattle.onll_run.proofs.Outcomes.{got_at, each_end_with, failed_more, stands_more, reads_above, updates_above, replies_longer, answers_longer, legal_more}
 
 prefix_then : {A : Type 0} (xs ys zs : List A) → IsPrefix xs ys → IsPrefix ys zs → IsPrefix xs zs
@@ -313,7 +313,7 @@ module _ {State Op Query Reply Device : Type 0} (b : Behaviour State Op Query Re
 module _ {State Op Query Reply Device : Type 0} (b : Behaviour State Op Query Reply) (means : Device → DeviceView) (onll : OnllView State)
     (script : List (Call State Op Query Reply)) (old : PassView State Device) where
   -- before the first call
-  pub runs_none : IsReady b means onll script old → RunsSo b onll.first script [] old
+  pub runs_none : IsReadyPass b means onll script old → RunsSo b onll.first script [] old
   runs_none r = record {
     legal = record {
       places = none_placed b script ∙ (sym r.own ∙ r.tied.lawful.told.own);
@@ -340,7 +340,7 @@ module _ {State Op Query Reply Device : Type 0} (b : Behaviour State Op Query Re
     pub left : HasRoomFor means onll (updates_in (drop i script)) pass
     pub gone : HasGoneOn means old pass
 
-  pub keeps_first : IsReady b means onll script old → Keeps [] 0 old
+  pub keeps_first : IsReadyPass b means onll script old → Keeps [] 0 old
   keeps_first r = record { tied = r.tied; runs = runs_none r; many = refl; left = r.room; gone = gone_self means old }
 
   module _ (ends : List (CallEnd State Op Query Reply)) (i : ℕ) (pass : PassView State Device) (k : Keeps ends i pass) (c : Call State Op Query Reply) (is : c ≡ get_or script i c) (l : i < length script) where

@@ -10,12 +10,12 @@ use Rattle.onll_trace.specs.Spots.{SpotView, IsOf}
 use Rattle.onll_shared.specs.Passes.{OnllView, PassView, IsTied, spot_of, log_of}
 use Rattle.onll_shared.specs.Starts.{AreLogs, HasBegun}
 use Rattle.onll_shared.proofs.Chosen.{get_map, all_get}
-use Rattle.onll_run.specs.declared.worker.Worked.{Worked}
+use Rattle.onll_run.specs.declared.worker.WorkerEnd.{WorkerEnd}
 use Rattle.onll_run.specs.Ended.{script_of, after_of, HaveRun}
 use Rattle.onll_run.specs.Crew.{AreDone, runs_of, pass_done, CanEnd}
 
 module _ {State Op Query Reply Device : Type 0} (b : Behaviour State Op Query Reply) (means : Device → DeviceView) (onll : OnllView State) where
-  have_run : (t : ℕ) (ss : List (List (Call State Op Query Reply))) (ps : List (PassView State Device)) (ws : List (Worked State Device Op Query Reply)) → AreDone b means onll ss ps ws
+  have_run : (t : ℕ) (ss : List (List (Call State Op Query Reply))) (ps : List (PassView State Device)) (ws : List (WorkerEnd State Device Op Query Reply)) → AreDone b means onll ss ps ws
       → ((i : ℕ) (p : PassView State Device) → slice_get ps i ≡ Some p → p.spot.me.thread ≡ t + i) → HaveRun b means onll t (runs_of ss ps ws)
   have_run t [] [] [] d h = tt
   have_run t [] [] (w ∷ ws) d h = absurd d
@@ -28,7 +28,7 @@ module _ {State Op Query Reply Device : Type 0} (b : Behaviour State Op Query Re
     have_run (t + 1) ss ps ws d.2 (λ i q e. let k = h (suc i) q e in omega arith),
   )
 
-  all_tied : (ss : List (List (Call State Op Query Reply))) (ps : List (PassView State Device)) (ws : List (Worked State Device Op Query Reply)) → AreDone b means onll ss ps ws
+  all_tied : (ss : List (List (Call State Op Query Reply))) (ps : List (PassView State Device)) (ws : List (WorkerEnd State Device Op Query Reply)) → AreDone b means onll ss ps ws
       → AllByRecursion (IsTied b means onll) (map pass_done ws)
   all_tied [] [] [] d = tt
   all_tied [] [] (w ∷ ws) d = absurd d
@@ -41,7 +41,7 @@ module _ {State Op Query Reply Device : Type 0} (b : Behaviour State Op Query Re
   all_of [] a = tt
   all_of (p ∷ ps) a = (a.0.of, all_of ps a.1)
 
-  same_threads : (ss : List (List (Call State Op Query Reply))) (ps : List (PassView State Device)) (ws : List (Worked State Device Op Query Reply)) → AreDone b means onll ss ps ws
+  same_threads : (ss : List (List (Call State Op Query Reply))) (ps : List (PassView State Device)) (ws : List (WorkerEnd State Device Op Query Reply)) → AreDone b means onll ss ps ws
       → map (λ (p : SpotView). p.me.thread) (map spot_of (map pass_done ws)) ≡ map (λ (p : SpotView). p.me.thread) (map spot_of ps)
   same_threads [] [] [] d = refl
   same_threads [] [] (w ∷ ws) d = absurd d
@@ -50,7 +50,7 @@ module _ {State Op Query Reply Device : Type 0} (b : Behaviour State Op Query Re
   same_threads (s ∷ ss) (p ∷ ps) [] d = absurd d
   same_threads (s ∷ ss) (p ∷ ps) (w ∷ ws) d = λ i. d.1.gone_on.same.thread i ∷ same_threads ss ps ws d.2 i
 
-  passes_are : (ss : List (List (Call State Op Query Reply))) (ps : List (PassView State Device)) (ws : List (Worked State Device Op Query Reply)) → AreDone b means onll ss ps ws
+  passes_are : (ss : List (List (Call State Op Query Reply))) (ps : List (PassView State Device)) (ws : List (WorkerEnd State Device Op Query Reply)) → AreDone b means onll ss ps ws
       → map after_of (runs_of ss ps ws) ≡ map pass_done ws
   passes_are [] [] [] d = refl
   passes_are [] [] (w ∷ ws) d = absurd d
@@ -59,7 +59,7 @@ module _ {State Op Query Reply Device : Type 0} (b : Behaviour State Op Query Re
   passes_are (s ∷ ss) (p ∷ ps) [] d = absurd d
   passes_are (s ∷ ss) (p ∷ ps) (w ∷ ws) d = ap (λ (l : List (PassView State Device)). w.pass ∷ l) (passes_are ss ps ws d.2)
 
-  scripts_are : (ss : List (List (Call State Op Query Reply))) (ps : List (PassView State Device)) (ws : List (Worked State Device Op Query Reply)) → AreDone b means onll ss ps ws
+  scripts_are : (ss : List (List (Call State Op Query Reply))) (ps : List (PassView State Device)) (ws : List (WorkerEnd State Device Op Query Reply)) → AreDone b means onll ss ps ws
       → map script_of (runs_of ss ps ws) ≡ ss
   scripts_are [] [] [] d = refl
   scripts_are [] [] (w ∷ ws) d = absurd d
@@ -68,7 +68,7 @@ module _ {State Op Query Reply Device : Type 0} (b : Behaviour State Op Query Re
   scripts_are (s ∷ ss) (p ∷ ps) [] d = absurd d
   scripts_are (s ∷ ss) (p ∷ ps) (w ∷ ws) d = ap (λ (l : List (List (Call State Op Query Reply))). s ∷ l) (scripts_are ss ps ws d.2)
 
-  pub passes_end : (logs : List (LogState Device)) (rooms : List ℕ) (ss : List (List (Call State Op Query Reply))) (ps : List (PassView State Device)) (ws : List (Worked State Device Op Query Reply))
+  pub passes_end : (logs : List (LogState Device)) (rooms : List ℕ) (ss : List (List (Call State Op Query Reply))) (ps : List (PassView State Device)) (ws : List (WorkerEnd State Device Op Query Reply))
       → AreLogs logs → HasBegun b means onll logs rooms ps → AreDone b means onll ss ps ws → CanEnd b means onll ss ps ws
   passes_end logs rooms ss ps ws l h d =
       let tied = all_tied ss ps ws d in

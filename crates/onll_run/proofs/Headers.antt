@@ -8,7 +8,7 @@ use Rattle.onll_log.specs.declared.head.LogHead.{LogHead}
 use Rattle.onll_log.specs.declared.decoded.Decoded.{Decoded}
 use Rattle.onll_log.specs.Decoded.{content_in}
 use Rattle.onll_log.specs.Grammar.{Content}
-use Rattle.onll_log.specs.Log.{LogState, IsPending}
+use Rattle.onll_log.specs.Log.{LogState, IsHeaderPending}
 use Rattle.onll_merge.specs.Merge.{contents_in}
 use Rattle.onll_outside.specs.Views.{one_fault}
 use Rattle.onll_run.specs.Left.{one_begun, begun_logs}
@@ -89,7 +89,7 @@ module _ {Device : Type 0} (means : Device → DeviceView) where
 
   -- ---- a header whose fence failed
   failed_here : (heads : List LogHead) (befores : List Content) (devices : List Device) (logs : List (LogState Device)) (h : LogHead) (hs : List LogHead) (b : Content) (bs : List Content) (d : Device) (ds : List Device) (new : Device)
-      → OpenTo heads befores devices logs (h ∷ hs) (b ∷ bs) (d ∷ ds) → b.head ≡ None → IsPending (means d) (means new) h → HeadersTo means (length logs) heads befores devices (map device_of logs ++ new ∷ ds)
+      → OpenTo heads befores devices logs (h ∷ hs) (b ∷ bs) (d ∷ ds) → b.head ≡ None → IsHeaderPending (means d) (means new) h → HeadersTo means (length logs) heads befores devices (map device_of logs ++ new ∷ ds)
   failed_here heads befores devices [] h hs b bs d ds new o e p =
       subst (λ (z : List LogHead × List Content × List Device). HeadersTo means 0 z.0 z.1 z.2 (new ∷ ds)) (λ i. (sym o.0 i, sym o.1 i, sym o.2 i)) (e, p, refl)
   failed_here [] befores devices (x ∷ logs) h hs b bs d ds new o e p = absurd o
@@ -185,7 +185,7 @@ module _ {Device : Type 0} (means : Device → DeviceView) where
       log_more l logs' n put = subst (λ (ls : List (LogState Device)). OpenTo heads (contents_in base) devices ls (drop (i + 1) heads) (contents_in (drop (i + 1) base)) (reverse rest)) (sym put)
           (open_one heads (contents_in base) devices logs head (drop (i + 1) heads) (content_in log) (contents_in (drop (i + 1) base)) d (reverse rest) l here n)
 
-      pub header_fails : (new : Device) (all : List Device) → (log.head ≡ None) × IsPending (means d) (means new) head → all ≡ map device_of logs ++ new ∷ reverse rest
+      pub header_fails : (new : Device) (all : List Device) → (log.head ≡ None) × IsHeaderPending (means d) (means new) head → all ≡ map device_of logs ++ new ∷ reverse rest
           → HeaderFailed means heads (contents_in base) devices i all
       header_fails new all p back =
           let to : HeadersTo means i heads (contents_in base) devices all = subst (λ (z : ℕ × List Device). HeadersTo means z.0 heads (contents_in base) devices z.1) (λ j. (logs_many j, sym back j))

@@ -7,14 +7,12 @@ use Rattle.std.proofs.lemmas.List.Elements.{All-from_recursion}
 use mathlib.Core.List.{IsPrefix}
 use Rattle.onll_model.specs.Limits.{most_updates}
 use Rattle.onll_model.specs.declared.node.Node.{Node}
-use Rattle.onll_model.specs.declared.mark.Mark.{Mark}
 use Rattle.onll_model.specs.declared.call.Call.{Call}
 use Rattle.onll_model.specs.declared.call.CallEnd.{CallEnd}
 use Rattle.onll_model.specs.Object.{Behaviour}
 use Rattle.onll_model.specs.Calls.{updates_in}
 use Rattle.onll_model.specs.Trace.{is_of_thread}
 use Rattle.onll_model.specs.Segment.{Segment}
-use Rattle.onll_model.specs.Marks.{marked}
 use Rattle.onll_model.specs.Frames.{is_available}
 use Rattle.onll_model.specs.Legal.{placed_updates}
 use Rattle.onll_model.proofs.Lists.{same_some, some_not_none}
@@ -25,28 +23,27 @@ use Rattle.onll_log.specs.Encoding.{log_lines}
 use Rattle.onll_log.specs.Grammar.{Content, content_of, are_zero_lines, lines_in, used_with}
 use Rattle.onll_log.specs.Log.{LogState, free_of}
 use Rattle.onll_log.proofs.Encoded.{content_of-log_lines, length-log_lines}
-use Rattle.onll_merge.specs.declared.fault.RecoverFault.{RecoverFault}
 use Rattle.onll_merge.specs.Merge.{merge}
 use Rattle.onll_merge.specs.Laws.{HeadsFit}
 use Rattle.onll_merge.proofs.Backs.{merge-back}
 use Rattle.onll_trace.specs.declared.trace.Ended.{Ended}
 use Rattle.onll_trace.specs.Closing.{ends_of as ended_of}
-use Rattle.onll_trace.specs.Plans.{CanResume, base_place}
+use Rattle.onll_trace.specs.Plans.{HasRooms, base_place}
 use Rattle.onll_shared.specs.Passes.{OnllView, PassView, log_of, spot_of}
-use Rattle.onll_shared.specs.Starts.{AreLogs, IsLogOf, IsNewcomer, HasBegun, entries_of}
-use Rattle.onll_shared.specs.Found.{HoldBase, content_held, head_held}
+use Rattle.onll_shared.specs.Starts.{AreLogs, IsWholeLogOf, IsNewcomer, HasBegun, entries_of}
+use Rattle.onll_shared.specs.Found.{content_held, head_held}
 use Rattle.onll_shared.specs.Crash.{head_of}
 use Rattle.onll_shared.specs.Ends.{HasClosed}
 use Rattle.onll_shared.specs.Ends.{content_in as content_of_pass}
 use Rattle.onll_run.specs.Outcomes.{failed_in, fault_in}
 use Rattle.onll_run.specs.Workers.{HasWorked}
-use Rattle.onll_run.specs.Left.{Base, Plan, Left, LogLeft, LogTells, LogsTell, HasRun, content_in, failed_at, fenced_in, flags_by}
-use Rattle.onll_run.specs.Ended.{ThreadRun, script_of, ends_of, after_of, log_left, HaveRun, plan_of, left_of, IsWhole}
-use Rattle.onll_run.specs.declared.worker.Worked.{Worked}
-use Rattle.onll_run.specs.Crew.{AreFit, AreReady, AreDone, runs_of, pass_done, script_done, ends_done, CanEnd}
+use Rattle.onll_run.specs.Left.{Base, ScriptPlan, AfterRun, LogLeft, LogTells, LogsTell, HasRun, content_in, failed_at, fenced_in, flags_by}
+use Rattle.onll_run.specs.Ended.{ThreadRun, script_of, ends_of, after_of, log_left, HaveRun, plan_of, left_of, IsWholeRun}
+use Rattle.onll_run.specs.declared.worker.WorkerEnd.{WorkerEnd}
+use Rattle.onll_run.specs.Crew.{AreFit, AreReadyPasses, AreDone, runs_of, pass_done, script_done, ends_done, CanEnd}
 use Rattle.onll_run.specs.Done.{HaveDone}
 use Rattle.onll_run.specs.Making.{AreHeads, StandsBy, CanOpen, AllCanOpen, IsOpen, AreOpen}
-use Rattle.onll_run.specs.Ran.{AreRoomy, HaveNumbers, CanRun, IsKept, AreKept, going_on, available, node_in, flag_in}
+use Rattle.onll_run.specs.Ran.{AreRoomy, HaveNumbers, CanRun, IsKeptLog, AreKeptLogs, going_on, available, node_in, flag_in}
 use Rattle.onll_run.proofs.Beginning.{ready_all}
 use Rattle.onll_run.proofs.Ending.{passes_end}
 use Rattle.onll_run.proofs.Whole.{run_whole}
@@ -123,7 +120,7 @@ module _ {Device : Type 0} (means : Device → DeviceView) where
   open_long (h ∷ heads) (b ∷ befores) (d ∷ devices) (l ∷ logs) a = ap suc (open_long heads befores devices logs a.1)
 
   log_each : (count t : ℕ) (heads : List LogHead) (befores : List Content) (devices : List Device) (logs : List (LogState Device)) → AreHeads count t heads → AreOpen means heads befores devices logs
-      → (i : ℕ) (log : LogState Device) → slice_get logs i ≡ Some log → IsLogOf count (t + i) log
+      → (i : ℕ) (log : LogState Device) → slice_get logs i ≡ Some log → IsWholeLogOf count (t + i) log
   log_each count t [] [] [] [] h a i log e = some_not_none log (sym e)
   log_each count t [] [] [] (l ∷ logs) h a i log e = absurd a
   log_each count t [] [] (d ∷ devices) logs h a i log e = absurd a
@@ -133,7 +130,7 @@ module _ {Device : Type 0} (means : Device → DeviceView) where
   log_each count t (k ∷ heads) (b ∷ befores) (d ∷ devices) [] h a i log e = absurd a
   log_each count t (k ∷ heads) (b ∷ befores) (d ∷ devices) (l ∷ logs) h a zero log e =
       let is : l ≡ log = same_some l log e in
-      subst (λ (z : LogState Device). IsLogOf count (t + 0) z) is (record {
+      subst (λ (z : LogState Device). IsWholeLogOf count (t + 0) z) is (record {
         thread = ap (λ (x : LogHead). x.thread) a.0.head_is ∙ (let n = h.0.thread in omega arith);
         threads = ap (λ (x : LogHead). x.threads) a.0.head_is ∙ h.0.threads;
         format = ap (λ (x : LogHead). x.format) a.0.head_is ∙ h.0.format;
@@ -141,7 +138,7 @@ module _ {Device : Type 0} (means : Device → DeviceView) where
       })
   log_each count t (k ∷ heads) (b ∷ befores) (d ∷ devices) (l ∷ logs) h a (suc i) log e =
       let n : t + 1 + i ≡ t + suc i = omega arith in
-      subst (λ (z : ℕ). IsLogOf count z log) n (log_each count (t + 1) heads befores devices logs h.1 a.1 i log e)
+      subst (λ (z : ℕ). IsWholeLogOf count z log) n (log_each count (t + 1) heads befores devices logs h.1 a.1 i log e)
 
   -- their heads and entries
   heads_open : (heads : List LogHead) (befores : List Content) (devices : List Device) (logs : List (LogState Device)) → AreOpen means heads befores devices logs → map head_held logs ≡ heads
@@ -199,7 +196,7 @@ module _ {Device : Type 0} (means : Device → DeviceView) where
 
     pub logs_are : AreLogs logs
     logs_are = λ i log e. let n : 0 + i ≡ i = omega arith in
-        subst (λ (z : ℕ × ℕ). IsLogOf z.0 z.1 log) (λ j. (sym logs_long j, n j)) (log_each (length scripts) 0 heads befores devices logs c.heads_are a i log e)
+        subst (λ (z : ℕ × ℕ). IsWholeLogOf z.0 z.1 log) (λ j. (sym logs_long j, n j)) (log_each (length scripts) 0 heads befores devices logs c.heads_are a i log e)
 
     -- they hold the nodes that they held before
     pub logs_merge : (nodes : List Node) → merge heads befores ≡ Ok nodes → merge (map head_held logs) (map content_held logs) ≡ Ok nodes
@@ -208,30 +205,20 @@ module _ {Device : Type 0} (means : Device → DeviceView) where
         ap (λ (hs : List LogHead). merge hs (map content_held logs)) (heads_open heads befores devices logs a)
         ∙ merge_filled heads befores (map content_held logs) nodes e.0 e.1 merged
 
-    pub no_fault : (fault : RecoverFault) → merge (map head_held logs) (map content_held logs) ≡ Err fault → ⊥
-    no_fault fault e = let bad : Ok c.base.nodes ≡ Err fault = sym (logs_merge c.base.nodes c.base.merged) ∙ e in absurd (cc)
-
     pub logs_fit : (threads : ℕ) → threads ≡ length logs → AreFit means threads scripts (map updates_in scripts) logs
     logs_fit threads is =
         subst (λ (n : ℕ). AreFit means n scripts (map updates_in scripts) logs) (sym logs_long ∙ sym is) (fits (length scripts) heads befores scripts devices logs c.devices_are a)
 
-    -- what the logs hold, and the marks of it, give what a trace goes on from
-    module _ (nodes : List Node) (marks : List Mark) (base : HoldBase logs nodes marks) where
-      same_nodes : nodes ≡ c.base.nodes
-      same_nodes = let both : Ok nodes ≡ Ok c.base.nodes = sym base.merged ∙ logs_merge c.base.nodes c.base.merged in cc
+    -- each has a room, and the nodes that they hold leave it numbers
+    pub rooms_long : length (map updates_in scripts) ≡ length logs
+    rooms_long = length-map scripts updates_in ∙ sym logs_long
 
-      pub logs_held : merge heads befores ≡ Ok nodes
-      logs_held = c.base.merged ∙ ap Ok (sym same_nodes)
-
-      rooms_long : length (map updates_in scripts) ≡ length logs
-      rooms_long = length-map scripts updates_in ∙ sym logs_long
-
-      pub can_resume : CanResume nodes marks (map updates_in scripts)
-      can_resume = base.resumable (map updates_in scripts) rooms_long
-          (λ i room e. let n : 0 + i ≡ i = omega arith in subst (λ (z : ℕ × List Node). count_by (is_of_thread z.0) z.1 + room ≤ most_updates) (λ j. (n j, sym same_nodes j)) (rooms_each c.base.nodes 0 scripts c.base.numbers i room e))
-
-      pub entries_marked : map entries_of logs ≡ marked (length (map updates_in scripts)) nodes marks
-      entries_marked = base.entries ∙ ap (λ (n : ℕ). marked n nodes marks) (sym rooms_long)
+    pub rooms_fit : (nodes : List Node) → merge heads befores ≡ Ok nodes → HasRooms nodes (map updates_in scripts) most_updates
+    rooms_fit nodes merged i room e =
+        let both : Ok nodes ≡ Ok c.base.nodes = sym merged ∙ c.base.merged in
+        let same : nodes ≡ c.base.nodes = (cc) in
+        let n : 0 + i ≡ i = omega arith in
+        subst (λ (z : ℕ × List Node). count_by (is_of_thread z.0) z.1 + room ≤ most_updates) (λ j. (n j, sym same j)) (rooms_each c.base.nodes 0 scripts c.base.numbers i room e)
 
 -- ---- flags
 -- each flag by itself
@@ -324,7 +311,7 @@ module _ {State Op Query Reply Device : Type 0} (b : Behaviour State Op Query Re
   fenced_are (Some p) log script ends old new w e = w.tied.holds.pending (w.tied.broken ∙ ap is_some (sym e))
 
   log_kept : (h : LogHead) (before : Content) (d : Device) (r : ThreadRun State Op Query Reply Device) → CanOpen means h before d → IsOpen means h before d r.before.log → IsNewcomer r.before → HasWorked b means onll r.script r.ends r.before r.after
-      → IsKept means before r.ends d r.after.log
+      → IsKeptLog means before r.ends d r.after.log
   log_kept h before d r can a n w =
       let own0 = ap length n.own in
       let fences0 = a.fences in
@@ -345,7 +332,7 @@ module _ {State Op Query Reply Device : Type 0} (b : Behaviour State Op Query Re
       }
 
   logs_kept : (t : ℕ) (heads : List LogHead) (befores : List Content) (devices : List Device) (runs : List (ThreadRun State Op Query Reply Device)) → AllCanOpen means heads befores devices → AreOpen means heads befores devices (map before_log runs)
-      → AllByRecursion IsNewcomer (map before_of runs) → HaveRun b means onll t runs → AreKept means befores (map ends_of runs) devices (map log_of (map after_of runs))
+      → AllByRecursion IsNewcomer (map before_of runs) → HaveRun b means onll t runs → AreKeptLogs means befores (map ends_of runs) devices (map log_of (map after_of runs))
   logs_kept t [] [] [] [] can a n w = tt
   logs_kept t [] [] [] (r ∷ rs) can a n w = absurd a
   logs_kept t [] [] (d ∷ devices) runs can a n w = absurd a
@@ -368,7 +355,7 @@ module _ {State Op Query Reply Device : Type 0} (b : Behaviour State Op Query Re
   befores_are (r ∷ rs) = ap (λ (l : List (LogState Device)). r.before.log ∷ l) (befores_are rs)
 
   -- what was run, of what was done
-  passes_before : (ss : List (List (Call State Op Query Reply))) (ps : List (PassView State Device)) (ws : List (Worked State Device Op Query Reply)) → AreDone b means onll ss ps ws
+  passes_before : (ss : List (List (Call State Op Query Reply))) (ps : List (PassView State Device)) (ws : List (WorkerEnd State Device Op Query Reply)) → AreDone b means onll ss ps ws
       → map before_of (runs_of ss ps ws) ≡ ps
   passes_before [] [] [] d = refl
   passes_before [] [] (w ∷ ws) d = absurd d
@@ -377,7 +364,7 @@ module _ {State Op Query Reply Device : Type 0} (b : Behaviour State Op Query Re
   passes_before (s ∷ ss) (p ∷ ps) [] d = absurd d
   passes_before (s ∷ ss) (p ∷ ps) (w ∷ ws) d = ap (λ (l : List (PassView State Device)). p ∷ l) (passes_before ss ps ws d.2)
 
-  ends_are : (ss : List (List (Call State Op Query Reply))) (ps : List (PassView State Device)) (ws : List (Worked State Device Op Query Reply)) → AreDone b means onll ss ps ws
+  ends_are : (ss : List (List (Call State Op Query Reply))) (ps : List (PassView State Device)) (ws : List (WorkerEnd State Device Op Query Reply)) → AreDone b means onll ss ps ws
       → map ends_of (runs_of ss ps ws) ≡ map ends_done ws
   ends_are [] [] [] d = refl
   ends_are [] [] (w ∷ ws) d = absurd d
@@ -386,7 +373,7 @@ module _ {State Op Query Reply Device : Type 0} (b : Behaviour State Op Query Re
   ends_are (s ∷ ss) (p ∷ ps) [] d = absurd d
   ends_are (s ∷ ss) (p ∷ ps) (w ∷ ws) d = ap (λ (l : List (List (CallEnd State Op Query Reply))). w.ends.items ∷ l) (ends_are ss ps ws d.2)
 
-  pub scripts_done : (ss : List (List (Call State Op Query Reply))) (ps : List (PassView State Device)) (ws : List (Worked State Device Op Query Reply)) → AreDone b means onll ss ps ws
+  pub scripts_done : (ss : List (List (Call State Op Query Reply))) (ps : List (PassView State Device)) (ws : List (WorkerEnd State Device Op Query Reply)) → AreDone b means onll ss ps ws
       → map script_done ws ≡ ss
   scripts_done [] [] [] d = refl
   scripts_done [] [] (w ∷ ws) d = absurd d
@@ -404,13 +391,13 @@ module _ {State Op Query Reply Device : Type 0} (b : Behaviour State Op Query Re
     pub passes_long : length scripts ≡ length passes
     passes_long = sym (logs_long means heads befores scripts devices logs can open_) ∙ sym passes_many
 
-    pub passes_ready : rooms ≡ map updates_in scripts → AreReady b means onll scripts passes
+    pub passes_ready : rooms ≡ map updates_in scripts → AreReadyPasses b means onll scripts passes
     passes_ready is =
         let threads : onll.trace.plan.threads ≡ length logs = sym h.all.count ∙ (length-map passes spot_of ∙ passes_many) in
         ready_all b means onll logs rooms scripts passes h
         (subst (λ (ns : List ℕ). AreFit means onll.trace.plan.threads scripts ns logs) (sym is) (logs_fit means heads befores scripts devices logs can open_ onll.trace.plan.threads threads))
 
-    pub passes_ended : (all : List (Worked State Device Op Query Reply)) → AreDone b means onll scripts passes all → CanEnd b means onll scripts passes all
+    pub passes_ended : (all : List (WorkerEnd State Device Op Query Reply)) → AreDone b means onll scripts passes all → CanEnd b means onll scripts passes all
     passes_ended all done = passes_end b means onll logs rooms scripts passes all (logs_are means heads befores scripts devices logs can open_) h done
 
 -- ---- the whole trace
@@ -445,18 +432,18 @@ flags_whole (x ∷ base) (y ∷ trace) (f ∷ flags) l low h =
 
 -- ---- what is left
 -- what the call left, as data
-abbrev pub left_with : {State Op Query Reply Device : Type 0} → (Device → DeviceView) → List (List (CallEnd State Op Query Reply)) → List Ended → List (LogState Device) → Left State Op Query Reply
+abbrev pub left_with : {State Op Query Reply Device : Type 0} → (Device → DeviceView) → List (List (CallEnd State Op Query Reply)) → List Ended → List (LogState Device) → AfterRun State Op Query Reply
 left_with means ends trace logs = record { ends = ends; nodes = map node_in trace; flags = map flag_in trace; logs = map (log_left means) logs }
 
 -- what is promised of it
 pub record Leaves {State Op Query Reply Device : Type 0} (b : Behaviour State Op Query Reply) (means : Device → DeviceView) (state : State) (heads : List LogHead) (befores : List Content)
     (scripts : List (List (Call State Op Query Reply))) (devices : List Device) (ends : List (List (CallEnd State Op Query Reply))) (trace : List Ended) (logs : List (LogState Device)) : Type 0 where
   pub run : (nodes : List Node) → merge heads befores ≡ Ok nodes → HasRun b (going_on state heads nodes befores scripts) (left_with means ends trace logs)
-  pub kept : AreKept means befores ends devices logs
+  pub kept : AreKeptLogs means befores ends devices logs
 
 module _ {State Op Query Reply Device : Type 0} (b : Behaviour State Op Query Reply) (means : Device → DeviceView) (onll : OnllView State)
     (state : State) (heads : List LogHead) (befores : List Content) (scripts : List (List (Call State Op Query Reply))) (devices : List Device) (logs : List (LogState Device)) (rooms : List ℕ) (nodes : List Node)
-    (passes : List (PassView State Device)) (all : List (Worked State Device Op Query Reply)) (first : onll.first ≡ state) (base : onll.trace.plan.base ≡ nodes)
+    (passes : List (PassView State Device)) (all : List (WorkerEnd State Device Op Query Reply)) (first : onll.first ≡ state) (base : onll.trace.plan.base ≡ nodes)
     (can : CanRun means heads befores scripts devices) (open_ : AreOpen means heads befores devices logs) (held : merge heads befores ≡ Ok nodes)
     (h : HasBegun b means onll logs rooms passes) (done : AreDone b means onll scripts passes all) where
   abbrev runs : List (ThreadRun State Op Query Reply Device)
@@ -475,7 +462,7 @@ module _ {State Op Query Reply Device : Type 0} (b : Behaviour State Op Query Re
   new = subst (AllByRecursion IsNewcomer) (sym (passes_before b means onll scripts passes all done)) h.whole
 
   module _ (above : List Ended) (closed : HasClosed onll.trace (map after_of runs) above) where
-    whole : IsWhole b means onll from above runs closed
+    whole : IsWholeRun b means onll from above runs closed
     whole = run_whole b means onll from above runs ended.have_run (sym base) ended.many closed
 
     has_run : HasRun b (plan_of b means onll from runs) (left_of b means onll above runs closed)
@@ -523,7 +510,7 @@ module _ {State Op Query Reply Device : Type 0} (b : Behaviour State Op Query Re
       → HasClosed onll.trace (map pass_done all) above → HasRun b (going_on state heads nodes befores scripts) (left_with means ends trace after)
   leaves_with ends trace above after e t l closed =
       let closed0 : HasClosed onll.trace (map after_of runs) above = subst (λ (ps : List (PassView State Device)). HasClosed onll.trace ps above) (sym ended.passes_are) closed in
-      subst (λ (z : Plan State Op Query Reply × Left State Op Query Reply). HasRun b z.0 z.1) (λ i. (plan_is above closed0 i, left_is above closed0 ends trace after e t l i)) (has_run above closed0)
+      subst (λ (z : ScriptPlan State Op Query Reply × AfterRun State Op Query Reply). HasRun b z.0 z.1) (λ i. (plan_is above closed0 i, left_is above closed0 ends trace after e t l i)) (has_run above closed0)
 
   pub run_leaves : (ends : List (List (CallEnd State Op Query Reply))) (trace : List Ended) (after : List (LogState Device)) → ends ≡ map ends_done all → after ≡ map log_of (map pass_done all)
       → (above : List Ended) × (trace ≡ available nodes ++ above) × HasClosed onll.trace (map pass_done all) above → Leaves b means state heads befores scripts devices ends trace after
@@ -533,14 +520,14 @@ module _ {State Op Query Reply Device : Type 0} (b : Behaviour State Op Query Re
             let both : Ok nodes ≡ Ok found = sym held ∙ is in
             let same : nodes ≡ found = cc in
             subst (λ (ns : List Node). HasRun b (going_on state heads ns befores scripts) (left_with means ends trace after)) same (leaves_with ends trace made.0 after e made.1 l made.2);
-        kept = subst (λ (z : List (List (CallEnd State Op Query Reply)) × List (LogState Device)). AreKept means befores z.0 devices z.1)
+        kept = subst (λ (z : List (List (CallEnd State Op Query Reply)) × List (LogState Device)). AreKeptLogs means befores z.0 devices z.1)
             (λ i. ((ends_are b means onll scripts passes all done ∙ sym e) i, (ap (map log_of) ended.passes_are ∙ sym l) i))
             (logs_kept b means onll 0 heads befores devices runs (can_open means heads befores scripts devices can) over new ended.have_run);
       }
 
 -- ---- the same of scripts that were done
 module _ {State Op Query Reply Device : Type 0} (b : Behaviour State Op Query Reply) (means : Device → DeviceView) (state : State) (heads : List LogHead) (befores : List Content)
-    (scripts : List (List (Call State Op Query Reply))) (devices : List Device) (nodes : List Node) (onll : OnllView State) (all : List (Worked State Device Op Query Reply))
+    (scripts : List (List (Call State Op Query Reply))) (devices : List Device) (nodes : List Node) (onll : OnllView State) (all : List (WorkerEnd State Device Op Query Reply))
     (can : CanRun means heads befores scripts devices) (d : HaveDone b means state heads befores scripts devices nodes onll all) where
   pub done_ended : CanEnd b means onll scripts d.passes all
   done_ended = passes_ended b means onll heads befores scripts devices d.logs d.rooms d.passes can d.open_on d.begun all d.done

@@ -29,7 +29,7 @@ use Rattle.onll_shared.proofs.Parts.{pending_of}
 use Rattle.onll_shared.proofs.Chosen.{contained, index_of, crash_recovers}
 use Rattle.onll_run.specs.Outcomes.{failed_in, StandsIn}
 use Rattle.onll_run.specs.Workers.{HasWorked}
-use Rattle.onll_run.specs.Left.{is_place, failed_at, AllOver, fenced_in, AreLeft}
+use Rattle.onll_run.specs.Left.{is_place, failed_at, AllOver, fenced_in, AreLeftImages}
 use Rattle.onll_run.specs.Ended.{ThreadRun, script_of, ends_of, after_of, log_left, HaveRun, RunLaw}
 use Rattle.onll_run.proofs.Outcomes.{legal_longer, stands_more}
 
@@ -139,7 +139,7 @@ module _ {State Op Query Reply Device : Type 0} (b : Behaviour State Op Query Re
       })
 
   left_all : (t : ℕ) (runs : List (ThreadRun State Op Query Reply Device)) (images : List (List (List ℕ))) → HaveRun b means onll t runs
-      → AreLeft (map (λ (r : ThreadRun State Op Query Reply Device). log_left means r.after.log) runs) (map ends_of runs) images → AreLeftOf (map after_of runs) images
+      → AreLeftImages (map (λ (r : ThreadRun State Op Query Reply Device). log_left means r.after.log) runs) (map ends_of runs) images → AreLeftOf (map after_of runs) images
   left_all t [] [] h a = tt
   left_all t [] (i ∷ images) h a = absurd a
   left_all t (r ∷ rs) [] h a = absurd a

@@ -11,8 +11,8 @@ use Rattle.onll_trace.specs.Closing.{AreAll}
 use Rattle.onll_shared.specs.Passes.{OnllView, PassView, IsTied, spot_of}
 use Rattle.onll_shared.specs.Starts.{AreLogs, HasBegun}
 use Rattle.onll_run.specs.declared.worker.Worker.{Worker}
-use Rattle.onll_run.specs.declared.worker.Worked.{Worked}
-use Rattle.onll_run.specs.Workers.{IsReady, HasWorked}
+use Rattle.onll_run.specs.declared.worker.WorkerEnd.{WorkerEnd}
+use Rattle.onll_run.specs.Workers.{IsReadyPass, HasWorked}
 use Rattle.onll_run.specs.Ended.{ThreadRun, script_of, after_of, HaveRun}
 
 abbrev pub script_in : {R State Device G Op Query Reply : Type 0} → Worker R State Device G Op Query Reply
@@ -23,7 +23,7 @@ abbrev pub pass_in : {R State Device G Op Query Reply : Type 0} → Worker R Sta
 pass_in w = w.pass
 
 -- a worker of this object, which has no outcome, and room for all
-pub record IsNew {R State Device G Op Query Reply : Type 0} (onll : OnllView State)
+pub record IsNewWorker {R State Device G Op Query Reply : Type 0} (onll : OnllView State)
     (w : Worker R State Device G Op Query Reply) : Type 0 where
   pub onll_is : w.onll.now ≡ onll
   pub empty : w.ends.items ≡ []
@@ -35,37 +35,37 @@ pub record AreWorkers {R State Device G Op Query Reply : Type 0} (onll : OnllVie
     (ws : List (Worker R State Device G Op Query Reply)) : Type 0 where
   pub scripts_are : map script_in ws ≡ scripts
   pub passes_are : map pass_in ws ≡ passes
-  pub new : AllByRecursion (IsNew onll) ws
+  pub new : AllByRecursion (IsNewWorker onll) ws
 
 module _ {State Op Query Reply Device : Type 0} (b : Behaviour State Op Query Reply) (means : Device → DeviceView)
     (onll : OnllView State) where
   -- each pass is ready for the script at its place
-  abbrev pub AreReady : List (List (Call State Op Query Reply)) → List (PassView State Device) → Type 0
-  AreReady [] [] = Unit {0}
-  AreReady [] (p ∷ ps) = ⊥
-  AreReady (s ∷ ss) [] = ⊥
-  AreReady (s ∷ ss) (p ∷ ps) = IsReady b means onll s p × AreReady ss ps
+  abbrev pub AreReadyPasses : List (List (Call State Op Query Reply)) → List (PassView State Device) → Type 0
+  AreReadyPasses [] [] = Unit {0}
+  AreReadyPasses [] (p ∷ ps) = ⊥
+  AreReadyPasses (s ∷ ss) [] = ⊥
+  AreReadyPasses (s ∷ ss) (p ∷ ps) = IsReadyPass b means onll s p × AreReadyPasses ss ps
 
   -- each script was done on the pass at its place
   abbrev pub AreDone : List (List (Call State Op Query Reply)) → List (PassView State Device)
-      → List (Worked State Device Op Query Reply) → Type 0
+      → List (WorkerEnd State Device Op Query Reply) → Type 0
   AreDone [] [] [] = Unit {0}
   AreDone (s ∷ ss) (p ∷ ps) (w ∷ ws) =
       (w.script.items ≡ s) × HasWorked b means onll s w.ends.items p w.pass × AreDone ss ps ws
   AreDone ss ps ws = ⊥
 
-abbrev pub pass_done : {State Op Query Reply Device : Type 0} → Worked State Device Op Query Reply → PassView State Device
+abbrev pub pass_done : {State Op Query Reply Device : Type 0} → WorkerEnd State Device Op Query Reply → PassView State Device
 pass_done w = w.pass
 
-abbrev pub script_done : {State Op Query Reply Device : Type 0} → Worked State Device Op Query Reply → List (Call State Op Query Reply)
+abbrev pub script_done : {State Op Query Reply Device : Type 0} → WorkerEnd State Device Op Query Reply → List (Call State Op Query Reply)
 script_done w = w.script.items
 
-abbrev pub ends_done : {State Op Query Reply Device : Type 0} → Worked State Device Op Query Reply → List (CallEnd State Op Query Reply)
+abbrev pub ends_done : {State Op Query Reply Device : Type 0} → WorkerEnd State Device Op Query Reply → List (CallEnd State Op Query Reply)
 ends_done w = w.ends.items
 
 -- what each thread made
 abbrev pub runs_of : {State Op Query Reply Device : Type 0} → List (List (Call State Op Query Reply)) → List (PassView State Device)
-    → List (Worked State Device Op Query Reply) → List (ThreadRun State Op Query Reply Device)
+    → List (WorkerEnd State Device Op Query Reply) → List (ThreadRun State Op Query Reply Device)
 runs_of (s ∷ ss) (p ∷ ps) (w ∷ ws) = record { script = s; ends = w.ends.items; before = p; after = w.pass } ∷ runs_of ss ps ws
 runs_of ss ps ws = []
 
@@ -73,7 +73,7 @@ runs_of ss ps ws = []
 -- those that were handed in, and each thread has done its own script.
 pub record CanEnd {State Op Query Reply Device : Type 0} (b : Behaviour State Op Query Reply) (means : Device → DeviceView)
     (onll : OnllView State) (scripts : List (List (Call State Op Query Reply))) (passes : List (PassView State Device))
-    (all : List (Worked State Device Op Query Reply)) : Type 0 where
+    (all : List (WorkerEnd State Device Op Query Reply)) : Type 0 where
   pub all_there : AreAll onll.trace (map spot_of (map pass_done all))
   pub tied : AllByRecursion (IsTied b means onll) (map pass_done all)
   pub have_run : HaveRun b means onll 0 (runs_of scripts passes all)
@@ -84,7 +84,7 @@ pub record CanEnd {State Op Query Reply Device : Type 0} (b : Behaviour State Op
 abbrev pub PassesLaw : {State Op Query Reply Device : Type 0} → Behaviour State Op Query Reply → (Device → DeviceView) → Type 0
 PassesLaw {State} {Op} {Query} {Reply} {Device} b means = (onll : OnllView State) (logs : List (LogState Device)) (rooms : List ℕ)
     (scripts : List (List (Call State Op Query Reply))) (passes : List (PassView State Device))
-    (all : List (Worked State Device Op Query Reply)) → AreLogs logs → HasBegun b means onll logs rooms passes
+    (all : List (WorkerEnd State Device Op Query Reply)) → AreLogs logs → HasBegun b means onll logs rooms passes
     → AreDone b means onll scripts passes all → CanEnd b means onll scripts passes all
 
 -- Each script has room in its pass, and lines in its log, for all its updates, among so many threads.
@@ -100,4 +100,4 @@ AreFit means threads ss rooms logs = ⊥
 abbrev pub ReadyLaw : {State Op Query Reply Device : Type 0} → Behaviour State Op Query Reply → (Device → DeviceView) → Type 0
 ReadyLaw {State} {Op} {Query} {Reply} {Device} b means = (onll : OnllView State) (logs : List (LogState Device)) (rooms : List ℕ)
     (scripts : List (List (Call State Op Query Reply))) (passes : List (PassView State Device)) → HasBegun b means onll logs rooms passes
-    → AreFit means onll.trace.plan.threads scripts rooms logs → AreReady b means onll scripts passes
+    → AreFit means onll.trace.plan.threads scripts rooms logs → AreReadyPasses b means onll scripts passes

@@ -10,7 +10,7 @@ use Rattle.onll_log.specs.Log.{LogState}
 use Rattle.onll_merge.specs.Merge.{merge}
 use Rattle.onll_shared.specs.Passes.{OnllView, PassView}
 use Rattle.onll_shared.specs.Starts.{HasBegun}
-use Rattle.onll_run.specs.declared.worker.Worked.{Worked}
+use Rattle.onll_run.specs.declared.worker.WorkerEnd.{WorkerEnd}
 use Rattle.onll_run.specs.Crew.{AreDone}
 use Rattle.onll_run.specs.Making.{AreOpen}
 
@@ -18,7 +18,7 @@ use Rattle.onll_run.specs.Making.{AreOpen}
 -- on the pass at its place.
 pub record HaveDone {State Op Query Reply Device : Type 0} (b : Behaviour State Op Query Reply) (means : Device → DeviceView)
     (state : State) (heads : List LogHead) (befores : List Content) (scripts : List (List (Call State Op Query Reply)))
-    (devices : List Device) (nodes : List Node) (onll : OnllView State) (all : List (Worked State Device Op Query Reply)) : Type 0 where
+    (devices : List Device) (nodes : List Node) (onll : OnllView State) (all : List (WorkerEnd State Device Op Query Reply)) : Type 0 where
   pub logs : List (LogState Device)
   pub rooms : List ℕ
   pub passes : List (PassView State Device)

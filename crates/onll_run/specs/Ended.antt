@@ -12,7 +12,7 @@ use Rattle.onll_shared.specs.Passes.{OnllView, PassView}
 use Rattle.onll_shared.specs.Crash.{head_of}
 use Rattle.onll_shared.specs.Ends.{HasClosed}
 use Rattle.onll_run.specs.Workers.{HasWorked}
-use Rattle.onll_run.specs.Left.{Base, Plan, Left, LogLeft, AllOver, AlwaysRecovers, failed_at}
+use Rattle.onll_run.specs.Left.{Base, ScriptPlan, AfterRun, LogLeft, AllOver, AlwaysRecovers, failed_at}
 
 -- one thread of a run: its script, what became of its calls, its pass before and after
 pub record ThreadRun (State Op Query Reply Device : Type 0) : Type 0 where
@@ -43,11 +43,11 @@ module _ {State Op Query Reply Device : Type 0} (b : Behaviour State Op Query Re
       (r.before.spot.me.thread ≡ t) × HasWorked b means onll r.script r.ends r.before r.after × HaveRun (t + 1) rs
 
   -- what was run over this base, and what it left
-  abbrev pub plan_of : Base → List (ThreadRun State Op Query Reply Device) → Plan State Op Query Reply
+  abbrev pub plan_of : Base → List (ThreadRun State Op Query Reply Device) → ScriptPlan State Op Query Reply
   plan_of base runs = record { state = onll.first; scripts = map script_of runs; heads = map head_of (map after_of runs); base = base }
 
   abbrev pub left_of : (trace : List Ended) (runs : List (ThreadRun State Op Query Reply Device))
-      → HasClosed onll.trace (map after_of runs) trace → Left State Op Query Reply
+      → HasClosed onll.trace (map after_of runs) trace → AfterRun State Op Query Reply
   left_of trace runs closed = record {
     ends = map ends_of runs;
     nodes = closed.ended.frame.trace;
@@ -57,7 +57,7 @@ module _ {State Op Query Reply Device : Type 0} (b : Behaviour State Op Query Re
 
   -- A run is one legal history in which each call is over; a node above the base has its flag unset exactly where its update's fence
   -- failed; and whatever images of the devices a crash may leave, they recover to a front of the trace.
-  pub record IsWhole (base : Base) (trace : List Ended) (runs : List (ThreadRun State Op Query Reply Device))
+  pub record IsWholeRun (base : Base) (trace : List Ended) (runs : List (ThreadRun State Op Query Reply Device))
       (closed : HasClosed onll.trace (map after_of runs) trace) : Type 0 where
     pub legal : IsLegal b onll.first base.nodes (map script_of runs) closed.ended.frame.trace (map ends_of runs)
     pub over : AllOver (map script_of runs) (map ends_of runs)
@@ -69,4 +69,4 @@ module _ {State Op Query Reply Device : Type 0} (b : Behaviour State Op Query Re
   abbrev pub RunLaw : Type 0
   RunLaw = (base : Base) (trace : List Ended) (runs : List (ThreadRun State Op Query Reply Device)) → HaveRun 0 runs
       → base.nodes ≡ onll.trace.plan.base → length runs ≡ onll.trace.plan.threads
-      → (closed : HasClosed onll.trace (map after_of runs) trace) → IsWhole base trace runs closed
+      → (closed : HasClosed onll.trace (map after_of runs) trace) → IsWholeRun base trace runs closed

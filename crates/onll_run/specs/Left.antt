@@ -38,7 +38,7 @@ begun_logs [] = 0
 begun_logs (before ∷ logs) = one_begun before.head + begun_logs logs
 
 -- a script for each thread on an object in this state, the head of each thread's log, and the base
-pub record Plan (State Op Query Reply : Type 0) : Type 0 where
+pub record ScriptPlan (State Op Query Reply : Type 0) : Type 0 where
   pub state : State
   pub scripts : List (List (Call State Op Query Reply))
   pub heads : List LogHead
@@ -56,7 +56,7 @@ abbrev pub content_in : LogLeft → Content
 content_in log = record { head = Some log.head; entries = log.entries }
 
 -- what became of the calls of each thread, the trace, which begins with the base, with its flags, and the log of each
-pub record Left (State Op Query Reply : Type 0) : Type 0 where
+pub record AfterRun (State Op Query Reply : Type 0) : Type 0 where
   pub ends : List (List (CallEnd State Op Query Reply))
   pub nodes : List Node
   pub flags : List Bool
@@ -108,18 +108,18 @@ fenced_in log None = log.read
 fenced_in log (Some place) = log_image log.head (but_last log.entries) (free_of (length log.read) (but_last log.entries))
 
 -- what a crash may leave of the devices: one image of each, by itself
-abbrev pub AreLeft : {State Op Query Reply : Type 0} → List LogLeft → List (List (CallEnd State Op Query Reply))
+abbrev pub AreLeftImages : {State Op Query Reply : Type 0} → List LogLeft → List (List (CallEnd State Op Query Reply))
     → List (List (List ℕ)) → Type 0
-AreLeft [] [] [] = Unit {0}
-AreLeft (log ∷ logs) (ends ∷ more) (image ∷ images) =
-    Mixed (fenced_in log (failed_in ends)) log.read image × AreLeft logs more images
-AreLeft logs ends images = ⊥
+AreLeftImages [] [] [] = Unit {0}
+AreLeftImages (log ∷ logs) (ends ∷ more) (image ∷ images) =
+    Mixed (fenced_in log (failed_in ends)) log.read image × AreLeftImages logs more images
+AreLeftImages logs ends images = ⊥
 
-module _ {State Op Query Reply : Type 0} (b : Behaviour State Op Query Reply) (plan : Plan State Op Query Reply)
-    (left : Left State Op Query Reply) where
+module _ {State Op Query Reply : Type 0} (b : Behaviour State Op Query Reply) (plan : ScriptPlan State Op Query Reply)
+    (left : AfterRun State Op Query Reply) where
   -- Each image is a log, and the logs recover to a front of the trace, which has the base, every answered update and the place of
   -- every answered read.
-  pub record Recovers (images : List (List (List ℕ))) : Type 0 where
+  pub record ImagesRecover (images : List (List (List ℕ))) : Type 0 where
     pub logs : List Content
     pub contents : map content_of images ≡ map Some logs
     pub nodes : List Node
@@ -129,7 +129,7 @@ module _ {State Op Query Reply : Type 0} (b : Behaviour State Op Query Reply) (p
     pub answered : AllByRecursion (λ (ends : List (CallEnd State Op Query Reply)). AllByRecursion (StandsIn (length nodes)) ends) left.ends
 
   abbrev pub AlwaysRecovers : Type 0
-  AlwaysRecovers = (images : List (List (List ℕ))) → AreLeft left.logs left.ends images → Recovers images
+  AlwaysRecovers = (images : List (List (List ℕ))) → AreLeftImages left.logs left.ends images → ImagesRecover images
 
   -- A run of this plan left this: one legal history in which each call is over; a node's flag is unset exactly where its update's
   -- fence failed; the logs hold the history, one entry and one fence for each update with a place; and whatever images of the devices

@@ -4,14 +4,14 @@ use Rattle.onll_pmem.specs.Pmem.{DeviceView, ToldSettled}
 use Rattle.onll_log.specs.declared.head.LogHead.{LogHead}
 use Rattle.onll_log.specs.Head.{FitsHead}
 use Rattle.onll_log.specs.Grammar.{Content, content_of}
-use Rattle.onll_log.specs.Log.{LogState, EndsInZeros, IsClean, IsMade, IsNewest, IsPending}
+use Rattle.onll_log.specs.Log.{LogState, EndsInZeros, IsClean, IsMade, IsNewest, IsHeaderPending}
 use Rattle.onll_outside.specs.Views.{one_fault}
 use Rattle.onll_run.specs.declared.logs.RunFault.{RunFault}
 use Rattle.onll_run.specs.declared.logs.RunFault.TheVariants as faults
 use Rattle.onll_run.specs.Left.{begun_logs}
 
 -- the head of the log of thread t, one of so many
-pub record IsHeadOf (count t : ℕ) (head : LogHead) : Type 0 where
+pub record IsThreadHead (count t : ℕ) (head : LogHead) : Type 0 where
   pub thread : head.thread ≡ t
   pub threads : head.threads ≡ count
   pub format : head.format ≡ 2
@@ -20,7 +20,7 @@ pub record IsHeadOf (count t : ℕ) (head : LogHead) : Type 0 where
 -- the heads of the logs of threads, in their order, the first of them thread t
 abbrev pub AreHeads : ℕ → ℕ → List LogHead → Type 0
 AreHeads count t [] = Unit {0}
-AreHeads count t (head ∷ heads) = IsHeadOf count t head × AreHeads count (t + 1) heads
+AreHeads count t (head ∷ heads) = IsThreadHead count t head × AreHeads count (t + 1) heads
 
 abbrev pub device_of : {Device : Type 0} → LogState Device → Device
 device_of log = log.device
@@ -38,8 +38,8 @@ StandsBy None before read = (before.entries ≡ []) × IsClean read
 StandsBy (Some head) before read = HoldsBefore before read
 
 -- the lines of a device are those of a log that held this before
-abbrev pub StandsAt : Content → List (List ℕ) → Type 0
-StandsAt before read = StandsBy before.head before read
+abbrev pub HeldBefore : Content → List (List ℕ) → Type 0
+HeldBefore before read = StandsBy before.head before read
 
 module _ {Device : Type 0} (means : Device → DeviceView) where
   -- A log of this head, which held this before, can be opened on the device or begun on it. The device was not fenced yet, and where
@@ -50,7 +50,7 @@ module _ {Device : Type 0} (means : Device → DeviceView) where
     pub fences : (means device).fences ≡ 0
     pub faults : (means device).faults ≡ 0
     pub settled : ToldSettled (means device).told (means device).read
-    pub stands : StandsAt before (means device).read
+    pub stands : HeldBefore before (means device).read
 
   -- the log of each head on the device at its place
   abbrev pub AllCanOpen : List LogHead → List Content → List Device → Type 0
@@ -84,7 +84,7 @@ module _ {Device : Type 0} (means : Device → DeviceView) where
   -- what is written there isn't durable. A device whose log has a head is as it was, and so are those after this thread's.
   abbrev pub HeadersTo : ℕ → List LogHead → List Content → List Device → List Device → Type 0
   HeadersTo zero (head ∷ heads) (before ∷ logs) (old ∷ olds) (new ∷ news) =
-      (before.head ≡ None) × IsPending (means old) (means new) head × (news ≡ olds)
+      (before.head ≡ None) × IsHeaderPending (means old) (means new) head × (news ≡ olds)
   HeadersTo (suc t) (head ∷ heads) (before ∷ logs) (old ∷ olds) (new ∷ news) =
       OpensOn before.head head old new × HeadersTo t heads logs olds news
   HeadersTo t heads logs olds news = ⊥
@@ -104,6 +104,6 @@ module _ {Device : Type 0} (means : Device → DeviceView) where
     pub faults : faults_of new ≡ 1
 
   -- why a run came to no end
-  abbrev pub HasRefused : List LogHead → List Content → List Device → RunFault Device → Type 0
-  HasRefused heads logs old faults.NoMemory = Unit {0}
-  HasRefused heads logs old (faults.HeaderFailed thread devices) = HeaderFailed heads logs old thread devices.items
+  abbrev pub RunFails : List LogHead → List Content → List Device → RunFault Device → Type 0
+  RunFails heads logs old faults.NoMemory = Unit {0}
+  RunFails heads logs old (faults.HeaderFailed thread devices) = HeaderFailed heads logs old thread devices.items

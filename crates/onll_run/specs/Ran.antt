@@ -13,11 +13,11 @@ use Rattle.onll_log.specs.Log.{LogState}
 use Rattle.onll_merge.specs.Merge.{merge}
 use Rattle.onll_trace.specs.declared.trace.Ended.{Ended}
 use Rattle.onll_run.specs.declared.run.DoneScript.{DoneScript}
-use Rattle.onll_run.specs.declared.run.Ran.{Ran}
+use Rattle.onll_run.specs.declared.run.RunOutcome.{RunOutcome}
 use Rattle.onll_run.specs.Outcomes.{failed_in, fault_in}
-use Rattle.onll_run.specs.Left.{Plan, Left, no_base, one_begun, fenced_in}
+use Rattle.onll_run.specs.Left.{ScriptPlan, AfterRun, no_base, one_begun, fenced_in}
 use Rattle.onll_run.specs.Ended.{log_left}
-use Rattle.onll_run.specs.Making.{AreHeads, StandsAt}
+use Rattle.onll_run.specs.Making.{AreHeads, HeldBefore}
 
 -- ---- what the call needs
 -- A device that was not fenced yet, and reads as what its log held before, with lines for that, or for the header where the log is
@@ -27,7 +27,7 @@ pub record IsRoomyFor {State Op Query Reply Device : Type 0} (means : Device →
   pub fences : (means device).fences ≡ 0
   pub faults : (means device).faults ≡ 0
   pub settled : ToldSettled (means device).told (means device).read
-  pub stands : StandsAt before (means device).read
+  pub stands : HeldBefore before (means device).read
   pub lines : max 1 (used_by before) + (threads + 1) * updates_in script ≤ length (means device).read
 
 -- a log and a device for each script
@@ -63,13 +63,13 @@ pub record CanRun {State Op Query Reply Device : Type 0} (means : Device → Dev
 
 -- these scripts on an object in this state, over logs of these heads that held these nodes
 abbrev pub going_on : {State Op Query Reply : Type 0} → State → List LogHead → List Node → List Content
-    → List (List (Call State Op Query Reply)) → Plan State Op Query Reply
+    → List (List (Call State Op Query Reply)) → ScriptPlan State Op Query Reply
 going_on state heads nodes logs scripts =
     record { state = state; scripts = scripts; heads = heads; base = record { nodes = nodes; logs = logs } }
 
 -- these scripts on an object in this state, over logs of these heads that are begun anew
 abbrev pub anew : {State Op Query Reply : Type 0} → State → List LogHead → List (List (Call State Op Query Reply))
-    → Plan State Op Query Reply
+    → ScriptPlan State Op Query Reply
 anew state heads scripts = record { state = state; scripts = scripts; heads = heads; base = no_base (length heads) }
 
 -- ---- what it leaves
@@ -91,7 +91,7 @@ flag_in end = end.flag
 
 -- what a run left, as plain data
 abbrev pub left_by : {State Device Op Query Reply : Type 0} → (Device → DeviceView) → List (DoneScript State Op Query Reply)
-    → List Ended → List (LogState Device) → Left State Op Query Reply
+    → List Ended → List (LogState Device) → AfterRun State Op Query Reply
 left_by means threads trace logs = record {
   ends = map ends_in threads;
   nodes = map node_in trace;
@@ -100,14 +100,14 @@ left_by means threads trace logs = record {
 }
 
 -- what the call left, as plain data
-abbrev pub left_in : {State Device Op Query Reply : Type 0} → (Device → DeviceView) → Ran State Device Op Query Reply
-    → Left State Op Query Reply
+abbrev pub left_in : {State Device Op Query Reply : Type 0} → (Device → DeviceView) → RunOutcome State Device Op Query Reply
+    → AfterRun State Op Query Reply
 left_in means ran = left_by means ran.threads.items ran.trace.items ran.logs.items
 
 -- A thread's log is handed back with its device. Where that tells its fenced words, they are the log without the entry whose fence
 -- failed. It has as many lines as before, and counts the fences of the log, the header's where the log was begun, and a fault where
 -- a fence failed.
-pub record IsKept {State Op Query Reply Device : Type 0} (means : Device → DeviceView) (before : Content)
+pub record IsKeptLog {State Op Query Reply Device : Type 0} (means : Device → DeviceView) (before : Content)
     (ends : List (CallEnd State Op Query Reply)) (device : Device) (log : LogState Device) : Type 0 where
   pub fenced : ToldSettled (means log.device).told (fenced_in (log_left means log) (failed_in ends))
   pub broken : log.broken ≡ is_some (failed_in ends)
@@ -116,9 +116,9 @@ pub record IsKept {State Op Query Reply Device : Type 0} (means : Device → Dev
   pub lines : length (means log.device).read ≡ length (means device).read
 
 -- so is each thread's log
-abbrev pub AreKept : {State Op Query Reply Device : Type 0} → (Device → DeviceView) → List Content
+abbrev pub AreKeptLogs : {State Op Query Reply Device : Type 0} → (Device → DeviceView) → List Content
     → List (List (CallEnd State Op Query Reply)) → List Device → List (LogState Device) → Type 0
-AreKept means [] [] [] [] = Unit {0}
-AreKept means (before ∷ befores) (ends ∷ more) (device ∷ devices) (log ∷ logs) =
-    IsKept means before ends device log × AreKept means befores more devices logs
-AreKept means befores ends devices logs = ⊥
+AreKeptLogs means [] [] [] [] = Unit {0}
+AreKeptLogs means (before ∷ befores) (ends ∷ more) (device ∷ devices) (log ∷ logs) =
+    IsKeptLog means before ends device log × AreKeptLogs means befores more devices logs
+AreKeptLogs means befores ends devices logs = ⊥

@@ -11,7 +11,7 @@ use Rattle.onll_run.specs.Outcomes.{RunsSo, HasRoomFor, HasGoneOn}
 module _ {State Op Query Reply Device : Type 0} (b : Behaviour State Op Query Reply) (means : Device → DeviceView)
     (onll : OnllView State) where
   -- A pass of the object that has ordered nothing, and has room for all updates of a script.
-  pub record IsReady (script : List (Call State Op Query Reply)) (pass : PassView State Device) : Type 0 where
+  pub record IsReadyPass (script : List (Call State Op Query Reply)) (pass : PassView State Device) : Type 0 where
     pub tied : IsTied b means onll pass
     pub own : pass.spot.me.own ≡ []
     pub whole : pass.broken ≡ None
@@ -28,6 +28,6 @@ module _ {State Op Query Reply Device : Type 0} (b : Behaviour State Op Query Re
   -- what a worker needs: its list of outcomes is empty, and has room for all
   pub record CanWork (script : List (Call State Op Query Reply)) (pass : PassView State Device)
       (ends : List (CallEnd State Op Query Reply)) (room : ℕ) : Type 0 where
-    pub ready : IsReady script pass
+    pub ready : IsReadyPass script pass
     pub empty : ends ≡ []
     pub many : length script ≤ room

@@ -1,9 +1,9 @@
 //! Scripts run on the passes of one object.
 
 ghost use Rattle.std.specs.Prelude.{◌≡◌, length, map, IfOk};
-ghost use Rattle.onll_run.specs.Crew.{AreReady, AreDone, AreWorkers};
+ghost use Rattle.onll_run.specs.Crew.{AreReadyPasses, AreDone, AreWorkers};
 
-use crate::worker::{Worked, Worker, run_all};
+use crate::worker::{Worker, WorkerEnd, run_all};
 use onll_model::{Call, Object};
 use onll_outside::Gate;
 use onll_pmem::Pmem;
@@ -56,9 +56,9 @@ pub fn run_passes<
     gate: &G,
     scripts: Vec<Vec<Call<O>>>,
     passes: Vec<Pass<O, P>>,
-) -> Result<Vec<Worked<O, P>>, AllocError>
+) -> Result<Vec<WorkerEnd<O, P>>, AllocError>
     requires many { length scripts.items ≡ length passes.items }
-    requires ready { AreReady O.means P.means onll.now (map (λ script. script.items) scripts.items) passes.items }
+    requires ready { AreReadyPasses O.means P.means onll.now (map (λ script. script.items) scripts.items) passes.items }
     ensures { IfOk result (λ all. AreDone O.means P.means onll.now (map (λ script. script.items) scripts.items) passes.items all.items) }
 {
     let workers = make_workers(alloc, rt, onll, gate, scripts, passes)?;

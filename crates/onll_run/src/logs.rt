@@ -2,11 +2,11 @@
 
 ghost use Rattle.std.specs.Prelude.{◌≡◌, ◌+◌, ◌≤◌, ◌∷◌, ◌++◌, length, map, reverse, vec_capacity, IfOk, IfErr, None};
 ghost use Rattle.onll_log.specs.Decoded.{content_in};
-ghost use Rattle.onll_log.specs.Log.{IsPending};
+ghost use Rattle.onll_log.specs.Log.{IsHeaderPending};
 ghost use Rattle.onll_merge.specs.Merge.{contents_in};
 ghost use Rattle.onll_run.specs.declared.logs.RunFault.TheVariants.{NoMemory};
 ghost use Rattle.onll_run.specs.Left.{no_base};
-ghost use Rattle.onll_run.specs.Making.{CanOpen, AllCanOpen, IsOpen, AreOpen, HasRefused, device_of};
+ghost use Rattle.onll_run.specs.Making.{CanOpen, AllCanOpen, IsOpen, AreOpen, RunFails, device_of};
 
 use onll_log::{Decoded, Entries, LogHead, MakeFault, ThreadLog};
 use onll_pmem::Pmem;
@@ -57,7 +57,7 @@ pub fn new_logs(alloc: Global, count: usize) -> Result<Vec<Decoded>, AllocError>
 fn open_log<P: Pmem>(head: LogHead, log: &Decoded, device: P) -> Result<ThreadLog<P>, P>
     requires { CanOpen P.means head (content_in log.now) device }
     ensures open { IfOk result (λ log_. IsOpen P.means head (content_in log.now) device log_) }
-    ensures failed { IfErr result (λ back. (log.now.head ≡ None) × IsPending (P.means device) (P.means back) head) }
+    ensures failed { IfErr result (λ back. (log.now.head ≡ None) × IsHeaderPending (P.means device) (P.means back) head) }
 {
     match log.head {
         Some(_) => Ok(ThreadLog::open(device, log)),
@@ -91,7 +91,7 @@ pub fn open_logs<P: Pmem + Drop>(
 ) -> Result<Vec<ThreadLog<P>>, RunFault<P>>
     requires { AllCanOpen P.means heads.now (contents_in base.now) devices.items }
     ensures open { IfOk result (λ logs. AreOpen P.means heads.now (contents_in base.now) devices.items logs.items) }
-    ensures refused { IfErr result (λ fault. HasRefused P.means heads.now (contents_in base.now) devices.items fault) }
+    ensures refused { IfErr result (λ fault. RunFails P.means heads.now (contents_in base.now) devices.items fault) }
 {
     let mut logs = Vec::with_capacity(alloc, heads.len())?;
     devices.reverse();

@@ -4,7 +4,7 @@ ghost use Rattle.std.specs.Prelude.{◌≡◌, ◌<◌, ◌≤◌, ℕ, [], ◌�
 ghost use Rattle.onll_model.specs.Calls.{updates_in};
 ghost use Rattle.onll_shared.specs.Passes.{IsTied};
 ghost use Rattle.onll_run.specs.Outcomes.{CallDone, HasRoomFor};
-ghost use Rattle.onll_run.specs.Workers.{IsReady, HasWorked, CanWork};
+ghost use Rattle.onll_run.specs.Workers.{IsReadyPass, HasWorked, CanWork};
 
 use onll_model::{Call, CallEnd, Object};
 use onll_outside::Gate;
@@ -29,7 +29,7 @@ pub struct Worker<'a, R, O: Object, P: Pmem, G> {
 
 /// A script that was done, the pass, and an outcome for each call.
 #[derive(Drop)]
-pub struct Worked<O: Object, P: Pmem> {
+pub struct WorkerEnd<O: Object, P: Pmem> {
     pub script: Vec<Call<O>>,
     pub pass: Pass<O, P>,
     pub ends: Vec<CallEnd<O>>,
@@ -72,7 +72,7 @@ fn do_calls<R: Wait, O: Object, P: Pmem, G: Gate>(
     script: &[Call<O>],
     ends: &mut Vec<CallEnd<O>>,
 )
-    requires ready { IsReady O.means P.means onll.now script.now pass.old }
+    requires ready { IsReadyPass O.means P.means onll.now script.now pass.old }
     requires empty { ends.old.items ≡ [] }
     requires room { length script.now ≤ vec_capacity ends.old }
     ensures { HasWorked O.means P.means onll.now script.now ends.new.items pass.old pass.new }
@@ -84,7 +84,7 @@ fn do_calls<R: Wait, O: Object, P: Pmem, G: Gate>(
 }
 
 /// Does a worker's script.
-fn work<R: Wait, O: Object, P: Pmem, G: Gate>(worker: Worker<'_, R, O, P, G>) -> Worked<O, P>
+fn work<R: Wait, O: Object, P: Pmem, G: Gate>(worker: Worker<'_, R, O, P, G>) -> WorkerEnd<O, P>
     requires { CanWork O.means P.means worker.onll.now worker.script.items worker.pass worker.ends.items (vec_capacity worker.ends) }
     ensures script { result.script ≡ worker.entry.script }
     ensures worked { HasWorked O.means P.means worker.entry.onll.now worker.entry.script.items
@@ -99,7 +99,7 @@ fn work<R: Wait, O: Object, P: Pmem, G: Gate>(worker: Worker<'_, R, O, P, G>) ->
         mut ends,
     } = worker;
     do_calls(rt, onll, gate, &mut pass, &script, &mut ends);
-    Worked { script, pass, ends }
+    WorkerEnd { script, pass, ends }
 }
 
 /// Does the script of each worker in a thread of its own, where one can be started, else in this one. What they did comes in
@@ -109,7 +109,7 @@ pub fn run_all<
     O: Object + Drop + Send + Sync,
     P: Pmem + Drop + Send,
     G: Gate + Sync,
->(rt: &R, workers: Vec<Worker<'_, R, O, P, G>>) -> Result<Vec<Worked<O, P>>, AllocError>
+>(rt: &R, workers: Vec<Worker<'_, R, O, P, G>>) -> Result<Vec<WorkerEnd<O, P>>, AllocError>
     requires { (t : ℕ) (d : _) → t < length workers.items → let w = slice_index_or workers.items t d in
         CanWork O.means P.means w.onll.now w.script.items w.pass w.ends.items (vec_capacity w.ends) }
     ensures many { IfOk result (λ all. vec_len all ≡ vec_len workers.entry) }
@@ -122,7 +122,7 @@ pub fn run_all<
     thread::map_vec(
         rt,
         workers,
-        &|worker: Worker<'_, R, O, P, G>| -> Worked<O, P>
+        &|worker: Worker<'_, R, O, P, G>| -> WorkerEnd<O, P>
             requires { CanWork O.means P.means worker.onll.now worker.script.items worker.pass
                 worker.ends.items (vec_capacity worker.ends) }
             ensures script { result.script ≡ worker.entry.script }

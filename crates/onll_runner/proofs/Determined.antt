@@ -9,7 +9,7 @@ use Rattle.onll_model.specs.declared.call.Call.{Call}
 use Rattle.onll_model.specs.declared.call.CallEnd.{CallEnd}
 use Rattle.onll_model.specs.Object.{Behaviour}
 use Rattle.onll_run.specs.Outcomes.{failed_in}
-use Rattle.onll_run.specs.Left.{Left}
+use Rattle.onll_run.specs.Left.{AfterRun}
 use Rattle.onll_text.specs.Wording.{Wording}
 use Rattle.onll_text.specs.Lines.{trace_line, state_lines, LogData, thread_lines, flagged_lines, counted_lines, recovered_line}
 use Rattle.onll_text.specs.Reports.{NoNodeNext, SaysOnly}
@@ -98,6 +98,6 @@ module _ {State Op Query Reply : Type 0} where
       run_same said other base.0 calls.0 nodes.0 nodes.1 logs.0 (state_determined w said.state other.state g.state h.state states)
 
   -- what is printed says this and nothing else
-  pub run_says : (b : Behaviour State Op Query Reply) (w : Wording State Op Query Reply) (scripts : List (List (Call State Op Query Reply))) (resumed : Option ℕ) (state : State) (left : Left State Op Query Reply) (text : List ℕ)
+  pub run_says : (b : Behaviour State Op Query Reply) (w : Wording State Op Query Reply) (scripts : List (List (Call State Op Query Reply))) (resumed : Option ℕ) (state : State) (left : AfterRun State Op Query Reply) (text : List ℕ)
       → text ≡ run_report b w resumed state scripts left → RunReads b w scripts (run_data b resumed state left) → SaysOnly (run_lines b w scripts) (RunReads b w scripts) text (run_data b resumed state left)
   run_says b w scripts resumed state left text e h = says_only (run_lines b w scripts) (RunReads b w scripts) (run_determined b w scripts) text (run_data b resumed state left) e h

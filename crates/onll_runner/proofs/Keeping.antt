@@ -15,19 +15,11 @@ use Rattle.onll_run.specs.Left.{LogLeft, begun_logs, fenced_in}
 use Rattle.onll_run.specs.Ended.{log_left}
 use Rattle.onll_run.specs.Making.{device_of}
 use Rattle.onll_run.specs.Ran as ran
-use Rattle.onll_task.specs.ImageNames.{image_name, image_names}
-use Rattle.onll_task.specs.Running.{HoldsLog, HoldsLogs, AllStand, HoldTo, broken_threads, fences_of}
-use Rattle.onll_runner.specs.Devices.{AreKept, AreKeptTo, AreAsBefore, risen, fault_of, fences_in}
+use Rattle.onll_open.specs.Names.{log_name, log_names}
+use Rattle.onll_task.specs.Running.{FileHoldsLog, HoldsLogs, AllStand, HoldTo, broken_threads, fences_of}
+use Rattle.onll_open.specs.Keeping.{AreKept, AreKeptTo, AreAsBefore}
+use Rattle.onll_open.specs.Devices.{fault_of, fences_in}
 use Rattle.onll_runner.specs.RunEnds.{IsAsBefore}
-
--- ---- counts
-counted_twice : (n a b : ℕ) → counted (counted n a) b ≡ counted n (a + b)
-counted_twice n a b = omega arith
-
--- a count after each of these devices is the count after all of them
-pub risen_all : (g : DeviceView → ℕ) (n : ℕ) (d : DeviceView) (ds : List DeviceView) → risen n (map g (d ∷ ds)) ≡ counted n (sum_by g (d ∷ ds))
-risen_all g n d [] = let one = sum_by-cons g d [] in ap (counted n) (omega (arith, one))
-risen_all g n d (e ∷ ds) = risen_all g (counted n (g d)) e ds ∙ counted_twice n (g d) (sum_by g (e ∷ ds)) ∙ ap (counted n) (sym (sum_by-cons g d (e ∷ ds)))
 
 -- ---- files
 told_by : (d : DeviceView) → is_some d.told ≡ true → (t : Told) × (d.told ≡ Some t)
@@ -38,7 +30,7 @@ told_by d h = by d.told refl h
     by (Some t) e h = (t, e)
 
 pub kept_befores : {State Op Query Reply Device : Type 0} (means : Device → DeviceView) (befores : List Content) (ends : List (List (CallEnd State Op Query Reply))) (olds : List Device) (logs : List (LogState Device))
-    → ran.AreKept means befores ends olds logs → length (map means (map device_of logs)) ≡ length befores
+    → ran.AreKeptLogs means befores ends olds logs → length (map means (map device_of logs)) ≡ length befores
 kept_befores means [] [] [] [] all = refl
 kept_befores means (before ∷ befores) (es ∷ ends) (d ∷ olds) (log ∷ logs) all = ap suc (kept_befores means befores ends olds logs all.1)
 kept_befores means [] [] [] (log ∷ logs) all = absurd all
@@ -49,14 +41,14 @@ kept_befores means (before ∷ befores) (es ∷ ends) [] logs all = absurd all
 kept_befores means (before ∷ befores) (es ∷ ends) (d ∷ olds) [] all = absurd all
 
 -- files that are as they were stand so
-later_stand : (name : List ℕ) (t : ℕ) (befores : List Content) (old new : StoreView) → AreAsBefore name t (length befores) old new → AllStand (IsAsBefore old new) (image_names name t (length befores)) befores
+later_stand : (name : List ℕ) (t : ℕ) (befores : List Content) (old new : StoreView) → AreAsBefore name t (length befores) old new → AllStand (IsAsBefore old new) (log_names name t (length befores)) befores
 later_stand name t [] old new h = tt
 later_stand name t (before ∷ befores) old new h = ((λ on. h.0), later_stand name (suc t) befores old new h.1)
 
 module _ (same : SameLaw) where
   -- the file of a device that was kept holds its log
   kept_log : (store : StoreView) (name : List ℕ) (log : LogLeft) (failed : Option ℕ) (d : DeviceView) → (store.tells ≡ true → is_some d.told ≡ true) → d.read ≡ log.read → ToldSettled d.told (fenced_in log failed)
-      → KeepsDevice store name d → HoldsLog store name log failed
+      → KeepsDevice store name d → FileHoldsLog store name log failed
   kept_log store name log None d tells read settled kept = λ on.
       let k = kept on in
       let t = told_by d (tells on) in
@@ -69,28 +61,28 @@ module _ (same : SameLaw) where
 
   -- that of a device that could not be kept does, or is as it was
   held_own : (old new : StoreView) (name : List ℕ) (before : Content) (log : LogLeft) (failed : Option ℕ) (d : DeviceView) → new.tells ≡ old.tells → (new.tells ≡ true → is_some d.told ≡ true) → d.read ≡ log.read
-      → ToldSettled d.told (fenced_in log failed) → MayKeep name d old new → IsAsBefore old new name before ⊎ HoldsLog new name log failed
+      → ToldSettled d.told (fenced_in log failed) → MayKeep name d old new → IsAsBefore old new name before ⊎ FileHoldsLog new name log failed
   held_own old new name before log failed d tells told read settled h = by new.tells refl
     where
-      either : (new.file name ≡ old.file name) ⊎ HoldsImageOf new name d → IsAsBefore old new name before ⊎ HoldsLog new name log failed
+      either : (new.file name ≡ old.file name) ⊎ HoldsImageOf new name d → IsAsBefore old new name before ⊎ FileHoldsLog new name log failed
       either (inl e) = inl (λ on. e)
       either (inr k) = inr (kept_log new name log failed d told read settled (λ on. k))
 
-      by : (t : Bool) → new.tells ≡ t → IsAsBefore old new name before ⊎ HoldsLog new name log failed
+      by : (t : Bool) → new.tells ≡ t → IsAsBefore old new name before ⊎ FileHoldsLog new name log failed
       by true e = either (h e)
       by false e = inl (λ on. absurd (true≢false (sym on ∙ sym tells ∙ e)))
 
   module _ {State Op Query Reply Device : Type 0} (means : Device → DeviceView) where
     -- devices were kept up to a thread's
     pub held_to : (old new : StoreView) (name : List ℕ) (t : ℕ) (befores : List Content) (ends : List (List (CallEnd State Op Query Reply))) (olds : List Device) (logs : List (LogState Device)) (thread : ℕ) → new.tells ≡ old.tells
-        → (new.tells ≡ true → (d : Device) → is_some (means d).told ≡ true) → ran.AreKept means befores ends olds logs → AreKeptTo name t (map means (map device_of logs)) thread old new
-        → HoldTo (IsAsBefore old new) new (image_names name t (length befores)) befores (map (log_left means) logs) ends thread
+        → (new.tells ≡ true → (d : Device) → is_some (means d).told ≡ true) → ran.AreKeptLogs means befores ends olds logs → AreKeptTo name t (map means (map device_of logs)) thread old new
+        → HoldTo (IsAsBefore old new) new (log_names name t (length befores)) befores (map (log_left means) logs) ends thread
     held_to old new name t (before ∷ befores) (es ∷ ends) (d ∷ olds) (log ∷ logs) zero same_tells tells all kept = (
-      held_own old new (image_name name t) before (log_left means log) (failed_in es) (means log.device) same_tells (λ on. tells on log.device) refl all.0.fenced kept.0,
+      held_own old new (log_name name t) before (log_left means log) (failed_in es) (means log.device) same_tells (λ on. tells on log.device) refl all.0.fenced kept.0,
       later_stand name (suc t) befores old new (subst (λ n. AreAsBefore name (suc t) n old new) (kept_befores means befores ends olds logs all.1) kept.1),
     )
     held_to old new name t (before ∷ befores) (es ∷ ends) (d ∷ olds) (log ∷ logs) (suc thread) same_tells tells all kept = (
-      kept_log new (image_name name t) (log_left means log) (failed_in es) (means log.device) (λ on. tells on log.device) refl all.0.fenced kept.0,
+      kept_log new (log_name name t) (log_left means log) (failed_in es) (means log.device) (λ on. tells on log.device) refl all.0.fenced kept.0,
       held_to old new name (suc t) befores ends olds logs thread same_tells tells all.1 kept.1,
     )
     held_to old new name t befores ends olds [] thread same_tells tells all kept = absurd kept
@@ -102,11 +94,11 @@ module _ (same : SameLaw) where
 
     -- so do the files of all devices
     pub kept_logs : (store : StoreView) (name : List ℕ) (t : ℕ) (befores : List Content) (ends : List (List (CallEnd State Op Query Reply))) (olds : List Device) (logs : List (LogState Device))
-        → (store.tells ≡ true → (d : Device) → is_some (means d).told ≡ true) → ran.AreKept means befores ends olds logs
+        → (store.tells ≡ true → (d : Device) → is_some (means d).told ≡ true) → ran.AreKeptLogs means befores ends olds logs
         → AreKept name t (map means (map device_of logs)) store → HoldsLogs store name t (map (log_left means) logs) ends
     kept_logs store name t [] [] [] [] tells all kept = tt
     kept_logs store name t (before ∷ befores) (es ∷ ends) (d ∷ olds) (log ∷ logs) tells all kept = (
-      kept_log store (image_name name t) (log_left means log) (failed_in es) (means log.device) (λ on. tells on log.device) refl all.0.fenced kept.0,
+      kept_log store (log_name name t) (log_left means log) (failed_in es) (means log.device) (λ on. tells on log.device) refl all.0.fenced kept.0,
       kept_logs store name (suc t) befores ends olds logs tells all.1 kept.1,
     )
     kept_logs store name t [] [] [] (log ∷ logs) tells all kept = absurd all
@@ -138,7 +130,7 @@ one_is (Some place) = refl
 
 module _ {State Op Query Reply Device : Type 0} (means : Device → DeviceView) where
   -- the devices that count a fault are those of the threads whose fence failed
-  pub faults_sum : (befores : List Content) (ends : List (List (CallEnd State Op Query Reply))) (olds : List Device) (logs : List (LogState Device)) → ran.AreKept means befores ends olds logs
+  pub faults_sum : (befores : List Content) (ends : List (List (CallEnd State Op Query Reply))) (olds : List Device) (logs : List (LogState Device)) → ran.AreKeptLogs means befores ends olds logs
       → sum_by fault_of (map means (map device_of logs)) ≡ broken_threads ends
   faults_sum [] [] [] [] all = refl
   faults_sum (before ∷ befores) (es ∷ ends) (d ∷ olds) (log ∷ logs) all =
@@ -155,7 +147,7 @@ module _ {State Op Query Reply Device : Type 0} (means : Device → DeviceView) 
   faults_sum (before ∷ befores) (es ∷ ends) (d ∷ olds) [] all = absurd all
 
   -- the devices were fenced once for the header of each log that was begun, and for each fence of the logs
-  pub fences_sum : (befores : List Content) (ends : List (List (CallEnd State Op Query Reply))) (olds : List Device) (logs : List (LogState Device)) → ran.AreKept means befores ends olds logs
+  pub fences_sum : (befores : List Content) (ends : List (List (CallEnd State Op Query Reply))) (olds : List Device) (logs : List (LogState Device)) → ran.AreKeptLogs means befores ends olds logs
       → sum_by fences_in (map means (map device_of logs)) ≡ fences_of (map (log_left means) logs) + begun_logs befores
   fences_sum [] [] [] [] all = refl
   fences_sum (before ∷ befores) (es ∷ ends) (d ∷ olds) (log ∷ logs) all =
@@ -172,7 +164,7 @@ module _ {State Op Query Reply Device : Type 0} (means : Device → DeviceView) 
   fences_sum (before ∷ befores) (es ∷ ends) (d ∷ olds) [] all = absurd all
 
   -- ---- threads whose fence failed
-  pub kept_many : (befores : List Content) (ends : List (List (CallEnd State Op Query Reply))) (olds : List Device) (logs : List (LogState Device)) → ran.AreKept means befores ends olds logs → length logs ≡ length ends
+  pub kept_many : (befores : List Content) (ends : List (List (CallEnd State Op Query Reply))) (olds : List Device) (logs : List (LogState Device)) → ran.AreKeptLogs means befores ends olds logs → length logs ≡ length ends
   kept_many [] [] [] [] all = refl
   kept_many (before ∷ befores) (es ∷ ends) (d ∷ olds) (log ∷ logs) all = ap suc (kept_many befores ends olds logs all.1)
   kept_many [] [] [] (log ∷ logs) all = absurd all
@@ -183,7 +175,7 @@ module _ {State Op Query Reply Device : Type 0} (means : Device → DeviceView) 
   kept_many (before ∷ befores) (es ∷ ends) (d ∷ olds) [] all = absurd all
 
   -- where no log is broken, no thread is
-  pub none_broken : (befores : List Content) (ends : List (List (CallEnd State Op Query Reply))) (olds : List Device) (logs : List (LogState Device)) → ran.AreKept means befores ends olds logs
+  pub none_broken : (befores : List Content) (ends : List (List (CallEnd State Op Query Reply))) (olds : List Device) (logs : List (LogState Device)) → ran.AreKeptLogs means befores ends olds logs
       → list_any (λ (log : LogState Device). log.broken) logs ≡ false → broken_threads ends ≡ 0
   none_broken [] [] [] [] all e = refl
   none_broken (before ∷ befores) (es ∷ ends) (d ∷ olds) (log ∷ logs) all e =
@@ -200,7 +192,7 @@ module _ {State Op Query Reply Device : Type 0} (means : Device → DeviceView) 
   none_broken (before ∷ befores) (es ∷ ends) (d ∷ olds) [] all e = absurd all
 
   -- where a log is broken, a thread is
-  pub some_broken : (befores : List Content) (ends : List (List (CallEnd State Op Query Reply))) (olds : List Device) (logs : List (LogState Device)) → ran.AreKept means befores ends olds logs
+  pub some_broken : (befores : List Content) (ends : List (List (CallEnd State Op Query Reply))) (olds : List Device) (logs : List (LogState Device)) → ran.AreKeptLogs means befores ends olds logs
       → list_any (λ (log : LogState Device). log.broken) logs ≡ true → 1 ≤ broken_threads ends
   some_broken [] [] [] [] all e = absurd (true≢false (sym e))
   some_broken (before ∷ befores) (es ∷ ends) (d ∷ olds) (log ∷ logs) all e =

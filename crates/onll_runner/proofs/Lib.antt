@@ -1,14 +1,12 @@
 pub mod Based
-pub mod Going
-pub mod Decoding
-pub mod Reopening
+pub mod Grounds
+pub mod NewGrounds
+pub mod Lines
 pub mod Determined
 pub mod Ending
 pub mod FaultLines
-pub mod Handing
 pub mod Keeping
 pub mod LegalRows
-pub mod NewHeads
 pub mod ReportSteps
 pub mod RunRecovers
 pub mod RunSteps

@@ -19,7 +19,7 @@ use Rattle.onll_merge.specs.Recovered.{log_counts}
 use Rattle.onll_trace.specs.declared.trace.Ended.{Ended}
 use Rattle.onll_run.specs.declared.run.DoneScript.{DoneScript}
 use Rattle.onll_run.specs.Outcomes.{failed_in}
-use Rattle.onll_run.specs.Left.{Left, AllOver, content_in}
+use Rattle.onll_run.specs.Left.{AfterRun, AllOver, content_in}
 use Rattle.onll_run.specs.Ended.{log_left}
 use Rattle.onll_run.specs.Ran.{script_in, ends_in, node_in, flag_in}
 use Rattle.onll_text.specs.Wording.{Wording}
@@ -150,7 +150,7 @@ fault_in_words thread place = (
 
 -- ---- the whole
 module _ {State Op Query Reply : Type 0} (b : Behaviour State Op Query Reply) (w : Wording State Op Query Reply) (resumed : Option ℕ) (state after : State) (scripts : List (List (Call State Op Query Reply)))
-    (left : Left State Op Query Reply) (nodes : List Node) (found : nodes ≡ left.nodes) (after_is : after ≡ state_after b state left.nodes) where
+    (left : AfterRun State Op Query Reply) (nodes : List Node) (found : nodes ≡ left.nodes) (after_is : after ≡ state_after b state left.nodes) where
   -- the lines of how many nodes are gone on from, of the calls and of the trace, then those of the logs, of the fences that failed, and of
   -- the object
   pub report_parts : (run text : List ℕ) → run ≡ with_lines (with_lines [] (resumed_lines resumed)) (thread_lines w 0 scripts left.ends ++ (trace_line (length left.nodes) ∷ flagged_lines b w 0 left.nodes left.flags))

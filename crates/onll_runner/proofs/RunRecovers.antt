@@ -16,7 +16,7 @@ use Rattle.onll_merge.specs.declared.fault.StateFault.{StateFault}
 use Rattle.onll_merge.specs.declared.fault.StateFault.TheVariants.{NoMemory}
 use Rattle.onll_merge.specs.Recovered.{Recovered, recovered_with, state_recovered}
 use Rattle.onll_merge.proofs.Images.{their_contents}
-use Rattle.onll_run.specs.Left.{Plan, Left, LogLeft, LogsTell, HasRun, content_in}
+use Rattle.onll_run.specs.Left.{ScriptPlan, AfterRun, LogLeft, LogsTell, HasRun, content_in}
 use Rattle.onll_run.specs.Ended.{log_left}
 use Rattle.onll_recovery.proofs.Crashes.{recovered_is}
 use Rattle.onll_runner.specs.RunReport.{RanOver, LogsOfRun}
@@ -62,7 +62,7 @@ module _ {State Op Query Reply : Type 0} (b : Behaviour State Op Query Reply) wh
       let rest = are_told heads base scripts ends logs h.1 in
       record { contents = λ i. h.0.holds i ∷ rest.contents i; many = ap suc rest.many }
 
-  module _ (plan : Plan State Op Query Reply) (left : Left State Op Query Reply) (run : HasRun b plan left) where
+  module _ (plan : ScriptPlan State Op Query Reply) (left : AfterRun State Op Query Reply) (run : HasRun b plan left) where
     pub run_told : AreTold plan.heads left.logs
     run_told = are_told plan.heads plan.base.logs plan.scripts left.ends left.logs run.logs
 
@@ -70,8 +70,8 @@ module _ {State Op Query Reply : Type 0} (b : Behaviour State Op Query Reply) wh
     pub run_operations : AllByRecursion (λ (n : Node). IsSome (b.op_at n.row)) plan.base.nodes → AllByRecursion (λ (n : Node). IsSome (b.op_at n.row)) left.nodes
     run_operations first = legal_operations b plan.state plan.base.nodes plan.scripts left.nodes left.ends first run.legal
 
-  module _ (s : State) (heads : List LogHead) (scripts : List (List (Call State Op Query Reply))) (left : Left State Op Query Reply) (over : RanOver b s heads scripts left) where
-    abbrev plan_ran : Plan State Op Query Reply
+  module _ (s : State) (heads : List LogHead) (scripts : List (List (Call State Op Query Reply))) (left : AfterRun State Op Query Reply) (over : RanOver b s heads scripts left) where
+    abbrev plan_ran : ScriptPlan State Op Query Reply
     plan_ran = record { state = s; scripts = scripts; heads = heads; base = over.base }
 
     over_told : AreTold heads left.logs
@@ -120,7 +120,7 @@ module _ {State Op Query Reply Device : Type 0} (b : Behaviour State Op Query Re
 
 -- the logs of a run whose trace was listed
 pub logs_of_run : {State Op Query Reply Device : Type 0} (b : Behaviour State Op Query Reply) (means : Device → DeviceView) (s : State) (heads : List LogHead) (scripts : List (List (Call State Op Query Reply)))
-    (left : Left State Op Query Reply) (logs : List (LogState Device)) → RanOver b s heads scripts left → left.logs ≡ map (log_left means) logs → LogsOfRun b means s heads left.nodes logs
+    (left : AfterRun State Op Query Reply) (logs : List (LogState Device)) → RanOver b s heads scripts left → left.logs ≡ map (log_left means) logs → LogsOfRun b means s heads left.nodes logs
 logs_of_run b means s heads scripts left logs over are = record { scripts = scripts; left = left; over = over; nodes_are = refl; logs_are = are }
 
 -- what two clauses of one result give

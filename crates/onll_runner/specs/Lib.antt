@@ -1,4 +1,5 @@
 pub mod Devices
+pub mod Ground
 pub mod ResumeJob
 pub mod RunEnds
 pub mod RunJob

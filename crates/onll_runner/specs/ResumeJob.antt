@@ -1,14 +1,12 @@
 -- What `resume INIT LOGS SCRIPT..` does: scripts go on, on threads, from the logs of an earlier generation, told as `run` tells it.
 
-use Rattle.std.specs.Prelude.{ℕ, ◌≡◌, ◌≤◌, ◌+◌, ◌*◌, suc, max, true, List, [], ◌∷◌, length, Some, Result, Ok, Err}
+use Rattle.std.specs.Prelude.{ℕ, ◌≡◌, ◌≤◌, ◌*◌, suc, true, List, [], ◌∷◌, length, Some, Result, Ok, Err}
 use Rattle.std.specs.List.{All, AllByRecursion}
 use Rattle.onll_model.specs.declared.call.Call.{Call}
-use Rattle.onll_model.specs.Calls.{updates_in}
 use Rattle.onll_log.specs.declared.head.LogHead.{LogHead}
 use Rattle.onll_log.specs.Grammar.{content_of}
 use Rattle.onll_log.specs.ImageFile.{longest_image, image_lines}
 use Rattle.onll_log.specs.Tested.{used_in}
-use Rattle.onll_merge.specs.declared.counts.LogCounts.{LogCounts}
 use Rattle.onll_core.specs.declared.fault.ResumeFault.{ResumeFault}
 use Rattle.onll_core.specs.Created.{created_heads}
 use Rattle.onll_core.specs.Resume.{Found, base_in}
@@ -18,8 +16,8 @@ use Rattle.onll_text.specs.Kinds.{ObjectKind}
 use Rattle.onll_task.specs.Running.{RunPlan, RunLeft}
 use Rattle.onll_task.specs.Job.{Job}
 use Rattle.onll_task.specs.Doing.{Task, after_stage, say_task}
-use Rattle.onll_task.specs.ImageNames.{image_name}
-use Rattle.onll_task.specs.Images.{images_stage, FilesBegin}
+use Rattle.onll_open.specs.Names.{log_name}
+use Rattle.onll_task.specs.Images.{images_stage, AllBeginWith}
 use Rattle.onll_recovery.specs.AgainJob.{resume_ending, resume_text}
 use Rattle.onll_recovery.specs.ReplayJob.{scripts_stage}
 use Rattle.onll_runner.specs.RunJob.{calls_task}
@@ -40,7 +38,7 @@ resume_plan k init logs s scripts found = plan_over k logs s (created_heads k.co
 -- where the store tells its files, the image that is read of each thread's, from thread t on, has so many lines
 abbrev pub AreLong : List ℕ → ℕ → List ℕ → StoreView → Type 0
 AreLong logs t [] store = Unit {0}
-AreLong logs t (count ∷ counts) store = (store.tells ≡ true → (bytes : List ℕ) → store.file (image_name logs t) ≡ Some bytes
+AreLong logs t (count ∷ counts) store = (store.tells ≡ true → (bytes : List ℕ) → store.file (log_name logs t) ≡ Some bytes
     → length (image_lines bytes) ≡ count) × AreLong logs (suc t) counts store
 
 -- What is kept of the images of so many logs: of each no more lines than decide what it holds, with which its file begins, and how
@@ -51,24 +49,7 @@ pub record AreRead (logs : List ℕ) (threads : ℕ) (images : List (List (List 
   pub used : AllByRecursion (λ image. length image ≤ used_in (content_of image)) images
   pub few : All (λ count. 64 * count ≤ longest_image) counts
   pub long : AreLong logs 0 counts store
-  pub begins : FilesBegin logs 0 images store
-
--- a log that uses so many lines has room in a file that is read for an entry of so many lines for each update
-abbrev pub FitsIn : (entry used updates : ℕ) → Type 0
-FitsIn entry used updates = 64 * (max 1 used + entry * updates) ≤ longest_image
-
--- the same of each log
-abbrev pub AreFitting : {State Op Query Reply : Type 0} → ℕ → List LogCounts → List (List (Call State Op Query Reply)) → Type 0
-AreFitting entry [] [] = Unit {0}
-AreFitting entry (log ∷ logs) (script ∷ scripts) = FitsIn entry log.lines (updates_in script) × AreFitting entry logs scripts
-AreFitting entry logs scripts = ⊥
-
--- The lines of each log's device, among so many threads: those that the log uses, or the header's, and those of the longest entry for
--- each update; and no fewer than its image has.
-abbrev pub lines_over : {State Op Query Reply : Type 0} → ℕ → List LogCounts → List ℕ → List (List (Call State Op Query Reply)) → List ℕ
-lines_over threads (log ∷ logs) (count ∷ counts) (script ∷ scripts) =
-    max (max 1 log.lines + (threads + 1) * updates_in script) count ∷ lines_over threads logs counts scripts
-lines_over threads logs counts scripts = []
+  pub begins : AllBeginWith logs 0 images store
 
 -- ---- the work
 module _ (k : ObjectKind) (threads : RunPlan k → (RunLeft k → Job) → Job) (init logs : List ℕ) (names : List (List ℕ)) (s : k.State) where

@@ -15,10 +15,10 @@ use Rattle.onll_task.specs.declared.answer.Stop.{Stop}
 use Rattle.onll_task.specs.declared.answer.Stop.TheVariants.{NoMemory}
 use Rattle.onll_task.specs.FileLines.{FitFile}
 use Rattle.onll_text.specs.Lines.{fence_line}
-use Rattle.onll_task.specs.ImageNames.{image_name}
 use Rattle.onll_task.specs.Running.{RunPlan, RunLeft, PlanReads, HoldsLogs, HoldTo, IsBegun, broken_threads, fences_of, log_files}
 use Rattle.onll_task.specs.Stop.{StopSays}
-use Rattle.onll_task.specs.Writing.{SameBut, AllButStay}
+use Rattle.onll_task.specs.Writing.{AllButStay}
+use Rattle.onll_open.specs.Files.{SameBut}
 use Rattle.onll_runner.specs.Devices.{DeviceFails}
 use Rattle.onll_runner.specs.RunReport.{plan_report}
 
@@ -49,10 +49,10 @@ module _ {k : ObjectKind} (plan : RunPlan k) (left : RunLeft k) (store after : S
     pub files : HoldTo (IsAsBefore store after) after (log_files plan) plan.run.base.logs left.logs left.ends thread
     pub faults : after.device_faults ≡ counted store.device_faults (broken_threads left.ends)
     pub fences : after.device_fences ≡ counted store.device_fences (fences_of left.logs + begun_logs plan.run.base.logs)
-    pub says : StopSays stop (DeviceFails kinds.Keep (image_name plan.logs thread) store after)
+    pub says : StopSays stop (DeviceFails kinds.Keep plan.logs thread store after)
 
   -- Fences failed, and the report says so, which reads back.
-  pub record IsBroken (stop : Stop) : Type 0 where
+  pub record RunIsBroken (stop : Stop) : Type 0 where
     pub stored : IsStored
     pub broken : 1 ≤ broken_threads left.ends
     pub reads : PlanReads plan left
@@ -63,12 +63,12 @@ module _ {k : ObjectKind} (plan : RunPlan k) (left : RunLeft k) (store after : S
   IsLost stop = (stop ≡ NoMemory) × SameFiles store after
 
   -- What a run left was kept and is reported; or it is said in place of a report that fences failed; or it is kept in part, or not at all.
-  pub record HasEnded {A : Type 0} (result : Result (Vec ℕ A) Stop) : Type 0 where
+  pub record RunHasEnded {A : Type 0} (result : Result (Vec ℕ A) Stop) : Type 0 where
     pub kept : IfOk result (λ text. IsStored)
     pub whole : IfOk result (λ text. broken_threads left.ends ≡ 0)
     pub report : IfOk result (λ text. text.items ≡ plan_report plan left)
     pub reads : IfOk result (λ text. PlanReads plan left)
-    pub stop : IfErr result (λ stop. IsBroken stop ⊎ IsStoredTo stop ⊎ IsLost stop)
+    pub stop : IfErr result (λ stop. RunIsBroken stop ⊎ IsStoredTo stop ⊎ IsLost stop)
     pub others : SameBut (log_files plan) store after
 
 module _ {k : ObjectKind} (plan : RunPlan k) (store after : StoreView) where
@@ -84,7 +84,7 @@ module _ {k : ObjectKind} (plan : RunPlan k) (store after : StoreView) where
     pub fences : after.device_fences ≡ counted store.device_fences (begun_logs (take (thread + 1) plan.run.base.logs))
 
   -- Nothing was left: a header's fence failed, or memory could not be had. No file changed.
-  pub record HasFailed (stop : Stop) : Type 0 where
+  pub record RunHasFailed (stop : Stop) : Type 0 where
     pub says : StopSays stop (λ ending text. (ending ≡ Faulty) × GaveUp text)
     pub files : SameFiles store after
 
@@ -93,5 +93,5 @@ module _ {k : ObjectKind} (plan : RunPlan k) (store after : StoreView) where
 abbrev pub HasGone : {k : ObjectKind} → RunPlan k → (lines : List ℕ) → (store after : StoreView) → {A : Type 0} → Result (Vec ℕ A) Stop
     → Type 0
 HasGone {k} plan lines store after result =
-    ((left : RunLeft k) × HasRun k.means plan.run left × (map lines_left left.logs ≡ lines) × HasEnded plan left store after result)
-    ⊎ IsErrAnd result (HasFailed plan store after)
+    ((left : RunLeft k) × HasRun k.means plan.run left × (map lines_left left.logs ≡ lines) × RunHasEnded plan left store after result)
+    ⊎ IsErrAnd result (RunHasFailed plan store after)

@@ -1,8 +1,7 @@
 -- What `run INIT LOGS SCRIPT..` does: it runs a script on each thread, over devices that are kept as logs, and says what became of that.
 
-use Rattle.std.specs.Prelude.{ℕ, zero, suc, ◌+◌, ◌*◌, false, List, length, map}
+use Rattle.std.specs.Prelude.{ℕ, zero, suc, false, List}
 use Rattle.onll_model.specs.declared.call.Call.{Call}
-use Rattle.onll_model.specs.Calls.{updates_in}
 use Rattle.onll_core.specs.Created.{created_heads}
 use Rattle.onll_run.specs.Ran.{anew}
 use Rattle.onll_text.specs.Kinds.{ObjectKind}
@@ -19,11 +18,6 @@ use Rattle.onll_runner.specs.RunReport.{run_lines, plan_report}
 -- these scripts on an object of this kind, in the state that these bytes say, over new logs of this name
 abbrev pub run_plan : (k : ObjectKind) → (init logs : List ℕ) → k.State → List (List (Call k.State k.Op k.Query k.Reply)) → RunPlan k
 run_plan k init logs s scripts = record { logs = logs; reopens = false; run = anew s (created_heads k.code init scripts) scripts }
-
--- the lines of each log's device: the header's, and those of the longest entry for each update
-abbrev pub lines_for : {State Op Query Reply : Type 0} → List (List (Call State Op Query Reply)) → List ℕ
-lines_for {State} {Op} {Query} {Reply} scripts =
-    map (λ (script : List (Call State Op Query Reply)). 1 + (length scripts + 1) * updates_in script) scripts
 
 -- what a run left is reported; where fences failed the report says so, and so does the ending
 abbrev pub said_task : (k : ObjectKind) → RunPlan k → RunLeft k → (broken : ℕ) → Task

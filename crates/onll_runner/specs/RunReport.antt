@@ -11,7 +11,7 @@ use Rattle.onll_pmem.specs.Pmem.{DeviceView}
 use Rattle.onll_log.specs.declared.head.LogHead.{LogHead}
 use Rattle.onll_log.specs.Log.{LogState}
 use Rattle.onll_run.specs.Outcomes.{failed_in}
-use Rattle.onll_run.specs.Left.{Base, Left, HasRun}
+use Rattle.onll_run.specs.Left.{Base, AfterRun, HasRun}
 use Rattle.onll_run.specs.Ended.{log_left}
 use Rattle.onll_text.specs.Kinds.{ObjectKind}
 use Rattle.onll_text.specs.Wording.{Wording}
@@ -47,12 +47,12 @@ run_lines b w scripts said = resumed_lines said.resumed
 -- ---- what a run left
 -- the report of a run that left this, from this state on, where it goes on from so many nodes or from none
 abbrev pub run_report : {State Op Query Reply : Type 0} → Behaviour State Op Query Reply → Wording State Op Query Reply → Option ℕ → State
-    → List (List (Call State Op Query Reply)) → Left State Op Query Reply → List ℕ
+    → List (List (Call State Op Query Reply)) → AfterRun State Op Query Reply → List ℕ
 run_report b w resumed state scripts left = flat_map line_text (run_lines b w scripts (run_data b resumed state left))
 
 -- a run over some base, whose rows are operations, left this
 pub record RanOver {State Op Query Reply : Type 0} (b : Behaviour State Op Query Reply) (state : State) (heads : List LogHead)
-    (scripts : List (List (Call State Op Query Reply))) (left : Left State Op Query Reply) : Type 0 where
+    (scripts : List (List (Call State Op Query Reply))) (left : AfterRun State Op Query Reply) : Type 0 where
   pub base : Base
   pub operations : AllByRecursion (λ (n : Node). IsSome (b.op_at n.row)) base.nodes
   pub run : HasRun b (record { state = state; scripts = scripts; heads = heads; base = base }) left
@@ -61,7 +61,7 @@ pub record RanOver {State Op Query Reply : Type 0} (b : Behaviour State Op Query
 pub record LogsOfRun {State Op Query Reply Device : Type 0} (b : Behaviour State Op Query Reply) (means : Device → DeviceView)
     (state : State) (heads : List LogHead) (nodes : List Node) (logs : List (LogState Device)) : Type 0 where
   pub scripts : List (List (Call State Op Query Reply))
-  pub left : Left State Op Query Reply
+  pub left : AfterRun State Op Query Reply
   pub over : RanOver b state heads scripts left
   pub nodes_are : left.nodes ≡ nodes
   pub logs_are : left.logs ≡ map (log_left means) logs

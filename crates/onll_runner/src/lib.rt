@@ -1,12 +1,12 @@
 //! The commands that run scripts on threads, over devices that a store keeps as logs.
 #![tactic(auto)]
 
-mod devices;
-mod reopen;
+mod over_logs;
 mod report;
 mod resume;
 mod run;
+mod stops;
 
 pub use report::recover_logs;
 pub use resume::resume_on;
-pub use run::{new_heads, run_on};
+pub use run::run_on;

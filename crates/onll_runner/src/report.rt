@@ -27,7 +27,7 @@ use onll_merge::{LogCounts, Recovery, StateFault, recover_state};
 use onll_model::{Call, CallEnd, Object};
 use onll_pmem::Pmem;
 use onll_recovery::{put_count, put_resumed};
-use onll_run::{DoneScript, Ran};
+use onll_run::{DoneScript, RunOutcome};
 use onll_text::{Piece, Report, Texted};
 use onll_trace::Ended;
 use onll_words::{Line, NoMemory};
@@ -223,7 +223,7 @@ fn recover_run<O: Object, P: Pmem>(
     alloc: Global,
     object: &mut O,
     heads: &[LogHead],
-    ran: &Ran<O, P>,
+    ran: &RunOutcome<O, P>,
 ) -> Result<Recovery, NoMemory>
     requires { RanOver O.means object.old heads.now (map script_in ran.now.threads.items) (left_in P.means ran.now) }
     ensures logs { IfOk result (λ r. r.logs.items
@@ -238,7 +238,7 @@ fn recover_run<O: Object, P: Pmem>(
 /// Appends the lines of how many nodes are gone on from, of the calls of a run, and of its trace.
 fn put_run<O: Texted, P: Pmem>(
     resumed: Option<u64>,
-    ran: &Ran<O, P>,
+    ran: &RunOutcome<O, P>,
     out: &mut Report,
 ) -> Result<(), NoMemory>
     requires begins { begins_line out.old ≡ true }
@@ -262,7 +262,7 @@ fn put_run<O: Texted, P: Pmem>(
 /// Appends the lines of the logs of a run, of the fences that failed, and of the object, which is recovered.
 fn put_end<O: Texted, P: Pmem>(
     recovery: &Recovery,
-    ran: &Ran<O, P>,
+    ran: &RunOutcome<O, P>,
     object: &O,
     out: &mut Report,
 ) -> Result<(), NoMemory>
@@ -289,7 +289,7 @@ pub(crate) fn run_report<O: Texted, P: Pmem>(
     object: &mut O,
     heads: &[LogHead],
     resumed: Option<u64>,
-    ran: &Ran<O, P>,
+    ran: &RunOutcome<O, P>,
 ) -> Result<Vec<u8>, NoMemory>
     requires { RanOver O.means object.old heads.now (map script_in ran.now.threads.items) (left_in P.means ran.now) }
     ensures report { IfOk result (λ bytes. bytes.items

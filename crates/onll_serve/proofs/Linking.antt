@@ -18,14 +18,14 @@ use Rattle.onll_outside.specs.Views.{HoldsImageOf, StoreView}
 use Rattle.onll_shared.specs.Found.{head_held}
 use Rattle.onll_shared.specs.Passes.{OnllView, PassView, log_of}
 use Rattle.onll_run.specs.Ended.{HaveRun, ThreadRun, after_of, ends_of, left_of, log_left}
-use Rattle.onll_run.specs.Left.{AreLeft, LogLeft, fenced_in}
+use Rattle.onll_run.specs.Left.{AreLeftImages, LogLeft, fenced_in}
 use Rattle.onll_run.specs.Outcomes.{failed_in}
 use Rattle.onll_run.specs.Workers.{HasWorked}
 use Rattle.onll_open.specs.Files.{FilesHold, HoldsLogImage, SameLogs}
 use Rattle.onll_open.specs.Keeping.{AreKept, AreWhole, devices_in}
 use Rattle.onll_open.specs.Misfits.{found_in}
 use Rattle.onll_open.specs.Names.{log_name}
-use Rattle.onll_open.specs.Opening.{IsShort}
+use Rattle.onll_open.specs.Opening.{IsShortLog}
 use Rattle.onll_open.specs.Rooms.{most_lines}
 use Rattle.onll_open.proofs.GivenLogs.{contents_are, found_parts, give_same}
 use Rattle.onll_threads.specs.Ended.{before_of}
@@ -56,7 +56,7 @@ one_list (x ∷ xs) (y ∷ ys) e =
     λ i. here i ∷ more i
 
 left_many : {State Op Query Reply : Type 0} (logs : List LogLeft) (ends : List (List (CallEnd State Op Query Reply)))
-    (images : List (List (List ℕ))) → AreLeft logs ends images → length images ≡ length logs
+    (images : List (List (List ℕ))) → AreLeftImages logs ends images → length images ≡ length logs
 left_many [] [] [] h = refl
 left_many [] [] (image ∷ images) h = absurd h
 left_many [] (es ∷ ends) images h = absurd h
@@ -78,7 +78,7 @@ module _ {State Op Query Reply Device : Type 0} (b : Behaviour State Op Query Re
     (onll : OnllView State) where
   -- what is found in images that a crash may leave is a front of what was done
   found_front : (runs : List (ThreadRun State Op Query Reply Device)) (h : HasHistory b means onll runs) (images : List (List (List ℕ)))
-      (heads : List LogHead) (found : Recovered) → AreLeft (left_of b means onll h.trace runs h.closed).logs (map ends_of runs) images
+      (heads : List LogHead) (found : Recovered) → AreLeftImages (left_of b means onll h.trace runs h.closed).logs (map ends_of runs) images
       → found_in b heads images ≡ Ok found → IsLifeFront (generation_of b means onll runs h) found.nodes
   found_front runs h images heads found left e =
       let f = (leaves_fronts b means onll runs h).1 images left in
@@ -110,7 +110,7 @@ module _ {State Op Query Reply Device : Type 0} (b : Behaviour State Op Query Re
     mixed : Mixed (fenced_in (log_left means r.after.log) (failed_in r.ends)) (means r.after.log.device).read image
 
   image_kept : (store : StoreView) (name : List ℕ) (r : ThreadRun State Op Query Reply Device) (told : Told)
-      → (means r.after.log.device).told ≡ Some told → HasWorked b means onll r.script r.ends r.before r.after → IsShort means r.before.log
+      → (means r.after.log.device).told ≡ Some told → HasWorked b means onll r.script r.ends r.before r.after → IsShortLog means r.before.log
       → AllByRecursion IsWholeLine (means r.after.log.device).read → HoldsImageOf store name (means r.after.log.device)
       → HasImage store name r
   image_kept store name r told tells w short whole k =
@@ -132,11 +132,11 @@ module _ {State Op Query Reply Device : Type 0} (b : Behaviour State Op Query Re
   record HaveImages (store : StoreView) (logs : List ℕ) (t : ℕ) (runs : List (ThreadRun State Op Query Reply Device)) : Type 0 where
     images : List (List (List ℕ))
     hold : FilesHold logs t images store
-    left : AreLeft (map (λ (r : ThreadRun State Op Query Reply Device). log_left means r.after.log) runs) (map ends_of runs) images
+    left : AreLeftImages (map (λ (r : ThreadRun State Op Query Reply Device). log_left means r.after.log) runs) (map ends_of runs) images
 
   images_kept : (store : StoreView) (logs : List ℕ) (t u : ℕ) (runs : List (ThreadRun State Op Query Reply Device)) → store.tells ≡ true
       → ((d : Device) → is_some (means d).told ≡ true) → HaveRun b means onll u runs
-      → AllByRecursion (IsShort means) (map log_of (map before_of runs)) → AreWhole (devices_in means (map after_of runs))
+      → AllByRecursion (IsShortLog means) (map log_of (map before_of runs)) → AreWhole (devices_in means (map after_of runs))
       → AreKept logs t (devices_in means (map after_of runs)) store → HaveImages store logs t runs
   images_kept store logs t u [] on tell h short whole kept = record { images = []; hold = tt; left = tt }
   images_kept store logs t u (r ∷ rs) on tell h short whole kept =
@@ -155,7 +155,7 @@ module _ {State Op Query Reply Device Work Answer Files : Type 0} (b : Behaviour
       let closed : ClosedSo b means s.onll e.runs s.worked.afters logs s.opened (seen new) (Ok tt) =
       subst (λ k. ClosedSo b means s.onll e.runs s.worked.afters logs s.opened (seen new) k) kept s.worked.closed in
       let h : HasHistory b means s.onll e.runs = closed.0 in
-      let short = subst (λ (ps : List (PassView State Device)). AllByRecursion (IsShort means) (map log_of ps)) (sym e.befores_are) s.short in
+      let short = subst (λ (ps : List (PassView State Device)). AllByRecursion (IsShortLog means) (map log_of ps)) (sym e.befores_are) s.short in
       let whole = subst (λ (ps : List (PassView State Device)). AreWhole (devices_in means ps)) (sym e.afters_are) closed.3 in
       let are = subst (λ (ps : List (PassView State Device)). AreKept logs 0 (devices_in means ps) (seen new)) (sym e.afters_are) closed.1 in
       let i = images_kept b means s.onll (seen new) logs 0 0 e.runs on (tell new on) e.have_run short whole are in

@@ -13,7 +13,7 @@ use Rattle.onll_pmem.specs.Pmem.{DeviceView}
 use Rattle.onll_merge.specs.Merge.{top_of}
 use Rattle.onll_trace.specs.Plans.{Plan}
 use Rattle.onll_trace.specs.Spots.{TraceView}
-use Rattle.onll_shared.specs.Crash.{AreLeft, IsKept, IsMoment, Recovers, head_of}
+use Rattle.onll_shared.specs.Crash.{AreLeft, IsKept, IsMoment, PassesRecover, head_of}
 use Rattle.onll_shared.specs.Found.{head_held}
 use Rattle.onll_shared.specs.Passes.{OnllView, PassView, log_of}
 use Rattle.onll_shared.proofs.Chosen.{crash_recovers}
@@ -95,7 +95,7 @@ module _ {State Op Query Reply Device : Type 0} (b : Behaviour State Op Query Re
   moment_law onll f scripts ends firsts nows m come = (
     begins onll.trace f nows m,
     λ images left.
-        let r : Recovers f nows images = crash_recovers onll.trace f nows images m left in
+        let r : PassesRecover f nows images = crash_recovers onll.trace f nows images m left in
         let top = top_of r.logs in
         let within = r.within in
         let long : length (take top f.trace) ≡ top = (let l = length-take top f.trace in omega (arith, l, within)) in

@@ -19,7 +19,7 @@ use Rattle.onll_open.specs.declared.fault.OpenFault.{OpenFault}
 use Rattle.onll_open.specs.Files.{SameBut, SameCounts}
 use Rattle.onll_open.specs.Keeping.{AreKept, AreWhole, CannotClose, CloseLocks, devices_in}
 use Rattle.onll_open.specs.Names.{held_names, log_names}
-use Rattle.onll_open.specs.Opening.{CannotOpen, GivesRoom, HasOpened, IsShort, NothingLost, OpenFaults}
+use Rattle.onll_open.specs.Opening.{CannotOpen, GivesRoom, HasOpened, IsShortLog, NothingLost, OpenFaults}
 use Rattle.onll_threads.specs.Ended.{HaveEnded, before_of}
 use Rattle.onll_serve.specs.declared.fault.ServeFault.TheVariants.{NotOpened}
 use Rattle.onll_serve.specs.declared.service.Served.{Served}
@@ -75,7 +75,7 @@ module _ {State Op Query Reply Device Work Answer : Type 0} (b : Behaviour State
     base = o.on.base;
     befores = passes;
     heads_are = ap (map head_held) o.on.begun.logs_are ∙ (o.on.heads_are ∙ ap head n);
-    short = subst (AllByRecursion (IsShort means)) (sym o.on.begun.logs_are) o.on.short;
+    short = subst (AllByRecursion (IsShortLog means)) (sym o.on.begun.logs_are) o.on.short;
     opened = opened;
     kept = subst (λ (k : ℕ). NothingLost b store logs (head k) k None opened) n lost;
     counts = counts;

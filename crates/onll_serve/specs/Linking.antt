@@ -10,7 +10,7 @@ use Rattle.onll_merge.specs.Recovered.{Recovered}
 use Rattle.onll_outside.specs.Views.{StoreView}
 use Rattle.onll_shared.specs.Passes.{OnllView}
 use Rattle.onll_run.specs.Ended.{ThreadRun, ends_of, left_of}
-use Rattle.onll_run.specs.Left.{AreLeft}
+use Rattle.onll_run.specs.Left.{AreLeftImages}
 use Rattle.onll_open.specs.Files.{FilesHold, SameLogs}
 use Rattle.onll_open.specs.Opening.{FilesGive}
 use Rattle.onll_serve.specs.declared.service.Served.{Served}
@@ -23,7 +23,7 @@ module _ {State Op Query Reply : Type 0} (b : Behaviour State Op Query Reply) (l
   GiveFrontOf store g = (found : Recovered) → FilesGive b store logs heads (Ok found) → IsLifeFront g found.nodes
 
   -- The generation went on from what the files gave before it, and what they give after it is a front of it.
-  pub record IsOver (before after : StoreView) (g : ServedGeneration State Op Query Reply) : Type 0 where
+  pub record IsOverFiles (before after : StoreView) (g : ServedGeneration State Op Query Reply) : Type 0 where
     pub found : Recovered
     pub given : FilesGive b before logs heads (Ok found)
     pub base : g.base ≡ found.nodes
@@ -34,7 +34,7 @@ module _ {State Op Query Reply : Type 0} (b : Behaviour State Op Query Reply) (l
   abbrev pub AreOver : StoreView → StoreView → List (ServedGeneration State Op Query Reply) → Type 0
   AreOver old new [] = SameLogs logs old new
   AreOver old new (g ∷ life) =
-      (before : StoreView) × (after : StoreView) × SameLogs logs old before × IsOver before after g × AreOver after new life
+      (before : StoreView) × (after : StoreView) × SameLogs logs old before × IsOverFiles before after g × AreOver after new life
 
   -- Each answered call of every generation stands in what the files give after the last.
   abbrev pub FilesLifeLaw : Type 0
@@ -47,7 +47,7 @@ module _ {State Op Query Reply Device : Type 0} (b : Behaviour State Op Query Re
   abbrev pub LeavesInFiles : Type 0
   LeavesInFiles = (store : StoreView) (logs : List ℕ) (heads : List LogHead) (images : List (List (List ℕ)))
       → length heads ≡ length runs → store.tells ≡ true
-      → AreLeft (left_of b means onll h.trace runs h.closed).logs (map ends_of runs) images → FilesHold logs 0 images store
+      → AreLeftImages (left_of b means onll h.trace runs h.closed).logs (map ends_of runs) images → FilesHold logs 0 images store
       → GiveFrontOf b logs heads store (generation_of b means onll runs h)
 
 module _ {State Op Query Reply Device Work Answer Files : Type 0} (b : Behaviour State Op Query Reply) (means : Device → DeviceView)
@@ -59,4 +59,4 @@ module _ {State Op Query Reply Device Work Answer Files : Type 0} (b : Behaviour
       (served : Served State Device Work Answer Op Query Reply)
       → (s : HasServed b means promise old logs heads state works (seen new) served) → served.kept ≡ Ok tt → (seen new).tells ≡ true
       → (h : HasHistory b means s.onll s.worked.ended.runs)
-      × IsOver b logs heads old (seen new) (generation_of b means s.onll s.worked.ended.runs h)
+      × IsOverFiles b logs heads old (seen new) (generation_of b means s.onll s.worked.ended.runs h)

@@ -8,7 +8,7 @@ use Rattle.onll_model.specs.Object.{Behaviour}
 use Rattle.onll_pmem.specs.Pmem.{DeviceView}
 use Rattle.onll_shared.specs.Passes.{OnllView}
 use Rattle.onll_run.specs.Ended.{ThreadRun, ends_of, left_of, plan_of, script_of}
-use Rattle.onll_run.specs.Left.{Recovers, AreLeft}
+use Rattle.onll_run.specs.Left.{ImagesRecover, AreLeftImages}
 use Rattle.onll_run.specs.Outcomes.{StandsIn}
 use Rattle.onll_serve.specs.Serving.{HasHistory, base_of}
 
@@ -65,6 +65,6 @@ module _ {State Op Query Reply Device : Type 0} (b : Behaviour State Op Query Re
   -- whatever images of the devices a crash leaves at its end, they recover to a front of it
   abbrev pub LeavesFronts : Type 0
   LeavesFronts = BeginsWithBase generation_of
-      × ((images : List (List (List ℕ))) → AreLeft (left_of b means onll h.trace runs h.closed).logs (map ends_of runs) images
-      → (r : Recovers b (plan_of b means onll (base_of onll) runs) (left_of b means onll h.trace runs h.closed) images)
+      × ((images : List (List (List ℕ))) → AreLeftImages (left_of b means onll h.trace runs h.closed).logs (map ends_of runs) images
+      → (r : ImagesRecover b (plan_of b means onll (base_of onll) runs) (left_of b means onll h.trace runs h.closed) images)
       × IsLifeFront generation_of r.nodes)

@@ -9,12 +9,12 @@ use Rattle.onll_log.specs.declared.head.LogHead.{LogHead}
 use Rattle.onll_merge.specs.Merge.{top_of}
 use Rattle.onll_outside.specs.Views.{StoreView}
 use Rattle.onll_shared.specs.Calls.{IsSamePass}
-use Rattle.onll_shared.specs.Crash.{AreLeft, IsMoment, Recovers}
+use Rattle.onll_shared.specs.Crash.{AreLeft, IsMoment, PassesRecover}
 use Rattle.onll_shared.specs.Passes.{OnllView, PassView}
 use Rattle.onll_open.specs.Files.{FilesHold}
 use Rattle.onll_open.specs.Opening.{HasOpened}
 use Rattle.onll_threads.specs.Acts.{HasActed, seen_in}
-use Rattle.onll_serve.specs.Linking.{IsOver}
+use Rattle.onll_serve.specs.Linking.{IsOverFiles}
 use Rattle.onll_serve.specs.Lives.{BeginsWithBase, IsLifeFront, ServedGeneration}
 
 module _ {State Op Query Reply Device : Type 0} (b : Behaviour State Op Query Reply) (means : Device → DeviceView)
@@ -50,7 +50,7 @@ module _ {State Op Query Reply Device : Type 0} (b : Behaviour State Op Query Re
       → IsMoment onll.trace f nows → HaveCome b means onll scripts ends firsts nows
       → BeginsWithBase (generation_at onll f scripts ends)
       × ((images : List (List (List ℕ))) → AreLeft nows images
-      → (r : Recovers f nows images) × IsLifeFront (generation_at onll f scripts ends) (take (top_of r.logs) f.trace))
+      → (r : PassesRecover f nows images) × IsLifeFront (generation_at onll f scripts ends) (take (top_of r.logs) f.trace))
 
   -- Where the files of an object that was opened hold such images, what its threads had done by then is a generation over them.
   abbrev pub KilledLaw : Type 0
@@ -60,4 +60,4 @@ module _ {State Op Query Reply Device : Type 0} (b : Behaviour State Op Query Re
       → (f : Frame) (nows : List (PassView State Device)) (scripts : List (List (Call State Op Query Reply)))
       (ends : List (List (CallEnd State Op Query Reply))) (images : List (List (List ℕ)))
       → IsMoment onll.trace f nows → HaveCome b means onll scripts ends firsts nows → AreLeft nows images
-      → after.tells ≡ true → FilesHold logs 0 images after → IsOver b logs heads before after (generation_at onll f scripts ends)
+      → after.tells ≡ true → FilesHold logs 0 images after → IsOverFiles b logs heads before after (generation_at onll f scripts ends)

@@ -15,14 +15,14 @@ use Rattle.onll_shared.specs.Ends.{HasClosed}
 use Rattle.onll_shared.specs.Found.{head_held}
 use Rattle.onll_shared.specs.Passes.{OnllView, PassView, log_of}
 use Rattle.onll_shared.specs.Starts.{AreLogs, HasBegun}
-use Rattle.onll_run.specs.Ended.{ThreadRun, IsWhole, after_of}
+use Rattle.onll_run.specs.Ended.{ThreadRun, IsWholeRun, after_of}
 use Rattle.onll_run.specs.Left.{Base}
 use Rattle.onll_open.specs.declared.keeping.CloseFault.{CloseFault}
 use Rattle.onll_open.specs.declared.keeping.CloseFault.TheVariants.{NoMemory, NotKept}
 use Rattle.onll_open.specs.Files.{SameCounts}
 use Rattle.onll_open.specs.Keeping.{AreKept, AreWhole, KeepFails, devices_in}
 use Rattle.onll_open.specs.Locking.{AreFree, OpenLocks}
-use Rattle.onll_open.specs.Opening.{CannotOpen, GivesRoom, IsShort, NothingLost, OpenFaults}
+use Rattle.onll_open.specs.Opening.{CannotOpen, GivesRoom, IsShortLog, NothingLost, OpenFaults}
 use Rattle.onll_threads.specs.Ended.{HaveEnded}
 use Rattle.onll_serve.specs.declared.fault.NotServed.{NotServed}
 use Rattle.onll_serve.specs.declared.fault.ServeFault.{ServeFault}
@@ -56,7 +56,7 @@ module _ {State Op Query Reply Device : Type 0} (b : Behaviour State Op Query Re
   pub record HasHistory (runs : List (ThreadRun State Op Query Reply Device)) : Type 0 where
     pub trace : List Ended
     pub closed : HasClosed onll.trace (map after_of runs) trace
-    pub whole : IsWhole b means onll (base_of onll) trace runs closed
+    pub whole : IsWholeRun b means onll (base_of onll) trace runs closed
 
   -- How the object was closed after these runs, and what that leaves of the store. Where there was no memory to close it, it is handed
   -- back with its passes, and nothing was changed.
@@ -91,7 +91,7 @@ module _ {State Op Query Reply Device Work Answer : Type 0} (b : Behaviour State
     pub base : onll.trace.plan.base ≡ found.nodes
     pub befores : List (PassView State Device)
     pub heads_are : map head_held (map log_of befores) ≡ heads
-    pub short : AllByRecursion (IsShort means) (map log_of befores)
+    pub short : AllByRecursion (IsShortLog means) (map log_of befores)
     pub opened : StoreView
     pub kept : NothingLost b store logs heads (length works) None opened
     pub counts : SameCounts store opened

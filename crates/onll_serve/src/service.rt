@@ -18,7 +18,7 @@ use onll_rows::Described;
 use onll_run::run_law;
 use onll_shared::Pass;
 use onll_threads::{
-    Place, Space, Stop, Work, Worked, missing_thread, reserve, run_works, works_law,
+    DoneWorks, Place, Space, StopFlag, Work, missing_thread, reserve, run_works, works_law,
 };
 use std::alloc::Global;
 use std::sync::Wait;
@@ -97,9 +97,9 @@ fn serve_opened<
     let Crew { works, space } = crew;
     let place = Place {
         onll,
-        stop: Stop::new(),
+        stop: StopFlag::new(),
     };
-    let Worked {
+    let DoneWorks {
         works,
         passes,
         answers,

@@ -19,7 +19,7 @@ use Rattle.onll_merge.proofs.FrameLogs.{front_rises, HasBelow, covers_logs, with
 use Rattle.onll_trace.specs.Spots.{SpotView, TraceView, IsLawful}
 use Rattle.onll_trace.specs.Closing.{AreAll, IsIn}
 use Rattle.onll_shared.specs.Passes.{PassView, spot_of}
-use Rattle.onll_shared.specs.Crash.{IsLogOf, IsWhole, IsTorn, IsLeft, AreLeft, HasLog, IsMoment, IsKept, Recovers, head_of}
+use Rattle.onll_shared.specs.Crash.{IsLogOfPart, IsWhole, IsTorn, IsLeft, AreLeft, HasLog, IsMoment, IsKept, PassesRecover, head_of}
 use Rattle.onll_shared.proofs.Parts.{take_take}
 
 -- What is left of the logs of passes, and what it merges to.
@@ -49,7 +49,7 @@ all_get P (y ∷ xs) a zero x e = subst P (same_some y x e) a.0
 all_get P (y ∷ xs) a (suc i) x e = all_get P xs a.1 i x e
 
 -- ---- the log of one pass
-module _ (head : LogHead) (part : Thread) (l : IsLogOf head part) where
+module _ (head : LogHead) (part : Thread) (l : IsLogOfPart head part) where
   fenced_fit : FitEntries head.threads part.fenced
   fenced_fit = all_left (FitsEntry head.threads) part.fenced (option_to_list part.pending) l.fit
 
@@ -189,7 +189,7 @@ module _ {State Device : Type 0} where
         kept k = all_kept passes shown k
 
 -- Whatever is left at a moment recovers.
-pub crash_recovers : {State Device : Type 0} (b : TraceView) (f : Frame) (passes : List (PassView State Device)) (images : List (List (List ℕ))) → IsMoment b f passes → AreLeft passes images → Recovers f passes images
+pub crash_recovers : {State Device : Type 0} (b : TraceView) (f : Frame) (passes : List (PassView State Device)) (images : List (List (List ℕ))) → IsMoment b f passes → AreLeft passes images → PassesRecover f passes images
 crash_recovers b f passes images m l =
     let c = chosen passes images m.logs l in
     record {

@@ -22,7 +22,7 @@ abbrev pub head_of : {State Device : Type 0} → PassView State Device → LogHe
 head_of pass = pass.log.head
 
 -- The log of a thread with this part, at any moment: its head is of the newest format, and its entries can hold the thread's segments.
-pub record IsLogOf (head : LogHead) (part : Thread) : Type 0 where
+pub record IsLogOfPart (head : LogHead) (part : Thread) : Type 0 where
   pub fits : FitsHead head
   pub format : head.format ≡ 2
   pub fit : FitEntries head.threads (segments_of part)
@@ -55,7 +55,7 @@ AreLeft (p ∷ ps) [] = ⊥
 AreLeft (p ∷ ps) (image ∷ images) = IsLeft p.log.head p.spot.me.part image × AreLeft ps images
 
 abbrev pub HasLog : {State Device : Type 0} → PassView State Device → Type 0
-HasLog pass = IsLogOf pass.log.head pass.spot.me.part
+HasLog pass = IsLogOfPart pass.log.head pass.spot.me.part
 
 -- The passes of an object at one moment, between their calls or within them: the frame that the trace shows is sound, as it always
 -- is, and has each pass's part.
@@ -73,7 +73,7 @@ pub record IsKept {State Device : Type 0} (f : Frame) (top : ℕ) (pass : PassVi
 
 -- The images are logs, which merge to the first nodes of the trace. These have every place that is available, and all that any
 -- pass has seen: each update that was answered, and all that a read saw.
-pub record Recovers {State Device : Type 0} (f : Frame) (passes : List (PassView State Device))
+pub record PassesRecover {State Device : Type 0} (f : Frame) (passes : List (PassView State Device))
     (images : List (List (List ℕ))) : Type 0 where
   pub logs : List Content
   pub contents : map content_of images ≡ map Some logs
@@ -83,9 +83,9 @@ pub record Recovers {State Device : Type 0} (f : Frame) (passes : List (PassView
   pub seen : AllByRecursion (IsKept f (top_of logs)) passes
 
 -- Whatever a crash leaves at any moment recovers.
-abbrev pub CrashLaw : (State Device : Type 0) → Type 0
-CrashLaw State Device = (b : TraceView) (f : Frame) (passes : List (PassView State Device))
-    (images : List (List (List ℕ))) → IsMoment b f passes → AreLeft passes images → Recovers f passes images
+abbrev pub SharedCrashLaw : (State Device : Type 0) → Type 0
+SharedCrashLaw State Device = (b : TraceView) (f : Frame) (passes : List (PassView State Device))
+    (images : List (List (List ℕ))) → IsMoment b f passes → AreLeft passes images → PassesRecover f passes images
 
 module _ {State Op Query Reply Device : Type 0} (b : Behaviour State Op Query Reply) (means : Device → DeviceView) where
   -- Between its calls a pass has such a log,
@@ -93,7 +93,7 @@ module _ {State Op Query Reply Device : Type 0} (b : Behaviour State Op Query Re
   LogLaw = (onll : OnllView State) (pass : PassView State Device) → IsTied b means onll pass → HasLog pass
 
   -- and every image that its device may then leave, where it tells its fenced words, is one that a crash may leave.
-  abbrev pub ImageLaw : Type 0
-  ImageLaw = (onll : OnllView State) (pass : PassView State Device) (told : Told) (image : List (List ℕ))
+  abbrev pub SharedImageLaw : Type 0
+  SharedImageLaw = (onll : OnllView State) (pass : PassView State Device) (told : Told) (image : List (List ℕ))
       → IsTied b means onll pass → (means pass.log.device).told ≡ Some told
       → Mixed told.fenced (means pass.log.device).read image → IsLeft pass.log.head pass.spot.me.part image

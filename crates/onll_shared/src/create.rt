@@ -6,7 +6,7 @@ ghost use Rattle.std.specs.List.{AllByRecursion};
 ghost use Rattle.onll_model.specs.Trace.{state_after};
 ghost use Rattle.onll_model.specs.Marks.{marked};
 ghost use Rattle.onll_trace.specs.Plans.{CanResume, base_place, new_plan};
-ghost use Rattle.onll_shared.specs.Starts.{AreLogs, AreMade, HasBegun, entries_of, HasRoomFor};
+ghost use Rattle.onll_shared.specs.Starts.{AreLogs, AreMade, HasBegun, entries_of, AreOfPlan};
 
 use crate::onll::Onll;
 use crate::pass::{Pass, log_facts};
@@ -58,7 +58,7 @@ fn make_passes<O: Object + Drop, P: Pmem + Drop>(
 ) -> Result<Vec<Pass<O, P>>, NoMemory>
     requires spots { length spots.items ≡ length rooms.now }
     requires logs { length logs.items ≡ length rooms.now }
-    requires plan { HasRoomFor trace.now.plan spots.items }
+    requires plan { AreOfPlan trace.now.plan spots.items }
     ensures { IfOk result (λ passes. AreMade P.means replica.now
         (base_place trace.now.plan) spots.items logs.items rooms.now passes.items) }
 {

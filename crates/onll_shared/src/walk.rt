@@ -5,7 +5,7 @@ ghost use Rattle.std.specs.List.{AllByRecursion};
 ghost use Rattle.onll_model.specs.Segment.{nodes_between};
 ghost use Rattle.onll_model.specs.Trace.{state_after, after_row};
 ghost use Rattle.onll_trace.specs.Spots.{IsOf, base_of};
-ghost use Rattle.onll_shared.specs.Walks.{BeginsWalk, IsWalked, Asks, Found, Met, MetAbove, nodes_at};
+ghost use Rattle.onll_shared.specs.Walks.{BeginsWalk, IsWalked, Asks, FoundPlace, Met, MetAbove, nodes_at};
 
 use arrayvec::ArrayVec;
 use onll_model::{Node, Object};
@@ -37,7 +37,7 @@ pub(crate) fn find_set(trace: &Trace, spot: &mut Spot, front: Post) -> Post
     requires of { IsOf trace.now spot.old }
     requires asks { Asks spot.old front }
     ensures of { IsOf trace.now spot.new }
-    ensures found { Found spot.old spot.new front.place result }
+    ensures found { FoundPlace spot.old spot.new front.place result }
 {
     let mut post = front;
     while post.name != 0 {

@@ -2,7 +2,7 @@
 
 use Rattle.std.proofs.Common.{ℕ, List, length, take, Option, Some, None, inl, inr, sym, subst}
 use Rattle.onll_model.specs.Object.{Behaviour}
-use Rattle.onll_core.specs.Created.{heads_from}
+use Rattle.onll_log.specs.Head.{heads_from}
 use Rattle.onll_outside.specs.Views.{StoreView}
 use Rattle.onll_standby.specs.Stream.{Course, Shown, course}
 use Rattle.onll_text.specs.Kinds.{ObjectKind}

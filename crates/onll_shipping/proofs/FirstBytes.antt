@@ -1,6 +1,6 @@
 -- The first bytes of a file.
 use Rattle.std.proofs.Common.{ℕ, zero, suc, Bool, true, false, List, [], ◌∷◌, ◌≡◌, take, Option, Some, None, refl, sym, ap, ◌∙◌, Result, Ok}
-use Rattle.onll_outside.specs.Views.{StoreView, Gives, IsFront}
+use Rattle.onll_outside.specs.Views.{StoreView, Gives, IsFrontOfFile}
 use Rattle.onll_text.specs.Refusal.{Refusal}
 use Rattle.onll_task.specs.Reading.{Reads}
 
@@ -16,7 +16,7 @@ front_in limit bytes = Ok (take limit bytes)
 pub front_read : (s : StoreView) (name text : List ℕ) (limit : ℕ) → Gives s name limit text → Reads s (front_in limit) name (take limit text)
 front_read s name text limit h = by_telling s.tells refl
   where
-    told : (found : Option (List ℕ)) → s.file name ≡ found → IsFront limit found text → Reads s (front_in limit) name (take limit text)
+    told : (found : Option (List ℕ)) → s.file name ≡ found → IsFrontOfFile limit found text → Reads s (front_in limit) name (take limit text)
     told None e k = absurd k
     told (Some all) e k = record { bytes = all; held = λ _. e; accepted = ap Ok (sym (ap (take limit) k ∙ first_twice limit all)) }
 

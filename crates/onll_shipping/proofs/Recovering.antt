@@ -15,7 +15,7 @@ use Rattle.onll_model.specs.Frames.{Frame, Thread, Sound, resumed_thread, resume
 use Rattle.onll_model.proofs.Lists.{some_not_none, all_append, all_left, all_take, all_drop, all_map}
 use Rattle.onll_model.proofs.FirstFrames.{resumed_sound}
 use Rattle.onll_log.specs.declared.head.LogHead.{LogHead}
-use Rattle.onll_log.specs.Head.{word, head_line, head_for}
+use Rattle.onll_log.specs.Head.{word, head_line, head_for, heads_from}
 use Rattle.onll_log.specs.Encoding.{log_lines, FitsNode, FitsEntry}
 use Rattle.onll_log.specs.Grammar.{Content, format_in, used_with}
 use Rattle.onll_log.specs.ImageFile.{longest_image, whole_lines}
@@ -32,12 +32,11 @@ use Rattle.onll_merge.specs.Resumed.{entries_of, CanGoOn}
 use Rattle.onll_merge.specs.Recovered.{Recovered, recovered_with, content_before, contents_from, heads_for, expected_heads, with_logs, merged, with_operations, state_recovered}
 use Rattle.onll_merge.proofs.Backs.{merge-back}
 use Rattle.onll_merge.proofs.Resumed.{can_go_on}
-use Rattle.onll_core.specs.Created.{heads_from}
 use Rattle.onll_outside.specs.LineFiles.{IsWholeLine}
 use Rattle.onll_areas.proofs.LinesBack.{length-image_bytes, whole_back}
 use Rattle.onll_standby.specs.Held.{HeldEntry, log_held}
 use Rattle.onll_standby.specs.Stream.{AreStreamHeads, Course, course, lines_course}
-use Rattle.onll_standby.specs.Shipped.{IsOfThreads, IsUpdate, AreFronts, AreAllOf, lines_of_entry, lines_of_entries, head_lines, stream_lines}
+use Rattle.onll_standby.specs.Shipped.{IsOfThreads, IsLogNode, AreFronts, AreAllOf, lines_of_entry, lines_of_entries, head_lines, stream_lines}
 use Rattle.onll_standby.specs.Laws.{FollowsTrace, FollowsMerge}
 use Rattle.onll_standby.proofs.Followed.{follows_trace}
 use Rattle.onll_standby.proofs.Recovered.{follows_merge}
@@ -277,10 +276,10 @@ module _ {State Op Query Reply : Type 0} (b : Behaviour State Op Query Reply) (c
   are : AreStreamHeads (heads_in logs)
   are = subst AreStreamHeads (sym run.of_run) (run_heads_expected code init threads some few)
 
-  updates : AllByRecursion (IsUpdate b threads) frame.trace
+  updates : AllByRecursion (IsLogNode b threads) frame.trace
   updates = both r.nodes on.fit recovered.operations
     where
-      both : (nodes : List Node) → AllByRecursion (FitsNode threads) nodes → AllByRecursion (IsOp b) nodes → AllByRecursion (IsUpdate b threads) nodes
+      both : (nodes : List Node) → AllByRecursion (FitsNode threads) nodes → AllByRecursion (IsOp b) nodes → AllByRecursion (IsLogNode b threads) nodes
       both [] h k = tt
       both (x ∷ nodes) h k = ((h.0, k.0), both nodes h.1 k.1)
 

@@ -6,7 +6,7 @@ use Rattle.onll_log.specs.ImageFile.{image_lines}
 use Rattle.onll_task.specs.declared.ending.Ending.{Ending}
 use Rattle.onll_task.specs.declared.ending.Ending.TheVariants.{Faulty}
 use Rattle.onll_task.specs.Job.{Job, JobEnds, Never}
-use Rattle.onll_task.specs.ImageNames.{image_names}
+use Rattle.onll_open.specs.Names.{log_names}
 use Rattle.onll_task.specs.Doing.{lines_stage, each_job}
 use Rattle.onll_task.proofs.ImageFiles.{reading_images_never}
 use Rattle.onll_task.proofs.Jobs.{IsRare}
@@ -36,4 +36,4 @@ images_not_faulty (name ∷ names) next store after text h (inr e) =
 
 pub ship_not_faulty : (store after : StoreView) (logs : List ℕ) (threads : ℕ) (out text : List ℕ) → JobEnds store after (ship_task logs threads out).job Faulty text → ⊥
 ship_not_faulty store after logs threads out text h =
-    images_not_faulty (image_names logs 0 threads) (λ images. (ship_logs_task out (ready images)).job) store after text (λ images. logs_not_faulty store after out text (ready images)) h
+    images_not_faulty (log_names logs 0 threads) (λ images. (ship_logs_task out (ready images)).job) store after text (λ images. logs_not_faulty store after out text (ready images)) h

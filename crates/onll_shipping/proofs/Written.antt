@@ -13,8 +13,8 @@ use Rattle.onll_text.proofs.Determined.{text_determined, line_same, says_only}
 use Rattle.onll_task.specs.declared.ending.Ending.TheVariants.{BadLog}
 use Rattle.onll_task.specs.declared.answer.Stop.{Stop}
 use Rattle.onll_task.specs.Stop.{StopSays}
-use Rattle.onll_task.specs.Images.{StandFor}
-use Rattle.onll_task.specs.Doing.{Task, Does, Begins, write_stage}
+use Rattle.onll_task.specs.Images.{AllDecide}
+use Rattle.onll_task.specs.Doing.{Task, Fulfils, DoesStage, write_stage}
 use Rattle.onll_task.proofs.Stages.{wider, wrote_does, stop_does, report_does, says_does, none_does}
 use Rattle.std.specs.Result.{IsErrAnd}
 use Rattle.onll_task.specs.declared.answer.Stop.TheVariants.{NoMemory}
@@ -23,13 +23,13 @@ use Rattle.onll_shipping.specs.ShipJob.{HeadedLog, ShipData, ShipReads, ship_dat
 use Rattle.onll_shipping.specs.Turns.{IsUsedUp}
 
 -- ---- images that were read
-pub contents_stand : (lines images : List (List (List ℕ))) → StandFor lines images → contents_of lines ≡ contents_of images
+pub contents_stand : (lines images : List (List (List ℕ))) → AllDecide lines images → contents_of lines ≡ contents_of images
 contents_stand [] [] h = refl
 contents_stand [] (i ∷ images) h = absurd h
 contents_stand (l ∷ lines) [] h = absurd h
 contents_stand (l ∷ lines) (i ∷ images) h = let one = h.0.content in let rest = contents_stand lines images h.1 in λ j. one j ∷ rest j
 
-pub used_up : (lines images : List (List (List ℕ))) → StandFor lines images → AllByRecursion IsUsedUp lines
+pub used_up : (lines images : List (List (List ℕ))) → AllDecide lines images → AllByRecursion IsUsedUp lines
 used_up [] [] h = tt
 used_up [] (i ∷ images) h = absurd h
 used_up (l ∷ lines) [] h = absurd h
@@ -60,7 +60,7 @@ ship_says : (text : List ℕ) (said : ShipData) → text ≡ flat_map line_text 
 ship_says text said e h = says_only ship_data_lines ShipReads determined text said e h
 
 -- ---- the command
-does_wider : {A : Type 0} {store after : StoreView} {task : Task} {r : Result (Vec ℕ A) Stop} (names : List (List ℕ)) → Does [] store after task r → Does names store after task r
+does_wider : {A : Type 0} {store after : StoreView} {task : Task} {r : Result (Vec ℕ A) Stop} (names : List (List ℕ)) → Fulfils [] store after task r → Fulfils names store after task r
 does_wider {store = store} {after} names d = record { done = d.done; reports = d.reports; stops = d.stops; files = wider names store after d.files }
 
 module _ (images : List (List (List ℕ))) (out : List ℕ) (store : StoreView) (fault : Option ShipFault) (is : fault ≡ ship_fault (contents_of images)) where
@@ -70,9 +70,9 @@ module _ (images : List (List (List ℕ))) (out : List ℕ) (store : StoreView) 
   pub ready_where : fault ≡ None → ready images ≡ Ok (headed_logs (contents_of images))
   ready_where e = ready_as None e
 
-  pub refused : {A : Type 0} (f : ShipFault) (stop : Stop) → fault ≡ Some f → StopSays stop (λ end said. (end ≡ BadLog) × (said ≡ ship_fault_line f)) → Does {A = A} (out ∷ []) store store (ship_logs_task out (ready images)) (Err stop)
+  pub refused : {A : Type 0} (f : ShipFault) (stop : Stop) → fault ≡ Some f → StopSays stop (λ end said. (end ≡ BadLog) × (said ≡ ship_fault_line f)) → Fulfils {A = A} (out ∷ []) store store (ship_logs_task out (ready images)) (Err stop)
   refused {A} f stop e says =
-      subst (λ (r : Result (List HeadedLog) ShipFault). Does {A = A} (out ∷ []) store store (ship_logs_task out r) (Err stop)) (sym (ready_as (Some f) e))
+      subst (λ (r : Result (List HeadedLog) ShipFault). Fulfils {A = A} (out ∷ []) store store (ship_logs_task out r) (Err stop)) (sym (ready_as (Some f) e))
       (does_wider (out ∷ []) (says_does store BadLog (ship_fault_line f) stop (λ k. cc k) says))
 
   -- the stream was made
@@ -80,25 +80,25 @@ module _ (images : List (List (List ℕ))) (out : List ℕ) (store : StoreView) 
     said_is : record { entries = entries; bytes = length bytes } ≡ ship_data (headed_logs (contents_of images))
     said_is = λ i. record { entries = entries_are i; bytes = length (bytes_are i) }
 
-    begins : {V : Type 0} {mid : StoreView} {value : V → Unit {0}} {r : Result V Stop} → Begins (out ∷ []) store mid (write_stage out bytes) value r
-        → Begins (out ∷ []) store mid (write_stage out (shipped_bytes (headed_logs (contents_of images)))) value r
-    begins {mid = mid} {value} {r} first = subst (λ (z : List ℕ). Begins (out ∷ []) store mid (write_stage out z) value r) bytes_are first
+    begins : {V : Type 0} {mid : StoreView} {value : V → Unit {0}} {r : Result V Stop} → DoesStage (out ∷ []) store mid (write_stage out bytes) value r
+        → DoesStage (out ∷ []) store mid (write_stage out (shipped_bytes (headed_logs (contents_of images)))) value r
+    begins {mid = mid} {value} {r} first = subst (λ (z : List ℕ). DoesStage (out ∷ []) store mid (write_stage out z) value r) bytes_are first
 
-    to_ready : {A : Type 0} {mid : StoreView} {r : Result (Vec ℕ A) Stop} → Does (out ∷ []) store mid (ship_logs_task out (Ok (headed_logs (contents_of images)))) r → Does (out ∷ []) store mid (ship_logs_task out (ready images)) r
-    to_ready {A} {mid} {r} d = subst (λ (x : Result (List HeadedLog) ShipFault). Does (out ∷ []) store mid (ship_logs_task out x) r) (sym (ready_as None e)) d
+    to_ready : {A : Type 0} {mid : StoreView} {r : Result (Vec ℕ A) Stop} → Fulfils (out ∷ []) store mid (ship_logs_task out (Ok (headed_logs (contents_of images)))) r → Fulfils (out ∷ []) store mid (ship_logs_task out (ready images)) r
+    to_ready {A} {mid} {r} d = subst (λ (x : Result (List HeadedLog) ShipFault). Fulfils (out ∷ []) store mid (ship_logs_task out x) r) (sym (ready_as None e)) d
 
-    pub shipped : {A V : Type 0} {mid : StoreView} {value : V → Unit {0}} {v : V} (text : Vec ℕ A) → Begins (out ∷ []) store mid (write_stage out bytes) value (Ok v)
+    pub shipped : {A V : Type 0} {mid : StoreView} {value : V → Unit {0}} {v : V} (text : Vec ℕ A) → DoesStage (out ∷ []) store mid (write_stage out bytes) value (Ok v)
         → text.items ≡ flat_map line_text (ship_data_lines (record { entries = entries; bytes = length bytes })) → ShipReads (record { entries = entries; bytes = length bytes })
-        → Does (out ∷ []) store mid (ship_logs_task out (ready images)) (Ok text)
+        → Fulfils (out ∷ []) store mid (ship_logs_task out (ready images)) (Ok text)
     shipped text first printed reads =
         let all = headed_logs (contents_of images) in
         let text_is : text.items ≡ flat_map line_text (ship_data_lines (ship_data all)) = printed ∙ ap (λ (x : ShipData). flat_map line_text (ship_data_lines x)) said_is in
         let holds = ship_says text.items (ship_data all) text_is (subst ShipReads said_is reads) in
         to_ready (wrote_does (λ _. ship_report_task all) (begins first) (λ any. report_does any text text_is holds))
 
-    pub unsaid : {A V : Type 0} {mid : StoreView} {value : V → Unit {0}} {v : V} {r : Result (Vec ℕ A) Stop} → Begins (out ∷ []) store mid (write_stage out bytes) value (Ok v) → IsErrAnd r (λ stop. stop ≡ NoMemory)
-        → Does (out ∷ []) store mid (ship_logs_task out (ready images)) r
+    pub unsaid : {A V : Type 0} {mid : StoreView} {value : V → Unit {0}} {v : V} {r : Result (Vec ℕ A) Stop} → DoesStage (out ∷ []) store mid (write_stage out bytes) value (Ok v) → IsErrAnd r (λ stop. stop ≡ NoMemory)
+        → Fulfils (out ∷ []) store mid (ship_logs_task out (ready images)) r
     unsaid first none = let all = headed_logs (contents_of images) in to_ready (wrote_does (λ _. ship_report_task all) (begins first) (λ any. none_does [] any (ship_report_task all) none))
 
-    pub unwritten : {A V : Type 0} {mid : StoreView} {value : V → Unit {0}} {s : Stop} → Begins (out ∷ []) store mid (write_stage out bytes) value (Err s) → Does {A = A} (out ∷ []) store mid (ship_logs_task out (ready images)) (Err s)
+    pub unwritten : {A V : Type 0} {mid : StoreView} {value : V → Unit {0}} {s : Stop} → DoesStage (out ∷ []) store mid (write_stage out bytes) value (Err s) → Fulfils {A = A} (out ∷ []) store mid (ship_logs_task out (ready images)) (Err s)
     unwritten first = to_ready (stop_does (λ _. ship_report_task (headed_logs (contents_of images))) (begins first))

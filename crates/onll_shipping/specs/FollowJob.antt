@@ -6,7 +6,7 @@ use Rattle.std.specs.List.{flat_map}
 use Rattle.onll_words.specs.Texts.{line_text}
 use Rattle.onll_model.specs.Object.{Behaviour}
 use Rattle.onll_model.specs.Trace.{state_after}
-use Rattle.onll_core.specs.Created.{heads_from}
+use Rattle.onll_log.specs.Head.{heads_from}
 use Rattle.onll_standby.specs.declared.fault.FeedFault.{FeedFault}
 use Rattle.onll_standby.specs.declared.fault.FeedFault.TheVariants.{NotThisRun, Refused, Disorder, Clash, Stray, NotOp, NoMemory}
 use Rattle.onll_standby.specs.Stream.{Course, Shown, course}

@@ -6,7 +6,7 @@ use Rattle.onll_model.specs.Limits.{most_threads}
 use Rattle.onll_model.specs.Object.{Behaviour}
 use Rattle.onll_model.specs.Trace.{state_after}
 use Rattle.onll_merge.specs.Recovered.{Recovered, expected_heads, state_recovered}
-use Rattle.onll_core.specs.Created.{heads_from}
+use Rattle.onll_log.specs.Head.{heads_from}
 use Rattle.onll_standby.specs.Stream.{Course, course}
 use Rattle.onll_task.specs.FileLines.{FitFile}
 use Rattle.onll_shipping.specs.FollowJob.{follow_data, longest_stream}

@@ -8,7 +8,7 @@ ghost use Rattle.onll_log.specs.declared.head.LogHead.{LogHead};
 ghost use Rattle.onll_outside.specs.Views.{StoreView};
 ghost use Rattle.onll_standby.specs.Stream.{AreStreamHeads, course};
 ghost use Rattle.onll_standby.specs.Standby.{IsFed};
-ghost use Rattle.onll_task.specs.Doing.{Does, Begins};
+ghost use Rattle.onll_task.specs.Doing.{Fulfils, DoesStage};
 ghost use Rattle.onll_text.specs.Bytes.{begins_line};
 ghost use Rattle.onll_text.specs.Kinds.{kind_by};
 ghost use Rattle.onll_shipping.specs.FollowJob.{FollowData, FollowReads, follow_data_lines, followed_task, follow_task, longest_stream, stream_stage};
@@ -32,7 +32,7 @@ pub const LONGEST_PIECE: u64 = 1_048_576;
 /// The bytes of a stream, or what is said in their place.
 fn stream_file<S: Store>(alloc: Global, name: &str, store: &mut S) -> Result<Vec<u8>, Stop>
     ensures begins { let stage = stream_stage name.now in
-        Begins [] (S.seen store.old) (S.seen store.new) stage (λ bytes. bytes.items) result }
+        DoesStage [] (S.seen store.old) (S.seen store.new) stage (λ bytes. bytes.items) result }
     ensures few { IfOk result (λ bytes. length bytes.items ≤ longest_stream) }
 {
     match store.read(alloc, name, LONGEST_STREAM as u64) {
@@ -111,7 +111,7 @@ fn follow_bytes<O: Texted + Drop>(
     requires piece { 1 ≤ piece }
     requires few { length bytes.now ≤ longest_stream }
     ensures { let task = followed_task O.means O.wording object (length bytes.now) (course O.means heads.items bytes.now) in
-        (store : StoreView) → Does [] store store task result }
+        (store : StoreView) → Fulfils [] store store task result }
 {
     let mut standby = Standby::begin(alloc, object, heads)?;
     match feed_all(&mut standby, bytes, piece) {
@@ -143,7 +143,7 @@ pub fn follow_on<O: Texted + Drop, S: Store>(
     requires threads { (1 ≤ threads) × (threads ≤ most_threads) }
     requires piece { 1 ≤ piece }
     ensures { let task = follow_task (kind_by O.means O.wording O.CODE) init.now stream.now threads object in
-        Does [] (S.seen store.old) (S.seen store.new) task result }
+        Fulfils [] (S.seen store.old) (S.seen store.new) task result }
 {
     let bytes = match stream_file(alloc, stream, store) {
         Ok(bytes) => bytes,

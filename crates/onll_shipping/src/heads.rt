@@ -2,7 +2,7 @@
 
 ghost use Rattle.std.specs.Prelude.{◌≡◌, ◌≤◌, IfOk};
 ghost use Rattle.onll_model.specs.Limits.{most_threads, greatest_code};
-ghost use Rattle.onll_core.specs.Created.{heads_from};
+ghost use Rattle.onll_log.specs.Head.{heads_from};
 ghost use Rattle.onll_standby.specs.Stream.{AreStreamHeads};
 
 use onll_log::LogHead;

@@ -4,7 +4,7 @@ ghost use Rattle.std.specs.Prelude.{[], ◌∷◌, ◌≡◌, ◌<◌, ◌≤◌
 ghost use Rattle.std.specs.List.{AllByRecursion, flat_map};
 ghost use Rattle.onll_words.specs.Texts.{line_text};
 ghost use Rattle.onll_model.specs.Limits.{most_threads};
-ghost use Rattle.onll_task.specs.Doing.{Does};
+ghost use Rattle.onll_task.specs.Doing.{Fulfils};
 ghost use Rattle.onll_shipping.specs.ShipJob.{ShipData, ShipReads, contents_of, ready, ship_data_lines, ship_fault, ship_logs_task, ship_task};
 ghost use Rattle.onll_shipping.specs.Turns.{IsUsedUp};
 
@@ -44,7 +44,7 @@ fn ship_ready<S: Store>(
     requires used { AllByRecursion IsUsedUp images.now }
     requires ready { ship_fault (contents_of images.now) ≡ None }
     ensures { let task = ship_logs_task out.now (ready images.now) in
-        Does (out.now ∷ []) (S.seen store.old) (S.seen store.new) task result }
+        Fulfils (out.now ∷ []) (S.seen store.old) (S.seen store.new) task result }
 {
     let stream = stream_of(alloc, images)?;
     match write_bytes(alloc, out, &stream.bytes, store) {
@@ -62,7 +62,7 @@ fn ship_images<S: Store>(
 ) -> Result<Vec<u8>, Stop>
     requires { AllByRecursion IsUsedUp images.now }
     ensures { let task = ship_logs_task out.now (ready images.now) in
-        Does (out.now ∷ []) (S.seen store.old) (S.seen store.new) task result }
+        Fulfils (out.now ∷ []) (S.seen store.old) (S.seen store.new) task result }
 {
     match ship_fault(images) {
         Some(fault) => Err(bad_log(alloc, fault)),
@@ -81,7 +81,7 @@ pub fn ship<S: Store>(
 ) -> Result<Vec<u8>, Stop>
     requires { (1 ≤ threads) × (threads ≤ most_threads) }
     ensures { let task = ship_task logs.now threads out.now in
-        Does (out.now ∷ []) (S.seen store.old) (S.seen store.new) task result }
+        Fulfils (out.now ∷ []) (S.seen store.old) (S.seen store.new) task result }
 {
     match read_images(alloc, logs, threads, store) {
         Ok(kept) => ship_images(alloc, &kept.images, out, store),

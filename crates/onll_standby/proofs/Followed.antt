@@ -17,20 +17,20 @@ use Rattle.onll_standby.specs.declared.fault.FeedFault.{FeedFault}
 use Rattle.onll_standby.specs.declared.fault.FeedFault.TheVariants.{Disorder, Clash}
 use Rattle.onll_standby.specs.Held.{HeldEntry, segments_held, log_held, greatest_place, clash_with, goes_up, entry_fault, followed_above, node_fault_above, nodes_followed, node_fault}
 use Rattle.onll_standby.specs.Stream.{AreStreamHeads, byte_at, waits, entries_course, after_heads, lines_course}
-use Rattle.onll_standby.specs.Shipped.{IsOfThreads, AreFronts, IsUpdate, IsFrontOf, lines_of_entry, lines_of_entries, head_lines, stream_lines}
+use Rattle.onll_standby.specs.Shipped.{IsOfThreads, AreFronts, IsLogNode, IsFrontOf, lines_of_entry, lines_of_entries, head_lines, stream_lines}
 use Rattle.onll_standby.specs.Laws.{FollowsTrace}
 use Rattle.onll_standby.proofs.Counting.{short_trace}
 use Rattle.onll_standby.proofs.OnTrace.{no_clash, nodes_from-front, numbered_take, take_length, all_followed}
 use Rattle.onll_standby.proofs.Entries.{log_held-append, log_held-own, all_held, rises_after, head_at, no_foreign_line, skipped, entry_held}
 
 module _ {State Op Query Reply : Type 0} (b : Behaviour State Op Query Reply) (count : ℕ) (f : Frame) (heads : List LogHead) (sound : Sound count f)
-    (many : length heads ≡ count) (are : AreStreamHeads heads) (updates : AllByRecursion (IsUpdate b count) f.trace) where
+    (many : length heads ≡ count) (are : AreStreamHeads heads) (updates : AllByRecursion (IsLogNode b count) f.trace) where
   -- ---- each segment of the frame
   fit_nodes : AllByRecursion (FitsNode count) f.trace
-  fit_nodes = all_map (IsUpdate b count) (FitsNode count) f.trace (λ x h. h.0) updates
+  fit_nodes = all_map (IsLogNode b count) (FitsNode count) f.trace (λ x h. h.0) updates
 
   operations : AllByRecursion (λ (x : Node). b.op_at x.row ≢ None) f.trace
-  operations = all_map (IsUpdate b count) (λ (x : Node). b.op_at x.row ≢ None) f.trace (λ x h. h.1) updates
+  operations = all_map (IsLogNode b count) (λ (x : Node). b.op_at x.row ≢ None) f.trace (λ x h. h.1) updates
 
   pub short : length f.trace ≤ 4096 * count
   short = short_trace 4096 count f.trace sound.numbered (all_map (FitsNode count) (λ (x : Node). x.number ≤ 4096) f.trace (λ x h. h.number.1) fit_nodes) sound.below

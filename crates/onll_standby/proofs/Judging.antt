@@ -19,13 +19,13 @@ use Rattle.onll_standby.specs.declared.holdings.Holdings.{Holdings}
 use Rattle.onll_standby.specs.Held.{HeldEntry, log_held, node_held, greatest_place, covered, nodes_followed, node_fault, clash_among, clash_with, goes_up, entry_fault}
 use Rattle.onll_standby.specs.Places.{held_at, with_nodes}
 use Rattle.onll_standby.specs.Applied.{StandsAfter, HasAdvanced}
-use Rattle.onll_standby.specs.Holdings.{AreLogTails, AreHeld, Keeps, StopsAtNode}
+use Rattle.onll_standby.specs.Holdings.{AreLogTails, AreHeldNodes, KeepsEntries, StopsAtNode}
 use Rattle.onll_standby.proofs.Entries.{log_held-append}
 use Rattle.onll_standby.proofs.OneMore.{clash-alike, covered_more, put_alike}
 
 -- ---- the fault of an entry
 pub fault_clash : (es : List HeldEntry) (at : ℕ) (e : HeldEntry) (last : ℕ) (slots : List (Option Node)) (o : Option ℕ) → last ≡ last_place 0 (log_held e.thread es)
-    → last + length e.segment.nodes ≤ e.segment.place → AreHeld es slots → o ≡ clash_among (held_at slots) (e.segment.place - length e.segment.nodes + 1) e.segment.nodes
+    → last + length e.segment.nodes ≤ e.segment.place → AreHeldNodes es slots → o ≡ clash_among (held_at slots) (e.segment.place - length e.segment.nodes + 1) e.segment.nodes
     → option_map (Clash at) o ≡ entry_fault es at e
 fault_clash es at e last slots o is up alike asked =
     let s : Segment = e.segment in
@@ -75,7 +75,7 @@ long os below (x ∷ xs) = long (set os below (Some x)) (below + 1) xs ∙ lengt
 
 -- ---- one entry more
 module _ {State Op Query Reply : Type 0} (b : Behaviour State Op Query Reply) (start : State) (threads : ℕ) (es : List HeldEntry) (e : HeldEntry) (at : ℕ)
-    (old : Holdings State Op Query Reply) (keeps : Keeps b start threads es old) (no : entry_fault es at e ≡ None)
+    (old : Holdings State Op Query Reply) (keeps : KeepsEntries b start threads es old) (no : entry_fault es at e ≡ None)
     (low : length e.segment.nodes ≤ e.segment.place) (high : e.segment.place ≤ length old.places) where
   abbrev slots : List (Option Node)
   slots = with_nodes old.places (e.segment.place - length e.segment.nodes) e.segment.nodes
@@ -86,7 +86,7 @@ module _ {State Op Query Reply : Type 0} (b : Behaviour State Op Query Reply) (s
   abbrev left : ℕ
   left = greatest_place threads - length (covered threads es)
 
-  alike : AreHeld (es ++ e ∷ []) slots
+  alike : AreHeldNodes (es ++ e ∷ []) slots
   alike = put_alike old.places es e keeps.places low high (no_clash_of es at e no)
 
   pub room : length slots ≤ length (covered threads es) + left
@@ -94,7 +94,7 @@ module _ {State Op Query Reply : Type 0} (b : Behaviour State Op Query Reply) (s
 
   -- all nodes that are covered then are followed
   pub admitted : (applied : Applied State Op Query Reply) (logs : List LogTail) (held : ℕ) → HasAdvanced b start (covered threads es) left slots (Ok tt) applied → AreLogTails (es ++ e ∷ []) logs → held ≡ old.held + 1
-      → Keeps b start threads (es ++ e ∷ []) (record { applied = applied; places = slots; logs = logs; held = held })
+      → KeepsEntries b start threads (es ++ e ∷ []) (record { applied = applied; places = slots; logs = logs; held = held })
   admitted applied logs held a are count =
       let c = covered_more b threads es e slots keeps.clean alike in
       let n = long old.places (e.segment.place - length e.segment.nodes) e.segment.nodes in let r = keeps.room in let h = keeps.held in let l = length-append es (e ∷ []) in
@@ -122,11 +122,11 @@ module _ {State Op Query Reply : Type 0} (b : Behaviour State Op Query Reply) (s
 
   -- the same of slots that are given by an equation
   pub admitted_in : (given : List (Option Node)) → given ≡ slots → (applied : Applied State Op Query Reply) (logs : List LogTail) (held : ℕ) → (HasRoom given → HasAdvanced b start (covered threads es) left given (Ok tt) applied)
-      → AreLogTails (es ++ e ∷ []) logs → held ≡ old.held + 1 → Keeps b start threads (es ++ e ∷ []) (record { applied = applied; places = given; logs = logs; held = held })
+      → AreLogTails (es ++ e ∷ []) logs → held ≡ old.held + 1 → KeepsEntries b start threads (es ++ e ∷ []) (record { applied = applied; places = given; logs = logs; held = held })
   admitted_in given is applied logs held a are count =
       let r : HasRoom given = subst HasRoom (sym is) room in
       let P : List (Option Node) → Type 0 = λ z. HasAdvanced b start (covered threads es) left z (Ok tt) applied in
-      let Q : List (Option Node) → Type 0 = λ z. Keeps b start threads (es ++ e ∷ []) (record { applied = applied; places = z; logs = logs; held = held }) in
+      let Q : List (Option Node) → Type 0 = λ z. KeepsEntries b start threads (es ++ e ∷ []) (record { applied = applied; places = z; logs = logs; held = held }) in
       subst Q (sym is) (admitted applied logs held (subst P is (a r)) are count)
 
   pub stopped_in : (given : List (Option Node)) → given ≡ slots → (applied : Applied State Op Query Reply) (logs : List LogTail) (f : FeedFault) → (HasRoom given → HasAdvanced b start (covered threads es) left given (Err f) applied)

@@ -20,7 +20,7 @@ use Rattle.onll_merge.proofs.Fronts.{node_among-has, top_of-lies, LiesIn-append}
 use Rattle.onll_merge.proofs.FrameLogs.{hold_one, merge_to_front}
 use Rattle.onll_standby.specs.Held.{HeldEntry, segments_held, log_held, node_held, node_then, nodes_from, greatest_place, covered}
 use Rattle.onll_standby.specs.Stream.{AreStreamHeads, Course, lines_course}
-use Rattle.onll_standby.specs.Shipped.{IsOfThreads, AreFronts, AreAllOf, IsUpdate, IsFrontOf, stream_lines}
+use Rattle.onll_standby.specs.Shipped.{IsOfThreads, AreFronts, AreAllOf, IsLogNode, IsFrontOf, stream_lines}
 use Rattle.onll_standby.specs.Laws.{FollowsMerge}
 use Rattle.onll_standby.proofs.Entries.{log_held-own}
 use Rattle.onll_standby.proofs.OneMore.{followed-all}
@@ -86,7 +86,7 @@ at_most held top (suc k) q h l =
     (λ x e. let here = h (q + 1) x (omega arith) e in let rest = at_most held top k (q + 1) h here in omega arith)
 
 module _ {State Op Query Reply : Type 0} (b : Behaviour State Op Query Reply) (count : ℕ) (f : Frame) (heads : List LogHead) (logs : List Content) (es : List HeldEntry) (sound : Sound count f)
-    (many : length heads ≡ count) (are : AreStreamHeads heads) (updates : AllByRecursion (IsUpdate b count) f.trace) (left : AreLogsOf f.threads heads logs) (all : AreAllOf count logs es) where
+    (many : length heads ≡ count) (are : AreStreamHeads heads) (updates : AllByRecursion (IsLogNode b count) f.trace) (left : AreLogsOf f.threads heads logs) (all : AreAllOf count logs es) where
   fronts : AreFronts count f es
   fronts = record {
     threads = all.threads;

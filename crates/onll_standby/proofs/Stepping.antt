@@ -17,10 +17,10 @@ use Rattle.onll_standby.specs.declared.holdings.Holdings.{Holdings}
 use Rattle.onll_standby.specs.declared.follower.Follower.{Follower}
 use Rattle.onll_standby.specs.Held.{HeldEntry, node_held, nodes_from, greatest_place, covered, nodes_followed}
 use Rattle.onll_standby.specs.Applied.{StandsAfter}
-use Rattle.onll_standby.specs.Holdings.{Keeps}
+use Rattle.onll_standby.specs.Holdings.{KeepsEntries}
 use Rattle.onll_standby.specs.Stream.{AreStreamHeads, Course, opens, head_named, before_it, byte_at, waits, shows, entries_course, lines_course}
 use Rattle.onll_standby.specs.Entry.{EntryBegins, FollowsCourse, StopsAtCourse, TookEntry}
-use Rattle.onll_standby.specs.Follower.{EntryHasBegun, IsWholeEntry, IsReady, FollowsLines, LineUncounted}
+use Rattle.onll_standby.specs.Follower.{EntryHasBegun, IsWholeEntry, IsFollower, FollowsLines, LineUncounted}
 use Rattle.onll_standby.proofs.Lining.{heads_course, head_more, head_foreign, line_more, opened_course, refused_course, unfinished_course}
 use Rattle.onll_standby.proofs.OneMore.{followed-all}
 use Rattle.onll_standby.proofs.Taking.{header_by}
@@ -31,7 +31,7 @@ empty_nodes (suc k) = refl
 
 -- before the first line
 pub begins_at : {State Op Query Reply : Type 0} (b : Behaviour State Op Query Reply) (start : State) (heads : List LogHead) (f : Follower State Op Query Reply) → AreStreamHeads heads → f.heads.items ≡ heads
-    → f.lines ≡ 0 → f.entry ≡ [] → f.fault ≡ None → Keeps b start (length heads) [] f.holdings → FollowsLines b start heads [] f
+    → f.lines ≡ 0 → f.entry ≡ [] → f.fault ≡ None → KeepsEntries b start (length heads) [] f.holdings → FollowsLines b start heads [] f
 begins_at b start heads f are same none empty clean keeps =
     let c : lines_course b heads [] ≡ waits b heads [] [] = first heads in
     record {
@@ -81,7 +81,7 @@ module _ {State Op Query Reply : Type 0} (b : Behaviour State Op Query Reply) (s
       let h = heads_course b heads ls l is.held.shown (omega arith) in
       let c = head_foreign b heads ls l is.held.shown d few other in
       let n = is.lines in let m = one_more in
-      let keeps : Keeps b start (length heads) [] old.holdings = subst (λ (z : Course). Keeps b start (length heads) z.entries old.holdings) h is.held.keeps in
+      let keeps : KeepsEntries b start (length heads) [] old.holdings = subst (λ (z : Course). KeepsEntries b start (length heads) z.entries old.holdings) h is.held.keeps in
       subst (λ (z : Course). StopsAtCourse b start (length all) z (NotThisRun old.lines) old.holdings) (sym c) record {
         shown = λ i. Some (record { fault = NotThisRun (sym n i); lines = sym m i });
         held = keeps.held;
@@ -175,7 +175,7 @@ module _ {State Op Query Reply : Type 0} (b : Behaviour State Op Query Reply) (s
 
 -- the header line of an unfinished entry can begin it, by what is held
 pub opened_by : {State Op Query Reply : Type 0} (b : Behaviour State Op Query Reply) (start : State) (heads : List LogHead) (es : List HeldEntry) (h : Holdings State Op Query Reply) (line : List ℕ) → AreStreamHeads heads
-    → EntryBegins heads h.logs line → Keeps b start (length heads) es h → opens (head_named heads line) (before_it es line) line ≡ true
+    → EntryBegins heads h.logs line → KeepsEntries b start (length heads) es h → opens (head_named heads line) (before_it es line) line ≡ true
 opened_by b start heads es h line are begun keeps =
     let d : LogTail = record { entries = 0; last = 0 } in
     let k = header_by heads h.logs line are begun in let l = k.thread in let m = k.few_threads in
@@ -187,7 +187,7 @@ opened_by b start heads es h line are begun keeps =
 eq_false : (m n : ℕ) → false ≡ (m == n) → m ≡ n → ⊥
 eq_false m n e q = true≢false (sym (eq-eqb m n q) ∙ sym e)
 
-module _ {State Op Query Reply : Type 0} (old : Follower State Op Query Reply) (l : List ℕ) (ready : IsReady old) (some : 1 ≤ length old.entry) (last : Bool)
+module _ {State Op Query Reply : Type 0} (old : Follower State Op Query Reply) (l : List ℕ) (ready : IsFollower old) (some : 1 ≤ length old.entry) (last : Bool)
     (tells : (h : List ℕ) (r : List (List ℕ)) → old.entry ≡ h ∷ r → last ≡ (length r + 1 == word h 4)) where
   abbrev Begun : List (List ℕ) → Type 0
   Begun entry = EntryHasBegun old.heads.items old.holdings.logs entry
@@ -232,7 +232,7 @@ module _ {State Op Query Reply : Type 0} (old : Follower State Op Query Reply) (
             node_taken b start heads ls l old is enough h r k (omega arith) (opened h r k)
 
     pub node_last : (result : Result (Unit {0}) FeedFault) (new : Holdings State Op Query Reply)
-        → ((es : List HeldEntry) (at : ℕ) → byte_at at ≡ old.begins → Keeps b start (length old.heads.items) es old.holdings
+        → ((es : List HeldEntry) (at : ℕ) → byte_at at ≡ old.begins → KeepsEntries b start (length old.heads.items) es old.holdings
         → TookEntry b start old.heads.items at (old.entry ++ l ∷ []) (entries_course b old.heads.items es at 0 (old.entry ++ l ∷ [])) result new)
         → LineUncounted b start heads (ls ++ l ∷ []) result (record old { entry = []; holdings = new })
     node_last result new took = by_entry old.entry refl
@@ -244,7 +244,7 @@ module _ {State Op Query Reply : Type 0} (old : Follower State Op Query Reply) (
         by_entry [] k = absurd (let n = ap (λ (z : List (List ℕ)). length z) k in let f : ⊥ = omega arith in f)
         by_entry (h ∷ r) k =
             let es : List HeldEntry = (lines_course b heads ls).entries in
-            let keeps : Keeps b start (length old.heads.items) es old.holdings = subst (λ (hs : List LogHead). Keeps b start (length hs) es old.holdings) (sym is.same) is.held.keeps in
+            let keeps : KeepsEntries b start (length old.heads.items) es old.holdings = subst (λ (hs : List LogHead). KeepsEntries b start (length hs) es old.holdings) (sym is.same) is.held.keeps in
             let t = took es at (sym (is.begins h r k)) keeps in
             let u : TookEntry b start heads at (old.entry ++ l ∷ []) (entries_course b heads es at 0 (old.entry ++ l ∷ [])) result new =
             subst (λ (hs : List LogHead). TookEntry b start hs at (old.entry ++ l ∷ []) (entries_course b hs es at 0 (old.entry ++ l ∷ [])) result new) is.same t in
@@ -269,7 +269,7 @@ module _ {State Op Query Reply : Type 0} (b : Behaviour State Op Query Reply) (s
       subst (λ (z : FeedFault). StopsAtCourse b start (length (ls ++ l ∷ [])) (lines_course b heads (ls ++ l ∷ [])) z old.holdings) (sym no_.0) (head_refused b start heads ls l old is d (omega arith) (sym (asked d) ∙ no_.1))
 
   -- the header line of an entry
-  module _ (ready : IsReady old) (empty : old.entry ≡ []) (enough : length old.heads.items ≤ old.lines) where
+  module _ (ready : IsFollower old) (empty : old.entry ≡ []) (enough : length old.heads.items ≤ old.lines) where
     tail : (h : LogHead) → slice_get heads (word l 1) ≡ Some h → (d : LogTail) → (get_or old.holdings.logs (word l 1) d).entries ≡ before_it (lines_course b heads ls).entries l
     tail h e d = let n = inside heads (word l 1) h e in let f = ready.heads.few_heads in let m = heads_many in ap (λ (t : LogTail). t.entries) (is.held.keeps.logs (word l 1) d (omega arith))
 
@@ -299,15 +299,15 @@ module _ {State Op Query Reply : Type 0} (b : Behaviour State Op Query Reply) (s
         (header_refused b start heads ls l old is (omega arith) empty (sym (opens_is z) ∙ (no_ z).1)))
 
 -- a line that begins an entry leaves a ready follower
-module _ {State Op Query Reply : Type 0} (old : Follower State Op Query Reply) (l : List ℕ) (ready : IsReady old) (empty : old.entry ≡ []) (enough : length old.heads.items ≤ old.lines) where
+module _ {State Op Query Reply : Type 0} (old : Follower State Op Query Reply) (l : List ℕ) (ready : IsFollower old) (empty : old.entry ≡ []) (enough : length old.heads.items ≤ old.lines) where
   pub header_ready : (result : Result (Unit {0}) FeedFault) (new : Follower State Op Query Reply) → ((d : LogTail) → OnOk result (opens (head_named old.heads.items l) (get_or old.holdings.logs (word l 1) d).entries l ≡ true))
-      → OnOk result (new ≡ record old { entry = l ∷ []; begins = 64 * old.lines }) → IfErr result (λ _. new ≡ old) → IsReady (record new { lines = new.lines + 1 })
+      → OnOk result (new ≡ record old { entry = l ∷ []; begins = 64 * old.lines }) → IfErr result (λ _. new ≡ old) → IsFollower (record new { lines = new.lines + 1 })
   header_ready (Ok u) new opened begun stays =
       let some = (header_by old.heads.items old.holdings.logs l ready.heads opened).some_nodes in let f = ready.few in
-      subst (λ (z : Follower State Op Query Reply). IsReady (record z { lines = z.lines + 1 })) (sym begun)
+      subst (λ (z : Follower State Op Query Reply). IsFollower (record z { lines = z.lines + 1 })) (sym begun)
       record { heads = ready.heads; entry = (opened, omega arith); few = omega arith; room = ready.room }
   header_ready (Err e) new opened begun stays = let f = ready.few in
-      subst (λ (z : Follower State Op Query Reply). IsReady (record z { lines = z.lines + 1 })) (sym stays) record { heads = ready.heads; entry = ready.entry; few = omega arith; room = ready.room }
+      subst (λ (z : Follower State Op Query Reply). IsFollower (record z { lines = z.lines + 1 })) (sym stays) record { heads = ready.heads; entry = ready.entry; few = omega arith; room = ready.room }
 
 pub no_lines : (ls : List Line) (entry : List (List ℕ)) → words_of ls ≡ entry → length ls ≡ 0 → entry ≡ []
 no_lines [] entry e n = sym e

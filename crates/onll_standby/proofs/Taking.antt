@@ -20,7 +20,7 @@ use Rattle.onll_standby.specs.declared.holdings.LogTail.{LogTail}
 use Rattle.onll_standby.specs.declared.holdings.Holdings.{Holdings}
 use Rattle.onll_standby.specs.Held.{HeldEntry, covered, nodes_followed, node_fault, entry_fault}
 use Rattle.onll_standby.specs.Applied.{StandsAfter}
-use Rattle.onll_standby.specs.Holdings.{Keeps, HasAdmitted}
+use Rattle.onll_standby.specs.Holdings.{KeepsEntries, HasAdmitted}
 use Rattle.onll_standby.specs.Stream.{AreStreamHeads, Course, opens, is_whole, head_named, before_it, entry_of, byte_at, waits, entries_course}
 use Rattle.onll_standby.specs.Entry.{EntryBegins, FollowsCourse, StopsAtCourse, TookEntry}
 use Rattle.onll_standby.proofs.Cut.{stepped}
@@ -87,7 +87,7 @@ named_of heads logs line ns h before n e =
 
 module _ {State Op Query Reply : Type 0} (b : Behaviour State Op Query Reply) (start : State) (heads : List LogHead) (es : List HeldEntry) (at : ℕ)
     (old : Holdings State Op Query Reply) (line : List ℕ) (ns : List (List ℕ)) (are : AreStreamHeads heads) (begun : EntryBegins heads old.logs line) (whole : length ns ≡ word line 4)
-    (keeps : Keeps b start (length heads) es old) where
+    (keeps : KeepsEntries b start (length heads) es old) where
   abbrev e : HeldEntry
   e = entry_of line ns
 

@@ -8,7 +8,7 @@ use Rattle.onll_standby.specs.declared.holdings.LogTail.{LogTail}
 use Rattle.onll_standby.specs.declared.holdings.Holdings.{Holdings}
 use Rattle.onll_standby.specs.Held.{nodes_followed}
 use Rattle.onll_standby.specs.Applied.{StandsAfter}
-use Rattle.onll_standby.specs.Holdings.{Keeps}
+use Rattle.onll_standby.specs.Holdings.{KeepsEntries}
 use Rattle.onll_standby.specs.Stream.{Course, opens, head_named}
 
 -- the header line can begin the next entry of its log
@@ -20,7 +20,7 @@ pub record FollowsCourse {State Op Query Reply : Type 0} (b : Behaviour State Op
     (c : Course) (h : Holdings State Op Query Reply) : Type 0 where
   pub shown : c.shown ≡ None
   pub nodes : c.nodes ≡ nodes_followed b (length heads) c.entries
-  pub keeps : Keeps b start (length heads) c.entries h
+  pub keeps : KeepsEntries b start (length heads) c.entries h
 
 -- it stands at this course, which shows this fault at the end of so many lines
 pub record StopsAtCourse {State Op Query Reply : Type 0} (b : Behaviour State Op Query Reply) (start : State) (lines : ℕ)

@@ -21,7 +21,7 @@ IsWholeEntry heads logs [] = ⊥
 IsWholeEntry heads logs (l ∷ ls) = EntryBegins heads logs l × (length ls ≡ word l 4)
 
 -- what holds of every follower
-pub record IsReady {State Op Query Reply : Type 0} (f : Follower State Op Query Reply) : Type 0 where
+pub record IsFollower {State Op Query Reply : Type 0} (f : Follower State Op Query Reply) : Type 0 where
   pub heads : AreStreamHeads f.heads.items
   pub entry : EntryHasBegun f.heads.items f.holdings.logs f.entry
   pub few : f.holdings.held ≤ f.lines

@@ -17,14 +17,14 @@ AreLogTails es logs = (t : ℕ) (d : LogTail) → t < most_threads
     → get_or logs t d ≡ record { entries = length (log_held t es); last = last_place 0 (log_held t es) }
 
 -- the nodes at their places
-abbrev pub AreHeld : List HeldEntry → List (Option Node) → Type 0
-AreHeld es slots = (q : ℕ) → held_at slots (suc q) ≡ node_held es (suc q)
+abbrev pub AreHeldNodes : List HeldEntry → List (Option Node) → Type 0
+AreHeldNodes es slots = (q : ℕ) → held_at slots (suc q) ≡ node_held es (suc q)
 
 -- what is kept of entries whose nodes are followed as far as they cover the places
-pub record Keeps {State Op Query Reply : Type 0} (b : Behaviour State Op Query Reply) (start : State) (threads : ℕ)
+pub record KeepsEntries {State Op Query Reply : Type 0} (b : Behaviour State Op Query Reply) (start : State) (threads : ℕ)
     (es : List HeldEntry) (h : Holdings State Op Query Reply) : Type 0 where
   pub logs : AreLogTails es h.logs
-  pub places : AreHeld es h.places
+  pub places : AreHeldNodes es h.places
   pub room : length h.places ≤ greatest_place threads
   pub held : h.held ≡ length es
   pub applied : StandsAfter b start (covered threads es) h.applied
@@ -40,4 +40,4 @@ pub record StopsAtNode {State Op Query Reply : Type 0} (b : Behaviour State Op Q
 abbrev pub HasAdmitted : {State Op Query Reply : Type 0} → Behaviour State Op Query Reply → State → ℕ
     → List HeldEntry → HeldEntry → Result (Unit {0}) FeedFault → Holdings State Op Query Reply → Type 0
 HasAdmitted b start threads es e result h =
-    MatchResult result (λ _. Keeps b start threads (es ++ e ∷ []) h) (λ f. StopsAtNode b start threads es e f h)
+    MatchResult result (λ _. KeepsEntries b start threads (es ++ e ∷ []) h) (λ f. StopsAtNode b start threads es e f h)

@@ -13,7 +13,7 @@ use Rattle.onll_merge.specs.Merge.{merge, top_of}
 use Rattle.onll_merge.specs.FrameLogs.{AreLogsOf}
 use Rattle.onll_standby.specs.Held.{HeldEntry, covered}
 use Rattle.onll_standby.specs.Stream.{AreStreamHeads, Course, Shown, entries_course, lines_course, course}
-use Rattle.onll_standby.specs.Shipped.{AreFronts, AreAllOf, IsUpdate, stream_lines}
+use Rattle.onll_standby.specs.Shipped.{AreFronts, AreAllOf, IsLogNode, stream_lines}
 
 -- the course of lines, and of more lines after them where no fault is shown
 abbrev pub goes_on : {State Op Query Reply : Type 0} → Behaviour State Op Query Reply → List LogHead → Option Shown → Course
@@ -26,15 +26,15 @@ abbrev pub BytesLaw : Type 0
 BytesLaw = (bytes more : List ℕ) → length (part_of bytes) + length more ≡ 64
     → (whole_lines (bytes ++ more) ≡ whole_lines bytes ++ words_of_bytes (part_of bytes ++ more) ∷ []) × (part_of (bytes ++ more) ≡ [])
 
-abbrev pub PartLaw : Type 0
-PartLaw = (bytes more : List ℕ) → length (part_of bytes) + length more < 64
+abbrev pub StreamPartLaw : Type 0
+StreamPartLaw = (bytes more : List ℕ) → length (part_of bytes) + length more < 64
     → (whole_lines (bytes ++ more) ≡ whole_lines bytes) × (part_of (bytes ++ more) ≡ part_of bytes ++ more)
 
 module _ {State Op Query Reply : Type 0} (b : Behaviour State Op Query Reply) where
   -- However a stream is cut, more lines go on from what the ones before came to: a fault stays the same, and where none is shown
   -- only the lines of the unfinished entry are looked at again. In the stream `at` lines stand before these.
-  abbrev pub CutLaw : Type 0
-  CutLaw = (heads : List LogHead) (es : List HeldEntry) (at : ℕ) (lines more : List (List ℕ))
+  abbrev pub StreamCutLaw : Type 0
+  StreamCutLaw = (heads : List LogHead) (es : List HeldEntry) (at : ℕ) (lines more : List (List ℕ))
       → entries_course b heads es at 0 (lines ++ more)
       ≡ goes_on b heads (entries_course b heads es at 0 lines).shown (entries_course b heads es at 0 lines) more (at + length lines)
 
@@ -76,7 +76,7 @@ module _ {State Op Query Reply : Type 0} (b : Behaviour State Op Query Reply) wh
   abbrev pub SoundStreamLaw : Type 0
   SoundStreamLaw = (count : ℕ) (f : Frame) (heads : List LogHead) (es : List HeldEntry) (bytes : List ℕ) → Sound count f
       → length heads ≡ count
-      → AreStreamHeads heads → AllByRecursion (IsUpdate b count) f.trace → AreFronts count f es → whole_lines bytes ≡ stream_lines heads es
+      → AreStreamHeads heads → AllByRecursion (IsLogNode b count) f.trace → AreFronts count f es → whole_lines bytes ≡ stream_lines heads es
       → FollowsTrace f es (course b heads bytes)
 
   -- what a stream of all entries of logs comes to: what these logs merge to
@@ -89,6 +89,6 @@ module _ {State Op Query Reply : Type 0} (b : Behaviour State Op Query Reply) wh
   abbrev pub RecoveredStreamLaw : Type 0
   RecoveredStreamLaw = (count : ℕ) (f : Frame) (heads : List LogHead) (logs : List Content) (es : List HeldEntry) (bytes : List ℕ)
       → Sound count f
-      → length heads ≡ count → AreStreamHeads heads → AllByRecursion (IsUpdate b count) f.trace → AreLogsOf f.threads heads logs
+      → length heads ≡ count → AreStreamHeads heads → AllByRecursion (IsLogNode b count) f.trace → AreLogsOf f.threads heads logs
       → AreAllOf count logs es → whole_lines bytes ≡ stream_lines heads es
       → FollowsMerge heads logs (course b heads bytes)

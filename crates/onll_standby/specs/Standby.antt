@@ -7,7 +7,7 @@ use Rattle.onll_standby.specs.declared.fault.FeedFault.{FeedFault}
 use Rattle.onll_standby.specs.declared.follower.Follower.{Follower}
 use Rattle.onll_standby.specs.Stream.{course}
 use Rattle.onll_standby.specs.Applied.{StandsAfter}
-use Rattle.onll_standby.specs.Follower.{IsReady, FollowsLines}
+use Rattle.onll_standby.specs.Follower.{IsFollower, FollowsLines}
 
 -- the bytes after the last whole line
 abbrev pub part_of : List ℕ → List ℕ
@@ -21,7 +21,7 @@ pub record StandbyState (State Op Query Reply : Type 0) : Type 0 where
 
 -- what holds of every standby
 pub record IsCounted {State Op Query Reply : Type 0} (f : Follower State Op Query Reply) (part : List ℕ) (taken : ℕ) : Type 0 where
-  pub ready : IsReady f
+  pub ready : IsFollower f
   pub taken_is : taken ≡ 64 * f.lines + length part
 
 -- It took these bytes, with or without a fault: what it holds and follows is what they come to.

@@ -10,7 +10,7 @@ ghost use Rattle.onll_log.specs.Grammar.{same_words};
 ghost use Rattle.onll_standby.specs.Held.{HeldEntry, greatest_place};
 ghost use Rattle.onll_standby.specs.declared.holdings.LogTail.{LogTail};
 ghost use Rattle.onll_standby.specs.Stream.{AreStreamHeads, is_header, opens, head_named, byte_at, entries_course};
-ghost use Rattle.onll_standby.specs.Holdings.{Keeps};
+ghost use Rattle.onll_standby.specs.Holdings.{KeepsEntries};
 ghost use Rattle.onll_standby.specs.Entry.{EntryBegins, TookEntry};
 
 use crate::fault::FeedFault;
@@ -81,7 +81,7 @@ pub fn take_entry<O: Object>(
     ensures places { length holdings.new.places ≡ length holdings.old.places }
     ensures held { holdings.new.held ≤ holdings.old.held + 1 }
     ensures taken { (start : O) (es : List HeldEntry) (at : ℕ) → byte_at at ≡ begins
-        → Keeps O.means start (length heads.now) es holdings.old
+        → KeepsEntries O.means start (length heads.now) es holdings.old
         → TookEntry O.means start heads.now at (header.now.w ∷ words_of rest.now)
         (entries_course O.means heads.now es at 0 (header.now.w ∷ words_of rest.now)) result holdings.new }
 {

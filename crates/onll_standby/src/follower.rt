@@ -32,17 +32,17 @@ pub struct Follower<O: Object> {
 impl<O: Object> Follower<O> {
     ghost use Rattle.onll_standby.specs.declared.holdings.LogTail.{LogTail};
     ghost use Rattle.onll_standby.specs.Held.{HeldEntry, greatest_place};
-    ghost use Rattle.onll_standby.specs.Holdings.{Keeps};
+    ghost use Rattle.onll_standby.specs.Holdings.{KeepsEntries};
     ghost use Rattle.onll_standby.specs.Places.{held_at};
     ghost use Rattle.onll_standby.specs.Entry.{TookEntry};
-    ghost use Rattle.onll_standby.specs.Follower.{IsReady, FollowsLines, StopsAtLine, LineTaken, LineUncounted, IsWholeEntry};
+    ghost use Rattle.onll_standby.specs.Follower.{IsFollower, FollowsLines, StopsAtLine, LineTaken, LineUncounted, IsWholeEntry};
 
     /// Before the first line.
     pub fn new(object: O, heads: Vec<LogHead>, places: Places) -> Follower<O>
         requires heads { AreStreamHeads heads.items }
         requires room { length places ≡ greatest_place (length heads.items) }
         requires none { (q : ℕ) → held_at places q ≡ None }
-        ensures ready { IsReady result }
+        ensures ready { IsFollower result }
         ensures at { FollowsLines O.means object heads.items [] result }
         ensures first { result.lines ≡ 0 }
     {
@@ -58,7 +58,7 @@ impl<O: Object> Follower<O> {
 
     /// Whether a line can begin an entry of the log that it names.
     fn opens(&self, line: &Line) -> bool
-        requires { IsReady self.now }
+        requires { IsFollower self.now }
         ensures { (d : LogTail) → result ≡ opens (head_named self.now.heads.items line.now.w)
             (get_or self.now.holdings.logs (word line.now.w 1) d).entries line.now.w }
     {
@@ -86,7 +86,7 @@ impl<O: Object> Follower<O> {
 
     /// Takes the header line of an entry.
     fn take_header(&mut self, line: &Line) -> Result<(), FeedFault>
-        requires ready { IsReady self.old }
+        requires ready { IsFollower self.old }
         requires empty { self.old.entry ≡ [] }
         requires few { (self.old.lines + 1) * 64 < 2 ^ 64 }
         ensures opened { (d : LogTail) → OnOk result (opens (head_named self.old.heads.items line.now.w)
@@ -116,7 +116,7 @@ impl<O: Object> Follower<O> {
         ensures places { length self.new.holdings.places ≡ length self.old.holdings.places }
         ensures held { self.new.holdings.held ≤ self.old.holdings.held + 1 }
         ensures taken { (start : O) (es : List HeldEntry) (at : ℕ) → byte_at at ≡ self.old.begins
-            → Keeps O.means start (length self.old.heads.items) es self.old.holdings
+            → KeepsEntries O.means start (length self.old.heads.items) es self.old.holdings
             → TookEntry O.means start self.old.heads.items at self.old.entry
             (entries_course O.means self.old.heads.items es at 0 self.old.entry) result self.new.holdings }
     {
@@ -144,11 +144,11 @@ impl<O: Object> Follower<O> {
 
     /// Takes a node line of an entry.
     fn take_node(&mut self, line: &Line) -> Result<(), FeedFault>
-        requires ready { IsReady self.old }
+        requires ready { IsFollower self.old }
         requires some { 1 ≤ length self.old.entry }
         requires few { (self.old.lines + 1) * 64 < 2 ^ 64 }
         ensures same { self.new ≡ record self.old { holdings = self.new.holdings; entry = self.new.entry } }
-        ensures ready { IsReady (record self.new { lines = self.new.lines + 1 }) }
+        ensures ready { IsFollower (record self.new { lines = self.new.lines + 1 }) }
         ensures took { (start : O) (heads : List LogHead) (ls : List (List ℕ)) → FollowsLines O.means start heads ls self.old
             → length heads ≤ length ls → LineUncounted O.means start heads (ls ++ line.now.w ∷ []) result self.new }
     {
@@ -164,10 +164,10 @@ impl<O: Object> Follower<O> {
 
     /// Takes a line, which is not counted yet.
     fn take(&mut self, line: &Line) -> Result<(), FeedFault>
-        requires ready { IsReady self.old }
+        requires ready { IsFollower self.old }
         requires few { (self.old.lines + 1) * 64 < 2 ^ 64 }
         ensures same { self.new ≡ record self.old { holdings = self.new.holdings; entry = self.new.entry; begins = self.new.begins } }
-        ensures ready { IsReady (record self.new { lines = self.new.lines + 1 }) }
+        ensures ready { IsFollower (record self.new { lines = self.new.lines + 1 }) }
         ensures took { (start : O) (heads : List LogHead) (ls : List (List ℕ)) → FollowsLines O.means start heads ls self.old
             → LineUncounted O.means start heads (ls ++ line.now.w ∷ []) result self.new }
     {
@@ -182,10 +182,10 @@ impl<O: Object> Follower<O> {
 
     /// Takes the next line.
     pub fn take_line(&mut self, line: &Line) -> Result<(), FeedFault>
-        requires ready { IsReady self.old }
+        requires ready { IsFollower self.old }
         requires few { (self.old.lines + 1) * 64 < 2 ^ 64 }
         requires fault { self.old.fault ≡ None }
-        ensures ready { IsReady self.new }
+        ensures ready { IsFollower self.new }
         ensures lines { self.new.lines ≡ self.old.lines + 1 }
         ensures fault { IfErr result (λ e. self.new.fault ≡ Some e) }
         ensures clean { OnOk result (self.new.fault ≡ None) }

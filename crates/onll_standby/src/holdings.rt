@@ -29,7 +29,7 @@ pub struct Holdings<O: Object> {
 impl<O: Object> Holdings<O> {
     ghost use Rattle.onll_standby.specs.declared.holdings.LogTail.{LogTail};
     ghost use Rattle.onll_standby.specs.Held.{HeldEntry, greatest_place, entry_fault, node_fault};
-    ghost use Rattle.onll_standby.specs.Holdings.{AreLogTails, AreHeld, Keeps, HasAdmitted};
+    ghost use Rattle.onll_standby.specs.Holdings.{AreLogTails, AreHeldNodes, KeepsEntries, HasAdmitted};
     ghost use Rattle.onll_standby.specs.Places.{held_at, IsOfRun, most_places};
 
     /// Nothing is held.
@@ -37,7 +37,7 @@ impl<O: Object> Holdings<O> {
         requires { (q : ℕ) → held_at places q ≡ None }
         ensures places { result.places ≡ places }
         ensures none { result.held ≡ 0 }
-        ensures keeps { (threads : ℕ) → length places ≡ greatest_place threads → Keeps O.means object threads [] result }
+        ensures keeps { (threads : ℕ) → length places ≡ greatest_place threads → KeepsEntries O.means object threads [] result }
     {
         Holdings {
             applied: Applied::new(object),
@@ -54,7 +54,7 @@ impl<O: Object> Holdings<O> {
     pub fn fault_of(&self, at: u64, thread: u64, place: u64, nodes: &[Node]) -> Option<FeedFault>
         requires thread { thread < most_threads }
         requires places { (length nodes.now ≤ place) × (place ≤ most_places) }
-        ensures { (es : List HeldEntry) → AreLogTails es self.now.logs → AreHeld es self.now.places
+        ensures { (es : List HeldEntry) → AreLogTails es self.now.logs → AreHeldNodes es self.now.places
             → result ≡ entry_fault es at (record { thread = thread; segment = record { place = place; nodes = nodes.now } }) }
     {
         let tail = self.logs[thread as usize];
@@ -78,7 +78,7 @@ impl<O: Object> Holdings<O> {
         requires entries { (d : LogTail) → (get_or self.old.logs thread d).entries < 2 ^ 64 - 1 }
         ensures places { length self.new.places ≡ length self.old.places }
         ensures held { self.new.held ≤ self.old.held + 1 }
-        ensures admitted { (start : O) (threads : ℕ) (es : List HeldEntry) (at : ℕ) → Keeps O.means start threads es self.old
+        ensures admitted { (start : O) (threads : ℕ) (es : List HeldEntry) (at : ℕ) → KeepsEntries O.means start threads es self.old
             → entry_fault es at (record { thread = thread; segment = record { place = place; nodes = nodes.now } }) ≡ None
             → HasAdmitted O.means start threads es
             (record { thread = thread; segment = record { place = place; nodes = nodes.now } }) result self.new }

@@ -1,15 +1,15 @@
 //! The laws of streams, as calls that do nothing.
 
-ghost use Rattle.onll_standby.specs.Laws.{BytesLaw, PartLaw, CutLaw, LineLaw, LastingLaw, CleanLaw, FaultLaw, CoveredLaw, SoundStreamLaw, RecoveredStreamLaw};
+ghost use Rattle.onll_standby.specs.Laws.{BytesLaw, StreamPartLaw, StreamCutLaw, LineLaw, LastingLaw, CleanLaw, FaultLaw, CoveredLaw, SoundStreamLaw, RecoveredStreamLaw};
 
 use onll_model::Object;
 
 /// However a stream is cut, what it comes to is the same.
 pub fn cut_law<O: Object>()
-    ensures cut { CutLaw O.means }
+    ensures cut { StreamCutLaw O.means }
     ensures line { LineLaw O.means }
     ensures bytes { BytesLaw }
-    ensures part { PartLaw }
+    ensures part { StreamPartLaw }
     ensures lasting { LastingLaw O.means }
     ensures clean { CleanLaw O.means }
 {}

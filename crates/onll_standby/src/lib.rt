@@ -18,7 +18,7 @@
 //! assert!(rt; standby.state().ask(BankQuery::Balance { a: 0 }) == BankReply::Amount(5));
 //! ```
 //!
-//! The test `standby` of `onll_uses` runs this.
+//! The test `standby` of `tests_uses` runs this.
 #![tactic(auto)]
 
 mod applied;

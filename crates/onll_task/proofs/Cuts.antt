@@ -5,7 +5,7 @@ use Rattle.std.proofs.Common.{ℕ, Bool, true, false, List, ◌≡◌, ◌+◌, 
 use Rattle.std.specs.List.{AllByRecursion}
 use Rattle.onll_pmem.specs.Device.{zero_line}
 use Rattle.onll_pmem.proofs.Fronts.{length-followed}
-use Rattle.onll_outside.specs.Views.{StoreView, IsFront, Gives, Holds, with_zeros, image_bytes}
+use Rattle.onll_outside.specs.Views.{StoreView, IsFrontOfFile, Gives, FileHolds, with_zeros, image_bytes}
 use Rattle.onll_outside.specs.LineFiles.{IsWholeLine, IsFileFront, FrontHasLines, GivesLines}
 use Rattle.onll_outside.proofs.WholeLines.{whole_to_end}
 use Rattle.onll_log.specs.ImageFile.{longest_image, whole_lines}
@@ -19,30 +19,30 @@ use Rattle.onll_text.specs.declared.any_object.AnyObject.{AnyObject}
 use Rattle.onll_text.specs.declared.reason.Reason.TheVariants.{TooLong}
 use Rattle.onll_text.specs.Refusal.{Refusal, refused}
 use Rattle.onll_task.specs.FileLines.{FitFile}
-use Rattle.onll_task.specs.Reading.{IsCut, ReadsWhole, HoldsImage}
+use Rattle.onll_task.specs.Reading.{IsCutText, ReadsWhole, HoldsImage}
 use Rattle.onll_task.proofs.FileLines.{whole_back, image_lines-image_bytes}
 
 -- what a store that tells its files gives
-told : (s : StoreView) (name text : List ℕ) (found : Option (List ℕ)) → s.file name ≡ found → IsFront (longest_text + 1) found text → IsCut s name text
+told : (s : StoreView) (name text : List ℕ) (found : Option (List ℕ)) → s.file name ≡ found → IsFrontOfFile (longest_text + 1) found text → IsCutText s name text
 told s name text None e h = absurd h
 told s name text (Some all) e h = record { bytes = all; held = λ _. e; cut = inr h }
 
-by_telling : (t : Bool) (s : StoreView) (name text : List ℕ) → s.tells ≡ t → Gives s name (longest_text + 1) text → IsCut s name text
+by_telling : (t : Bool) (s : StoreView) (name text : List ℕ) → s.tells ≡ t → Gives s name (longest_text + 1) text → IsCutText s name text
 by_telling true s name text e h = told s name text (s.file name) refl (h e)
 by_telling false s name text e h = record { bytes = text; held = λ tells. (cc (e, tells)); cut = inl refl }
 
 -- what a store gives is what the file holds, or its front
-pub cut_of : (s : StoreView) (name text : List ℕ) → Gives s name (longest_text + 1) text → IsCut s name text
+pub cut_of : (s : StoreView) (name text : List ℕ) → Gives s name (longest_text + 1) text → IsCutText s name text
 cut_of s name text h = by_telling s.tells s name text refl h
 
 -- the whole file reads as what was read of it
-pub init_of-cut : (s : StoreView) (name text : List ℕ) (c : IsCut s name text) → init_of c.bytes ≡ init_of text
+pub init_of-cut : (s : StoreView) (name text : List ℕ) (c : IsCutText s name text) → init_of c.bytes ≡ init_of text
 init_of-cut s name text c = elim c.cut [
   | inl whole ↦ ap init_of (sym whole)
   | inr front ↦ sym (init_of-take c.bytes) ∙ ap init_of (sym front)
 ]
 
-pub script_of-cut : {State Op Query Reply : Type 0} (w : Wording State Op Query Reply) (s : StoreView) (name text : List ℕ) (c : IsCut s name text) → script_of w c.bytes ≡ script_of w text
+pub script_of-cut : {State Op Query Reply : Type 0} (w : Wording State Op Query Reply) (s : StoreView) (name text : List ℕ) (c : IsCutText s name text) → script_of w c.bytes ≡ script_of w text
 script_of-cut w s name text c = elim c.cut [
   | inl whole ↦ ap (script_of w) (sym whole)
   | inr front ↦ sym (script_of-take w c.bytes) ∙ ap (script_of w) (sym front)
@@ -64,8 +64,8 @@ front_whole m text bytes h e = elim (cases_lt (m + 1) (length bytes)) [
 ]
 
 -- an accepted text is the whole file
-pub init_whole : (s : StoreView) (name text : List ℕ) (object : AnyObject) (c : IsCut s name text) → init_of text ≡ Ok object → ReadsWhole s init_of name text object
-init_whole s name text object c h = record { held = subst (Holds s name) same c.held; accepted = h }
+pub init_whole : (s : StoreView) (name text : List ℕ) (object : AnyObject) (c : IsCutText s name text) → init_of text ≡ Ok object → ReadsWhole s init_of name text object
+init_whole s name text object c h = record { held = subst (FileHolds s name) same c.held; accepted = h }
   where
     same : c.bytes ≡ text
     same = elim c.cut [
@@ -92,7 +92,7 @@ lines_held s name front count f few h = at s.tells refl
     at true e = told (s.file name) refl (h e)
     at false e = record { bytes = image_bytes (with_zeros front count); held = λ tells. (cc (e, tells)); image = sym (image_lines-image_bytes (with_zeros front count) fit) }
 
-pub schedule_of-cut : (threads : ℕ) (s : StoreView) (name text : List ℕ) (c : IsCut s name text) → schedule_of threads c.bytes ≡ schedule_of threads text
+pub schedule_of-cut : (threads : ℕ) (s : StoreView) (name text : List ℕ) (c : IsCutText s name text) → schedule_of threads c.bytes ≡ schedule_of threads text
 schedule_of-cut threads s name text c = elim c.cut [
   | inl whole ↦ ap (schedule_of threads) (sym whole)
   | inr front ↦ sym (schedule_of-take threads c.bytes) ∙ ap (schedule_of threads) (sym front)

@@ -7,9 +7,9 @@ use Rattle.onll_words.specs.Lines.{bytes_of_words}
 use Rattle.onll_pmem.specs.Device.{zero_lines}
 use Rattle.onll_outside.specs.Views.{StoreView, SameFiles, BeginsWith, with_zeros}
 use Rattle.onll_outside.specs.LineFiles.{FrontHasLines, GivesLines}
-use Rattle.onll_task.specs.ImageNames.{image_name}
-use Rattle.onll_task.specs.Images.{image_bytes, FilesBegin}
-use Rattle.onll_task.specs.Writing.{SameBut}
+use Rattle.onll_open.specs.Names.{log_name}
+use Rattle.onll_task.specs.Images.{image_bytes, AllBeginWith}
+use Rattle.onll_open.specs.Files.{SameBut}
 
 -- ---- bytes
 -- bytes begin with those of these lines
@@ -50,17 +50,17 @@ file_begins lines front n count limit name store new cut gives same on = by (sto
 begins_same : (name front : List ℕ) (store new : StoreView) → SameBut [] store new → BeginsWith store name front → BeginsWith new name front
 begins_same name front store new same h on = let b = h (sym same.tells ∙ on) in (b.0, same.file name tt ∙ b.1)
 
-fronts_same : (logs : List ℕ) (t : ℕ) (all : List (List (List ℕ))) (store new : StoreView) → SameBut [] store new → FilesBegin logs t all store → FilesBegin logs t all new
+fronts_same : (logs : List ℕ) (t : ℕ) (all : List (List (List ℕ))) (store new : StoreView) → SameBut [] store new → AllBeginWith logs t all store → AllBeginWith logs t all new
 fronts_same logs t [] store new same h = tt
-fronts_same logs t (lines ∷ all) store new same h = (begins_same (image_name logs t) (image_bytes lines) store new same h.0, fronts_same logs (suc t) all store new same h.1)
+fronts_same logs t (lines ∷ all) store new same h = (begins_same (log_name logs t) (image_bytes lines) store new same h.0, fronts_same logs (suc t) all store new same h.1)
 
-fronts_one : (logs : List ℕ) (t last : ℕ) (all : List (List (List ℕ))) (lines : List (List ℕ)) (store : StoreView) → t + length all ≡ last → FilesBegin logs t all store → BeginsWith store (image_name logs last) (image_bytes lines)
-    → FilesBegin logs t (all ++ lines ∷ []) store
-fronts_one logs t last [] lines store e h b = (let same : last ≡ t = omega (arith, e) in subst (λ i. BeginsWith store (image_name logs i) (image_bytes lines)) same b, tt)
+fronts_one : (logs : List ℕ) (t last : ℕ) (all : List (List (List ℕ))) (lines : List (List ℕ)) (store : StoreView) → t + length all ≡ last → AllBeginWith logs t all store → BeginsWith store (log_name logs last) (image_bytes lines)
+    → AllBeginWith logs t (all ++ lines ∷ []) store
+fronts_one logs t last [] lines store e h b = (let same : last ≡ t = omega (arith, e) in subst (λ i. BeginsWith store (log_name logs i) (image_bytes lines)) same b, tt)
 fronts_one logs t last (l ∷ all) lines store e h b = (h.0, fronts_one logs (suc t) last all lines store (omega (arith, e)) h.1 b)
 
 -- one file more
-pub fronts_more : (logs : List ℕ) (t : ℕ) (all more : List (List (List ℕ))) (lines : List (List ℕ)) (store new : StoreView) → length all ≡ t → SameBut [] store new → FilesBegin logs 0 all store
-    → BeginsWith new (image_name logs t) (image_bytes lines) → more ≡ all ++ lines ∷ [] → FilesBegin logs 0 more new
+pub fronts_more : (logs : List ℕ) (t : ℕ) (all more : List (List (List ℕ))) (lines : List (List ℕ)) (store new : StoreView) → length all ≡ t → SameBut [] store new → AllBeginWith logs 0 all store
+    → BeginsWith new (log_name logs t) (image_bytes lines) → more ≡ all ++ lines ∷ [] → AllBeginWith logs 0 more new
 fronts_more logs t all more lines store new count same h b e =
-    subst (λ ls. FilesBegin logs 0 ls new) (sym e) (fronts_one logs 0 t all lines new (omega (arith, count)) (fronts_same logs 0 all store new same h) b)
+    subst (λ ls. AllBeginWith logs 0 ls new) (sym e) (fronts_one logs 0 t all lines new (omega (arith, count)) (fronts_same logs 0 all store new same h) b)

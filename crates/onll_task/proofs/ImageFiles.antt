@@ -12,19 +12,19 @@ use Rattle.onll_task.specs.declared.ending.Ending.{Ending}
 use Rattle.onll_task.specs.Job.{Job, Never}
 use Rattle.onll_outside.specs.Views.{StoreView}
 use Rattle.onll_task.specs.declared.answer.Stop.{Stop}
-use Rattle.onll_task.specs.ImageNames.{image_name, image_names}
+use Rattle.onll_open.specs.Names.{log_name, log_names}
 use Rattle.onll_task.specs.declared.images.KeptImages.{KeptImages}
 use Rattle.onll_task.specs.declared.texts.KeptImage.{KeptImage}
-use Rattle.onll_task.specs.Images.{StandsFor, StandFor, KeepsOf, KeepOf, images_in}
+use Rattle.onll_task.specs.Images.{Decides, AllDecide, KeepsOf, KeepOf, images_in}
 use Rattle.onll_task.specs.Doing.{BeginsBy, lines_stage, each_job, each_stage}
 use Rattle.onll_task.proofs.Stages.{ReadSo, none_read, value_next, value_stops, values_read, by_given, by_begins, by_stops, begins_by, stops_by}
 
 -- the name of one thread before those of the rest
-pub names_more : (logs : List ℕ) (i threads : ℕ) → i < threads → image_names logs i (threads - i) ≡ image_name logs i ∷ image_names logs (i + 1) (threads - (i + 1))
+pub names_more : (logs : List ℕ) (i threads : ℕ) → i < threads → log_names logs i (threads - i) ≡ log_name logs i ∷ log_names logs (i + 1) (threads - (i + 1))
 names_more logs i threads less =
     let split : threads - i ≡ suc (threads - (i + 1)) = omega (arith, less) in
     let up : suc i ≡ i + 1 = omega arith in
-    ap (image_names logs i) split ∙ ap (λ j. image_name logs i ∷ image_names logs j (threads - (i + 1))) up
+    ap (log_names logs i) split ∙ ap (λ j. log_name logs i ∷ log_names logs j (threads - (i + 1))) up
 
 -- one image more
 pub images_more : (images more : List (Vec Line Global)) (image : Vec Line Global) → more ≡ images ++ image ∷ [] → images_in more ≡ images_in images ++ words_of image.items ∷ []
@@ -40,14 +40,14 @@ lines_more lines more line image left before e same split =
 
 -- a job that reads images and goes on so never says such an ending
 pub reading_images_never : (ending : Ending) (logs : List ℕ) (threads i : ℕ) (next : List (List (List ℕ)) → Job) → ((images : List (List (List ℕ))) → Never ending (next images))
-    → Never ending (each_job lines_stage (image_names logs i threads) next)
+    → Never ending (each_job lines_stage (log_names logs i threads) next)
 reading_images_never ending logs zero i next f = f []
 reading_images_never ending logs (suc threads) i next f =
     λ bytes. reading_images_never ending logs threads (suc i) (λ images. next (image_lines bytes ∷ images)) (λ images. f (image_lines bytes ∷ images))
 
 -- ---- lines that stand for the images that were read
 -- lines that stand for one image more
-pub standing_more : (lines images : List (List (List ℕ))) (l image : List (List ℕ)) → StandFor lines images → StandsFor l image → StandFor (lines ++ l ∷ []) (images ++ image ∷ [])
+pub standing_more : (lines images : List (List (List ℕ))) (l image : List (List ℕ)) → AllDecide lines images → Decides l image → AllDecide (lines ++ l ∷ []) (images ++ image ∷ [])
 standing_more [] [] l image h k = (k, tt)
 standing_more [] (i ∷ images) l image h k = absurd h
 standing_more (x ∷ lines) [] l image h k = absurd h
@@ -62,7 +62,7 @@ pub record ReadStanding (all left : List (List ℕ)) (store mid : StoreView) (li
 pub none_standing : (all : List (List ℕ)) (store : StoreView) (lines : List (List (List ℕ))) (counts : List ℕ) → lines ≡ [] → counts ≡ [] → ReadStanding all all store store lines counts
 none_standing all store lines counts e f =
     let none : List (List (List ℕ)) = [] in
-    record { images = none; keep = record { stand = subst (λ ls. StandFor ls none) (sym e) tt; many = f }; so = none_read lines_stage all store none refl }
+    record { images = none; keep = record { stand = subst (λ ls. AllDecide ls none) (sym e) tt; many = f }; so = none_read lines_stage all store none refl }
 
 -- one image more
 keep_more : (lines images : List (List (List ℕ))) (counts : List ℕ) (l image : List (List ℕ)) (n : ℕ) → KeepOf lines counts images → KeepsOf l n image → KeepOf (lines ++ l ∷ []) (counts ++ n ∷ []) (images ++ image ∷ [])

@@ -2,20 +2,21 @@ use Rattle.std.proofs.Common.{ℕ, Bool, true, false, List, ◌≡◌, ◌⊎◌
 use Rattle.std.proofs.lemmas.Bool.{cases_Bool}
 use Rattle.std.proofs.lemmas.Slice.Eq.{bytes_eq-Decides}
 use Rattle.std.specs.Str.{bytes_eq}
-use Rattle.onll_outside.specs.Views.{StoreView, SameFiles, SameFaults, Rose, Holds, counted, image_bytes}
+use Rattle.onll_outside.specs.Views.{StoreView, SameFiles, SameFaults, Rose, FileHolds, counted, image_bytes}
 use Rattle.onll_areas.specs.Keeping.{OthersStay, DeviceNotMade, DeviceNotKept, HasKeptLines}
 use Rattle.onll_text.specs.Refusal.{Refusal}
 use Rattle.onll_task.specs.declared.ending.Ending.{Ending}
 use Rattle.onll_task.specs.declared.ending.Ending.TheVariants.{Done, Usage, Refused, BadLog, ReadFault, WriteFault, Faulty, Judged}
-use Rattle.onll_task.specs.Reading.{IsTold, CannotRead}
+use Rattle.onll_task.specs.Reading.{FileIsTold, CannotRead}
 use Rattle.onll_text.specs.Kinds.{ObjectKind}
 use Rattle.onll_task.specs.Running.{RunPlan, RunStops}
-use Rattle.onll_task.specs.Writing.{FilesStay, SameCounts, CannotWrite, written}
+use Rattle.onll_task.specs.Writing.{FilesStay, CannotWrite, written}
+use Rattle.onll_open.specs.Files.{SameCounts}
 use Rattle.onll_task.specs.Keeps.{KeepStops}
 use Rattle.onll_task.specs.Job.{Job, Say, Read, Write, Keep, Assured, Threads, JobEnds, DecidesWhere, Decides, Never, on_value, reading, reading_whole}
 
 -- a told file holds its bytes alone
-pub held_bytes : (store : StoreView) (name bytes found : List ℕ) → IsTold store name bytes → Holds store name found → found ≡ bytes
+pub held_bytes : (store : StoreView) (name bytes found : List ℕ) → FileIsTold store name bytes → FileHolds store name found → found ≡ bytes
 held_bytes store name bytes found told held = let e = held told.tells in let f = told.file in cc
 
 pub cannot : (store after : StoreView) (name : List ℕ) (ending : Ending) (text : List ℕ) → CannotRead store after name ending text → Rose store.faults after.faults

@@ -1,27 +1,30 @@
 -- How jobs that read and write go on.
 
-use Rattle.std.proofs.Common.{ℕ, zero, suc, true, false, List, [], ◌∷◌, ◌≡◌, ◌⊎◌, inl, inr, ⊎_elim, ◌+◌, ◌^◌, ◌<◌, length, take, drop, get_or, Bool, Result, refl, sym, ap, ◌∙◌, subst, arith}
+use Rattle.std.proofs.Common.{ℕ, zero, suc, true, false, List, [], ◌∷◌, ◌≡◌, ◌⊎◌, inl, inr, ⊎_elim, ◌+◌, ◌^◌, ◌<◌, length, take, drop, get_or, Bool, Option, Some, None, Result, refl, sym, ap, ◌∙◌, subst, arith}
 use Rattle.std.proofs.lemmas.List.{drop_more}
 use Rattle.std.specs.List.{AllByRecursion}
 use Rattle.onll_log.specs.ImageFile.{image_lines}
-use Rattle.onll_outside.specs.Views.{StoreView, SameFiles, SameOthers, SameFaults, Rose, Holds, MayWipe, counted}
+use Rattle.onll_outside.specs.Views.{StoreView, SameFiles, SameOthers, SameFaults, Rose, FileHolds, MayWipe, counted}
 use Rattle.onll_areas.specs.Keeping.{OthersStay, StaysOrZeros, MayKeepLines, HasKeptLines, DeviceNotMade, DeviceNotKept, FenceNotMade}
 use Rattle.onll_text.specs.Refusal.{Refusal}
 use Rattle.onll_task.specs.declared.ending.Ending.{Ending}
 use Rattle.onll_task.specs.declared.ending.Ending.TheVariants.{Done, Usage, Refused, BadLog, ReadFault, WriteFault, Faulty, Judged}
 use Rattle.onll_task.specs.Reading.{Reads, ReadsWhole, HoldsImage, Stops}
-use Rattle.onll_task.specs.ImageNames.{image_name, image_names}
+use Rattle.onll_open.specs.Names.{log_name, log_names}
 use Rattle.onll_task.specs.Images.{image_bytes, writing_images}
 use Rattle.onll_text.specs.Kinds.{ObjectKind}
+use Rattle.onll_log.specs.declared.head.LogHead.{LogHead}
 use Rattle.onll_log.specs.Grammar.{Content}
 use Rattle.onll_model.specs.declared.call.Call.{Call}
 use Rattle.onll_model.specs.declared.call.CallEnd.{CallEnd}
 use Rattle.onll_model.specs.Calls.{updates_in}
 use Rattle.onll_run.specs.Left.{LogLeft, begun_logs}
-use Rattle.onll_task.specs.Running.{RunPlan, RunLeft, HasKept, LeavesKept, HasSize, HaveSizes, IsNoLonger, FileStands, AllStand, FilesStand, HoldTo, KeptTo, NoneCounted, NotMade, NotKept, IsCutShort, RunStops, broken_threads, fences_of, log_files}
-use Rattle.onll_task.specs.Writing.{FilesStay, SameCounts, AllButStay, SameBut, HasWritten, CannotWrite, WriteFailed, written}
+use Rattle.onll_task.specs.Running.{RunPlan, RunLeft, HasKept, LeavesKept, HasSize, HaveSizes, IsNoLonger, FileStands, StandsByHead, AllStand, FilesStand, HoldTo, KeptTo, PlanNotMade, NotKept, IsCutShort, RunStops, broken_threads, fences_of, log_files}
+use Rattle.onll_open.specs.Devices.{NoneCounted}
+use Rattle.onll_task.specs.Writing.{FilesStay, AllButStay, HasWritten, CannotWrite, WriteFailed, written}
+use Rattle.onll_open.specs.Files.{SameCounts, SameBut}
 use Rattle.onll_task.specs.Keeps.{KeepStops}
-use Rattle.onll_task.specs.Job.{Job, Say, Read, Write, Keep, Assured, Threads, JobEnds, JobCut, GoesOn, on_value, reading, reading_whole}
+use Rattle.onll_task.specs.Job.{Job, Say, Read, Write, Keep, Assured, Threads, JobEnds, JobCut, JobGoesOn, on_value, reading, reading_whole}
 use Rattle.onll_task.proofs.Jobs.{files_stay, written_stays, leaves_written, cannot_from}
 
 pub stay_more : (store mid after : StoreView) → FilesStay store mid → FilesStay mid after → FilesStay store after
@@ -102,9 +105,12 @@ wiped_from : (store mid after : StoreView) (name front : List ℕ) → FilesStay
 wiped_from store mid after name front files h on =
     let w = h (files.tells ∙ on) in record { was = w.was; rest = w.rest; before = sym (files.file on name) ∙ w.before; now = w.now; wiped = w.wiped }
 
-file_stands_from : (reopens : Bool) (store mid after : StoreView) → FilesStay store mid → (name : List ℕ) (log : Content) → FileStands reopens mid after name log → FileStands reopens store after name log
-file_stands_from false store mid after files name log h = zeros_from store mid after name files h
-file_stands_from true store mid after files name log h = (h.0, h.1, wiped_from store mid after name (image_bytes h.0) files h.2)
+file_stands_from : (store mid after : StoreView) → FilesStay store mid → (name : List ℕ) (log : Content) → FileStands mid after name log → FileStands store after name log
+file_stands_from store mid after files name log h = by log.head h
+  where
+    by : (head : Option LogHead) → StandsByHead head mid after name log → StandsByHead head store after name log
+    by None z = zeros_from store mid after name files z
+    by (Some head) w = (w.0, w.1, w.2, wiped_from store mid after name (image_bytes w.0) files w.3)
 
 -- files that stand so stand as well in any way that follows
 pub all_stand_by : {S T : List ℕ → Content → Type 0} → ((name : List ℕ) (log : Content) → S name log → T name log) → (names : List (List ℕ)) (logs : List Content) → AllStand S names logs → AllStand T names logs
@@ -114,7 +120,7 @@ all_stand_by follows (name ∷ names) [] h = absurd h
 all_stand_by follows (name ∷ names) (log ∷ logs) h = (follows name log h.0, all_stand_by follows names logs h.1)
 
 pub stand_from : {k : ObjectKind} (plan : RunPlan k) (store mid after : StoreView) → FilesStay store mid → FilesStand plan mid after → FilesStand plan store after
-stand_from plan store mid after files h = all_stand_by (file_stands_from plan.reopens store mid after files) (log_files plan) plan.run.base.logs h
+stand_from plan store mid after files h = all_stand_by (file_stands_from store mid after files) (log_files plan) plan.run.base.logs h
 
 hold_to_by : {S T : List ℕ → Content → Type 0} {State Op Query Reply : Type 0} (after : StoreView) → ((name : List ℕ) (log : Content) → S name log → T name log) → (names : List (List ℕ)) (befores : List Content) (logs : List LogLeft)
     (ends : List (List (CallEnd State Op Query Reply))) (t : ℕ) → HoldTo S after names befores logs ends t → HoldTo T after names befores logs ends t
@@ -128,7 +134,7 @@ hold_to_by after follows (name ∷ names) (before ∷ befores) (log ∷ logs) []
 
 kept_to_from : {k : ObjectKind} (plan : RunPlan k) (left : RunLeft k) (thread : ℕ) (store mid after : StoreView) → FilesStay store mid → SameCounts store mid → KeptTo plan left thread mid after → KeptTo plan left thread store after
 kept_to_from plan left thread store mid after files counts h = record {
-  files = hold_to_by after (file_stands_from plan.reopens store mid after files) (log_files plan) plan.run.base.logs left.logs left.ends thread h.files;
+  files = hold_to_by after (file_stands_from store mid after files) (log_files plan) plan.run.base.logs left.logs left.ends thread h.files;
   faults = h.faults ∙ ap (λ n. counted n (broken_threads left.ends)) counts.1.0;
   fences = h.fences ∙ ap (λ n. counted n (fences_of left.logs + begun_logs plan.run.base.logs)) counts.1.1;
 }
@@ -139,10 +145,10 @@ none_counted_from store mid after counts h = (
   (λ few. h.1 (subst (λ n. n < 2 ^ 64) (sym counts.1.1) few) ∙ counts.1.1),
 )
 
-cause_from : {k : ObjectKind} (plan : RunPlan k) (store mid after : StoreView) (thread : ℕ) → FilesStay store mid → SameCounts store mid → NotMade plan mid after (image_name plan.logs thread) ⊎ NotKept plan mid after thread
-    → NotMade plan store after (image_name plan.logs thread) ⊎ NotKept plan store after thread
+cause_from : {k : ObjectKind} (plan : RunPlan k) (store mid after : StoreView) (thread : ℕ) → FilesStay store mid → SameCounts store mid → PlanNotMade plan mid after thread ⊎ NotKept plan mid after thread
+    → PlanNotMade plan store after thread ⊎ NotKept plan store after thread
 cause_from plan store mid after thread files counts (inl h) =
-    inl (record { last = h.last; devices = none_counted_from store mid after counts h.devices; files = stand_from plan store mid after files h.files })
+    inl (record { kind = h.kind; call = h.call; last = h.last; devices = none_counted_from store mid after counts h.devices; files = stand_from plan store mid after files h.files })
 cause_from plan store mid after thread files counts (inr h) =
     inr (record { last = h.last; left = h.left; run = h.run; kept = kept_to_from plan h.left thread store mid after files counts h.kept })
 
@@ -297,7 +303,7 @@ cannot_write_failed store after name Faulty text h = absurd h
 cannot_write_failed store after name WriteFault text h = h.failed
 cannot_write_failed store after name Judged text h = absurd h
 
-device_fault_cut : {k : ObjectKind} (plan : RunPlan k) (store after : StoreView) (thread : ℕ) → AllButStay (log_files plan) store after → NotMade plan store after (image_name plan.logs thread) ⊎ NotKept plan store after thread
+device_fault_cut : {k : ObjectKind} (plan : RunPlan k) (store after : StoreView) (thread : ℕ) → AllButStay (log_files plan) store after → PlanNotMade plan store after thread ⊎ NotKept plan store after thread
     → IsCutShort plan store after
 device_fault_cut plan store after thread others (inl h) = inr (inl (record { files = h.files; others = others }))
 device_fault_cut plan store after thread others (inr h) = inr (inr (record { left = h.left; run = h.run; thread = thread; kept = h.kept; others = others }))
@@ -351,17 +357,17 @@ ends_cut store after (Threads kind plan next) ending text (inr h) = inr (record 
 })
 
 -- ---- jobs one after the other
-pub goes_same : (store : StoreView) (job : Job) → GoesOn store store job job
+pub goes_same : (store : StoreView) (job : Job) → JobGoesOn store store job job
 goes_same store job = record { ends = λ after ending text h. h; cut = λ after h. h }
 
-pub goes_after : (store mid new : StoreView) (job next last : Job) → GoesOn store mid job next → GoesOn mid new next last → GoesOn store new job last
+pub goes_after : (store mid new : StoreView) (job next last : Job) → JobGoesOn store mid job next → JobGoesOn mid new next last → JobGoesOn store new job last
 goes_after store mid new job next last first then_ = record {
   ends = λ after ending text h. first.ends after ending text (then_.ends after ending text h);
   cut = λ after h. first.cut after (then_.cut after h);
 }
 
 -- ---- reading
-on_read : (store mid : StoreView) (name : List ℕ) (next : List ℕ → Job) (bytes : List ℕ) → Holds store name bytes → SameFiles store mid → SameCounts store mid → GoesOn store mid (Read name next) (next bytes)
+on_read : (store mid : StoreView) (name : List ℕ) (next : List ℕ → Job) (bytes : List ℕ) → FileHolds store name bytes → SameFiles store mid → SameCounts store mid → JobGoesOn store mid (Read name next) (next bytes)
 on_read store mid name next bytes held same counts =
     let files = files_stay store mid same in
     record {
@@ -370,17 +376,17 @@ on_read store mid name next bytes held same counts =
     }
 
 pub on_image : (store mid : StoreView) (name : List ℕ) (next : List (List ℕ) → Job) (lines : List (List ℕ)) → HoldsImage store name lines → SameFiles store mid → SameCounts store mid
-    → GoesOn store mid (Read name (λ bytes. next (image_lines bytes))) (next lines)
+    → JobGoesOn store mid (Read name (λ bytes. next (image_lines bytes))) (next lines)
 on_image store mid name next lines h same counts =
-    subst (λ l. GoesOn store mid (Read name (λ bytes. next (image_lines bytes))) (next l)) (sym h.image) (on_read store mid name (λ bytes. next (image_lines bytes)) h.bytes h.held same counts)
+    subst (λ l. JobGoesOn store mid (Read name (λ bytes. next (image_lines bytes))) (next l)) (sym h.image) (on_read store mid name (λ bytes. next (image_lines bytes)) h.bytes h.held same counts)
 
 pub on_whole : {A : Type 0} (store mid : StoreView) (name : List ℕ) (grammar : List ℕ → Result A Refusal) (next : List ℕ → A → Job) (bytes : List ℕ) (value : A)
-    → ReadsWhole store grammar name bytes value → SameFiles store mid → SameCounts store mid → GoesOn store mid (reading_whole name grammar next) (next bytes value)
+    → ReadsWhole store grammar name bytes value → SameFiles store mid → SameCounts store mid → JobGoesOn store mid (reading_whole name grammar next) (next bytes value)
 on_whole store mid name grammar next bytes value r same counts =
-    subst (λ v. GoesOn store mid (reading_whole name grammar next) (on_value name (next bytes) v)) r.accepted (on_read store mid name (λ b. on_value name (next b) (grammar b)) bytes r.held same counts)
+    subst (λ v. JobGoesOn store mid (reading_whole name grammar next) (on_value name (next bytes) v)) r.accepted (on_read store mid name (λ b. on_value name (next b) (grammar b)) bytes r.held same counts)
 
 pub on_text : {A : Type 0} (store mid : StoreView) (name : List ℕ) (grammar : List ℕ → Result A Refusal) (next : A → Job) (value : A)
-    → Reads store grammar name value → SameFiles store mid → SameCounts store mid → GoesOn store mid (reading name grammar next) (next value)
+    → Reads store grammar name value → SameFiles store mid → SameCounts store mid → JobGoesOn store mid (reading name grammar next) (next value)
 on_text store mid name grammar next value r same counts = on_whole store mid name grammar (λ _. next) r.bytes value (record { held = r.held; accepted = r.accepted }) same counts
 
 -- the reading of a text ended the call
@@ -398,11 +404,11 @@ stopped_ends store after name grammar next Judged text same h = absurd h
 
 -- ---- writing
 -- what a store's write leaves
-pub write_leaves : (old new : StoreView) (name bytes : List ℕ) → Holds new name bytes → SameOthers name old new → FilesStay (written old name bytes) new
+pub write_leaves : (old new : StoreView) (name bytes : List ℕ) → FileHolds new name bytes → SameOthers name old new → FilesStay (written old name bytes) new
 write_leaves old new name bytes held others =
     leaves_written old new name bytes (λ tells. held (others.tells ∙ tells)) (record { tells = others.tells; file = λ tells. others.file })
 
-pub on_write : (store mid : StoreView) (name bytes : List ℕ) (next : Job) → HasWritten store mid name bytes → GoesOn store mid (Write name bytes next) next
+pub on_write : (store mid : StoreView) (name bytes : List ℕ) (next : Job) → HasWritten store mid name bytes → JobGoesOn store mid (Write name bytes next) next
 on_write store mid name bytes next h = record {
   ends = λ after ending text k. inr (ends_from (written store name bytes) mid after next ending text h.files h.counts k);
   cut = λ after k. inr (cut_from (written store name bytes) mid after next h.files h.counts k);
@@ -414,33 +420,33 @@ others_stay name old new h = record { tells = h.tells; file = λ tells. h.file }
 -- ---- images
 -- so many images were written, and the rest is left
 pub record WroteSo (store mid : StoreView) (logs : List ℕ) (images : List (List (List ℕ))) (i : ℕ) : Type 0 where
-  pub on : (next : Job) → GoesOn store mid (writing_images logs 0 images next) (writing_images logs i (drop i images) next)
-  pub others : SameBut (image_names logs 0 (length images)) store mid
+  pub on : (next : Job) → JobGoesOn store mid (writing_images logs 0 images next) (writing_images logs i (drop i images) next)
+  pub others : SameBut (log_names logs 0 (length images)) store mid
 
 -- none was yet
 pub none_wrote : (store : StoreView) (logs : List ℕ) (images : List (List (List ℕ))) → WroteSo store store logs images 0
 none_wrote store logs images = record { on = λ next. goes_same store (writing_images logs 0 images next); others = record { tells = refl; file = λ other differs. refl } }
 
-names_at : (P : List ℕ → Type 0) (logs : List ℕ) (i n k : ℕ) → k < n → AllByRecursion P (image_names logs i n) → P (image_name logs (i + k))
+names_at : (P : List ℕ → Type 0) (logs : List ℕ) (i n k : ℕ) → k < n → AllByRecursion P (log_names logs i n) → P (log_name logs (i + k))
 names_at P logs i zero k h a = absurd (omega arith)
-names_at P logs i (suc n) zero h a = let e : i ≡ i + 0 = omega arith in subst (λ m. P (image_name logs m)) e a.0
-names_at P logs i (suc n) (suc k) h a = let e : suc i + k ≡ i + suc k = omega arith in subst (λ m. P (image_name logs m)) e (names_at P logs (suc i) n k (omega arith) a.1)
+names_at P logs i (suc n) zero h a = let e : i ≡ i + 0 = omega arith in subst (λ m. P (log_name logs m)) e a.0
+names_at P logs i (suc n) (suc k) h a = let e : suc i + k ≡ i + suc k = omega arith in subst (λ m. P (log_name logs m)) e (names_at P logs (suc i) n k (omega arith) a.1)
 
-pub others_on : (store mid new : StoreView) (logs : List ℕ) (n i : ℕ) → i < n → SameBut (image_names logs 0 n) store mid → SameOthers (image_name logs i) mid new → SameBut (image_names logs 0 n) store new
+pub others_on : (store mid new : StoreView) (logs : List ℕ) (n i : ℕ) → i < n → SameBut (log_names logs 0 n) store mid → SameOthers (log_name logs i) mid new → SameBut (log_names logs 0 n) store new
 others_on store mid new logs n i h before after =
-    record { tells = after.tells ∙ before.tells; file = λ other differs. after.file other (let e : 0 + i ≡ i = omega arith in subst (λ m. other ≡ image_name logs m → ⊥) e (names_at (λ name. other ≡ name → ⊥) logs 0 n i h differs)) ∙ before.file other differs }
+    record { tells = after.tells ∙ before.tells; file = λ other differs. after.file other (let e : 0 + i ≡ i = omega arith in subst (λ m. other ≡ log_name logs m → ⊥) e (names_at (λ name. other ≡ name → ⊥) logs 0 n i h differs)) ∙ before.file other differs }
 
 -- one image more
 pub wrote_next : (store mid new : StoreView) (logs : List ℕ) (images : List (List (List ℕ))) (image : List (List ℕ)) (i : ℕ) → i < length images → image ≡ get_or images i []
-    → WroteSo store mid logs images i → HasWritten mid new (image_name logs i) (image_bytes image) → SameOthers (image_name logs i) mid new → WroteSo store new logs images (i + 1)
+    → WroteSo store mid logs images i → HasWritten mid new (log_name logs i) (image_bytes image) → SameOthers (log_name logs i) mid new → WroteSo store new logs images (i + 1)
 wrote_next store mid new logs images image i h same so w others = record {
   on = λ next.
       let rest : Job = writing_images logs (suc i) (drop (i + 1) images) next in
       let e : i + 1 ≡ suc i = omega arith in
       goes_after store mid new (writing_images logs 0 images next) (writing_images logs i (drop i images) next) (writing_images logs (i + 1) (drop (i + 1) images) next) (so.on next)
-      (subst (λ l. GoesOn mid new (writing_images logs i l next) (writing_images logs (i + 1) (drop (i + 1) images) next)) (sym (drop_more images i [] h))
-      (subst (λ x. GoesOn mid new (Write (image_name logs i) (image_bytes x) rest) (writing_images logs (i + 1) (drop (i + 1) images) next)) same
-      (subst (λ j. GoesOn mid new (Write (image_name logs i) (image_bytes image) rest) (writing_images logs j (drop (i + 1) images) next)) (sym e)
-      (on_write mid new (image_name logs i) (image_bytes image) rest w))));
+      (subst (λ l. JobGoesOn mid new (writing_images logs i l next) (writing_images logs (i + 1) (drop (i + 1) images) next)) (sym (drop_more images i [] h))
+      (subst (λ x. JobGoesOn mid new (Write (log_name logs i) (image_bytes x) rest) (writing_images logs (i + 1) (drop (i + 1) images) next)) same
+      (subst (λ j. JobGoesOn mid new (Write (log_name logs i) (image_bytes image) rest) (writing_images logs j (drop (i + 1) images) next)) (sym e)
+      (on_write mid new (log_name logs i) (image_bytes image) rest w))));
   others = others_on store mid new logs (length images) i h so.others others;
 }

@@ -10,11 +10,11 @@ use Rattle.onll_task.specs.declared.ending.Ending.TheVariants.{Done, Faulty}
 use Rattle.onll_task.specs.declared.answer.Stop.{Stop}
 use Rattle.onll_task.specs.declared.answer.Stop.TheVariants.{Says, NoMemory}
 use Rattle.onll_task.specs.Job.{Job, Threads, JobEnds}
-use Rattle.onll_task.specs.Doing.{Task, after_stage, Does}
+use Rattle.onll_task.specs.Doing.{Task, after_stage, Fulfils}
 use Rattle.onll_task.specs.Running.{RunPlan, RunLeft, PlanReads, HasKept, LeavesKept, IsCutShort, RunStops, log_files}
 use Rattle.onll_task.specs.Standing.{StandsForRuns, threads_stage}
 use Rattle.onll_task.specs.Stop.{StopSays}
-use Rattle.onll_task.specs.Writing.{SameBut}
+use Rattle.onll_open.specs.Files.{SameBut}
 use Rattle.onll_task.proofs.Onwards.{ends_cut}
 
 -- a job's node of a kind stands for the runs of that kind
@@ -34,7 +34,7 @@ module _ {k : ObjectKind} (threads : RunPlan k → (RunLeft k → Job) → Job) 
   -- what was run is kept, and its report is said
   pub run_does : {A : Type 0} (store after : StoreView) (left : RunLeft k) (text : Vec ℕ A) → HasRun k.means plan.run left → PlanReads plan left → HasKept plan left store after
       → SameBut (log_files plan) store after → JobEnds after after (next left).job Done text.items → ((before : StoreView) → (next left).reports before text.items)
-      → Does (log_files plan) store after (after_stage (threads_stage threads plan) next) (Ok text)
+      → Fulfils (log_files plan) store after (after_stage (threads_stage threads plan) next) (Ok text)
   run_does store after left text run reads kept files ends reports = record {
     done = stands.ends plan (λ l. (next l).job) store after Done text.items (inr (leaves store after left run reads kept ends));
     reports = λ before same. record { value = left; known = run; reports = reports before };
@@ -45,7 +45,7 @@ module _ {k : ObjectKind} (threads : RunPlan k → (RunLeft k → Job) → Job) 
   -- the same with fences that failed
   pub broken_does : {A : Type 0} (store after : StoreView) (left : RunLeft k) (s : Stop) (said : List ℕ) → HasRun k.means plan.run left → PlanReads plan left → HasKept plan left store after
       → SameBut (log_files plan) store after → JobEnds after after (next left).job Faulty said → StopSays s (λ end text. (end ≡ Faulty) × (text ≡ said))
-      → Does {A = A} (log_files plan) store after (after_stage (threads_stage threads plan) next) (Err s)
+      → Fulfils {A = A} (log_files plan) store after (after_stage (threads_stage threads plan) next) (Err s)
   broken_does store after left (Says ending text) said run reads kept files ends says = record {
     done = tt;
     reports = tt;
@@ -65,7 +65,7 @@ module _ {k : ObjectKind} (threads : RunPlan k → (RunLeft k → Job) → Job) 
 
   -- the run stopped so, or was cut short
   pub stopped_does : {A : Type 0} (store after : StoreView) (s : Stop) → SameBut (log_files plan) store after → IsCutShort plan store after
-      → StopSays s (RunStops plan store after) → Does {A = A} (log_files plan) store after (after_stage (threads_stage threads plan) next) (Err s)
+      → StopSays s (RunStops plan store after) → Fulfils {A = A} (log_files plan) store after (after_stage (threads_stage threads plan) next) (Err s)
   stopped_does store after (Says ending text) files short says = record {
     done = tt;
     reports = tt;

@@ -4,12 +4,12 @@ use Rattle.std.proofs.Common.{ℕ, Bool, true, ◌≡◌, List, [], ◌∷◌, i
 use Rattle.std.specs.Result.{IsErrAnd}
 use Rattle.std.specs.List.{AllByRecursion}
 use Rattle.std.proofs.lemmas.Result.{err_from_is_err_and}
-use Rattle.onll_outside.specs.Views.{StoreView, SameOthers, SameFaults, SameDevices, Holds}
+use Rattle.onll_outside.specs.Views.{StoreView, SameOthers, SameFaults, SameDevices, FileHolds}
 use Rattle.onll_task.specs.declared.answer.Stop.{Stop}
 use Rattle.onll_task.specs.declared.answer.Stop.TheVariants.{NoMemory}
-use Rattle.onll_task.specs.Writing.{SameBut}
+use Rattle.onll_open.specs.Files.{SameBut}
 use Rattle.onll_task.specs.Job.{Job}
-use Rattle.onll_task.specs.Doing.{Task, Stage, after_stage, write_stage, assured_stage, then_stage, StopsSo, Does, Begins}
+use Rattle.onll_task.specs.Doing.{Task, Stage, after_stage, write_stage, assured_stage, then_stage, StopsSo, Fulfils, DoesStage}
 use Rattle.onll_task.proofs.Onwards.{goes_after, on_write, write_leaves, stay_cut}
 use Rattle.onll_task.proofs.Stages.{StopsSo-on, stay_same, none_changed, none_changes, then_changes, read_does}
 
@@ -25,7 +25,7 @@ pub one_changes : {name : List ℕ} {store after : StoreView} → SameOthers nam
 one_changes others = record { tells = others.tells; file = λ other differs. others.file other differs.0 }
 
 -- ---- what is assured
-pub assured_begins : {V : Type 0} (store : StoreView) (b : Bool) (v : V) → b ≡ true → Begins {V = V} [] store store (assured_stage b) (λ _. tt) (Ok v)
+pub assured_begins : {V : Type 0} (store : StoreView) (b : Bool) (v : V) → b ≡ true → DoesStage {V = V} [] store store (assured_stage b) (λ _. tt) (Ok v)
 assured_begins store b v e = record {
   goes = λ next. record { ends = λ after ending text h. (e, h); cut = λ after h. inr (e, h) };
   gives = λ before same. e;
@@ -35,12 +35,12 @@ assured_begins store b v e = record {
 
 -- what is assured, before a function that does the rest
 pub assured_does : {A : Type 0} {names : List (List ℕ)} {store after : StoreView} {b : Bool} {r : Result (Vec ℕ A) Stop} (next : Unit {0} → Task)
-    → b ≡ true → Does names store after (next tt) r → Does names store after (after_stage (assured_stage b) next) r
+    → b ≡ true → Fulfils names store after (next tt) r → Fulfils names store after (after_stage (assured_stage b) next) r
 assured_does {store = store} {b = b} next e rest = read_does next (assured_begins {V = Unit {0}} store b tt e) rest
 
 -- ---- bytes are written
-pub bytes_wrote : {V : Type 0} (store after : StoreView) (name bytes : List ℕ) (v : V) → Holds after name bytes → SameOthers name store after → SameFaults store after → SameDevices store after
-    → Begins {V = V} (name ∷ []) store after (write_stage name bytes) (λ _. tt) (Ok v)
+pub bytes_wrote : {V : Type 0} (store after : StoreView) (name bytes : List ℕ) (v : V) → FileHolds after name bytes → SameOthers name store after → SameFaults store after → SameDevices store after
+    → DoesStage {V = V} (name ∷ []) store after (write_stage name bytes) (λ _. tt) (Ok v)
 bytes_wrote store after name bytes v held others faults devices = record {
   goes = λ next. on_write store after name bytes (next tt) (record { files = write_leaves store after name bytes held others; counts = (faults, devices) });
   gives = λ before same. tt;
@@ -51,8 +51,8 @@ bytes_wrote store after name bytes v held others faults devices = record {
 -- ---- one after the other
 module _ {names few : List (List ℕ)} (first last : Stage (Unit {0})) (named : Named few names) where
   -- a stage that was done, before one that is done or stops
-  pub both_begin : {others : List (List ℕ)} {store mid after : StoreView} {r : Result (Unit {0}) Stop} → Named others names → Begins {V = Unit {0}} few store mid first (λ done. done) (Ok tt)
-      → Begins others mid after last (λ done. done) r → Begins names store after (then_stage first last) (λ done. done) r
+  pub both_begin : {others : List (List ℕ)} {store mid after : StoreView} {r : Result (Unit {0}) Stop} → Named others names → DoesStage {V = Unit {0}} few store mid first (λ done. done) (Ok tt)
+      → DoesStage others mid after last (λ done. done) r → DoesStage names store after (then_stage first last) (λ done. done) r
   both_begin {others} {store} {mid} {after} {r = Ok v} more a b = record {
     goes = λ next. goes_after store mid after (first.job (λ _. last.job next)) (last.job next) (next tt) (a.goes (λ _. last.job next)) (b.goes next);
     gives = λ before same. tt;
@@ -67,21 +67,21 @@ module _ {names few : List (List ℕ)} (first last : Stage (Unit {0})) (named : 
   }
 
   -- the first stage stopped
-  pub first_stops : {store after : StoreView} {s : Stop} → Begins {V = Unit {0}} few store after first (λ done. done) (Err s) → Begins {V = Unit {0}} names store after (then_stage first last) (λ done. done) (Err s)
+  pub first_stops : {store after : StoreView} {s : Stop} → DoesStage {V = Unit {0}} few store after first (λ done. done) (Err s) → DoesStage {V = Unit {0}} names store after (then_stage first last) (λ done. done) (Err s)
   first_stops a = record { goes = tt; gives = tt; stops = λ next. a.stops (λ _. last.job next); files = but_wider named a.files }
 
   -- memory could not be had after the first stage was done
-  pub cut_between : {store mid : StoreView} {r : Result (Unit {0}) Stop} → Begins {V = Unit {0}} few store mid first (λ done. done) (Ok tt) → IsErrAnd r (λ stop. stop ≡ NoMemory)
-      → Begins names store mid (then_stage first last) (λ done. done) r
+  pub cut_between : {store mid : StoreView} {r : Result (Unit {0}) Stop} → DoesStage {V = Unit {0}} few store mid first (λ done. done) (Ok tt) → IsErrAnd r (λ stop. stop ≡ NoMemory)
+      → DoesStage names store mid (then_stage first last) (λ done. done) r
   cut_between {store} {mid} {r} a h =
       let p = err_from_is_err_and r h in
       let stops : (next : Unit {0} → Job) → StopsSo store mid ((then_stage first last).job next) p.0 =
       λ next. subst (StopsSo store mid ((then_stage first last).job next)) (sym p.2) ((a.goes (λ _. last.job next)).cut mid (stay_cut mid mid (last.job next) (stay_same mid))) in
-      subst (Begins names store mid (then_stage first last) (λ (done : Unit {0}). done)) (sym p.1) (record { goes = tt; gives = tt; stops = stops; files = but_wider named a.files })
+      subst (DoesStage names store mid (then_stage first last) (λ (done : Unit {0}). done)) (sym p.1) (record { goes = tt; gives = tt; stops = stops; files = but_wider named a.files })
 
 -- memory could not be had before any call of the store
-pub none_begun : {V X : Type 0} (names : List (List ℕ)) (store : StoreView) (stage : Stage X) {value : V → X} {r : Result V Stop} → IsErrAnd r (λ stop. stop ≡ NoMemory) → Begins names store store stage value r
+pub none_begun : {V X : Type 0} (names : List (List ℕ)) (store : StoreView) (stage : Stage X) {value : V → X} {r : Result V Stop} → IsErrAnd r (λ stop. stop ≡ NoMemory) → DoesStage names store store stage value r
 none_begun names store stage {value} {r} h =
     let p = err_from_is_err_and r h in
     let stops : (next : _) → StopsSo store store (stage.job next) p.0 = λ next. subst (StopsSo store store (stage.job next)) (sym p.2) (stay_cut store store (stage.job next) (stay_same store)) in
-    subst (Begins names store store stage value) (sym p.1) (record { goes = tt; gives = tt; stops = stops; files = none_changes names store })
+    subst (DoesStage names store store stage value) (sym p.1) (record { goes = tt; gives = tt; stops = stops; files = none_changes names store })

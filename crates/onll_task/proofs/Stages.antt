@@ -10,13 +10,14 @@ use Rattle.onll_task.specs.declared.ending.Ending.{Ending}
 use Rattle.onll_task.specs.declared.ending.Ending.TheVariants.{Done, Usage, Refused, BadLog, ReadFault, WriteFault, Faulty, Judged}
 use Rattle.onll_task.specs.declared.answer.Stop.{Stop}
 use Rattle.onll_task.specs.declared.answer.Stop.TheVariants.{Says, NoMemory}
-use Rattle.onll_task.specs.Doing.{Task, Stage, after_stage, report_task, say_task, text_stage, whole_stage, lines_stage, each_job, AreKnown, each_stage, StopsSo, Does, Begins, GoesBy, BeginsBy}
-use Rattle.onll_task.specs.Job.{Job, Say, Read, Write, JobEnds, GoesOn, reading, reading_whole}
+use Rattle.onll_task.specs.Doing.{Task, Stage, after_stage, report_task, say_task, text_stage, whole_stage, lines_stage, each_job, AreKnown, each_stage, StopsSo, Fulfils, DoesStage, GoesBy, BeginsBy}
+use Rattle.onll_task.specs.Job.{Job, Say, Read, Write, JobEnds, JobGoesOn, reading, reading_whole}
 use Rattle.onll_task.specs.Reading.{Reads, ReadsWhole, HoldsImage, CannotRead, Stops}
-use Rattle.onll_task.specs.ImageNames.{image_name, image_names}
+use Rattle.onll_open.specs.Names.{log_name, log_names}
 use Rattle.onll_task.specs.Images.{image_bytes, writing_images, writing_stage}
 use Rattle.onll_task.specs.Stop.{StopSays}
-use Rattle.onll_task.specs.Writing.{FilesStay, SameBut, SameCounts, CannotWrite, WriteStops}
+use Rattle.onll_task.specs.Writing.{FilesStay, CannotWrite, WriteStops}
+use Rattle.onll_open.specs.Files.{SameBut, SameCounts}
 use Rattle.onll_task.proofs.Onwards.{on_whole, on_text, on_image, stay_cut, stay_more, stopped_ends, goes_same, goes_after, WroteSo, others_on}
 use Rattle.onll_task.proofs.Jobs.{files_stay}
 
@@ -60,7 +61,7 @@ pub image_before : {store mid : StoreView} {name : List ℕ} {lines : List (List
 image_before same h = record { bytes = h.bytes; held = λ tells. sym (same.file tells _) ∙ h.held (same.tells ∙ tells); image = h.image }
 
 -- ---- where a call stops
-pub StopsSo-on : (store mid after : StoreView) (job next : Job) (s : Stop) → GoesOn store mid job next → StopsSo mid after next s → StopsSo store after job s
+pub StopsSo-on : (store mid after : StoreView) (job next : Job) (s : Stop) → JobGoesOn store mid job next → StopsSo mid after next s → StopsSo store after job s
 StopsSo-on store mid after job next (Says ending text) on h = (h.0, on.ends after ending text.items h.1)
 StopsSo-on store mid after job next NoMemory on h = on.cut after h
 
@@ -98,7 +99,7 @@ unread_stops store after name next s h same =
 -- ---- tasks
 -- a stage that reads, before a function that does the rest
 pub read_does : {X V A : Type 0} {names : List (List ℕ)} {store mid after : StoreView} {stage : Stage X} {value : V → X} {v : V} {r : Result (Vec ℕ A) Stop} (next : X → Task)
-    → Begins [] store mid stage value (Ok v) → Does names mid after (next (value v)) r → Does names store after (after_stage stage next) r
+    → DoesStage [] store mid stage value (Ok v) → Fulfils names mid after (next (value v)) r → Fulfils names store after (after_stage stage next) r
 read_does {X} {names = names} {store} {mid} {after} {value = value} {v} {r = Ok text} next first then_ = record {
   done = (first.goes (λ (x : X). (next x).job)).ends after Done text.items then_.done;
   reports = λ before same. record { value = value v; known = first.gives before same; reports = then_.reports before (stay_more before store mid same (none_stays first.files)) };
@@ -114,7 +115,7 @@ read_does {X} {names = names} {store} {mid} {after} {stage} {value} {v} {r = Err
 
 -- a stage that writes, before a function that says the rest without the store
 pub wrote_does : {X V A : Type 0} {names : List (List ℕ)} {store mid : StoreView} {stage : Stage X} {value : V → X} {v : V} {r : Result (Vec ℕ A) Stop} (next : X → Task)
-    → Begins names store mid stage value (Ok v) → ((any : StoreView) → Does [] any any (next (value v)) r) → Does names store mid (after_stage stage next) r
+    → DoesStage names store mid stage value (Ok v) → ((any : StoreView) → Fulfils [] any any (next (value v)) r) → Fulfils names store mid (after_stage stage next) r
 wrote_does {X} {names = names} {store} {mid} {stage} {value} {v} {r = Ok text} next first says = record {
   done = (first.goes (λ (x : X). (next x).job)).ends mid Done text.items (says mid).done;
   reports = λ before same. record { value = value v; known = first.gives before same; reports = (says before).reports before (stay_same before) };
@@ -126,29 +127,29 @@ wrote_does {X} {names = names} {store} {mid} {stage} {value} {v} {r = Err s} nex
 
 -- what stopped the stage stops the task
 pub stop_does : {X V A : Type 0} {names : List (List ℕ)} {store after : StoreView} {stage : Stage X} {value : V → X} {s : Stop} (next : X → Task)
-    → Begins names store after stage value (Err s) → Does {A = A} names store after (after_stage stage next) (Err s)
+    → DoesStage names store after stage value (Err s) → Fulfils {A = A} names store after (after_stage stage next) (Err s)
 stop_does {X} next first = record { done = tt; reports = tt; stops = first.stops (λ (x : X). (next x).job); files = first.files }
 
 pub unread_does : {X V A : Type 0} (names : List (List ℕ)) {store after : StoreView} {stage : Stage X} {value : V → X} {s : Stop} (next : X → Task)
-    → Begins [] store after stage value (Err s) → Does {A = A} names store after (after_stage stage next) (Err s)
+    → DoesStage [] store after stage value (Err s) → Fulfils {A = A} names store after (after_stage stage next) (Err s)
 unread_does {X} names {store} {after} next first = record { done = tt; reports = tt; stops = first.stops (λ (x : X). (next x).job); files = wider names store after first.files }
 
 -- ---- at once
 -- a report
 pub report_does : {A : Type 0} (store : StoreView) {report : List ℕ} {Holds : List ℕ → Type 0} (text : Vec ℕ A) → text.items ≡ report → Holds text.items
-    → Does [] store store (report_task report Holds) (Ok text)
+    → Fulfils [] store store (report_task report Holds) (Ok text)
 report_does store text e holds = record { done = (refl, e, stay_same store, ((refl, refl), (refl, refl))); reports = λ before same. holds; stops = tt; files = none_changes [] store }
 
 -- memory could not be had
-pub none_does : {A : Type 0} (names : List (List ℕ)) (store : StoreView) (task : Task) {r : Result (Vec ℕ A) Stop} → IsErrAnd r (λ stop. stop ≡ NoMemory) → Does names store store task r
+pub none_does : {A : Type 0} (names : List (List ℕ)) (store : StoreView) (task : Task) {r : Result (Vec ℕ A) Stop} → IsErrAnd r (λ stop. stop ≡ NoMemory) → Fulfils names store store task r
 none_does {A} names store task {r} h =
     let p = err_from_is_err_and r h in
     let stops : StopsSo store store task.job NoMemory = stay_cut store store task.job (stay_same store) in
-    subst (Does names store store task) (sym p.1) (record { done = tt; reports = tt; stops = subst (StopsSo store store task.job) (sym p.2) stops; files = none_changes names store })
+    subst (Fulfils names store store task) (sym p.1) (record { done = tt; reports = tt; stops = subst (StopsSo store store task.job) (sym p.2) stops; files = none_changes names store })
 
 -- a text that is no report; or memory could not be had
 pub says_does : {A : Type 0} (store : StoreView) (ending : Ending) (text : List ℕ) (s : Stop) → (ending ≡ Done → ⊥) → StopSays s (λ end said. (end ≡ ending) × (said ≡ text))
-    → Does {A = A} [] store store (say_task ending text) (Err s)
+    → Fulfils {A = A} [] store store (say_task ending text) (Err s)
 says_does store ending text s bad h = record {
   done = tt;
   reports = tt;
@@ -158,49 +159,49 @@ says_does store ending text s bad h = record {
 
 -- ---- what begins a task
 pub goes_begins : {V X : Type 0} {store after : StoreView} {stage : Stage X} {value : V → X} (v : V)
-    → ((next : X → Job) → GoesOn store after (stage.job next) (next (value v))) → ((before : StoreView) → FilesStay before store → stage.known before (value v)) → SameFiles store after
-    → Begins [] store after stage value (Ok v)
+    → ((next : X → Job) → JobGoesOn store after (stage.job next) (next (value v))) → ((before : StoreView) → FilesStay before store → stage.known before (value v)) → SameFiles store after
+    → DoesStage [] store after stage value (Ok v)
 goes_begins v goes gives same = record { goes = goes; gives = gives; stops = tt; files = same_none same }
 
 pub stops_begins : {V X : Type 0} {store after : StoreView} {stage : Stage X} {value : V → X} (s : Stop)
-    → ((next : X → Job) → StopsSo store after (stage.job next) s) → SameFiles store after → Begins [] store after stage value (Err s)
+    → ((next : X → Job) → StopsSo store after (stage.job next) s) → SameFiles store after → DoesStage [] store after stage value (Err s)
 stops_begins s stops same = record { goes = tt; gives = tt; stops = stops; files = same_none same }
 
 -- memory could not be had
-pub none_begins : {V X : Type 0} {store after : StoreView} {stage : Stage X} {value : V → X} {r : Result V Stop} → IsErrAnd r (λ stop. stop ≡ NoMemory) → SameBut [] store after → Begins [] store after stage value r
+pub none_begins : {V X : Type 0} {store after : StoreView} {stage : Stage X} {value : V → X} {r : Result V Stop} → IsErrAnd r (λ stop. stop ≡ NoMemory) → SameBut [] store after → DoesStage [] store after stage value r
 none_begins {store = store} {after} {stage} {value} {r} h same =
     let p = err_from_is_err_and r h in
     let stops : (next : _) → StopsSo store after (stage.job next) p.0 = λ next. subst (StopsSo store after (stage.job next)) (sym p.2) (stay_cut store after (stage.job next) (none_stays same)) in
-    subst (Begins [] store after stage value) (sym p.1) (record { goes = tt; gives = tt; stops = stops; files = same })
+    subst (DoesStage [] store after stage value) (sym p.1) (record { goes = tt; gives = tt; stops = stops; files = same })
 
 -- a text that is read by its grammar
 pub read_begins : {V A : Type 0} {store mid : StoreView} {name : List ℕ} {grammar : List ℕ → Result A Refusal} {value : V → A} (v : V)
-    → Reads store grammar name (value v) → SameFiles store mid → SameCounts store mid → Begins [] store mid (text_stage name grammar) value (Ok v)
+    → Reads store grammar name (value v) → SameFiles store mid → SameCounts store mid → DoesStage [] store mid (text_stage name grammar) value (Ok v)
 read_begins {store = store} {mid} {name} {grammar} {value} v read same faults =
     goes_begins v (λ next. on_text store mid name grammar next (value v) read same faults) (λ before files. reads_before files read) same
 
 -- a text that is outside of it
 pub refused_begins : {V A : Type 0} {store after : StoreView} (name : List ℕ) (grammar : List ℕ → Result A Refusal) {value : V → A} (s : Stop)
-    → StopSays s (Stops store after grammar name) → SameFiles store after → Begins [] store after (text_stage name grammar) value (Err s)
+    → StopSays s (Stops store after grammar name) → SameFiles store after → DoesStage [] store after (text_stage name grammar) value (Err s)
 refused_begins {store = store} {after} name grammar s stop same =
     stops_begins s (λ next. says_stops store after (reading name grammar next) s (Stops store after grammar name) (files_stay store after same)
     (λ ending text k. (refused_end store after grammar name ending text k, stopped_ends store after name grammar (λ _. next) ending text same k)) stop) same
 
 -- the same with its bytes
 pub whole_begins : {V A : Type 0} {store mid : StoreView} {name : List ℕ} {grammar : List ℕ → Result A Refusal} {value : V → List ℕ × A} (v : V)
-    → ReadsWhole store grammar name (value v).0 (value v).1 → SameFiles store mid → SameCounts store mid → Begins [] store mid (whole_stage name grammar) value (Ok v)
+    → ReadsWhole store grammar name (value v).0 (value v).1 → SameFiles store mid → SameCounts store mid → DoesStage [] store mid (whole_stage name grammar) value (Ok v)
 whole_begins {store = store} {mid} {name} {grammar} {value} v read same faults =
     goes_begins v (λ next. on_whole store mid name grammar (λ bytes a. next (bytes, a)) (value v).0 (value v).1 read same faults) (λ before files. whole_before files read) same
 
 pub refused_whole : {V A : Type 0} {store after : StoreView} (name : List ℕ) (grammar : List ℕ → Result A Refusal) {value : V → List ℕ × A} (s : Stop)
-    → StopSays s (Stops store after grammar name) → SameFiles store after → Begins [] store after (whole_stage name grammar) value (Err s)
+    → StopSays s (Stops store after grammar name) → SameFiles store after → DoesStage [] store after (whole_stage name grammar) value (Err s)
 refused_whole {store = store} {after} name grammar s stop same =
     stops_begins s (λ next. says_stops store after (reading_whole name grammar (λ bytes a. next (bytes, a))) s (Stops store after grammar name) (files_stay store after same)
     (λ ending text k. (refused_end store after grammar name ending text k, stopped_ends store after name grammar (λ bytes a. next (bytes, a)) ending text same k)) stop) same
 
 -- the lines of an image
 pub lines_begins : {V : Type 0} {store mid : StoreView} {name : List ℕ} {value : V → List (List ℕ)} (v : V)
-    → HoldsImage store name (value v) → SameFiles store mid → SameCounts store mid → Begins [] store mid (lines_stage name) value (Ok v)
+    → HoldsImage store name (value v) → SameFiles store mid → SameCounts store mid → DoesStage [] store mid (lines_stage name) value (Ok v)
 lines_begins {store = store} {mid} {name} {value} v h same faults =
     goes_begins v (λ next. on_image store mid name next (value v) h same faults) (λ before files. image_before files h) same
 
@@ -221,9 +222,9 @@ unwritten_stops store after name bytes next NoMemory stop cut = inl cut
 
 -- all images were written
 pub wrote_begins : {V : Type 0} (v : V) (store new : StoreView) (logs : List ℕ) (images : List (List (List ℕ))) (i : ℕ) → length images ≤ i → WroteSo store new logs images i
-    → Begins (image_names logs 0 (length images)) store new (writing_stage logs images) (λ (v : V). tt) (Ok v)
+    → DoesStage (log_names logs 0 (length images)) store new (writing_stage logs images) (λ (v : V). tt) (Ok v)
 wrote_begins v store new logs images i most so = record {
-  goes = λ next. subst (λ l. GoesOn store new (writing_images logs 0 images (next tt)) (writing_images logs i l (next tt))) (drop_all i images most) (so.on (next tt));
+  goes = λ next. subst (λ l. JobGoesOn store new (writing_images logs 0 images (next tt)) (writing_images logs i l (next tt))) (drop_all i images most) (so.on (next tt));
   gives = λ before same. tt;
   stops = tt;
   files = so.others;
@@ -231,8 +232,8 @@ wrote_begins v store new logs images i most so = record {
 
 -- the next image is not written
 pub unwritten_begins : {V : Type 0} (store mid new : StoreView) (logs : List ℕ) (images : List (List (List ℕ))) (i : ℕ) (s : Stop) → i < length images
-    → WroteSo store mid logs images i → StopSays s (CannotWrite mid new (image_name logs i)) → WriteStops mid new (image_name logs i) → SameOthers (image_name logs i) mid new
-    → Begins (image_names logs 0 (length images)) store new (writing_stage logs images) (λ (v : V). tt) (Err s)
+    → WroteSo store mid logs images i → StopSays s (CannotWrite mid new (log_name logs i)) → WriteStops mid new (log_name logs i) → SameOthers (log_name logs i) mid new
+    → DoesStage (log_names logs 0 (length images)) store new (writing_stage logs images) (λ (v : V). tt) (Err s)
 unwritten_begins store mid new logs images i s less so stop cut others = record {
   goes = tt;
   gives = tt;
@@ -240,25 +241,25 @@ unwritten_begins store mid new logs images i s less so stop cut others = record 
       let last = next tt in
       StopsSo-on store mid new (writing_images logs 0 images last) (writing_images logs i (drop i images) last) s (so.on last)
       (subst (λ l. StopsSo mid new (writing_images logs i l last) s) (sym (drop_more images i [] less))
-      (unwritten_stops mid new (image_name logs i) (image_bytes (get_or images i [])) (writing_images logs (suc i) (drop (i + 1) images) last) s stop cut));
+      (unwritten_stops mid new (log_name logs i) (image_bytes (get_or images i [])) (writing_images logs (suc i) (drop (i + 1) images) last) s stop cut));
   files = others_on store mid new logs (length images) i less so.others others;
 }
 
 -- memory could not be had after so many
 pub cut_begins : {V : Type 0} {r : Result V Stop} (store mid : StoreView) (logs : List ℕ) (images : List (List (List ℕ))) (i : ℕ) → WroteSo store mid logs images i → IsErrAnd r (λ stop. stop ≡ NoMemory)
-    → Begins (image_names logs 0 (length images)) store mid (writing_stage logs images) (λ (v : V). tt) r
+    → DoesStage (log_names logs 0 (length images)) store mid (writing_stage logs images) (λ (v : V). tt) r
 cut_begins {V} {r} store mid logs images i so h =
     let p = err_from_is_err_and r h in
-    let names = image_names logs 0 (length images) in
+    let names = log_names logs 0 (length images) in
     let stage = writing_stage logs images in
     let stops : (next : Unit {0} → Job) → StopsSo store mid (stage.job next) p.0 =
     λ next. subst (StopsSo store mid (stage.job next)) (sym p.2) ((so.on (next tt)).cut mid (stay_cut mid mid (writing_images logs i (drop i images) (next tt)) (stay_same mid))) in
-    subst (Begins names store mid stage (λ (v : V). tt)) (sym p.1) (record { goes = tt; gives = tt; stops = stops; files = so.others })
+    subst (DoesStage names store mid stage (λ (v : V). tt)) (sym p.1) (record { goes = tt; gives = tt; stops = stops; files = so.others })
 
 -- ---- one stage after the other
 -- Stages were done and gave these values: what does all of them goes on to those that are left, and has the values before theirs.
 pub record ReadSo {A X : Type 0} (stage : A → Stage X) (all left : List A) (store mid : StoreView) (values : List X) : Type 0 where
-  pub on : (next : List X → Job) → (rest_next : List X → Job) × ((rest : List X) → rest_next rest ≡ next (values ++ rest)) × GoesOn store mid (each_job stage all next) (each_job stage left rest_next)
+  pub on : (next : List X → Job) → (rest_next : List X → Job) × ((rest : List X) → rest_next rest ≡ next (values ++ rest)) × JobGoesOn store mid (each_job stage all next) (each_job stage left rest_next)
   pub known : (before : StoreView) → FilesStay before store → (rest : List X) → AreKnown stage left before rest → AreKnown stage all before (values ++ rest)
   pub same : SameBut [] store mid
 
@@ -271,7 +272,7 @@ none_read stage all store values e = subst (ReadSo stage all all store store) (s
 
 -- one value more
 pub value_next : {A X V : Type 0} {stage : A → Stage X} {all before left : List A} {x : A} {store mid new : StoreView} {values more : List X} {value : V → X} {v : V}
-    → ReadSo stage all before store mid values → before ≡ x ∷ left → Begins [] mid new (stage x) value (Ok v) → more ≡ values ++ value v ∷ [] → ReadSo stage all left store new more
+    → ReadSo stage all before store mid values → before ≡ x ∷ left → DoesStage [] mid new (stage x) value (Ok v) → more ≡ values ++ value v ∷ [] → ReadSo stage all left store new more
 value_next {A} {X} {V} {stage} {all} {before} {left} {x} {store} {mid} {new} {values} {more} {value} {v} so split first e = record {
   on = λ next.
       let o = so.on next in
@@ -279,7 +280,7 @@ value_next {A} {X} {V} {stage} {all} {before} {left} {x} {store} {mid} {new} {va
         rest_next,
         (λ rest. o.1 (value v ∷ rest) ∙ ap next (sym (append_assoc values (value v ∷ []) rest)) ∙ ap (λ l. next (l ++ rest)) (sym e)),
         goes_after store mid new (each_job stage all next) (each_job stage before o.0) (each_job stage left rest_next) o.2
-            (subst (λ l. GoesOn mid new (each_job stage l o.0) (each_job stage left rest_next)) (sym split) (first.goes (λ (y : X). each_job stage left (λ rest. o.0 (y ∷ rest))))),
+            (subst (λ l. JobGoesOn mid new (each_job stage l o.0) (each_job stage left rest_next)) (sym split) (first.goes (λ (y : X). each_job stage left (λ rest. o.0 (y ∷ rest))))),
       );
   known = λ old same rest h.
       subst (AreKnown stage all old) (sym (ap (λ l. l ++ rest) e ∙ append_assoc values (value v ∷ []) rest))
@@ -289,7 +290,7 @@ value_next {A} {X} {V} {stage} {all} {before} {left} {x} {store} {mid} {new} {va
 
 -- the next value can't be had
 pub value_stops : {A X V : Type 0} {stage : A → Stage X} {all before left : List A} {x : A} {store mid new : StoreView} {values : List X} {value : V → X} {s : Stop} {W : Type 0} {made : W → List X}
-    → ReadSo stage all before store mid values → before ≡ x ∷ left → Begins [] mid new (stage x) value (Err s) → Begins [] store new (each_stage stage all) made (Err s)
+    → ReadSo stage all before store mid values → before ≡ x ∷ left → DoesStage [] mid new (stage x) value (Err s) → DoesStage [] store new (each_stage stage all) made (Err s)
 value_stops {A} {X} {V} {stage} {all} {before} {left} {x} {store} {mid} {new} {s = s} so split first = record {
   goes = tt;
   gives = tt;
@@ -301,11 +302,11 @@ value_stops {A} {X} {V} {stage} {all} {before} {left} {x} {store} {mid} {new} {s
 
 -- all were had
 pub values_read : {A X V : Type 0} {stage : A → Stage X} {all left : List A} {store new : StoreView} {value : V → List X} (v : V) → ReadSo stage all left store new (value v) → left ≡ []
-    → Begins [] store new (each_stage stage all) value (Ok v)
+    → DoesStage [] store new (each_stage stage all) value (Ok v)
 values_read {A} {X} {V} {stage} {all} {left} {store} {new} {value} v so none = record {
   goes = λ next.
       let o = so.on next in
-      subst (GoesOn store new (each_job stage all next)) (ap (λ l. each_job stage l o.0) none ∙ o.1 [] ∙ ap next (append-nil (value v))) o.2;
+      subst (JobGoesOn store new (each_job stage all next)) (ap (λ l. each_job stage l o.0) none ∙ o.1 [] ∙ ap next (append-nil (value v))) o.2;
   gives = λ before same. subst (AreKnown stage all before) (append-nil (value v)) (so.known before same [] (subst (λ l. AreKnown stage l before []) (sym none) tt));
   stops = tt;
   files = so.same;
@@ -318,19 +319,19 @@ by_given b = b.goes
 
 -- it is done with that value
 pub by_begins : {V X : Type 0} {names : List (List ℕ)} {store after : StoreView} {stage : Stage X} {Fits : V → X → Type 0} {v : V}
-    (b : BeginsBy names store after stage Fits (Ok v)) → Begins {V = V} names store after stage (λ _. (by_given b).value) (Ok v)
+    (b : BeginsBy names store after stage Fits (Ok v)) → DoesStage {V = V} names store after stage (λ _. (by_given b).value) (Ok v)
 by_begins b = record { goes = b.goes.goes; gives = b.goes.gives; stops = tt; files = b.files }
 
 pub by_stops : {V W X : Type 0} {names : List (List ℕ)} {store after : StoreView} {stage : Stage X} {Fits : V → X → Type 0} {value : W → X} {s : Stop}
-    → BeginsBy names store after stage Fits (Err s) → Begins names store after stage value (Err s)
+    → BeginsBy names store after stage Fits (Err s) → DoesStage names store after stage value (Err s)
 by_stops b = record { goes = tt; gives = tt; stops = b.stops; files = b.files }
 
 pub begins_by : {V W X : Type 0} {names : List (List ℕ)} {store after : StoreView} {stage : Stage X} {Fits : V → X → Type 0} {w : W} (v : V) (x : X)
-    → Fits v x → Begins {V = W} names store after stage (λ _. x) (Ok w) → BeginsBy names store after stage Fits (Ok v)
+    → Fits v x → DoesStage {V = W} names store after stage (λ _. x) (Ok w) → BeginsBy names store after stage Fits (Ok v)
 begins_by v x fits b = record { goes = record { value = x; fits = fits; goes = b.goes; gives = b.gives }; stops = tt; files = b.files }
 
 pub stops_by : {V W X : Type 0} {names : List (List ℕ)} {store after : StoreView} {stage : Stage X} {Fits : V → X → Type 0} {value : W → X} {s : Stop}
-    → Begins names store after stage value (Err s) → BeginsBy names store after stage Fits (Err s)
+    → DoesStage names store after stage value (Err s) → BeginsBy names store after stage Fits (Err s)
 stops_by b = record { goes = tt; stops = b.stops; files = b.files }
 
 -- memory could not be had

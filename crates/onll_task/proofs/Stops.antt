@@ -7,21 +7,21 @@ use Rattle.onll_task.specs.declared.ending.Ending.TheVariants.{Refused}
 use Rattle.onll_task.specs.declared.answer.Stop.{Stop}
 use Rattle.onll_task.specs.declared.answer.Stop.TheVariants.{Says, NoMemory}
 use Rattle.onll_task.specs.Printed.{refusal_text}
-use Rattle.onll_task.specs.Reading.{IsCut, Reads, Stops}
+use Rattle.onll_task.specs.Reading.{IsCutText, Reads, Stops}
 use Rattle.onll_task.specs.Stop.{StopSays}
-use Rattle.onll_task.specs.Writing.{SameCounts}
+use Rattle.onll_open.specs.Files.{SameCounts}
 
 pub StopSays-weaker : (s : Stop) (P Q : Ending → List ℕ → Type 0) → ((e : Ending) (t : List ℕ) → P e t → Q e t) → StopSays s P → StopSays s Q
 StopSays-weaker (Says ending text) P Q f h = f ending text.items h
 StopSays-weaker NoMemory P Q f h = tt
 
 -- what was read of the file is accepted
-pub reads_cut : {A : Type 0} (store : StoreView) (grammar : List ℕ → Result A Refusal) (name text : List ℕ) (value : A) (c : IsCut store name text)
+pub reads_cut : {A : Type 0} (store : StoreView) (grammar : List ℕ → Result A Refusal) (name text : List ℕ) (value : A) (c : IsCutText store name text)
     → grammar c.bytes ≡ grammar text → grammar text ≡ Ok value → Reads store grammar name value
 reads_cut store grammar name text value c same h = record { bytes = c.bytes; held = c.held; accepted = same ∙ h }
 
 -- what was read of the file is refused
-pub stops_refused : {A : Type 0} (store after : StoreView) (grammar : List ℕ → Result A Refusal) (name text : List ℕ) (line : ℕ) (reason : Reason) (s : Stop) (c : IsCut store name text)
+pub stops_refused : {A : Type 0} (store after : StoreView) (grammar : List ℕ → Result A Refusal) (name text : List ℕ) (line : ℕ) (reason : Reason) (s : Stop) (c : IsCutText store name text)
     → grammar c.bytes ≡ grammar text → grammar text ≡ Err (refused line reason)
     → SameCounts store after → StopSays s (λ end said. (end ≡ Refused) × (said ≡ refusal_text name (refused line reason))) → StopSays s (Stops store after grammar name)
 stops_refused store after grammar name text line reason s c same h faults =

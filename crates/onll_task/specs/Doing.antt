@@ -11,8 +11,9 @@ use Rattle.onll_task.specs.declared.ending.Ending.TheVariants.{Done}
 use Rattle.onll_task.specs.declared.answer.Stop.{Stop}
 use Rattle.onll_task.specs.declared.answer.Stop.TheVariants.{Says, NoMemory}
 use Rattle.onll_task.specs.Reading.{Reads, ReadsWhole, HoldsImage}
-use Rattle.onll_task.specs.Writing.{FilesStay, SameBut}
-use Rattle.onll_task.specs.Job.{Job, Say, Read, Write, Keep, Assured, JobEnds, JobCut, GoesOn, reading, reading_whole}
+use Rattle.onll_task.specs.Writing.{FilesStay}
+use Rattle.onll_open.specs.Files.{SameBut}
+use Rattle.onll_task.specs.Job.{Job, Say, Read, Write, Keep, Assured, JobEnds, JobCut, JobGoesOn, reading, reading_whole}
 
 -- ---- what is to be done
 -- A task: a job with all its endings, and what its report says of the files, where it is done.
@@ -109,7 +110,7 @@ StopsSo store after job NoMemory = JobCut store after job
 
 -- A function did this task: what it gives is the report of the job that is done, which says so of the files, also as they were
 -- before calls that changed none; else the job stopped so. No files but these changed.
-pub record Does {A : Type 0} (names : List (List ℕ)) (store after : StoreView) (task : Task)
+pub record Fulfils {A : Type 0} (names : List (List ℕ)) (store after : StoreView) (task : Task)
     (result : Result (Vec ℕ A) Stop) : Type 0 where
   pub done : IfOk result (λ text. JobEnds store after task.job Done text.items)
   pub reports : IfOk result (λ text. (before : StoreView) → FilesStay before store → task.reports before text.items)
@@ -118,9 +119,9 @@ pub record Does {A : Type 0} (names : List (List ℕ)) (store after : StoreView)
 
 -- A function did this stage: with the value that it gives each job goes on, and it is the value by the files, also as they were
 -- before calls that changed none; else each job stopped so. No files but these changed.
-pub record Begins {V X : Type 0} (names : List (List ℕ)) (store after : StoreView) (stage : Stage X) (value : V → X)
+pub record DoesStage {V X : Type 0} (names : List (List ℕ)) (store after : StoreView) (stage : Stage X) (value : V → X)
     (result : Result V Stop) : Type 0 where
-  pub goes : IfOk result (λ v. (next : X → Job) → GoesOn store after (stage.job next) (next (value v)))
+  pub goes : IfOk result (λ v. (next : X → Job) → JobGoesOn store after (stage.job next) (next (value v)))
   pub gives : IfOk result (λ v. (before : StoreView) → FilesStay before store → stage.known before (value v))
   pub stops : IfErr result (λ stop. (next : X → Job) → StopsSo store after (stage.job next) stop)
   pub files : SameBut names store after
@@ -130,7 +131,7 @@ pub record Begins {V X : Type 0} (names : List (List ℕ)) (store after : StoreV
 pub record GoesBy {X : Type 0} (store after : StoreView) (stage : Stage X) (Fits : X → Type 0) : Type 0 where
   pub value : X
   pub fits : Fits value
-  pub goes : (next : X → Job) → GoesOn store after (stage.job next) (next value)
+  pub goes : (next : X → Job) → JobGoesOn store after (stage.job next) (next value)
   pub gives : (before : StoreView) → FilesStay before store → stage.known before value
 
 -- A function did this stage, and what it gives only stands for the value; else each job stopped so. No files but these changed.

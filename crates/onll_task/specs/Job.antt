@@ -2,17 +2,18 @@
 
 use Rattle.std.specs.Prelude.{ℕ, Bool, true, false, List, ◌≡◌, ◌⊎◌, Result, Ok, Err}
 use Rattle.onll_text.specs.Refusal.{Refusal}
-use Rattle.onll_outside.specs.Views.{StoreView, Holds, image_bytes}
+use Rattle.onll_outside.specs.Views.{StoreView, FileHolds, image_bytes}
 use Rattle.onll_areas.specs.Keeping.{HasKeptLines, MayKeepLines}
 use Rattle.onll_text.specs.declared.any_object.Kind.{Kind}
 use Rattle.onll_text.specs.Kinds.{kind_at}
 use Rattle.onll_task.specs.declared.ending.Ending.{Ending}
 use Rattle.onll_task.specs.declared.ending.Ending.TheVariants.{Refused}
 use Rattle.onll_task.specs.Printed.{refusal_text}
-use Rattle.onll_task.specs.Reading.{CannotRead, IsTold}
+use Rattle.onll_task.specs.Reading.{CannotRead, FileIsTold}
 use Rattle.onll_task.specs.Running.{RunPlan, RunLeft, RunGoes, RunCut}
 use Rattle.onll_task.specs.Keeps.{KeepStops}
-use Rattle.onll_task.specs.Writing.{CannotWrite, FilesStay, SameCounts, WriteStops, written}
+use Rattle.onll_task.specs.Writing.{CannotWrite, FilesStay, WriteStops, written}
+use Rattle.onll_open.specs.Files.{SameCounts}
 
 -- What a call does, up to the text that it puts: it reads files by their names, each after what the ones before it held, makes
 -- bytes the files of names, keeps devices as files, each with lines that are durable after so many fences (where one of these fails, a
@@ -34,7 +35,7 @@ abbrev pub JobEnds : StoreView → StoreView → Job → Ending → List ℕ →
 JobEnds store after (Say e t) ending text = (ending ≡ e) × (text ≡ t) × FilesStay store after × SameCounts store after
 JobEnds store after (Read name next) ending text =
     (CannotRead store after name ending text × FilesStay store after)
-    ⊎ ((bytes : List ℕ) × (Holds store name bytes × JobEnds store after (next bytes) ending text))
+    ⊎ ((bytes : List ℕ) × (FileHolds store name bytes × JobEnds store after (next bytes) ending text))
 JobEnds store after (Write name bytes next) ending text =
     CannotWrite store after name ending text ⊎ JobEnds (written store name bytes) after next ending text
 JobEnds store after (Keep name lines fences said next) ending text = KeepStops store after name lines fences said ending text
@@ -49,7 +50,7 @@ JobEnds store after (Threads kind plan next) ending text =
 abbrev pub JobCut : StoreView → StoreView → Job → Type 0
 JobCut store after (Say e t) = FilesStay store after
 JobCut store after (Read name next) =
-    FilesStay store after ⊎ ((bytes : List ℕ) × (Holds store name bytes × JobCut store after (next bytes)))
+    FilesStay store after ⊎ ((bytes : List ℕ) × (FileHolds store name bytes × JobCut store after (next bytes)))
 JobCut store after (Write name bytes next) = WriteStops store after name ⊎ JobCut (written store name bytes) after next
 JobCut store after (Keep name lines fences said next) = MayKeepLines store after name lines
     ⊎ ((kept : StoreView) × HasKeptLines store kept name lines fences × JobCut kept after next)
@@ -57,7 +58,7 @@ JobCut store after (Assured b next) = FilesStay store after ⊎ ((b ≡ true) ×
 JobCut store after (Threads kind plan next) = RunCut plan store after (λ left kept. JobCut kept after (next left))
 
 -- whatever the other job does from this store, the job may do from the store before
-pub record GoesOn (store mid : StoreView) (job next : Job) : Type 0 where
+pub record JobGoesOn (store mid : StoreView) (job next : Job) : Type 0 where
   pub ends : (after : StoreView) (ending : Ending) (text : List ℕ) → JobEnds mid after next ending text
       → JobEnds store after job ending text
   pub cut : (after : StoreView) → JobCut mid after next → JobCut store after job
@@ -76,7 +77,7 @@ SaysNow (Threads kind plan next) ending text = ⊥
 abbrev pub DecidesWhere : (hold : Bool) → StoreView → Job → Ending → List ℕ → Type 0
 DecidesWhere hold store (Say e t) ending text = (e ≡ ending) × (t ≡ text)
 DecidesWhere hold store (Read name next) ending text =
-    (bytes : List ℕ) × (IsTold store name bytes × DecidesWhere hold store (next bytes) ending text)
+    (bytes : List ℕ) × (FileIsTold store name bytes × DecidesWhere hold store (next bytes) ending text)
 DecidesWhere hold store (Write name bytes next) ending text = DecidesWhere hold (written store name bytes) next ending text
 DecidesWhere hold store (Keep name lines fences said next) ending text =
     (hold ≡ true) × DecidesWhere hold (written store name (image_bytes lines)) next ending text

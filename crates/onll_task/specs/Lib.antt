@@ -1,6 +1,5 @@
 pub mod Doing
 pub mod FileLines
-pub mod ImageNames
 pub mod Images
 pub mod Job
 pub mod Keeps

@@ -4,47 +4,47 @@ use Rattle.std.specs.Prelude.{ℕ, List, ◌≡◌, ◌+◌, ◌⊎◌, true, So
 use Rattle.onll_log.specs.ImageFile.{image_lines}
 use Rattle.onll_text.specs.Refusal.{Refusal}
 use Rattle.onll_text.specs.Script.{longest_text}
-use Rattle.onll_outside.specs.Views.{StoreView, Holds, Rose}
+use Rattle.onll_outside.specs.Views.{StoreView, FileHolds, Rose}
 use Rattle.onll_outside.specs.declared.store.FaultKind.TheVariants as kinds
 use Rattle.onll_task.specs.declared.ending.Ending.{Ending}
 use Rattle.onll_task.specs.declared.ending.Ending.TheVariants.{Refused, ReadFault}
 use Rattle.onll_task.specs.Printed.{refusal_text, read_fault_text}
-use Rattle.onll_task.specs.Writing.{SameCounts}
+use Rattle.onll_open.specs.Files.{SameCounts}
 
 -- the named file is told, and has these bytes
-pub record IsTold (store : StoreView) (name bytes : List ℕ) : Type 0 where
+pub record FileIsTold (store : StoreView) (name bytes : List ℕ) : Type 0 where
   pub tells : store.tells ≡ true
   pub file : store.file name ≡ Some bytes
 
 -- the text is what the named file holds, or its front with one byte that is too many
-pub record IsCut (store : StoreView) (name text : List ℕ) : Type 0 where
+pub record IsCutText (store : StoreView) (name text : List ℕ) : Type 0 where
   pub bytes : List ℕ
-  pub held : Holds store name bytes
+  pub held : FileHolds store name bytes
   pub cut : (text ≡ bytes) ⊎ (text ≡ take (longest_text + 1) bytes)
 
 -- the file is read as this value
 pub record Reads {A : Type 0} (store : StoreView) (grammar : List ℕ → Result A Refusal) (name : List ℕ) (value : A) : Type 0 where
   pub bytes : List ℕ
-  pub held : Holds store name bytes
+  pub held : FileHolds store name bytes
   pub accepted : grammar bytes ≡ Ok value
 
 -- the file has these bytes, and is read as this value
 pub record ReadsWhole {A : Type 0} (store : StoreView) (grammar : List ℕ → Result A Refusal) (name bytes : List ℕ)
     (value : A) : Type 0 where
-  pub held : Holds store name bytes
+  pub held : FileHolds store name bytes
   pub accepted : grammar bytes ≡ Ok value
 
 -- the named file holds an image with these lines
 pub record HoldsImage (store : StoreView) (name : List ℕ) (lines : List (List ℕ)) : Type 0 where
   pub bytes : List ℕ
-  pub held : Holds store name bytes
+  pub held : FileHolds store name bytes
   pub image : lines ≡ image_lines bytes
 
 -- the file is outside the grammar, and this line says so
-pub record Refuses {A : Type 0} (store : StoreView) (grammar : List ℕ → Result A Refusal) (name text : List ℕ) : Type 0 where
+pub record RefusesFile {A : Type 0} (store : StoreView) (grammar : List ℕ → Result A Refusal) (name text : List ℕ) : Type 0 where
   pub bytes : List ℕ
   pub refusal : Refusal
-  pub held : Holds store name bytes
+  pub held : FileHolds store name bytes
   pub outside : grammar bytes ≡ Err refusal
   pub line : text ≡ refusal_text name refusal
 
@@ -61,6 +61,6 @@ CannotRead store after name ending text = ⊥
 
 -- how the reading of a file ends a call; a text that is refused was read
 abbrev pub Stops : {A : Type 0} → StoreView → StoreView → (List ℕ → Result A Refusal) → List ℕ → Ending → List ℕ → Type 0
-Stops store after grammar name Refused text = Refuses store grammar name text × SameCounts store after
+Stops store after grammar name Refused text = RefusesFile store grammar name text × SameCounts store after
 Stops store after grammar name ReadFault text = Unread store after name text
 Stops store after grammar name ending text = ⊥

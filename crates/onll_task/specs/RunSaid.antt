@@ -9,7 +9,7 @@ use Rattle.onll_model.specs.declared.call.CallEnd.{CallEnd}
 use Rattle.onll_model.specs.Object.{Behaviour}
 use Rattle.onll_model.specs.Trace.{state_after}
 use Rattle.onll_log.specs.Grammar.{used_by}
-use Rattle.onll_run.specs.Left.{Left, LogLeft, content_in}
+use Rattle.onll_run.specs.Left.{AfterRun, LogLeft, content_in}
 use Rattle.onll_text.specs.Wording.{Wording}
 use Rattle.onll_text.specs.Lines.{LogData}
 use Rattle.onll_text.specs.Reports.{NodeReads, StateReads, LogReads, EachReads}
@@ -42,7 +42,7 @@ abbrev pub log_data : LogLeft → LogData
 log_data log = record { entries = length log.entries; lines = used_by (content_in log); fences = log.fences }
 
 -- what is said of a run that left this, from this state on, where it goes on from so many nodes or from none
-abbrev pub run_data : {State Op Query Reply : Type 0} → Behaviour State Op Query Reply → Option ℕ → State → Left State Op Query Reply
+abbrev pub run_data : {State Op Query Reply : Type 0} → Behaviour State Op Query Reply → Option ℕ → State → AfterRun State Op Query Reply
     → RunData State Op Query Reply
 run_data b resumed state left = record {
   resumed = resumed;

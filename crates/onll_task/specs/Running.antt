@@ -15,12 +15,13 @@ use Rattle.onll_outside.specs.declared.store.FaultKind.{FaultKind}
 use Rattle.onll_outside.specs.declared.store.FaultKind.TheVariants as kinds
 use Rattle.onll_areas.specs.Keeping.{StaysOrZeros}
 use Rattle.onll_run.specs.Outcomes.{failed_in, fault_in}
-use Rattle.onll_run.specs.Left.{Plan, Left, LogLeft, begun_logs, fenced_in, HasRun}
+use Rattle.onll_run.specs.Left.{ScriptPlan, AfterRun, LogLeft, begun_logs, fenced_in, HasRun}
 use Rattle.onll_text.specs.Kinds.{ObjectKind}
 use Rattle.onll_task.specs.declared.ending.Ending.{Ending}
 use Rattle.onll_task.specs.declared.ending.Ending.TheVariants.{WriteFault, Faulty}
+use Rattle.onll_open.specs.Devices.{NoneCounted}
 use Rattle.onll_task.specs.FileLines.{FitFile}
-use Rattle.onll_task.specs.ImageNames.{image_name, image_names}
+use Rattle.onll_open.specs.Names.{log_name, log_names}
 use Rattle.onll_text.specs.Lines.{fence_line}
 use Rattle.onll_task.specs.Printed.{write_fault_text}
 use Rattle.onll_task.specs.RunSaid.{RunData, RunReads, run_data, resumed_by}
@@ -32,15 +33,15 @@ use Rattle.onll_task.specs.Writing.{FilesStay, AllButStay}
 pub record RunPlan (k : ObjectKind) : Type 0 where
   pub logs : List ℕ
   pub reopens : Bool
-  pub run : Plan k.State k.Op k.Query k.Reply
+  pub run : ScriptPlan k.State k.Op k.Query k.Reply
 
 -- what a run of it leaves
 abbrev pub RunLeft : ObjectKind → Type 0
-RunLeft k = Left k.State k.Op k.Query k.Reply
+RunLeft k = AfterRun k.State k.Op k.Query k.Reply
 
 -- the files of its logs
 abbrev pub log_files : {k : ObjectKind} → RunPlan k → List (List ℕ)
-log_files plan = image_names plan.logs 0 (length plan.run.scripts)
+log_files plan = log_names plan.logs 0 (length plan.run.scripts)
 
 -- ---- what is said of it
 module _ {k : ObjectKind} (plan : RunPlan k) where
@@ -66,9 +67,9 @@ abbrev pub fences_of : List LogLeft → ℕ
 fences_of logs = sum_by (λ (log : LogLeft). log.fences) logs
 
 -- where the store tells its files, a thread's holds the lines of its device as read; where its fence failed, an image of it
-abbrev pub HoldsLog : StoreView → List ℕ → LogLeft → Option ℕ → Type 0
-HoldsLog store name log None = store.tells ≡ true → store.file name ≡ Some (image_bytes log.read)
-HoldsLog store name log (Some place) = store.tells ≡ true
+abbrev pub FileHoldsLog : StoreView → List ℕ → LogLeft → Option ℕ → Type 0
+FileHoldsLog store name log None = store.tells ≡ true → store.file name ≡ Some (image_bytes log.read)
+FileHoldsLog store name log (Some place) = store.tells ≡ true
     → (image : List (List ℕ)) × Mixed (fenced_in log (Some place)) log.read image × (store.file name ≡ Some (image_bytes image))
 
 -- so does the file of each thread, from thread t on
@@ -76,7 +77,7 @@ abbrev pub HoldsLogs : {State Op Query Reply : Type 0} → StoreView → List �
     → List (List (CallEnd State Op Query Reply)) → Type 0
 HoldsLogs store logs t [] [] = Unit {0}
 HoldsLogs store logs t (log ∷ rest) (ends ∷ more) =
-    HoldsLog store (image_name logs t) log (failed_in ends) × HoldsLogs store logs (suc t) rest more
+    FileHoldsLog store (log_name logs t) log (failed_in ends) × HoldsLogs store logs (suc t) rest more
 HoldsLogs store logs t rest ends = ⊥
 
 -- where the store tells its files, the image that is read of the named one has no more lines than these
@@ -118,20 +119,19 @@ pub record HasKept {k : ObjectKind} (plan : RunPlan k) (left : RunLeft k) (store
   pub others : AllButStay (log_files plan) store kept
 
 -- ---- files over which no device was kept
--- lines that hold what a log holds, and as many as it uses; none where it has no head
-abbrev pub IsFrontFor : Option LogHead → Content → List (List ℕ) → Type 0
-IsFrontFor None log front = front ≡ []
-IsFrontFor (Some head) log front = (content_of front ≡ Some log) × (length front ≡ used_by log)
-
 -- where the store tells its files, the named one begins with the lines of its log as before; each word after them is as it was or zero
 abbrev pub StaysOrWipes : StoreView → StoreView → List ℕ → Content → Type 0
-StaysOrWipes store after name log = (front : List (List ℕ)) × IsFrontFor log.head log front × MayWipe name (image_bytes front) store after
+StaysOrWipes store after name log = (front : List (List ℕ)) × (content_of front ≡ Some log) × (length front ≡ used_by log)
+    × MayWipe name (image_bytes front) store after
 
--- so stands a file over which no device was kept: one over which a device is made anew is as it was or holds zeros alone, one that is
--- reopened begins with its log
-abbrev pub FileStands : Bool → StoreView → StoreView → List ℕ → Content → Type 0
-FileStands false store after name log = StaysOrZeros store after name
-FileStands true store after name log = StaysOrWipes store after name log
+-- so stands a file over which no device was kept: that of a log without a head is as it was or holds zeros alone, another begins with
+-- its log
+abbrev pub StandsByHead : Option LogHead → StoreView → StoreView → List ℕ → Content → Type 0
+StandsByHead None store after name log = StaysOrZeros store after name
+StandsByHead (Some head) store after name log = StaysOrWipes store after name log
+
+abbrev pub FileStands : StoreView → StoreView → List ℕ → Content → Type 0
+FileStands store after name log = StandsByHead log.head store after name log
 
 -- each of these files stands so, by what its log held
 abbrev pub AllStand : (List ℕ → Content → Type 0) → List (List ℕ) → List Content → Type 0
@@ -141,21 +141,21 @@ AllStand Stands names logs = ⊥
 
 -- no device was kept: the files of all logs stand so
 abbrev pub FilesStand : {k : ObjectKind} → RunPlan k → StoreView → StoreView → Type 0
-FilesStand plan store after = AllStand (FileStands plan.reopens store after) (log_files plan) plan.run.base.logs
+FilesStand plan store after = AllStand (FileStands store after) (log_files plan) plan.run.base.logs
 
 -- ---- files over which devices were kept up to a thread's
 -- The file of each thread before this one holds its log. Its own does too or stands so, and those of the threads after it stand so.
 abbrev pub HoldTo : {State Op Query Reply : Type 0} → (List ℕ → Content → Type 0) → StoreView → List (List ℕ) → List Content
     → List LogLeft → List (List (CallEnd State Op Query Reply)) → (thread : ℕ) → Type 0
 HoldTo Stands after (name ∷ names) (before ∷ befores) (log ∷ logs) (ends ∷ more) zero =
-    (Stands name before ⊎ HoldsLog after name log (failed_in ends)) × AllStand Stands names befores
+    (Stands name before ⊎ FileHoldsLog after name log (failed_in ends)) × AllStand Stands names befores
 HoldTo Stands after (name ∷ names) (before ∷ befores) (log ∷ logs) (ends ∷ more) (suc t) =
-    HoldsLog after name log (failed_in ends) × HoldTo Stands after names befores logs more t
+    FileHoldsLog after name log (failed_in ends) × HoldTo Stands after names befores logs more t
 HoldTo Stands after names befores logs ends t = ⊥
 
 -- What a run left was handed back to the store, whose counts of devices rose by all of it, and is kept up to this thread's log.
 pub record KeptTo {k : ObjectKind} (plan : RunPlan k) (left : RunLeft k) (thread : ℕ) (store after : StoreView) : Type 0 where
-  pub files : HoldTo (FileStands plan.reopens store after) after (log_files plan) plan.run.base.logs left.logs left.ends thread
+  pub files : HoldTo (FileStands store after) after (log_files plan) plan.run.base.logs left.logs left.ends thread
   pub faults : after.device_faults ≡ counted store.device_faults (broken_threads left.ends)
   pub fences : after.device_fences ≡ counted store.device_fences (fences_of left.logs + begun_logs plan.run.base.logs)
 
@@ -179,25 +179,28 @@ pub record HeaderFault {k : ObjectKind} (plan : RunPlan k) (store after : StoreV
   pub files : FilesStand plan store after
   pub others : AllButStay (log_files plan) store after
 
--- the call that makes a device, by whether files are reopened
-abbrev pub device_call : Bool → FaultKind
-device_call false = kinds.Device
-device_call true = kinds.Reopen
+-- the call that makes a log's device, by its head: it is made anew where there is none, and reopened where there is one
+abbrev pub device_call : Option LogHead → FaultKind
+device_call None = kinds.Device
+device_call (Some head) = kinds.Reopen
 
--- the devices that were handed back made no fence: the store's counts, where they are counts of 64 bits, stand
-abbrev pub NoneCounted : StoreView → StoreView → Type 0
-NoneCounted store after = (store.device_faults < 2 ^ 64 → after.device_faults ≡ store.device_faults)
-    × (store.device_fences < 2 ^ 64 → after.device_fences ≡ store.device_fences)
+-- the call of this kind makes the device of this thread's log
+abbrev pub IsCallFor : ℕ → List Content → FaultKind → Type 0
+IsCallFor t [] kind = ⊥
+IsCallFor zero (before ∷ logs) kind = kind ≡ device_call before.head
+IsCallFor (suc t) (before ∷ logs) kind = IsCallFor t logs kind
 
--- A device of this name could not be made, and no device was kept. Those before it were given up, of which none was fenced.
-pub record NotMade {k : ObjectKind} (plan : RunPlan k) (store after : StoreView) (name : List ℕ) : Type 0 where
-  pub last : after.last ≡ Some (record { kind = device_call plan.reopens; name = name })
+-- The device of this thread could not be made, and no device was kept. Those before it were given up, of which none was fenced.
+pub record PlanNotMade {k : ObjectKind} (plan : RunPlan k) (store after : StoreView) (thread : ℕ) : Type 0 where
+  pub kind : FaultKind
+  pub call : IsCallFor thread plan.run.base.logs kind
+  pub last : after.last ≡ Some (record { kind = kind; name = log_name plan.logs thread })
   pub devices : NoneCounted store after
   pub files : FilesStand plan store after
 
 -- What a run left could not be kept from this thread's device on; those after it were given up.
 pub record NotKept {k : ObjectKind} (plan : RunPlan k) (store after : StoreView) (thread : ℕ) : Type 0 where
-  pub last : after.last ≡ Some (record { kind = kinds.Keep; name = image_name plan.logs thread })
+  pub last : after.last ≡ Some (record { kind = kinds.Keep; name = log_name plan.logs thread })
   pub left : RunLeft k
   pub run : HasRun k.means plan.run left
   pub kept : KeptTo plan left thread store after
@@ -206,9 +209,9 @@ pub record NotKept {k : ObjectKind} (plan : RunPlan k) (store after : StoreView)
 pub record DeviceFault {k : ObjectKind} (plan : RunPlan k) (store after : StoreView) (text : List ℕ) : Type 0 where
   pub thread : ℕ
   pub within : thread < length plan.run.scripts
-  pub line : text ≡ write_fault_text (image_name plan.logs thread)
+  pub line : text ≡ write_fault_text (log_name plan.logs thread)
   pub rose : Rose store.faults after.faults
-  pub cause : NotMade plan store after (image_name plan.logs thread) ⊎ NotKept plan store after thread
+  pub cause : PlanNotMade plan store after thread ⊎ NotKept plan store after thread
   pub others : AllButStay (log_files plan) store after
 
 -- a run stops so, and gives nothing

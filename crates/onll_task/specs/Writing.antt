@@ -3,9 +3,10 @@
 use Rattle.std.specs.Prelude.{ℕ, List, ◌≡◌, ◌⊎◌, true, Some, if◌then◌else◌}
 use Rattle.std.specs.List.{AllByRecursion}
 use Rattle.std.specs.Str.{bytes_eq}
-use Rattle.onll_outside.specs.Views.{StoreView, SameFaults, SameDevices, Rose}
+use Rattle.onll_outside.specs.Views.{StoreView, Rose}
 use Rattle.onll_outside.specs.declared.store.FaultKind.TheVariants as kinds
 use Rattle.onll_areas.specs.Keeping.{OthersStay}
+use Rattle.onll_open.specs.Files.{SameCounts}
 use Rattle.onll_task.specs.declared.ending.Ending.{Ending}
 use Rattle.onll_task.specs.declared.ending.Ending.TheVariants.{WriteFault}
 use Rattle.onll_task.specs.Printed.{write_fault_text}
@@ -23,15 +24,6 @@ pub record FilesStay (old new : StoreView) : Type 0 where
 pub record AllButStay (names : List (List ℕ)) (old new : StoreView) : Type 0 where
   pub tells : new.tells ≡ old.tells
   pub file : old.tells ≡ true → (other : List ℕ) → AllByRecursion (λ name. other ≡ name → ⊥) names → new.file other ≡ old.file other
-
--- no call of the store failed, and no device was handed back
-abbrev pub SameCounts : StoreView → StoreView → Type 0
-SameCounts old new = SameFaults old new × SameDevices old new
-
--- no file changed but perhaps those of these names
-pub record SameBut (names : List (List ℕ)) (old new : StoreView) : Type 0 where
-  pub tells : new.tells ≡ old.tells
-  pub file : (other : List ℕ) → AllByRecursion (λ name. other ≡ name → ⊥) names → new.file other ≡ old.file other
 
 -- these bytes were made the file of this name
 pub record HasWritten (old new : StoreView) (name bytes : List ℕ) : Type 0 where

@@ -5,7 +5,7 @@ ghost use Rattle.onll_words.specs.Texts.{AreWords, line_text};
 ghost use Rattle.onll_outside.specs.Views.{StoreView, SameOthers};
 ghost use Rattle.onll_areas.specs.Keeping.{KeepEnds};
 ghost use Rattle.onll_text.specs.Pieces.{piece_word};
-ghost use Rattle.onll_task.specs.Doing.{Begins, keep_stage};
+ghost use Rattle.onll_task.specs.Doing.{DoesStage, keep_stage};
 
 use crate::answer::Stop;
 use crate::ending::Ending;
@@ -26,7 +26,8 @@ pub fn kept_or(
     requires words { AreWords (map piece_word said.now) }
     ensures { (store after : StoreView) (lines : List (List ℕ)) (fences : ℕ) → KeepEnds store after name.now lines fences kept
         → SameOthers name.now store after
-        → Begins (name.now ∷ []) store after (keep_stage name.now lines fences (line_text (map piece_word said.now))) (λ done. done) result }
+        → let stage = keep_stage name.now lines fences (line_text (map piece_word said.now)) in
+        DoesStage (name.now ∷ []) store after stage (λ done. done) result }
 {
     match kept {
         Ok(()) => Ok(()),

@@ -5,32 +5,20 @@ ghost use Rattle.onll_outside.specs.Views.{SameOthers, BeginsWith, with_zeros};
 ghost use Rattle.onll_pmem.specs.Pmem.{words_of};
 ghost use Rattle.std.specs.Cow.{cow_slice_items};
 ghost use Rattle.onll_log.specs.ImageFile.{longest_image};
-ghost use Rattle.onll_task.specs.ImageNames.{image_name, image_names};
-ghost use Rattle.onll_task.specs.Images.{StandsFor, KeepsOf, KeepOf, FilesBegin, images_in, image_bytes, images_stage};
+ghost use Rattle.onll_open.specs.Names.{log_name, log_names};
+ghost use Rattle.onll_task.specs.Images.{Decides, KeepsOf, KeepOf, AllBeginWith, images_in, image_bytes, images_stage};
 ghost use Rattle.onll_task.specs.Writing.{HasWritten, CannotWrite, WriteStops};
 ghost use Rattle.onll_task.specs.Stop.{StopSays};
 ghost use Rattle.onll_task.specs.Doing.{BeginsBy, lines_stage};
 
 use crate::answer::Stop;
 use crate::texts::{KeptImage, kept_image, write_lines};
-use itoa::Buffer;
 use onll_log::TestedImage;
+use onll_open::log_name;
 use onll_outside::Store;
 use onll_words::Line;
 use std::alloc::{AllocError, Global};
 use std::borrow::CowSlice;
-
-/// The name of a thread's image.
-pub fn image_name(alloc: Global, logs: &str, thread: u64) -> Result<String, AllocError>
-    ensures { IfOk result (λ name. string_bytes name ≡ image_name logs.now thread) }
-{
-    let mut buffer = Buffer::new();
-    let mut name = String::new(alloc);
-    name.push_str(logs)?;
-    name.push_str(".")?;
-    name.push_str(buffer.format(thread))?;
-    Ok(name)
-}
 
 /// What is kept of the image of a thread's log, or what is said in its place.
 fn read_image<S: Store>(
@@ -39,13 +27,13 @@ fn read_image<S: Store>(
     thread: u64,
     store: &mut S,
 ) -> Result<KeptImage, Stop>
-    ensures begins { let stage = lines_stage (image_name logs.now thread) in
+    ensures begins { let stage = lines_stage (log_name logs.now thread) in
         BeginsBy [] (S.seen store.old) (S.seen store.new) stage (λ kept image. KeepsOf kept.image kept.count image) result }
-    ensures front { IfOk result (λ kept. BeginsWith (S.seen store.new) (image_name logs.now thread)
+    ensures front { IfOk result (λ kept. BeginsWith (S.seen store.new) (log_name logs.now thread)
         (image_bytes kept.image)) }
     ensures few { IfOk result (λ kept. 64 * kept.count ≤ longest_image) }
 {
-    let name = image_name(alloc, logs, thread)?;
+    let name = log_name(alloc, logs, thread)?;
     kept_image(alloc, &name, store)
 }
 
@@ -68,7 +56,7 @@ pub fn read_images<S: Store>(
 ) -> Result<KeptImages, Stop>
     ensures begins { let stage = images_stage logs.now threads in
         BeginsBy [] (S.seen store.old) (S.seen store.new) stage (λ kept images. KeepOf kept.images.items kept.counts.items images) result }
-    ensures fronts { IfOk result (λ kept. FilesBegin logs.now 0 kept.images.items (S.seen store.new)) }
+    ensures fronts { IfOk result (λ kept. AllBeginWith logs.now 0 kept.images.items (S.seen store.new)) }
     ensures few { IfOk result (λ kept. All (λ count. 64 * count ≤ longest_image) kept.counts.items) }
     ensures count { IfOk result (λ kept. length kept.images.items ≡ threads) }
     ensures many { IfOk result (λ kept. length kept.counts.items ≡ threads) }
@@ -128,14 +116,14 @@ fn write_thread<S: Store>(
     store: &mut S,
 ) -> Result<(), Stop>
     requires { length front.now ≤ count }
-    ensures written { OnOk result (HasWritten (S.seen store.old) (S.seen store.new) (image_name logs.now thread)
+    ensures written { OnOk result (HasWritten (S.seen store.old) (S.seen store.new) (log_name logs.now thread)
         (image_bytes (with_zeros (words_of front.now) count))) }
     ensures stop { IfErr result (λ stop. StopSays stop
-        (CannotWrite (S.seen store.old) (S.seen store.new) (image_name logs.now thread))) }
-    ensures cut { IfErr result (λ stop. WriteStops (S.seen store.old) (S.seen store.new) (image_name logs.now thread)) }
-    ensures others { SameOthers (image_name logs.now thread) (S.seen store.old) (S.seen store.new) }
+        (CannotWrite (S.seen store.old) (S.seen store.new) (log_name logs.now thread))) }
+    ensures cut { IfErr result (λ stop. WriteStops (S.seen store.old) (S.seen store.new) (log_name logs.now thread)) }
+    ensures others { SameOthers (log_name logs.now thread) (S.seen store.old) (S.seen store.new) }
 {
-    let name = image_name(alloc, logs, thread)?;
+    let name = log_name(alloc, logs, thread)?;
     write_lines(alloc, &name, front, count, store)
 }
 
@@ -150,13 +138,13 @@ pub fn write_image<'a, S: Store>(
     store: &mut S,
 ) -> Result<TestedImage<'a>, Stop>
     requires { length (cow_slice_items front) ≤ count }
-    ensures written { OnOk result (HasWritten (S.seen store.old) (S.seen store.new) (image_name logs.now thread)
+    ensures written { OnOk result (HasWritten (S.seen store.old) (S.seen store.new) (log_name logs.now thread)
         (image_bytes (with_zeros (words_of (cow_slice_items front.entry)) count))) }
-    ensures stands { IfOk result (λ lines. StandsFor lines (with_zeros (words_of (cow_slice_items front.entry)) count)) }
+    ensures stands { IfOk result (λ lines. Decides lines (with_zeros (words_of (cow_slice_items front.entry)) count)) }
     ensures stop { IfErr result (λ stop. StopSays stop
-        (CannotWrite (S.seen store.old) (S.seen store.new) (image_name logs.now thread))) }
-    ensures cut { IfErr result (λ stop. WriteStops (S.seen store.old) (S.seen store.new) (image_name logs.now thread)) }
-    ensures others { SameOthers (image_name logs.now thread) (S.seen store.old) (S.seen store.new) }
+        (CannotWrite (S.seen store.old) (S.seen store.new) (log_name logs.now thread))) }
+    ensures cut { IfErr result (λ stop. WriteStops (S.seen store.old) (S.seen store.new) (log_name logs.now thread)) }
+    ensures others { SameOthers (log_name logs.now thread) (S.seen store.old) (S.seen store.new) }
 {
     let lines = with_one(alloc, front, count)?;
     match write_thread(alloc, logs, thread, lines.as_slice(), count, store) {

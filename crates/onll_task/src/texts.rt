@@ -8,12 +8,13 @@ ghost use Rattle.onll_model.specs.Calls.{updates_in};
 ghost use Rattle.onll_pmem.specs.Pmem.{words_of};
 ghost use Rattle.onll_text.specs.Init.{init_of};
 ghost use Rattle.onll_text.specs.Script.{script_of};
-ghost use Rattle.onll_task.specs.Reading.{IsCut, CannotRead};
+ghost use Rattle.onll_task.specs.Reading.{IsCutText, CannotRead};
 ghost use Rattle.onll_task.specs.Stop.{StopSays};
-ghost use Rattle.onll_task.specs.Writing.{SameCounts, HasWritten, CannotWrite, WriteStops};
+ghost use Rattle.onll_task.specs.Writing.{HasWritten, CannotWrite, WriteStops};
+ghost use Rattle.onll_open.specs.Files.{SameCounts};
 ghost use Rattle.onll_text.specs.Schedule.{schedule_of, IsPlayable};
-ghost use Rattle.onll_task.specs.Doing.{Begins, BeginsBy, text_stage, whole_stage, lines_stage, write_stage};
-ghost use Rattle.onll_task.specs.Images.{StandsFor, KeepsOf, image_bytes};
+ghost use Rattle.onll_task.specs.Doing.{DoesStage, BeginsBy, text_stage, whole_stage, lines_stage, write_stage};
+ghost use Rattle.onll_task.specs.Images.{Decides, KeepsOf, image_bytes};
 ghost use Rattle.onll_log.specs.ImageFile.{longest_image};
 
 use crate::answer::Stop;
@@ -69,7 +70,7 @@ pub fn read_lines<S: Store>(
 
 /// The text of a file, with one byte at most that is too many; or what is said in its place.
 fn read_text<S: Store>(alloc: Global, name: &str, store: &mut S) -> Result<Vec<u8>, Stop>
-    ensures text { IfOk result (λ text. IsCut (S.seen store.old) name.now text.items) }
+    ensures text { IfOk result (λ text. IsCutText (S.seen store.old) name.now text.items) }
     ensures stop { IfErr result (λ stop. StopSays stop (CannotRead (S.seen store.old) (S.seen store.new) name.now)) }
     ensures same { SameFiles (S.seen store.old) (S.seen store.new) }
     ensures counts { OnOk result (SameCounts (S.seen store.old) (S.seen store.new)) }
@@ -87,7 +88,7 @@ pub struct InitText {
 /// The object that a file holds as an initial state, and the file's bytes; or what is said in its place.
 pub fn init_file<S: Store>(alloc: Global, name: &str, store: &mut S) -> Result<InitText, Stop>
     ensures { let stage = whole_stage name.now init_of in
-        Begins [] (S.seen store.old) (S.seen store.new) stage (λ read. (read.text.items, read.object)) result }
+        DoesStage [] (S.seen store.old) (S.seen store.new) stage (λ read. (read.text.items, read.object)) result }
 {
     let text = match read_text(alloc, name, store) {
         Ok(text) => text,
@@ -107,7 +108,7 @@ pub fn script_file<O: Texted, S: Store>(
     store: &mut S,
 ) -> Result<Vec<Call<O>>, Stop>
     ensures begins { let stage = text_stage name.now (script_of O.wording) in
-        Begins [] (S.seen store.old) (S.seen store.new) stage (λ calls. calls.items) result }
+        DoesStage [] (S.seen store.old) (S.seen store.new) stage (λ calls. calls.items) result }
     ensures updates { IfOk result (λ calls. updates_in calls.items ≤ most_updates) }
 {
     let text = match read_text(alloc, name, store) {
@@ -153,7 +154,7 @@ pub fn image_file<S: Store>(
     store: &mut S,
 ) -> Result<TestedImage<'static>, Stop>
     ensures { let stage = lines_stage name.now in
-        BeginsBy [] (S.seen store.old) (S.seen store.new) stage (λ lines image. StandsFor lines image) result }
+        BeginsBy [] (S.seen store.old) (S.seen store.new) stage (λ lines image. Decides lines image) result }
 {
     match kept_image(alloc, name, store) {
         Ok(KeptImage { image, .. }) => Ok(image),
@@ -169,7 +170,7 @@ pub fn schedule_file<S: Store>(
     store: &mut S,
 ) -> Result<Schedule, Stop>
     ensures begins { let stage = text_stage name.now (schedule_of threads) in
-        Begins [] (S.seen store.old) (S.seen store.new) stage (λ schedule. schedule) result }
+        DoesStage [] (S.seen store.old) (S.seen store.new) stage (λ schedule. schedule) result }
     ensures playable { IfOk result (λ schedule. IsPlayable threads schedule) }
 {
     let text = match read_text(alloc, name, store) {
@@ -191,7 +192,7 @@ pub fn write_bytes<S: Store>(
     store: &mut S,
 ) -> Result<(), Stop>
     ensures { let stage = write_stage name.now bytes.now in
-        Begins (name.now ∷ []) (S.seen store.old) (S.seen store.new) stage (λ done. done) result }
+        DoesStage (name.now ∷ []) (S.seen store.old) (S.seen store.new) stage (λ done. done) result }
 {
     match store.write(alloc, name, bytes) {
         Ok(()) => Ok(()),

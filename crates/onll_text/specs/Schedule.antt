@@ -39,9 +39,9 @@ line_after threads steps (first ∷ args) =
     else (turn_after threads steps (first ∷ args) >>= λ turn. Ok (Steps turn))
 
 -- what a line said fits behind so many steps
-abbrev pub HasRoom : ℕ → ScheduleLine → Type 0
-HasRoom steps (Steps turn) = steps + turn.count ≤ most_steps
-HasRoom steps (Crash keep) = Unit {0}
+abbrev pub FitsBehind : ℕ → ScheduleLine → Type 0
+FitsBehind steps (Steps turn) = steps + turn.count ≤ most_steps
+FitsBehind steps (Crash keep) = Unit {0}
 
 -- the crash, behind which no line stands
 abbrev pub ended_by : ℕ → List Numbered → Result Schedule Refusal

@@ -4,7 +4,7 @@ ghost use Rattle.std.specs.Prelude.{◌≡◌, ◌≢◌, ◌≤◌, ◌+◌, �
 ghost use Rattle.onll_words.specs.Texts.{words_of};
 ghost use Rattle.onll_text.specs.declared.reason.TextFault.{TextFault};
 ghost use Rattle.onll_text.specs.Refusal.{Fails};
-ghost use Rattle.onll_text.specs.Schedule.{most_steps, turn_of, turn_after, line_after, HasRoom, ended_by, after_turns, schedule_in, schedule_of, IsPlayable};
+ghost use Rattle.onll_text.specs.Schedule.{most_steps, turn_of, turn_after, line_after, FitsBehind, ended_by, after_turns, schedule_in, schedule_of, IsPlayable};
 
 use crate::reason::{Reason, TextFault};
 use crate::script::is_too_long;
@@ -104,7 +104,7 @@ fn next_turn(first: &[u8], args: &[u8], threads: u64, steps: u64) -> Result<Turn
 fn read_line(line: &[u8], threads: u64, steps: u64) -> Result<ScheduleLine, Reason>
     requires { steps ≤ most_steps }
     ensures said { result ≡ line_after threads steps (words_of line.now) }
-    ensures room { IfOk result (λ line. HasRoom steps line) }
+    ensures room { IfOk result (λ line. FitsBehind steps line) }
 {
     let Some(Cut { word, rest }) = split_word(line) else {
         return Err(Reason::WrongCount);

@@ -6,7 +6,7 @@ use Rattle.onll_model.specs.Object.{Behaviour}
 use Rattle.onll_pmem.specs.Pmem.{DeviceView}
 use Rattle.onll_shared.specs.Passes.{OnllView, PassView}
 use Rattle.onll_threads.specs.declared.crew.Space.{Space}
-use Rattle.onll_threads.specs.declared.crew.Worked.{Worked}
+use Rattle.onll_threads.specs.declared.crew.DoneWorks.{DoneWorks}
 use Rattle.onll_threads.specs.declared.job.Job.{Job}
 use Rattle.onll_threads.specs.Acts.{HasActed, IsUnused}
 
@@ -71,7 +71,7 @@ AreTaken jobs works passes answers = ⊥
 
 -- lists that are empty, with room for so many
 pub record HasSpaceFor {State Op Query Reply Device Work Answer : Type 0} (count : ℕ)
-    (all : Worked State Device Work Answer Op Query Reply) : Type 0 where
+    (all : DoneWorks State Device Work Answer Op Query Reply) : Type 0 where
   pub works : (all.works.items ≡ []) × (count ≤ vec_capacity all.works)
   pub passes : (all.passes.items ≡ []) × (count ≤ vec_capacity all.passes)
   pub answers : (all.answers.items ≡ []) × (count ≤ vec_capacity all.answers)

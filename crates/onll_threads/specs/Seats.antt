@@ -44,7 +44,7 @@ module _ {State Op Query Reply Device : Type 0} (b : Behaviour State Op Query Re
       → Did before befores old → Did (before ++ calls) (befores ++ ends) new
 
   -- A query was answered at the newest place that is durable, and the reply is given exactly where that is not before this place.
-  pub record HasHeard (place : ℕ) (query : Query) (old new : SeatView State Device) (heard : Option Reply) : Type 0 where
+  pub record HasReadFrom (place : ℕ) (query : Query) (old new : SeatView State Device) (heard : Option Reply) : Type 0 where
     pub reply : Reply
     pub read : HasReadSo b means old.onll query old.pass new.pass reply
     pub acts : ActsAt (Ask query ∷ []) (Answered reply (seen_in new.pass) ∷ []) old new

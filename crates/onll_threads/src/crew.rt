@@ -20,12 +20,12 @@ use std::thread::Threads;
 #[derive(Drop)]
 pub struct Space<'a, O: Object, P: Pmem, W, A> {
     pub(crate) jobs: Vec<Job<'a, O, P, W, A>>,
-    pub(crate) done: Worked<O, P, W, A>,
+    pub(crate) done: DoneWorks<O, P, W, A>,
 }
 
 /// Works that were done, in their order, with their passes and answers.
 #[derive(Drop)]
-pub struct Worked<O: Object, P: Pmem, W, A> {
+pub struct DoneWorks<O: Object, P: Pmem, W, A> {
     pub works: Vec<W>,
     pub passes: Vec<Pass<O, P>>,
     pub answers: Vec<A>,
@@ -40,7 +40,7 @@ pub fn reserve<'a, O: Object + Drop, P: Pmem + Drop, W: Drop, A: Drop>(
 {
     Ok(Space {
         jobs: Vec::with_capacity(alloc, count)?,
-        done: Worked {
+        done: DoneWorks {
             works: Vec::with_capacity(alloc, count)?,
             passes: Vec::with_capacity(alloc, count)?,
             answers: Vec::with_capacity(alloc, count)?,
@@ -102,8 +102,8 @@ fn do_jobs<
 /// What jobs that were done give, in their order.
 fn take_apart<O: Object + Drop, P: Pmem + Drop, W: Drop, A: Drop>(
     mut jobs: Vec<Job<'_, O, P, W, A>>,
-    mut all: Worked<O, P, W, A>,
-) -> Worked<O, P, W, A>
+    mut all: DoneWorks<O, P, W, A>,
+) -> DoneWorks<O, P, W, A>
     requires space { HasSpaceFor (length jobs.items) all }
     requires ended { AllByRecursion JobHasEnded jobs.items }
     ensures { AreTaken jobs.entry.items result.works.items result.passes.items result.answers.items }
@@ -138,7 +138,7 @@ pub fn run_works<
     works: Vec<W>,
     passes: Vec<Pass<O, P>>,
     space: Space<'a, O, P, W, W::Answer>,
-) -> Worked<O, P, W, W::Answer>
+) -> DoneWorks<O, P, W, W::Answer>
     requires many { length works.items ≡ length passes.items }
     requires tied { AllByRecursion (IsTied O.means P.means place.now.onll) passes.items }
     requires fresh { AllByRecursion IsNewcomer passes.items }

@@ -10,9 +10,9 @@ mod seat;
 mod stop;
 mod work;
 
-pub use crew::{Space, Worked, reserve, run_works};
+pub use crew::{DoneWorks, Space, reserve, run_works};
 pub use laws::works_law;
 pub use missing::missing_thread;
 pub use seat::{Begun, Place, Seat};
-pub use stop::Stop;
+pub use stop::StopFlag;
 pub use work::Work;

@@ -5,10 +5,10 @@ ghost use Rattle.onll_model.specs.declared.call.Call.TheVariants.{Ask as AskCall
 ghost use Rattle.onll_model.specs.declared.call.CallEnd.TheVariants.{Answered as AnsweredEnd};
 ghost use Rattle.onll_shared.specs.Calls.{HasUpdated};
 ghost use Rattle.onll_threads.specs.Acts.{HasReadSo, calls_of, ends_of, received, seen_in};
-ghost use Rattle.onll_threads.specs.Seats.{ActsAt, HasCalled, HasHeard};
+ghost use Rattle.onll_threads.specs.Seats.{ActsAt, HasCalled, HasReadFrom};
 
 use crate::acts::{read_on, update_on};
-use crate::stop::Stop;
+use crate::stop::StopFlag;
 use onll_model::Object;
 use onll_pmem::Pmem;
 use onll_shared::{Onll, Pass, UpdateFault};
@@ -19,7 +19,7 @@ use std::sync::Wait;
 #[derive(Drop)]
 pub struct Place<O: Object> {
     pub onll: Onll<O>,
-    pub stop: Stop,
+    pub stop: StopFlag,
 }
 
 /// What a seat was at first, to contracts. Who begins a work picks it.
@@ -81,7 +81,7 @@ impl<'a, O: Object, P: Pmem, B: Begun<O, P>> Seat<'a, O, P, B> {
     /// place by another thread hears it, and each call that follows stands after what that thread did.
     pub fn hear(&mut self, place: u64, query: O::Query) -> Option<O::Reply>
         ensures same { self.new.onll ≡ self.old.onll }
-        ensures heard { HasHeard O.means P.means B.first place query self.old self.new result }
+        ensures heard { HasReadFrom O.means P.means B.first place query self.old self.new result }
     {
         let reply = self.read(query);
         if place <= self.place() {

@@ -4,13 +4,13 @@ use std::sync::atomic::{AtomicBool, Ordering};
 
 /// A flag that is raised once. Works that go on until they are told look at it.
 #[derive(Drop)]
-pub struct Stop {
+pub struct StopFlag {
     raised: AtomicBool,
 }
 
-impl Stop {
-    pub fn new() -> Stop {
-        Stop {
+impl StopFlag {
+    pub fn new() -> StopFlag {
+        StopFlag {
             raised: AtomicBool::new(false),
         }
     }

@@ -34,7 +34,7 @@ drawn_by = record {
 
 -- In whatever way buyers were served: what they say that they drew, and what is left, are no more than what the files left; also of
 -- whatever a crash leaves, with all that was said. So no ticket is sold twice.
-abbrev pub ServesOnce : {R Device : Type 0} → (Device → DeviceView) → StoreView → List ℕ → List LogHead → Tickets → List (Buyer R)
+abbrev pub SellsOnce : {R Device : Type 0} → (Device → DeviceView) → StoreView → List ℕ → List LogHead → Tickets → List (Buyer R)
     → StoreView → Served Tickets Device (Buyer R) Bought TicketOp TicketQuery TicketReply → Type 0
-ServesOnce means store logs heads state buyers new served =
+SellsOnce means store logs heads state buyers new served =
     ServesEvenly tickets_left says_drawn means drawn_by store logs heads state buyers new served

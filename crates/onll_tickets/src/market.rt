@@ -3,7 +3,7 @@
 ghost use Rattle.std.specs.Prelude.{◌≡◌, length, IfOk, IfErr};
 ghost use Rattle.onll_rows.specs.Sketch.{behaviour_of};
 ghost use Rattle.onll_serve.specs.Serving.{CannotServe, HasServed};
-ghost use Rattle.onll_tickets.specs.Selling.{ServesOnce, says_drawn};
+ghost use Rattle.onll_tickets.specs.Selling.{SellsOnce, says_drawn};
 ghost use Rattle.onll_tickets.specs.Tickets.{sale_heads, tickets, tickets_at_first};
 
 use crate::buyer::{Bought, Buyer};
@@ -27,7 +27,7 @@ pub fn sell<'a, R: Threads + Wait + Sync + Print, S: Directory>(
 ) -> Result<Served<Plain<Tickets>, S::Dev, Buyer<'a, R>, Bought>, NotServed<Buyer<'a, R>>>
     ensures served { IfOk result (HasServed (behaviour_of tickets) S.Dev.means says_drawn (S.seen store.old) name.now
         (sale_heads count (length buyers.entry.items)) (tickets_at_first count) buyers.entry.items (S.seen store.new)) }
-    ensures once { IfOk result (ServesOnce S.Dev.means (S.seen store.old) name.now
+    ensures once { IfOk result (SellsOnce S.Dev.means (S.seen store.old) name.now
         (sale_heads count (length buyers.entry.items)) (tickets_at_first count) buyers.entry.items (S.seen store.new)) }
     ensures buyers { IfErr result (λ e. e.works.items ≡ buyers.entry.items) }
     ensures refused { IfErr result (λ e. CannotServe (behaviour_of tickets) name.now (sale_heads count (length buyers.entry.items))

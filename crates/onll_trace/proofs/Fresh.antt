@@ -7,7 +7,7 @@ use lib.ListN.{get_elem?}
 use Rattle.atomic_table.proofs.Lists.{set_here, set_else, at_longer}
 use Rattle.onll_model.proofs.Lists.{inside, at_before, at_end, all_at, all_map, all_append}
 use Rattle.onll_trace.specs.Views.{Hand, Stamp, View}
-use Rattle.onll_trace.specs.Rule.{HasStamp, IsStamp, IsFresh, AreFresh}
+use Rattle.onll_trace.specs.Rule.{HasStamp, IsStamp, IsFreshHand, AreFresh}
 use Rattle.onll_trace.proofs.Rows.{get_or-behind, get_or-before}
 use Rattle.onll_trace.proofs.Told.{all_both}
 use Rattle.onll_trace.proofs.Seats.{seats, seats_more, same_view, at_inside}
@@ -23,26 +23,26 @@ stamp_set vs i v w at s keep x = dite (ℕ_discrete x.0 i)
 
 -- a seat's view changes, which keeps its stamps, and no thread looks
 abbrev pub fresh_set : (b n : ℕ) (vs : List View) (i : ℕ) (v w : View) → get_elem? vs i ≡ some v → (r : AreFresh b n vs) → ((s : Stamp) (j : ℕ) → slice_get v.stamps j ≡ Some s → (m : ℕ) × (slice_get w.stamps m ≡ Some s))
-    → AllByRecursion (IsStamp n r.looks_at) w.stamps → AllByRecursion (IsFresh r.looks r.looks_at b n) w.hands → AreFresh b n (set vs i w)
+    → AllByRecursion (IsStamp n r.looks_at) w.stamps → AllByRecursion (IsFreshHand r.looks r.looks_at b n) w.hands → AreFresh b n (set vs i w)
 fresh_set b n vs i v w at r keep stamps hands = record {
   looks = r.looks;
   looks_at = r.looks_at;
   stamped = λ p low high. let s : Stamp = record { place = p; looks = r.looks_at p } in stamp_set vs i v w at s (keep s) (r.stamped p low high);
   stamps = seats (λ j u. AllByRecursion (IsStamp n r.looks_at) u.stamps) vs i w stamps (λ j u _ e. r.stamps j u e);
-  hands = seats (λ j u. AllByRecursion (IsFresh r.looks r.looks_at b n) u.hands) vs i w hands (λ j u _ e. r.hands j u e);
+  hands = seats (λ j u. AllByRecursion (IsFreshHand r.looks r.looks_at b n) u.hands) vs i w hands (λ j u _ e. r.hands j u e);
 }
 
 pub same_stamps : (v w : View) → w.stamps ≡ v.stamps → (s : Stamp) (j : ℕ) → slice_get v.stamps j ≡ Some s → (m : ℕ) × (slice_get w.stamps m ≡ Some s)
 same_stamps v w same s j e = (j, ap (λ (ss : List Stamp). slice_get ss j) same ∙ e)
 
-abbrev pub fresh_seat : (b n : ℕ) (vs : List View) (i : ℕ) (v w : View) → get_elem? vs i ≡ some v → (r : AreFresh b n vs) → w.stamps ≡ v.stamps → AllByRecursion (IsFresh r.looks r.looks_at b n) w.hands → AreFresh b n (set vs i w)
+abbrev pub fresh_seat : (b n : ℕ) (vs : List View) (i : ℕ) (v w : View) → get_elem? vs i ≡ some v → (r : AreFresh b n vs) → w.stamps ≡ v.stamps → AllByRecursion (IsFreshHand r.looks r.looks_at b n) w.hands → AreFresh b n (set vs i w)
 fresh_seat b n vs i v w at r same hands = fresh_set b n vs i v w at r (same_stamps v w same) (subst (AllByRecursion (IsStamp n r.looks_at)) (sym same) (r.stamps i v at)) hands
 
 -- the hand changes, and its look has the same count and front
 pub fresh_hand : (b n : ℕ) (vs : List View) (i : ℕ) (v w : View) (h g : Hand) → get_elem? vs i ≡ some v → v.hands ≡ h ∷ [] → w.hands ≡ g ∷ [] → w.stamps ≡ v.stamps → g.thread ≡ h.thread → g.look.count ≡ h.look.count → g.look.front ≡ h.look.front
     → AreFresh b n vs → AreFresh b n (set vs i w)
-fresh_hand b n vs i v w h g at is now same thread count front r = let x = (subst (AllByRecursion (IsFresh r.looks r.looks_at b n)) is (r.hands i v at)).0 in let xf = x.front in
-    fresh_seat b n vs i v w at r same (subst (AllByRecursion (IsFresh r.looks r.looks_at b n)) (sym now) (
+fresh_hand b n vs i v w h g at is now same thread count front r = let x = (subst (AllByRecursion (IsFreshHand r.looks r.looks_at b n)) is (r.hands i v at)).0 in let xf = x.front in
+    fresh_seat b n vs i v w at r same (subst (AllByRecursion (IsFreshHand r.looks r.looks_at b n)) (sym now) (
       record {
         count = count ∙ (x.count ∙ ap r.looks (sym thread));
         front = omega arith;
@@ -60,17 +60,17 @@ fresh_look b n vs i v w h g at is now same thread count front apart r = record {
   looks_at = r.looks_at;
   stamped = λ p low high. let s : Stamp = record { place = p; looks = r.looks_at p } in stamp_set vs i v w at s (same_stamps v w same s) (r.stamped p low high);
   stamps = seats (λ j u. AllByRecursion (IsStamp n r.looks_at) u.stamps) vs i w (subst (AllByRecursion (IsStamp n r.looks_at)) (sym same) (r.stamps i v at)) (λ j u _ e. r.stamps j u e);
-  hands = seats (λ j u. AllByRecursion (IsFresh looks r.looks_at b n) u.hands) vs i w (subst (AllByRecursion (IsFresh looks r.looks_at b n)) (sym now) (mine, tt))
-      (λ j u away e. all_both (IsFresh r.looks r.looks_at b n) (λ (x : Hand). x.thread ≢ h.thread) (IsFresh looks r.looks_at b n) u.hands (λ x f not. still x f not) (r.hands j u e) (apart j u away e));
+  hands = seats (λ j u. AllByRecursion (IsFreshHand looks r.looks_at b n) u.hands) vs i w (subst (AllByRecursion (IsFreshHand looks r.looks_at b n)) (sym now) (mine, tt))
+      (λ j u away e. all_both (IsFreshHand r.looks r.looks_at b n) (λ (x : Hand). x.thread ≢ h.thread) (IsFreshHand looks r.looks_at b n) u.hands (λ x f not. still x f not) (r.hands j u e) (apart j u away e));
 }
   where
     looks : ℕ → ℕ
     looks u = cond (eqb u h.thread) (h.look.count + 1) (r.looks u)
 
-    old : IsFresh r.looks r.looks_at b n h
-    old = (subst (AllByRecursion (IsFresh r.looks r.looks_at b n)) is (r.hands i v at)).0
+    old : IsFreshHand r.looks r.looks_at b n h
+    old = (subst (AllByRecursion (IsFreshHand r.looks r.looks_at b n)) is (r.hands i v at)).0
 
-    mine : IsFresh looks r.looks_at b n g
+    mine : IsFreshHand looks r.looks_at b n g
     mine = record {
       count = count ∙ sym (ap (λ (c : Bool). cond {A = ℕ} c (h.look.count + 1) (r.looks g.thread)) (eq-eqb g.thread h.thread thread));
       front = omega arith;
@@ -78,7 +78,7 @@ fresh_look b n vs i v w h g at is now same thread count front apart r = record {
       later = λ p low high up. absurd (omega arith);
     }
 
-    still : (x : Hand) → IsFresh r.looks r.looks_at b n x → x.thread ≢ h.thread → IsFresh looks r.looks_at b n x
+    still : (x : Hand) → IsFreshHand r.looks r.looks_at b n x → x.thread ≢ h.thread → IsFreshHand looks r.looks_at b n x
     still x f not = record { count = f.count ∙ sym (ap (λ (c : Bool). cond {A = ℕ} c (h.look.count + 1) (r.looks x.thread)) (ne_eqb x.thread h.thread not)); front = f.front; earlier = f.earlier; later = f.later }
 
 -- how many looks each of the threads has made, as a list
@@ -106,9 +106,9 @@ fresh_link b n m count vs i v w h g r next at is now same thread count_is front 
   stamps = seats (λ j u. AllByRecursion (IsStamp m looks_at) u.stamps) vs i w
       (subst (AllByRecursion (IsStamp m looks_at)) (sym same) (all_append (IsStamp m looks_at) v.stamps (stamp ∷ []) (wider v.stamps (r.stamps i v at)) ((omega arith, sym here), tt)))
       (λ j u _ e. wider u.stamps (r.stamps j u e));
-  hands = seats (λ j u. AllByRecursion (IsFresh r.looks looks_at b m) u.hands) vs i w
-      (subst (AllByRecursion (IsFresh r.looks looks_at b m)) (sym now) (mine, tt))
-      (λ j u _ e. all_both (λ (x : Hand). x.thread < count) (IsFresh r.looks r.looks_at b n) (IsFresh r.looks looks_at b m) u.hands (λ x l f. longer x l f) (below j u e) (r.hands j u e));
+  hands = seats (λ j u. AllByRecursion (IsFreshHand r.looks looks_at b m) u.hands) vs i w
+      (subst (AllByRecursion (IsFreshHand r.looks looks_at b m)) (sym now) (mine, tt))
+      (λ j u _ e. all_both (λ (x : Hand). x.thread < count) (IsFreshHand r.looks r.looks_at b n) (IsFreshHand r.looks looks_at b m) u.hands (λ x l f. longer x l f) (below j u e) (r.hands j u e));
 }
   where
     row : List ℕ
@@ -136,7 +136,7 @@ fresh_link b n m count vs i v w h g r next at is now same thread count_is front 
     wider : (ss : List Stamp) → AllByRecursion (IsStamp n r.looks_at) ss → AllByRecursion (IsStamp m looks_at) ss
     wider ss all = all_map (IsStamp n r.looks_at) (IsStamp m looks_at) ss (λ s a. let l = a.0 in (omega arith, a.1 ∙ sym (else s.place (λ e. omega arith)))) all
 
-    longer : (x : Hand) → x.thread < count → IsFresh r.looks r.looks_at b n x → IsFresh r.looks looks_at b m x
+    longer : (x : Hand) → x.thread < count → IsFreshHand r.looks r.looks_at b n x → IsFreshHand r.looks looks_at b m x
     longer x l f = let fr = f.front in record {
       count = f.count;
       front = omega arith;
@@ -148,11 +148,11 @@ fresh_link b n m count vs i v w h g r next at is now same thread count_is front 
           (λ not. ap (λ (ls : List ℕ). get_or ls x.thread 0) (else p not) ∙ f.later p low (omega arith) up);
     }
       where
-        new : (x : Hand) → x.thread < count → IsFresh r.looks r.looks_at b n x → (p : ℕ) → p ≡ m → get_or (looks_at p) x.thread 0 ≡ x.look.count
+        new : (x : Hand) → x.thread < count → IsFreshHand r.looks r.looks_at b n x → (p : ℕ) → p ≡ m → get_or (looks_at p) x.thread 0 ≡ x.look.count
         new x l f p e = ap (λ (q : ℕ). get_or (looks_at q) x.thread 0) e ∙ (ap (λ (ls : List ℕ). get_or ls x.thread 0) here ∙ (counts_at count r.looks x.thread l ∙ sym f.count))
 
-    mine : IsFresh r.looks looks_at b m g
-    mine = let x = longer h (subst (AllByRecursion (λ (x : Hand). x.thread < count)) is (below i v at)).0 (subst (AllByRecursion (IsFresh r.looks r.looks_at b n)) is (r.hands i v at)).0 in let xf = x.front in record {
+    mine : IsFreshHand r.looks looks_at b m g
+    mine = let x = longer h (subst (AllByRecursion (λ (x : Hand). x.thread < count)) is (below i v at)).0 (subst (AllByRecursion (IsFreshHand r.looks r.looks_at b n)) is (r.hands i v at)).0 in let xf = x.front in record {
       count = count_is ∙ (x.count ∙ ap r.looks (sym thread));
       front = omega arith;
       earlier = λ p low high. let z = x.earlier p low high in let t = ap (λ (u : ℕ). get_or (looks_at p) u 0) thread in omega arith;
@@ -160,18 +160,18 @@ fresh_link b n m count vs i v w h g r next at is now same thread count_is front 
     }
 
 -- a seat more, which has linked nothing
-pub fresh_more : (b n : ℕ) (vs : List View) (w : View) (r : AreFresh b n vs) → w.stamps ≡ [] → AllByRecursion (IsFresh r.looks r.looks_at b n) w.hands → AreFresh b n (vs ++ w ∷ [])
+pub fresh_more : (b n : ℕ) (vs : List View) (w : View) (r : AreFresh b n vs) → w.stamps ≡ [] → AllByRecursion (IsFreshHand r.looks r.looks_at b n) w.hands → AreFresh b n (vs ++ w ∷ [])
 fresh_more b n vs w r none hands = record {
   looks = r.looks;
   looks_at = r.looks_at;
   stamped = λ p low high. let x = r.stamped p low high in (x.0, x.1, x.2, at_longer vs (w ∷ []) x.0 x.1 x.3, x.4);
   stamps = seats_more (λ j u. AllByRecursion (IsStamp n r.looks_at) u.stamps) vs w (subst (AllByRecursion (IsStamp n r.looks_at)) (sym none) tt) (λ j u e. r.stamps j u e);
-  hands = seats_more (λ j u. AllByRecursion (IsFresh r.looks r.looks_at b n) u.hands) vs w hands (λ j u e. r.hands j u e);
+  hands = seats_more (λ j u. AllByRecursion (IsFreshHand r.looks r.looks_at b n) u.hands) vs w hands (λ j u e. r.hands j u e);
 }
 
 -- a note is gone
 pub fresh_spent : (b n : ℕ) (vs : List View) (i : ℕ) (v w : View) → get_elem? vs i ≡ some v → v.stamps ≡ [] → w.stamps ≡ [] → w.hands ≡ [] → AreFresh b n vs → AreFresh b n (set vs i w)
-fresh_spent b n vs i v w at none now handless r = fresh_seat b n vs i v w at r (now ∙ sym none) (subst (AllByRecursion (IsFresh r.looks r.looks_at b n)) (sym handless) tt)
+fresh_spent b n vs i v w at none now handless r = fresh_seat b n vs i v w at r (now ∙ sym none) (subst (AllByRecursion (IsFreshHand r.looks r.looks_at b n)) (sym handless) tt)
 
 behind : (xs ys : List Stamp) (j : ℕ) (s : Stamp) → slice_get ys j ≡ Some s → (m : ℕ) × (slice_get (xs ++ ys) m ≡ Some s)
 behind [] ys j s e = (j, e)
@@ -187,9 +187,9 @@ fresh_gathered b n vs i j v w both spent at there apart stamps hands none handle
   stamps = seats (λ y u. AllByRecursion (IsStamp n r.looks_at) u.stamps) (set vs i both) j spent (subst (AllByRecursion (IsStamp n r.looks_at)) (sym none) tt)
       (λ y u _ e. seats (λ y u. AllByRecursion (IsStamp n r.looks_at) u.stamps) vs i both
       (subst (AllByRecursion (IsStamp n r.looks_at)) (sym stamps) (all_append (IsStamp n r.looks_at) v.stamps w.stamps (r.stamps i v at) (r.stamps j w there))) (λ y u _ e. r.stamps y u e) y u e);
-  hands = seats (λ y u. AllByRecursion (IsFresh r.looks r.looks_at b n) u.hands) (set vs i both) j spent (subst (AllByRecursion (IsFresh r.looks r.looks_at b n)) (sym handless) tt)
-      (λ y u _ e. seats (λ y u. AllByRecursion (IsFresh r.looks r.looks_at b n) u.hands) vs i both
-      (subst (AllByRecursion (IsFresh r.looks r.looks_at b n)) (sym hands) (all_append (IsFresh r.looks r.looks_at b n) v.hands w.hands (r.hands i v at) (r.hands j w there))) (λ y u _ e. r.hands y u e) y u e);
+  hands = seats (λ y u. AllByRecursion (IsFreshHand r.looks r.looks_at b n) u.hands) (set vs i both) j spent (subst (AllByRecursion (IsFreshHand r.looks r.looks_at b n)) (sym handless) tt)
+      (λ y u _ e. seats (λ y u. AllByRecursion (IsFreshHand r.looks r.looks_at b n) u.hands) vs i both
+      (subst (AllByRecursion (IsFreshHand r.looks r.looks_at b n)) (sym hands) (all_append (IsFreshHand r.looks r.looks_at b n) v.hands w.hands (r.hands i v at) (r.hands j w there))) (λ y u _ e. r.hands y u e) y u e);
 }
   where
     here : get_elem? (set (set vs i both) j spent) i ≡ some both
@@ -214,8 +214,8 @@ meets_all b n vs i v w h g at is now same thread more low r s = let front = new.
     let a = old.earlier n (omega arith) (omega arith) in let c = new.later n (omega arith) (omega arith) (omega arith) in
     let e : get_or (r.looks_at n) h.thread 0 ≡ get_or (s.looks_at n) g.thread 0 = (λ z. get_or (one z) (sym thread z) 0) in absurd (omega arith))
   where
-    old : IsFresh r.looks r.looks_at b n h
-    old = (subst (AllByRecursion (IsFresh r.looks r.looks_at b n)) is (r.hands i v at)).0
+    old : IsFreshHand r.looks r.looks_at b n h
+    old = (subst (AllByRecursion (IsFreshHand r.looks r.looks_at b n)) is (r.hands i v at)).0
 
-    new : IsFresh s.looks s.looks_at b n g
-    new = (subst (AllByRecursion (IsFresh s.looks s.looks_at b n)) now (s.hands i w (set_here vs i w (at_inside vs i v at)))).0
+    new : IsFreshHand s.looks s.looks_at b n g
+    new = (subst (AllByRecursion (IsFreshHand s.looks s.looks_at b n)) now (s.hands i w (set_here vs i w (at_inside vs i v at)))).0

@@ -4,7 +4,7 @@ use Rattle.std.specs.List.{slice_get}
 use Rattle.onll_model.specs.Frames.{Frame, Thread, Walk, Asking}
 use Rattle.onll_model.specs.Events.{FlagUnset, after, after_by, at_unset_flag, doing, logging, resting_at}
 use Rattle.onll_model.proofs.Lists.{set_here}
-use Rattle.onll_trace.specs.StepLaw.{StepLaw}
+use Rattle.onll_trace.specs.StepLaw.{TraceStepLaw}
 use Rattle.onll_trace.proofs.Steps as steps
 use Rattle.onll_trace.proofs.Links as links
 use Rattle.onll_trace.proofs.Sets as sets
@@ -23,7 +23,7 @@ walk_last b f th p is = ap (at_unset_flag b th f.trace) is ∙ ap (λ (c : Bool)
 read_last : (b : ℕ) (f : Frame) (th : Thread) (front : ℕ) → th.activity ≡ Asking front (b + 1) → at_unset_flag b th f.trace th.activity ≡ resting_at th b
 read_last b f th front is = ap (at_unset_flag b th f.trace) is ∙ ap (λ (c : Bool). if c then resting_at th b else doing th (Asking front (b + 1 - 1))) (eq-eqb (b + 1) (b + 1) refl)
 
-pub step_law : StepLaw
+pub step_law : TraceStepLaw
 step_law = record {
   draft_stored = λ k slots id j word me h is short nine room. steps.drafts k slots id _ word j me h is short nine room refl;
   tail_loaded = λ k slots id me h is may. steps.looks k slots id me h is may;

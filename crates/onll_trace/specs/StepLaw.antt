@@ -80,7 +80,7 @@ note_index (v ∷ views) (suc i) = length (option_to_list v.note) + note_index v
 
 -- The kinds of step, each with its events; there are no others. A step is made by a seat `id` with one hand, what it asks is what the
 -- calls ask, and its last field of `StepMakes` is what it tells them.
-pub record StepLaw : Type 0 where
+pub record TraceStepLaw : Type 0 where
   -- a store into the row of the thread's next node, which no other thread reads yet
   pub draft_stored : (k : Plan) (slots id j word : ℕ) (me : Mine) (h : Hand) → me.0.hands ≡ h ∷ [] → j ≤ length h.draft
       → j < 9 → count_of h.thread me.0.known < me.0.plan.nodes

@@ -3,7 +3,7 @@ use Rattle.std.specs.List.{slice_split, All, list_all, flat_map}
 use Rattle.std.proofs.lemmas.List.Splits.{slice_split_at, slice_split_none, length-slice_split}
 use Rattle.std.proofs.lemmas.List.Sums.{AllPass-from_list_all, list_all-from_AllPass}
 use Rattle.std.proofs.lemmas.List.Folds.{list_all-append}
-use Rattle.onll_words.specs.Texts.{is_blank, is_line_end, is_empty, is_word_byte, words_of, lines_of, meaningful_lines, numbered, is_meaningful, says_something, joined, line_text, without_empty_rest, IsWord, AreWords, AreLines, AreMeaningful}
+use Rattle.onll_words.specs.Texts.{is_blank, is_line_end, is_empty, is_word_byte, words_of, lines_of, meaningful_lines, numbered, is_meaningful, says_something, joined, line_text, without_empty_rest, IsWord, AreWords, AreTextLines, AreMeaningful}
 use Rattle.onll_words.proofs.Cuts.{kept_before}
 
 neither : (a b : Bool) → not (a || b) ≡ true → (a ≡ false) × (b ≡ false)
@@ -35,7 +35,7 @@ no_end : (l : List ℕ) → list_all (λ b. not (is_line_end b)) l ≡ true → 
 no_end l h k d lt = other_than_end (is_line_end (get_or l k d)) (AllPass-from_list_all (λ b. not (is_line_end b)) l h k d lt)
 
 -- lines that are written one after another are read back
-pub lines_of-flat_map : (ls : List (List ℕ)) → AreLines ls → lines_of (flat_map (λ l. l ++ 10 ∷ []) ls) ≡ ls
+pub lines_of-flat_map : (ls : List (List ℕ)) → AreTextLines ls → lines_of (flat_map (λ l. l ++ 10 ∷ []) ls) ≡ ls
 lines_of-flat_map [] h = refl
 lines_of-flat_map (l ∷ ls) h =
     let rest = flat_map (λ l. l ++ 10 ∷ []) ls in
@@ -60,7 +60,7 @@ list_all-joined (w ∷ v ∷ ws) h =
     list_all-append (λ b. not (is_line_end b)) w (32 ∷ joined (v ∷ ws))
     ∙ both (list_all (λ b. not (is_line_end b)) w) (list_all (λ b. not (is_line_end b)) (32 ∷ joined (v ∷ ws))) (word_has_no_end w h.0.bytes) (list_all-joined (v ∷ ws) h.1)
 
-pub AreLines-joined : (lines : List (List (List ℕ))) → AreMeaningful lines → AreLines (map joined lines)
+pub AreLines-joined : (lines : List (List (List ℕ))) → AreMeaningful lines → AreTextLines (map joined lines)
 AreLines-joined [] h = tt
 AreLines-joined (ws ∷ lines) h = (list_all-joined ws h.0, AreLines-joined lines h.2)
 

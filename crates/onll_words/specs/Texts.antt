@@ -74,9 +74,9 @@ AreWords [] = Unit {0}
 AreWords (w ∷ ws) = IsWord w × AreWords ws
 
 -- each is a line, with no line end
-abbrev pub AreLines : List (List ℕ) → Type 0
-AreLines [] = Unit {0}
-AreLines (l ∷ ls) = (list_all (λ b. not (is_line_end b)) l ≡ true) × AreLines ls
+abbrev pub AreTextLines : List (List ℕ) → Type 0
+AreTextLines [] = Unit {0}
+AreTextLines (l ∷ ls) = (list_all (λ b. not (is_line_end b)) l ≡ true) × AreTextLines ls
 
 -- each is the words of a line that isn't skipped
 abbrev pub AreMeaningful : List (List (List ℕ)) → Type 0

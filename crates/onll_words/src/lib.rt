@@ -9,7 +9,7 @@
 //! assert!(rt; whole_number(b"4 2") == None);
 //! ```
 //!
-//! The test `words` of `onll_uses` runs this.
+//! The test `words` of `tests_uses` runs this.
 #![tactic(auto)]
 
 mod line;

@@ -12,7 +12,8 @@ use Rattle.onll_run.specs.Ran.{IsRoomyFor, AreRoomy, HasBase, CanRun}
 use Rattle.onll_run.proofs.Anew.{new_base, new_roomy}
 use Rattle.onll_workload.specs.declared.workload.Workload.{Workload}
 use Rattle.onll_workload.specs.Faultless.{faultless_view}
-use Rattle.onll_workload.specs.Workload.{IsWorkload, BankCall, script_of, scripts_from, scripts_of, device_lines}
+use Rattle.onll_text.specs.BankText.{BankCall}
+use Rattle.onll_workload.specs.Workload.{IsWorkload, script_of, scripts_from, scripts_of, device_lines}
 use Rattle.onll_workload.proofs.Scripts.{updates_of_script, length-scripts}
 use Rattle.onll_workload.proofs.Sums.{scripts_short}
 

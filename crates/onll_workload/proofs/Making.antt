@@ -3,7 +3,8 @@
 use Rattle.std.proofs.Common.{ℕ, suc, ◌≡◌, ◌+◌, ◌-◌, ◌<◌, ◌≤◌, List, [], ◌∷◌, ◌++◌, map, refl, sym, ap, ◌∙◌, arith, append_assoc, append-nil}
 use Rattle.onll_model.specs.declared.call.Call.TheVariants.{Update}
 use Rattle.onll_workload.specs.declared.workload.Workload.{Workload}
-use Rattle.onll_workload.specs.Workload.{BankCall, transfer_from, after_transfer, reads_after, calls_from, script_of, scripts_from, scripts_of}
+use Rattle.onll_text.specs.BankText.{BankCall}
+use Rattle.onll_workload.specs.Workload.{transfer_from, after_transfer, reads_after, calls_from, script_of, scripts_from, scripts_of}
 
 -- ---- the calls of one script
 pub calls_start : (updates x : ℕ) (calls : List BankCall) → calls ≡ [] → calls ++ calls_from (updates - 0) 0 x ≡ calls_from updates 0 x

@@ -16,9 +16,9 @@ use Rattle.onll_bank.specs.declared.operation.BankReply.{BankReply}
 use Rattle.onll_bank.specs.Object.{bank}
 use Rattle.onll_outside.specs.Views.{one_fault}
 use Rattle.onll_run.specs.Outcomes.{failed_in, fault_in}
-use Rattle.onll_run.specs.Left.{Left, LogLeft, HasRun, no_base}
+use Rattle.onll_run.specs.Left.{AfterRun, LogLeft, HasRun, no_base}
 use Rattle.onll_run.specs.Making.{faults_of, HeaderFailed}
-use Rattle.onll_run.specs.Ran.{AreKept, anew}
+use Rattle.onll_run.specs.Ran.{AreKeptLogs, anew}
 use Rattle.onll_workload.specs.declared.workload.Workload.{Workload}
 use Rattle.onll_workload.specs.Faultless.{faultless_view}
 use Rattle.onll_workload.specs.Workload.{scripts_of, first_bank, accounts, balance}
@@ -34,7 +34,7 @@ no_failure : (failed : Option ℕ) → 0 ≡ fault_in failed → failed ≡ None
 no_failure None e = refl
 no_failure (Some place) e = absurd (omega (arith, e))
 
-pub kept_whole : (befores : List Content) (ends : List (List BankEnd)) (devices : List DeviceState) (logs : List (LogState DeviceState)) → AreKept faultless_view befores ends devices logs → AllByRecursion (NoneFailed bank) ends
+pub kept_whole : (befores : List Content) (ends : List (List BankEnd)) (devices : List DeviceState) (logs : List (LogState DeviceState)) → AreKeptLogs faultless_view befores ends devices logs → AllByRecursion (NoneFailed bank) ends
 kept_whole befores [] devices logs h = tt
 kept_whole [] (es ∷ ends) devices logs h = absurd h
 kept_whole (before ∷ befores) (es ∷ ends) [] logs h = absurd h
@@ -58,12 +58,12 @@ total_stays [] s h = refl
 total_stays (n ∷ nodes) s h = total_stays nodes (after_row bank s (bank.op_at n.row)) h.1 ∙ h.0 s
 
 -- each update has a fence and a node, and the total is that of the first bank
-pub record HasMade (w : Workload) (left : Left (List ℕ) BankOp BankQuery BankReply) : Type 0 where
+pub record HasMade (w : Workload) (left : AfterRun (List ℕ) BankOp BankQuery BankReply) : Type 0 where
   pub fences : sum_by (λ (log : LogLeft). log.fences) left.logs ≡ w.threads * w.updates
   pub nodes : length left.nodes ≡ w.threads * w.updates
   pub total : sum (state_after bank first_bank left.nodes) ≡ accounts * balance
 
-pub has_made : (w : Workload) (heads : List LogHead) (left : Left (List ℕ) BankOp BankQuery BankReply) → HasRun bank (anew first_bank heads (scripts_of w)) left → AllByRecursion (NoneFailed bank) left.ends → HasMade w left
+pub has_made : (w : Workload) (heads : List LogHead) (left : AfterRun (List ℕ) BankOp BankQuery BankReply) → HasRun bank (anew first_bank heads (scripts_of w)) left → AllByRecursion (NoneFailed bank) left.ends → HasMade w left
 has_made w heads left run whole =
     let placed = placed_all bank first_bank 0 left.nodes 0 (scripts_of w) left.ends run.legal.outcomes run.over whole in
     let updates = updates_of_scripts w w.threads 0 in

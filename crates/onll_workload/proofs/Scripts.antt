@@ -12,7 +12,8 @@ use Rattle.onll_bank.specs.declared.operation.BankQuery.TheVariants.{Total}
 use Rattle.onll_bank.specs.Object.{bank}
 use Rattle.onll_bank.proofs.Totals.{transfer_law}
 use Rattle.onll_workload.specs.declared.workload.Workload.{Workload}
-use Rattle.onll_workload.specs.Workload.{BankCall, value_of, drawn, after_transfer, calls_from, script_of, first_number, scripts_from}
+use Rattle.onll_text.specs.BankText.{BankCall}
+use Rattle.onll_workload.specs.Workload.{high_bits, drawn, after_transfer, calls_from, script_of, first_number, scripts_from}
 use Rattle.onll_workload.proofs.Rows.{HaveRows}
 
 -- ---- how many calls
@@ -91,7 +92,7 @@ rows_after false rest h = h
 rows_of_calls : (left made x : ℕ) → HaveRows bank KeepsTotal (calls_from left made x)
 rows_of_calls zero made x = tt
 rows_of_calls (suc left) made x = (
-  λ s. transfer_law s (value_of (drawn x) % 64) (value_of (drawn (drawn x)) % 64) (value_of (after_transfer x) % 100),
+  λ s. transfer_law s (high_bits (drawn x) % 64) (high_bits (drawn (drawn x)) % 64) (high_bits (after_transfer x) % 100),
   rows_after ((made + 1) % 4 == 0) (calls_from left (made + 1) (after_transfer x)) (rows_of_calls left (made + 1) (after_transfer x)),
 )
 

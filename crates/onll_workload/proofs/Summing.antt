@@ -18,11 +18,12 @@ use Rattle.onll_trace.specs.declared.trace.Ended.{Ended}
 use Rattle.onll_run.specs.declared.run.DoneScript.{DoneScript}
 use Rattle.onll_run.specs.Left.{LogLeft, HasRun}
 use Rattle.onll_run.specs.Ended.{log_left}
-use Rattle.onll_run.specs.Ran.{AreKept, anew, left_by, script_in, ends_in, node_in}
+use Rattle.onll_run.specs.Ran.{AreKeptLogs, anew, left_by, script_in, ends_in, node_in}
 use Rattle.onll_workload.specs.declared.workload.Workload.{Workload}
 use Rattle.onll_workload.specs.declared.summary.Summary.{Summary}
 use Rattle.onll_workload.specs.Faultless.{faultless_view}
-use Rattle.onll_workload.specs.Workload.{IsWorkload, BankCall, scripts_of, first_bank, accounts, balance}
+use Rattle.onll_text.specs.BankText.{BankCall}
+use Rattle.onll_workload.specs.Workload.{IsWorkload, scripts_of, first_bank, accounts, balance}
 use Rattle.onll_workload.specs.Made.{made_summary}
 use Rattle.onll_workload.proofs.Runs.{HasMade, has_made, kept_whole}
 use Rattle.onll_workload.proofs.Sums.{sum_mapped, each_short, threads_are, updates_are, reads_are, updates_fit, reads_fit}
@@ -36,7 +37,7 @@ below n m e h = omega (arith, e, h)
 -- the run of a workload's scripts, over devices whose fences never fail
 module _ (w : Workload) (valid : IsWorkload w) (heads : List LogHead) (object : List ℕ) (scripts : List (List BankCall)) (befores : List Content) (devices : List DeviceState) (threads : List BankDone) (trace : List Ended) (logs : List (LogState DeviceState))
     (first : object ≡ first_bank) (made : scripts ≡ scripts_of w) (done : map script_in threads ≡ scripts)
-    (run : HasRun bank (anew object heads scripts) (left_by faultless_view threads trace logs)) (kept : AreKept faultless_view befores (map ends_in threads) devices logs) where
+    (run : HasRun bank (anew object heads scripts) (left_by faultless_view threads trace logs)) (kept : AreKeptLogs faultless_view befores (map ends_in threads) devices logs) where
   what : HasMade w (left_by faultless_view threads trace logs)
   what =
       has_made w heads (left_by faultless_view threads trace logs)

@@ -9,7 +9,8 @@ use Rattle.std.proofs.lemmas.Nat.{mul-le}
 use Rattle.onll_model.specs.Limits.{most_updates}
 use Rattle.onll_model.specs.Calls.{updates_in, reads_in}
 use Rattle.onll_workload.specs.declared.workload.Workload.{Workload}
-use Rattle.onll_workload.specs.Workload.{IsWorkload, BankCall, scripts_from, scripts_of}
+use Rattle.onll_text.specs.BankText.{BankCall}
+use Rattle.onll_workload.specs.Workload.{IsWorkload, scripts_from, scripts_of}
 use Rattle.onll_workload.proofs.Scripts.{updates_of_script, updates_of_scripts, reads_of_scripts, length-scripts}
 
 pub sum_mapped : {A B : Type 0} (f : B → ℕ) (g : A → B) (xs : List A) → sum_by f (map g xs) ≡ sum_by (λ (x : A). f (g x)) xs

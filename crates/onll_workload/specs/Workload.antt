@@ -2,14 +2,12 @@
 
 use Rattle.std.specs.Prelude.{ℕ, zero, suc, ◌+◌, ◌*◌, ◌/◌, ◌%◌, ◌^◌, ◌==◌, ◌≤◌, List, [], ◌∷◌, ◌++◌, if◌then◌else◌, replicate}
 use Rattle.onll_model.specs.Limits.{most_threads, most_updates}
-use Rattle.onll_model.specs.declared.call.Call.{Call}
 use Rattle.onll_model.specs.declared.call.Call.TheVariants.{Update, Ask}
 use Rattle.onll_bank.specs.declared.operation.BankOp.{BankOp}
 use Rattle.onll_bank.specs.declared.operation.BankOp.TheVariants.{Transfer}
-use Rattle.onll_bank.specs.declared.operation.BankQuery.{BankQuery}
 use Rattle.onll_bank.specs.declared.operation.BankQuery.TheVariants.{Total}
-use Rattle.onll_bank.specs.declared.operation.BankReply.{BankReply}
 use Rattle.onll_workload.specs.declared.workload.Workload.{Workload}
+use Rattle.onll_text.specs.BankText.{BankCall}
 
 -- as many threads, and updates of each, as a run may have
 pub record IsWorkload (w : Workload) : Type 0 where
@@ -28,21 +26,18 @@ balance = 1000
 abbrev pub first_bank : List ℕ
 first_bank = replicate accounts balance
 
-abbrev pub BankCall : Type 0
-BankCall = Call (List ℕ) BankOp BankQuery BankReply
-
 -- ---- draws
 -- the number that a draw leaves
 abbrev pub drawn : ℕ → ℕ
 drawn x = (x * 6364136223846793005 + 1442695040888963407) % 2 ^ 64
 
 -- what is drawn with it
-abbrev pub value_of : ℕ → ℕ
-value_of x = x / 2 ^ 33
+abbrev pub high_bits : ℕ → ℕ
+high_bits x = x / 2 ^ 33
 
 -- the transfer of three draws: between two accounts, of less than 100
 abbrev pub transfer_of : (d₁ d₂ d₃ : ℕ) → BankOp
-transfer_of d₁ d₂ d₃ = Transfer (value_of d₁ % 64) (value_of d₂ % 64) (value_of d₃ % 100)
+transfer_of d₁ d₂ d₃ = Transfer (high_bits d₁ % 64) (high_bits d₂ % 64) (high_bits d₃ % 100)
 
 abbrev pub transfer_from : ℕ → BankOp
 transfer_from x = transfer_of (drawn x) (drawn (drawn x)) (drawn (drawn (drawn x)))

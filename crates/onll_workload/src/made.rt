@@ -24,9 +24,10 @@ use onll_bank::{Bank, BankQuery, BankReply};
 use onll_core::count_updates;
 use onll_log::{LogHead, ThreadLog};
 use onll_model::{Call, Object};
+use onll_open::new_heads;
 use onll_outside::Gate;
-use onll_run::{DoneScript, RunFault, RunLogs, run_for_logs};
-use onll_runner::{new_heads, recover_logs};
+use onll_run::{DoneScript, RunFault, RunLogs, Surroundings, run_for_logs};
+use onll_runner::recover_logs;
 use onll_text::Report;
 use onll_words::NoMemory;
 use std::alloc::Global;
@@ -148,7 +149,8 @@ fn run_made<R: Threads + Wait + Sync, G: Gate + Sync>(
     let first = bank.copy(alloc)?;
     let scripts = scripts_of(alloc, workload)?;
     let devices = devices_for(alloc, workload)?;
-    match run_for_logs(rt, alloc, bank, &heads, scripts, devices, gate) {
+    let around = Surroundings { rt, alloc, gate };
+    match run_for_logs(&around, bank, &heads, scripts, devices) {
         Ok(ran) => summarize(alloc, first, &heads, &ran),
         Err(RunFault::NoMemory) => Err(NoMemory),
         Err(RunFault::HeaderFailed { .. }) => unreachable!(),

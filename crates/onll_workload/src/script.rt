@@ -3,7 +3,7 @@
 ghost use Rattle.std.specs.Prelude.{◌≡◌, ◌≤◌, ◌∷◌, ◌++◌, map, IfOk, OnOk};
 ghost use Rattle.onll_model.specs.Limits.{most_updates};
 ghost use Rattle.onll_model.specs.declared.call.Call.TheVariants.{Update};
-ghost use Rattle.onll_workload.specs.Workload.{IsWorkload, drawn, value_of, transfer_from, after_transfer, reads_after, calls_from, script_of, scripts_of};
+ghost use Rattle.onll_workload.specs.Workload.{IsWorkload, drawn, high_bits, transfer_from, after_transfer, reads_after, calls_from, script_of, scripts_of};
 
 use crate::workload::Workload;
 use onll_bank::{Bank, BankOp, BankQuery};
@@ -20,7 +20,7 @@ struct Draws {
 impl Draws {
     fn draw(&mut self) -> u64
         ensures next { self.new.x ≡ drawn self.old.x }
-        ensures value { result ≡ value_of (drawn self.old.x) }
+        ensures value { result ≡ high_bits (drawn self.old.x) }
     {
         self.x = self
             .x

@@ -6,9 +6,9 @@ ghost use Rattle.std.specs.Vec.{vec_capacity};
 ghost use Rattle.onll_model.specs.Limits.{most_threads, most_updates, greatest_code};
 ghost use Rattle.onll_model.specs.Calls.{updates_in};
 ghost use Rattle.onll_pmem.specs.Pmem.{words_of};
-ghost use Rattle.onll_core.specs.Created.{heads_from};
+ghost use Rattle.onll_log.specs.Head.{heads_from};
 ghost use Rattle.onll_core.specs.Resume.{resumed};
-ghost use Rattle.onll_core.specs.Found.{found_threads, AreRoomy, locals_from};
+ghost use Rattle.onll_core.specs.Found.{found_threads, HaveLogRoom, locals_from};
 ghost use Rattle.onll_core.specs.declared.fault.ResumeFault.TheVariants.{NoMemory as OutOfMemory};
 
 use super::{Core, NAMES};
@@ -48,7 +48,7 @@ fn found_workers<O: Object>(
     logs: &[LogCounts],
     scripts: Vec<Vec<Call<O>>>,
 ) -> Result<Vec<Worker<O>>, NoMemory>
-    requires { AreRoomy heads.now (map (λ image. words_of image.items) images.now)
+    requires { HaveLogRoom heads.now (map (λ image. words_of image.items) images.now)
         logs.now (map (λ script. script.items) scripts.items) }
     ensures { IfOk result (λ workers. workers.items
         ≡ found_threads heads.now (map (λ image. words_of image.items) images.now)

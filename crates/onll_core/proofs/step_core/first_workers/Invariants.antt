@@ -5,7 +5,7 @@ use Rattle.std.specs.Vec.{vec_capacity}
 use Rattle.std.specs.Vec.Iter.{into_iter_items}
 use Rattle.onll_model.specs.Calls.{updates_in}
 use Rattle.onll_core.specs.First.{first_threads}
-use Rattle.onll_core.specs.Created.{heads_from}
+use Rattle.onll_log.specs.Head.{heads_from}
 use Rattle.onll_core.proofs.step_core.first_workers.Given as goal
 
 -- the threads that are made, and those of the scripts that are left

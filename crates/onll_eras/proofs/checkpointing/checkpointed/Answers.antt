@@ -3,7 +3,7 @@ use Rattle.onll_checkpoint.specs.Checkpoint.{CheckpointState}
 use Rattle.onll_text.specs.EraText.{era_text}
 use Rattle.onll_text.specs.Kinds.{kind_by}
 use Rattle.onll_task.specs.declared.ending.Ending.TheVariants.{BadLog}
-use Rattle.onll_task.specs.Doing.{Does, say_task}
+use Rattle.onll_task.specs.Doing.{Fulfils, say_task}
 use Rattle.onll_eras.specs.EraCall.{era_found}
 use Rattle.onll_eras.specs.EraJob.{begun_task, checkpoint_after, checkpoint_work, either_task}
 use Rattle.onll_eras.specs.EraReports.{at_end_text}
@@ -24,8 +24,8 @@ returns-in-Some g c =
     let next = c.in-Some.next in
     let place : ℕ = era.place + c.args.nodes in
     let placed = subst (λ (p : ℕ). let made : CheckpointState = record { number = next.number; place = p; text = era_text next.number p lines } in
-    Does w store after (begun_task ckpt threads k s made) c.begin_next.result) c.in-Some.ensures.2 c.begin_next.ensures in
+    Fulfils w store after (begun_task ckpt threads k s made) c.begin_next.result) c.in-Some.ensures.2 c.begin_next.ensures in
     let numbered = subst (λ (n : ℕ). let made : CheckpointState = record { number = n; place = place; text = era_text n place lines } in
-    Does w store after (begun_task ckpt threads k s made) c.begin_next.result) c.in-Some.ensures.1 placed in
-    subst (λ (q : Bool). Does w store after (either_task q (begun_task ckpt threads k s (checkpoint_after era c.args.nodes lines)) (say_task BadLog at_end_text)) c.begin_next.result)
+    Fulfils w store after (begun_task ckpt threads k s made) c.begin_next.result) c.in-Some.ensures.1 placed in
+    subst (λ (q : Bool). Fulfils w store after (either_task q (begun_task ckpt threads k s (checkpoint_after era c.args.nodes lines)) (say_task BadLog at_end_text)) c.begin_next.result)
     (sym c.in-Some.ensures.0) numbered

@@ -7,7 +7,7 @@ use Rattle.onll_merge.specs.Recovered.{recovered_in}
 use Rattle.onll_text.specs.Reports.{SaysOnly}
 use Rattle.onll_recovery.specs.RecoverJob.{data_with}
 use Rattle.onll_task.specs.declared.ending.Ending.TheVariants.{BadLog}
-use Rattle.onll_task.specs.Doing.{Does, report_task, say_task}
+use Rattle.onll_task.specs.Doing.{Fulfils, report_task, say_task}
 use Rattle.onll_task.proofs.Stages.{report_does}
 use Rattle.onll_eras.specs.EraJob.{either_task}
 use Rattle.onll_eras.specs.EraReports.{at_end_text, newest_in, place_in, restore_lines, RestoreData, RestoreReads}
@@ -25,5 +25,5 @@ returns-in_ok-report-in-Some g c store =
     let reads = c.in_ok-report-in-Some.ensures.reads in
     let place : c.in-Some.place ≡ place_in from + length r.nodes = search rules in
     let says = restore_says b w from c.args.object.now r c.in-Some.place text.items place c.in_ok-report-in-Some.ensures.report reads in
-    subst (λ (q : Bool). Does [] store store (either_task q (report_task (flat_map line_text (restore_lines b w said)) (λ (t : List ℕ). SaysOnly (restore_lines b w) (RestoreReads b w) t said))
+    subst (λ (q : Bool). Fulfils [] store store (either_task q (report_task (flat_map line_text (restore_lines b w said)) (λ (t : List ℕ). SaysOnly (restore_lines b w) (RestoreReads b w) t said))
     (say_task BadLog at_end_text)) (Ok text)) (sym (lt-ltb (place_in from + length r.nodes) (2 ^ 64) reads.place)) (report_does store text says.printed says)

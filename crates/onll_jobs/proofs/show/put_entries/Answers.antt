@@ -7,7 +7,7 @@ use Rattle.onll_log.specs.Grammar.{Content, used_by, used_with}
 use Rattle.onll_log.specs.Cursor.{CursorState, entries_left, lines_passed, first_nodes}
 use Rattle.onll_log.proofs.Cursors.{viewed, not_viewed, gone_on, all_gone}
 use Rattle.onll_text.specs.Bytes.{with_lines}
-use Rattle.onll_jobs.specs.ShowJob.{entries_lines, entry_lines, EntryReads, IsPlaced}
+use Rattle.onll_jobs.specs.ShowJob.{entries_lines, entry_lines, EntryReads, IsPlacedEntry}
 use Rattle.onll_jobs.proofs.ShowWords.{entry_lines_more, segment_same}
 use Rattle.onll_jobs.proofs.show.put_entries.Goals as goal
 
@@ -21,7 +21,7 @@ pub put_entry-requires-clause-placed : goal.put_entry-requires-clause-placed
 put_entry-requires-clause-placed c =
     let cur = c.loop-entry.cursor in
     let v = viewed (lines_passed cur) (entries_left cur) c.in-Some.entry (sym c.in-Some.is ∙ c.peek.ensures) in
-    let placed = (subst (AllByRecursion IsPlaced) v.split c.loop-entry.invariant.placed).0 in
+    let placed = (subst (AllByRecursion IsPlacedEntry) v.split c.loop-entry.invariant.placed).0 in
     omega (arith, v.place, v.count, placed)
 
 pub loop-entry-preserved : goal.loop-entry-preserved
@@ -50,7 +50,7 @@ loop-entry-preserved c =
           ∙ (entry_lines_more out new n v.s v.more line
           ∙ (ap (λ (ss : List Segment). with_lines out (entries_lines n ss)) (sym v.split) ∙ c.loop-entry.invariant.lines)));
       begins = c.in_ok-put_entry.ensures.begins;
-      placed = subst (AllByRecursion IsPlaced) (sym left) (subst (AllByRecursion IsPlaced) v.split c.loop-entry.invariant.placed).1;
+      placed = subst (AllByRecursion IsPlacedEntry) (sym left) (subst (AllByRecursion IsPlacedEntry) v.split c.loop-entry.invariant.placed).1;
       reads = λ rest. c.loop-entry.invariant.reads (subst (All EntryReads) (sym v.split)
           (All-cons EntryReads v.s v.more (subst EntryReads is c.in_ok-put_entry.ensures.reads) (subst (All EntryReads) left rest)));
     }

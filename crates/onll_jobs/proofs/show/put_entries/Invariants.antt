@@ -2,7 +2,7 @@ use Rattle.std.proofs.Common.{◌≡◌, ◌≤◌, ◌-◌, length, true}
 use Rattle.std.specs.List.{All, AllByRecursion}
 use Rattle.onll_log.specs.Cursor.{entries_left}
 use Rattle.onll_text.specs.Bytes.{begins_line, with_lines}
-use Rattle.onll_jobs.specs.ShowJob.{entries_lines, EntryReads, IsPlaced}
+use Rattle.onll_jobs.specs.ShowJob.{entries_lines, EntryReads, IsPlacedEntry}
 use Rattle.onll_jobs.proofs.show.put_entries.Given as goal
 
 -- the entries that are left make the lines that all make
@@ -15,7 +15,7 @@ invariant-loop-entry l =
       same : l.cursor.content ≡ l.fn.cursor.content;
       lines : with_lines l.out (entries_lines l.cursor.passed rest) ≡ with_lines l.fn.out (entries_lines 0 all);
       begins : begins_line l.out ≡ true;
-      placed : AllByRecursion IsPlaced rest;
+      placed : AllByRecursion IsPlacedEntry rest;
       reads : All EntryReads rest → All EntryReads all;
     }
 

@@ -2,7 +2,7 @@ use Rattle.std.proofs.Common.{ℕ, List, ◌≡◌, ◌∙◌, false, sym, subst
 use Rattle.std.specs.Prelude.{Err}
 use Rattle.onll_model.specs.Limits.{most_threads}
 use Rattle.onll_outside.specs.Views.{SameOthers}
-use Rattle.onll_open.specs.Files.{IsMade}
+use Rattle.onll_open.specs.Files.{FileIsMade}
 use Rattle.onll_open.specs.Names.{log_name}
 use Rattle.onll_open.proofs.Handing.{devices_more, faults_more, others_on}
 use Rattle.onll_live.specs.declared.fault.NextFault.{NextFault}
@@ -33,7 +33,7 @@ loop-thread-preserved g c =
     let t = c.loop-thread.thread in
     let name : c.deref.result.now ≡ log_name c.args.logs.now t = c.deref.ensures ∙ c.in_ok-file.ensures in
     let others = subst (λ (n : List ℕ). SameOthers n mid new) name c.clear_file.ensures.others in (
-      cleared_next mid new c.args.logs.now t (omega arith) c.loop-thread.invariant.0 (subst (λ (n : List ℕ). IsMade new n false) name c.in_default.ensures.cleared) others,
+      cleared_next mid new c.args.logs.now t (omega arith) c.loop-thread.invariant.0 (subst (λ (n : List ℕ). FileIsMade new n false) name c.in_default.ensures.cleared) others,
       faults_more old mid new c.loop-thread.invariant.1 c.in_default.ensures.faults,
       others_on old mid new c.args.logs.now most_threads t (omega arith) c.loop-thread.invariant.2 others,
       devices_more old mid new c.loop-thread.invariant.3 c.clear_file.ensures.devices,

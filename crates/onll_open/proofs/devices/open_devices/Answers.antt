@@ -5,10 +5,10 @@ use Rattle.onll_pmem.specs.Pmem.{words_of}
 use Rattle.onll_merge.specs.declared.counts.LogCounts.{LogCounts}
 use Rattle.onll_open.specs.Files.{BeginsAs, KeepsFront}
 use Rattle.onll_open.specs.Names.{log_name, log_names}
-use Rattle.onll_open.specs.Devices.{front_by, fronts_by}
-use Rattle.onll_open.proofs.Handing.{counts_more, others_on, same_after}
+use Rattle.onll_open.specs.Devices.{IsDeviceAt, front_by, fronts_by}
+use Rattle.onll_open.proofs.Handing.{counts_more, none_counted, others_on, same_after}
 use Rattle.onll_open.proofs.Kept.{device_failed}
-use Rattle.onll_open.proofs.Reopening.{keep_none, keep_next, keep_same, front_at, fronts_many, within_many, within_at, begins_at, begins_next, reopened_start, reopened_next, reopened_end, here_at}
+use Rattle.onll_open.proofs.Reopening.{device_of_head, keep_none, keep_next, keep_same, front_at, fronts_many, within_many, within_at, begins_at, begins_next, reopened_start, reopened_next, reopened_end, here_at}
 use Rattle.onll_open.proofs.devices.open_devices.Goals as goal
 
 pub returns-in_err-devices-clause-files : goal.returns-in_err-devices-clause-files
@@ -125,3 +125,19 @@ pub returns-in-Err-clause-faults : goal.returns-in-Err-clause-faults
 returns-in-Err-clause-faults g c =
     device_failed c.args.logs.now (length c.args.images.now) c.loop-thread.thread (g.S.Store.seen c.args.store.now) (g.S.Store.seen c.loop-thread.store) (g.S.Store.seen c.open_device.new.store) (g.S.Store.seen c.give_up_all.new.store) c.in-Err.fault
     (omega arith) c.loop-thread.invariant.counts.0 c.give_up_all.ensures.faults c.in-Err.ensures.faults
+
+pub returns-in-Err-clause-none : goal.returns-in-Err-clause-none
+returns-in-Err-clause-none g c =
+    none_counted g.S.Dev.Pmem.means c.loop-thread.devices.items (g.S.Store.seen c.args.store.now) (g.S.Store.seen c.loop-thread.store) (g.S.Store.seen c.open_device.new.store) (g.S.Store.seen c.give_up_all.new.store)
+    c.loop-thread.invariant.so.unused c.loop-thread.invariant.counts.1 c.in-Err.ensures.devices c.give_up_all.ensures.devices
+
+pub returns-in-Err-clause-which : goal.returns-in-Err-clause-which
+returns-in-Err-clause-which g c =
+    let images = c.args.images.now in
+    let none : LogCounts = record { head = false; entries = 0; lines = 0 } in
+    let t = c.loop-thread.thread in
+    let front : words_of c.front_of-front.result.now ≡ get_or (fronts_by c.args.held.now images) t [] =
+    c.front_of-front.ensures.words ∙ ap (front_by (get_or c.args.held.now t none).head) c.as_slice.ensures
+    ∙ ap (front_by (get_or c.args.held.now t none).head) (sym (here_at images t c.index-images-thread.result [] (omega arith) c.index-images-thread.is))
+    ∙ sym (front_at c.args.held.now images t none c.requires.many (omega arith)) in
+    device_of_head c.args.held.now images t c.in-Err.fault c.requires.many (omega arith) c.requires.heads (subst (λ (f : List (List ℕ)). IsDeviceAt f t c.in-Err.fault) front c.in-Err.ensures.which)

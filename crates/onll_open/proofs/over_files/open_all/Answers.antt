@@ -1,4 +1,4 @@
-use Rattle.std.proofs.Common.{◌≡◌, ◌≤◌, IsSome, length, map, sym, ap, ◌∙◌, subst}
+use Rattle.std.proofs.Common.{◌≡◌, ◌≤◌, false, IsSome, length, map, sym, ap, ◌∙◌, subst}
 use Rattle.std.proofs.lemmas.Result.{err_from_is_err_and}
 use Rattle.std.specs.Prelude.{All}
 use Rattle.std.specs.List.{AllByRecursion}
@@ -7,15 +7,14 @@ use Rattle.onll_merge.specs.Merge.{contents_in}
 use Rattle.onll_merge.specs.Recovered.{log_counts, recovered_in}
 use Rattle.onll_outside.specs.Views.{counted}
 use Rattle.onll_run.specs.Making.{AllCanOpen, AreOpen, HeaderFailed}
-use Rattle.onll_open.specs.Devices.{AreHeld, AreReopened, AreWithin, fronts_by}
+use Rattle.onll_open.specs.Devices.{AreHeld, AreReopened, AreWithin, HaveHeadLines, HeadIs, IsDeviceOf, fronts_by}
 use Rattle.onll_open.specs.Files.{FilesBegin, KeepFronts}
 use Rattle.onll_open.specs.Rooms.{lines_for}
 use Rattle.onll_open.proofs.Reopening.{keep_none, keep_same}
 use Rattle.onll_open.proofs.Onwards.{device_cannot, device_faults}
-use Rattle.onll_open.proofs.GivenLogs.{begin, counts, are_logs, short, within, can, opened_logs}
+use Rattle.onll_open.proofs.GivenLogs.{begin, counts, head_lines_of, are_logs, short, within, can, opened_logs}
 use Rattle.onll_open.proofs.Handing.{faults_more}
 use Rattle.onll_open.proofs.HeaderFaults.{headless, one_risen}
-use Rattle.onll_open.specs.Opening.{IsHeadless}
 use Rattle.onll_open.proofs.over_files.open_all.Goals as goal
 
 pub decode_logs-requires : goal.decode_logs-requires
@@ -68,6 +67,19 @@ open_devices-requires-clause-begins g c κs bounds =
     let begins = begin g.O.Object.means store c.args.logs.now c.args.found.now.heads.items c.args.rooms.now images found c.requires.found in
     subst (λ ls. FilesBegin c.args.logs.now 0 (fronts_by ls c.deref-5.result.now) store) (sym c.deref-4.ensures.value)
     (subst (λ ls. FilesBegin c.args.logs.now 0 (fronts_by found.logs ls) store) (sym c.deref-5.ensures.value) begins)
+
+pub open_devices-requires-clause-heads : goal.open_devices-requires-clause-heads
+open_devices-requires-clause-heads g c κs bounds =
+    let b = g.O.Object.means in
+    let store = g.S.Store.seen c.args.store.now in
+    let heads = c.args.found.now.heads.items in
+    let images = c.args.found.now.images.items in
+    let rooms = c.args.rooms.now in
+    let found = recovered_in c.args.found.now.recovery in
+    let held = contents_in c.in_ok-held.held.items in
+    let is = subst (λ ls. AreHeld ls held) c.deref-3.ensures.value c.in_ok-held.ensures in
+    subst (λ ls. HaveHeadLines ls c.deref-5.result.now) (sym c.deref-4.ensures.value)
+    (subst (HaveHeadLines found.logs) (sym c.deref-5.ensures.value) (head_lines_of b store c.args.logs.now heads rooms images found c.requires.found held is))
 
 pub returns-in_err-devices-clause-faults : goal.returns-in_err-devices-clause-faults
 returns-in_err-devices-clause-faults g c =
@@ -166,7 +178,8 @@ returns-in-Err-NoMemory-clause-kept g c =
 pub returns-in_err-devices-clause-refused : goal.returns-in_err-devices-clause-refused
 returns-in_err-devices-clause-refused g c =
     let p = err_from_is_err_and c.from_residual-in_err-devices.result c.from_residual-in_err-devices.ensures.1 in
-    rw (p.1, p.2) (device_cannot (recovered_in c.args.found.now.recovery) c.in_err-devices.field-0.0)
+    rw (p.1, p.2) (device_cannot (recovered_in c.args.found.now.recovery) c.in_err-devices.field-0.0
+    (subst (λ ls. IsDeviceOf ls c.in_err-devices.field-0.0) c.deref-4.ensures.value c.in_err-devices.ensures.which))
 
 pub returns-in_err-lines-clause-kept : goal.returns-in_err-lines-clause-kept
 returns-in_err-lines-clause-kept g c =
@@ -195,10 +208,10 @@ returns-clause-refused g c =
     let is = subst (λ ls. AreHeld ls held) c.deref-3.ensures.value c.in_ok-held.ensures in
     let failed : HeaderFailed g.S.Dev.Pmem.means c.deref-7.result.now (contents_in c.deref-8.result.now) c.in_ok-devices.devices.items c.in-Err-HeaderFailed.thread c.in-Err-HeaderFailed.devices.items =
     rw c.in-Err-HeaderFailed.field-0-is at c.in-Err-HeaderFailed.ensures.refused in
-    let begun : IsHeadless c.in-Err-HeaderFailed.thread (map log_counts (contents_in c.deref-8.result.now)) =
+    let begun : HeadIs false c.in-Err-HeaderFailed.thread (map log_counts (contents_in c.deref-8.result.now)) =
     headless g.S.Dev.Pmem.means c.in-Err-HeaderFailed.thread c.deref-7.result.now (contents_in c.deref-8.result.now) c.in_ok-devices.devices.items c.in-Err-HeaderFailed.devices.items failed.headers in
     let all : map log_counts (contents_in c.deref-8.result.now) ≡ found.logs = ap (λ ls. map log_counts (contents_in ls)) c.deref-8.ensures.value ∙ sym (counts b store c.args.logs.now heads rooms images found h held is) in
-    subst (IsHeadless c.in-Err-HeaderFailed.thread) all begun
+    subst (HeadIs false c.in-Err-HeaderFailed.thread) all begun
 
 pub returns-clause-faults : goal.returns-clause-faults
 returns-clause-faults g c =

@@ -7,7 +7,7 @@ use Rattle.onll_open.specs.Devices.{fronts_by}
 use Rattle.onll_open.specs.Files.{SameBut}
 use Rattle.onll_open.specs.Names.{log_names}
 use Rattle.onll_open.specs.Rooms.{first_full}
-use Rattle.onll_open.specs.Opening.{CannotGoOn, CannotOpen, GoesOn, HasFound, HasOpened, HeldFaults}
+use Rattle.onll_open.specs.Opening.{NotOpenedOver, CannotOpen, GoesOn, HasFound, HasOpened, HeldFaults}
 use Rattle.onll_open.proofs.GivenLogs.{gives_found}
 use Rattle.onll_open.proofs.Locked.{logs_of_files}
 use Rattle.onll_open.proofs.Onwards.{cannot_of, faults_of, found_here, go_on_cannot, held_faults, others_there, room_cannot, room_faults, keep_there}
@@ -163,7 +163,7 @@ returns-clause-refused g c =
     let same = logs_of_files logs old mid c.in_ok-found.ensures.same in
     let has = subst (λ hs. HasFound b old logs hs threads kept.images.items found) c.in_ok-found.ensures.heads c.in_ok-found.ensures.found in
     let gives = gives_found b old logs heads threads kept.images.items found has in
-    IfErr-weaker c.open_found.result (CannotGoOn found) (CannotOpen b old logs heads threads asked) (go_on_cannot b old logs heads threads asked found gives c.in_ok-rooms.ensures.given) c.open_found.ensures.refused
+    IfErr-weaker c.open_found.result (NotOpenedOver found) (CannotOpen b old logs heads threads asked) (go_on_cannot b old logs heads threads asked found gives c.in_ok-rooms.ensures.given) c.open_found.ensures.refused
 
 pub returns-clause-faults : goal.returns-clause-faults
 returns-clause-faults g c =

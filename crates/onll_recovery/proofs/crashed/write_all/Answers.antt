@@ -1,6 +1,6 @@
 use Rattle.std.proofs.Common.{[], ◌∷◌, ◌++◌, ◌≡◌, ◌≤◌, ◌<◌, ◌+◌, get_or, length, refl, sym, subst, arith, rules}
 use Rattle.onll_core.specs.Crash.{images_of}
-use Rattle.onll_task.specs.Images.{StandFor}
+use Rattle.onll_task.specs.Images.{AllDecide}
 use Rattle.onll_task.proofs.Onwards.{none_wrote, wrote_next}
 use Rattle.onll_task.proofs.Stages.{cut_begins, unwritten_begins, wrote_begins}
 use Rattle.onll_recovery.proofs.Replays.{images_count}
@@ -10,7 +10,7 @@ use Rattle.onll_recovery.proofs.crashed.write_all.Goals as goal
 pub loop-thread-init : goal.loop-thread-init
 loop-thread-init g c = record {
   so = none_wrote (g.S.Store.seen c.args.store.now) c.args.logs.now (images_of c.args.keep c.args.core.now.threads);
-  stand = subst (λ kept. StandFor kept []) (sym c.new-kept.ensures.items) tt;
+  stand = subst (λ kept. AllDecide kept []) (sym c.new-kept.ensures.items) tt;
 }
 
 pub loop-thread-preserved : goal.loop-thread-preserved

@@ -1,6 +1,6 @@
 use Rattle.std.proofs.Common.{take}
 use Rattle.onll_core.specs.Crash.{images_of}
-use Rattle.onll_task.specs.Images.{StandFor}
+use Rattle.onll_task.specs.Images.{AllDecide}
 use Rattle.onll_task.proofs.Onwards.{WroteSo}
 use Rattle.onll_recovery.proofs.crashed.write_all.Given as goal
 
@@ -10,5 +10,5 @@ invariant-loop-thread g l =
     let images = images_of l.keep l.core.threads in
     record {
       so : WroteSo (g.S.Store.seen l.fn.store) (g.S.Store.seen l.store) l.logs images l.thread;
-      stand : StandFor l.kept.items (take l.thread images);
+      stand : AllDecide l.kept.items (take l.thread images);
     }

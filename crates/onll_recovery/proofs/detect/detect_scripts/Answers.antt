@@ -1,7 +1,7 @@
 use Rattle.std.proofs.Common.{ℕ, List, [], map, sym, subst}
 use Rattle.std.proofs.lemmas.List.{length-map}
 use Rattle.onll_text.specs.Kinds.{kind_by}
-use Rattle.onll_task.specs.Doing.{Does}
+use Rattle.onll_task.specs.Doing.{Fulfils}
 use Rattle.onll_task.proofs.Stages.{read_does, stop_does, by_given, by_begins, by_stops}
 use Rattle.onll_recovery.specs.DetectJob.{outcomes_task, detected_task}
 use Rattle.onll_recovery.proofs.Standing.{state_stands}
@@ -18,7 +18,7 @@ returns-in-Ok g c =
     let given = by_given begins in
     let same = state_stands k.means k.code init c.in-Ok.images.images.items given.value given.fits.stand in
     read_does (outcomes_task k init s calls) (by_begins begins)
-    (subst (λ recovered. Does [] mid mid (detected_task k.means k.wording s calls recovered) c.detect_images.result) same (rw c.deref.ensures.value at (c.detect_images.ensures mid)))
+    (subst (λ recovered. Fulfils [] mid mid (detected_task k.means k.wording s calls recovered) c.detect_images.result) same (rw c.deref.ensures.value at (c.detect_images.ensures mid)))
 
 pub returns-in-Err : goal.returns-in-Err
 returns-in-Err g c =

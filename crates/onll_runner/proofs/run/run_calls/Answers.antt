@@ -1,65 +1,46 @@
-use Rattle.std.proofs.Common.{rules, ◌≡◌, length, map, sym, ap, ◌∙◌, subst}
-use Rattle.onll_merge.specs.Merge.{contents_in}
-use Rattle.onll_run.specs.Left.{no_base}
+use Rattle.std.proofs.Common.{rules, List, ℕ, ◌≡◌, ◌≤◌, length, map, replicate, sym, ap, ◌∙◌, subst}
+use Rattle.std.proofs.lemmas.List.{length-map}
+use Rattle.onll_model.specs.Limits.{most_threads}
+use Rattle.onll_pmem.specs.Device.{zero_lines}
+use Rattle.onll_merge.specs.Recovered.{recovered_in}
 use Rattle.onll_run.specs.Making.{AreHeads}
-use Rattle.onll_task.specs.ImageNames.{image_names}
-use Rattle.onll_task.specs.Stop.{StopSays}
-use Rattle.onll_task.specs.Writing.{SameBut}
+use Rattle.onll_open.specs.Devices.{no_counts}
 use Rattle.onll_text.specs.Kinds.{kind_by}
-use Rattle.onll_outside.specs.declared.store.FaultKind.TheVariants as kinds
-use Rattle.onll_runner.specs.Devices.{AreBlank, ThreadFails}
-use Rattle.onll_runner.specs.RunJob.{lines_for}
-use Rattle.onll_runner.proofs.RunSteps.{lines_few, lines_many, small_devices, made_heads, can_run, new_merged, run_goes, not_made}
+use Rattle.onll_runner.proofs.RunSteps.{all_updates, made_heads}
+use Rattle.onll_runner.proofs.NewGrounds.{new_ground, runs_anew}
 use Rattle.onll_runner.proofs.run.run_calls.Goals as goal
 
-pub make_devices-requires-after_bounds : goal.make_devices-requires-after_bounds
-make_devices-requires-after_bounds g c κs within =
-    lines_few (λ script. script.items) c.args.scripts.items c.deref-2.result.now c.requires.few.1 c.requires.updates
-    (c.deref-2.ensures.value ∙ c.in_ok-lines.ensures.lines ∙ ap (λ l. lines_for (map (λ script. script.items) l)) c.deref.ensures.value)
+pub run_over-requires-clause-ground : goal.run_over-requires-clause-ground
+run_over-requires-clause-ground g c κs within =
+    let scripts = c.args.scripts.items in
+    let calls = map (λ script. script.items) scripts in
+    let count : c.len.result ≡ length scripts = search rules in
+    let count_2 : c.len-2.result ≡ length scripts = search rules in
+    let same = sym (length-map scripts (λ script. script.items)) in
+    let as_many = c.in_ok-heads.ensures.count ∙ count ∙ same in
+    let found = c.in_ok-found.found in
+    let many = ap length c.in_ok-found.ensures.heads ∙ as_many in
+    let images = c.in_ok-found.ensures.images ∙ ap (λ n. replicate n (zero_lines 1)) as_many in
+    let counts = c.in_ok-counts.ensures ∙ ap (λ n. replicate n 0) (count_2 ∙ same) in
+    let logs = c.in_ok-found.ensures.counts ∙ ap (λ n. replicate n no_counts) as_many in
+    new_ground g.O.Object.means c.args.logs.now found.heads.items (recovered_in found.recovery) found.images.items c.in_ok-counts.counts.items calls (g.S.Store.seen c.args.store.now)
+    (subst (λ n. n ≤ most_threads) same c.requires.few.1) (all_updates (λ script. script.items) scripts c.requires.updates) many
+    (subst (AreHeads (length calls) 0) (sym c.in_ok-found.ensures.heads) (subst (λ n. AreHeads n 0 c.in_ok-heads.heads.items) (count ∙ same) c.in_ok-heads.ensures.fit)) images counts logs c.in_ok-found.ensures.nodes
 
-pub run_over-requires-clause-can : goal.run_over-requires-clause-can
-run_over-requires-clause-can g c κs within =
-    let lines = c.deref-2.ensures.value ∙ c.in_ok-lines.ensures.lines ∙ ap (λ l. lines_for (map (λ script. script.items) l)) c.deref.ensures.value in
-    let count : c.len.result ≡ length c.args.scripts.items = search rules in
-    let logs : c.len-2.result ≡ length c.args.scripts.items = search rules in
-    let begun = ap contents_in c.deref-in-Ok-2.ensures.value ∙ c.in_ok-base.ensures ∙ ap (λ n. (no_base n).logs) logs in
-    let heads = made_heads (λ script. script.items) c.args.scripts.items c.args.init.now c.len.result c.CODE.result g.O.Object.CODE c.deref-in-Ok.result.now count (c.deref-in-Ok.ensures.value ∙ c.in_ok-heads.ensures.heads) c.CODE.ensures in
-    can_run g.S.Dev.Pmem.means (λ script. script.items) c.args.scripts.items c.deref-in-Ok.result.now (contents_in c.deref-in-Ok-2.result.now) c.in-Ok.devices.items c.deref-2.result.now c.requires.few c.requires.updates heads.1
-    (subst (λ n. AreHeads n 0 c.deref-in-Ok.result.now) count (subst (AreHeads c.len.result 0) (sym c.deref-in-Ok.ensures.value) c.in_ok-heads.ensures.fit)) begun lines c.in-Ok.ensures.made
-
-pub run_over-requires-clause-merged : goal.run_over-requires-clause-merged
-run_over-requires-clause-merged g c κs within =
-    new_merged c.deref-in-Ok.result.now (contents_in c.deref-in-Ok-2.result.now) c.deref-in-Ok-3.result.now c.len-2.result (ap contents_in c.deref-in-Ok-2.ensures.value ∙ c.in_ok-base.ensures) (c.deref-in-Ok-3.ensures.value ∙ c.new-nodes.ensures.items)
-
-pub run_over-requires-clause-small : goal.run_over-requires-clause-small
-run_over-requires-clause-small g c κs within =
-    let lines = c.deref-2.ensures.value ∙ c.in_ok-lines.ensures.lines ∙ ap (λ l. lines_for (map (λ script. script.items) l)) c.deref.ensures.value in
-    small_devices g.S.Dev.Pmem.means (λ script. script.items) c.args.scripts.items c.deref-2.result.now c.in-Ok.devices.items c.requires.few.1 c.requires.updates lines c.in-Ok.ensures.made
-
-pub returns-in-Ok : goal.returns-in-Ok
-returns-in-Ok g c = λ threads stands.
+pub returns : goal.returns
+returns g c = λ threads stands.
+    let scripts = c.args.scripts.items in
+    let calls = map (λ script. script.items) scripts in
+    let count : c.len.result ≡ length scripts = search rules in
+    let count_2 : c.len-2.result ≡ length scripts = search rules in
+    let same = sym (length-map scripts (λ script. script.items)) in
+    let as_many = c.in_ok-heads.ensures.count ∙ count ∙ same in
+    let found = c.in_ok-found.found in
+    let many = ap length c.in_ok-found.ensures.heads ∙ as_many in
+    let images = c.in_ok-found.ensures.images ∙ ap (λ n. replicate n (zero_lines 1)) as_many in
+    let counts = c.in_ok-counts.ensures ∙ ap (λ n. replicate n 0) (count_2 ∙ same) in
+    let logs = c.in_ok-found.ensures.counts ∙ ap (λ n. replicate n no_counts) as_many in
     let k = kind_by g.O.Object.means g.O.Texted.wording g.O.Object.CODE in
-    let old = g.S.Store.seen c.args.store.now in
-    let mid = g.S.Store.seen c.make_devices.new.store in
-    let lines = c.deref-2.ensures.value ∙ c.in_ok-lines.ensures.lines ∙ ap (λ l. lines_for (map (λ script. script.items) l)) c.deref.ensures.value in
-    let many = lines_many (λ script. script.items) c.args.scripts.items c.deref-2.result.now lines in
-    let count : c.len.result ≡ length c.args.scripts.items = search rules in
-    let logs : c.len-2.result ≡ length c.args.scripts.items = search rules in
-    let begun = ap contents_in c.deref-in-Ok-2.ensures.value ∙ c.in_ok-base.ensures ∙ ap (λ n. (no_base n).logs) logs in
-    let heads = made_heads (λ script. script.items) c.args.scripts.items c.args.init.now c.len.result c.CODE.result g.O.Object.CODE c.deref-in-Ok.result.now count (c.deref-in-Ok.ensures.value ∙ c.in_ok-heads.ensures.heads) c.CODE.ensures in
-    run_goes {k = k} (λ script. script.items) c.args.init.now c.args.logs.now c.args.object c.args.scripts.items threads stands g.S.Dev.Pmem.means old mid (g.S.Store.seen c.run_over.new.store) c.run_over.result
-    c.deref-in-Ok.result.now (contents_in c.deref-in-Ok-2.result.now) c.deref-in-Ok-3.result.now c.deref-2.result.now c.in-Ok.devices.items heads begun (c.deref-in-Ok-3.ensures.value ∙ c.new-nodes.ensures.items) lines c.in-Ok.ensures.made
-    c.in-Ok.ensures.counts (subst (λ n. SameBut (image_names c.args.logs.now 0 n) old mid) many c.make_devices.ensures.others)
-    (subst (λ n. AreBlank c.args.logs.now 0 n old mid) many c.make_devices.ensures.files) c.run_over.ensures
-
-pub returns-in-Err : goal.returns-in-Err
-returns-in-Err g c = λ threads stands.
-    let k = kind_by g.O.Object.means g.O.Texted.wording g.O.Object.CODE in
-    let old = g.S.Store.seen c.args.store.now in
-    let new = g.S.Store.seen c.make_devices.new.store in
-    let lines = c.deref-2.ensures.value ∙ c.in_ok-lines.ensures.lines ∙ ap (λ l. lines_for (map (λ script. script.items) l)) c.deref.ensures.value in
-    let many = lines_many (λ script. script.items) c.args.scripts.items c.deref-2.result.now lines in
-    not_made {k = k} (λ script. script.items) c.args.init.now c.args.logs.now c.args.object c.args.scripts.items threads stands old new c.in-Err.stop
-    (subst (λ n. StopSays c.in-Err.stop (ThreadFails kinds.Device c.args.logs.now n old new)) many c.in-Err.ensures.stop)
-    (subst (λ n. SameBut (image_names c.args.logs.now 0 n) old new) many c.in-Err.ensures.others)
-    (subst (λ n. AreBlank c.args.logs.now 0 n old new) many c.make_devices.ensures.files) c.in-Err.ensures.none
+    let created = c.in_ok-found.ensures.heads ∙ made_heads (λ script. script.items) scripts c.args.init.now c.len.result c.CODE.result g.O.Object.CODE c.in_ok-heads.heads.items count c.in_ok-heads.ensures.heads c.CODE.ensures in
+    runs_anew k (λ script. script.items) c.args.init.now c.args.logs.now c.args.object scripts found.heads.items (recovered_in found.recovery) found.images.items c.in_ok-counts.counts.items threads
+    (g.S.Store.seen c.args.store.now) (g.S.Store.seen c.run_over.new.store) c.run_over.result created many images counts logs c.in_ok-found.ensures.nodes (c.run_over.ensures threads stands)

@@ -2,7 +2,7 @@ use Rattle.std.proofs.Common.{ℕ, ◌≡◌, List, [], length, Option, None, Ok
 use Rattle.std.specs.List.{flat_map}
 use Rattle.onll_words.specs.Texts.{line_text}
 use Rattle.onll_standby.specs.Stream.{Course, Shown, course}
-use Rattle.onll_task.specs.Doing.{Does}
+use Rattle.onll_task.specs.Doing.{Fulfils}
 use Rattle.onll_task.proofs.Stages.{report_does}
 use Rattle.onll_shipping.specs.FollowJob.{FollowData, FollowReads, follow_data, follow_data_lines, course_task}
 use Rattle.onll_shipping.proofs.Says.{follow_says}
@@ -24,5 +24,5 @@ returns-in-Ok g c store =
     let text = c.in_ok-report-in-Ok.field-0 in
     let e = c.in_ok-report-in-Ok.ensures.report ∙ ap (λ (x : FollowData _). flat_map line_text (follow_data_lines w x)) same_data in
     let reads = subst (FollowReads w) same_data c.in_ok-report-in-Ok.ensures.reads in
-    subst (λ (o : Option Shown). Does [] store store (course_task b w start (length bytes) is o) (Ok text)) (sym clean)
+    subst (λ (o : Option Shown). Fulfils [] store store (course_task b w start (length bytes) is o) (Ok text)) (sym clean)
     (report_does store text e (follow_says w text.items (follow_data b start (length bytes) is) e reads))

@@ -1,8 +1,8 @@
 use Rattle.std.proofs.Common.{ℕ, ◌≡◌, List, [], length, subst}
 use Rattle.onll_log.specs.declared.head.LogHead.{LogHead}
-use Rattle.onll_core.specs.Created.{heads_from}
+use Rattle.onll_log.specs.Head.{heads_from}
 use Rattle.onll_standby.specs.Stream.{course}
-use Rattle.onll_task.specs.Doing.{Task, Does}
+use Rattle.onll_task.specs.Doing.{Task, Fulfils}
 use Rattle.onll_task.proofs.Stages.{read_does, stop_does}
 use Rattle.onll_shipping.specs.FollowJob.{followed_task}
 use Rattle.onll_shipping.proofs.follow.follow_on.Goals as goal
@@ -19,6 +19,6 @@ returns g c =
     let are : c.in_ok-heads.heads.items ≡ heads = rw c.CODE.ensures at c.in_ok-heads.ensures.heads in
     let mid = g.S.Store.seen c.stream_file.new.store in
     let next : List ℕ → Task = λ bytes. followed_task b w object (length bytes) (course b heads bytes) in
-    let one = subst (λ (z : List ℕ). Does [] mid mid (followed_task b w object (length z) (course b c.in_ok-heads.heads.items z)) c.follow_bytes.result) c.deref.ensures.value (c.follow_bytes.ensures mid) in
-    let two = subst (λ (hs : List LogHead). Does [] mid mid (followed_task b w object (length c.in-Ok.bytes.items) (course b hs c.in-Ok.bytes.items)) c.follow_bytes.result) are one in
+    let one = subst (λ (z : List ℕ). Fulfils [] mid mid (followed_task b w object (length z) (course b c.in_ok-heads.heads.items z)) c.follow_bytes.result) c.deref.ensures.value (c.follow_bytes.ensures mid) in
+    let two = subst (λ (hs : List LogHead). Fulfils [] mid mid (followed_task b w object (length c.in-Ok.bytes.items) (course b hs c.in-Ok.bytes.items)) c.follow_bytes.result) are one in
     read_does next c.in-Ok.ensures.begins two

@@ -1,6 +1,6 @@
 use Rattle.std.proofs.Common.{ℕ, List, [], ◌∷◌, sym, ap, subst}
 use Rattle.std.specs.List.{AllByRecursion}
-use Rattle.onll_task.specs.Doing.{Does}
+use Rattle.onll_task.specs.Doing.{Fulfils}
 use Rattle.onll_task.proofs.Stages.{read_does, unread_does, by_given, by_begins, by_stops}
 use Rattle.onll_shipping.specs.ShipJob.{ready, shippable, ship_logs_task}
 use Rattle.onll_shipping.specs.Turns.{IsUsedUp}
@@ -20,7 +20,7 @@ returns-in-Ok g c =
     let given = by_given c.in-Ok.ensures.begins in
     let same = ap shippable (contents_stand c.in-Ok.kept.images.items given.value given.fits.stand) in
     read_does (λ (images : List (List (List ℕ))). ship_logs_task out (ready images)) (by_begins c.in-Ok.ensures.begins)
-    (subst (λ logs. Does (out ∷ []) mid after (ship_logs_task out logs) c.ship_images.result) same (rw (sym c.deref.ensures.value) c.ship_images.ensures))
+    (subst (λ logs. Fulfils (out ∷ []) mid after (ship_logs_task out logs) c.ship_images.result) same (rw (sym c.deref.ensures.value) c.ship_images.ensures))
 
 pub returns-in-Err : goal.returns-in-Err
 returns-in-Err g c =

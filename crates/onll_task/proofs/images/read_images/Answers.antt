@@ -2,8 +2,8 @@ use Rattle.std.proofs.Common.{◌≡◌, ◌+◌, ◌-◌, ◌++◌, ◌∷◌, 
 use Rattle.std.specs.List.{All}
 use Rattle.std.proofs.lemmas.List.Elements.{All-nil}
 use Rattle.onll_log.specs.ImageFile.{longest_image}
-use Rattle.onll_task.specs.ImageNames.{image_names}
-use Rattle.onll_task.specs.Images.{FilesBegin}
+use Rattle.onll_open.specs.Names.{log_names}
+use Rattle.onll_task.specs.Images.{AllBeginWith}
 use Rattle.onll_task.proofs.FileFronts.{fronts_more}
 use Rattle.onll_task.proofs.Stages.{none_by, none_then}
 use Rattle.onll_task.proofs.ImageFiles.{ReadStanding, none_standing, standing_next, standing_stops, standing_read, names_more, few_more}
@@ -12,15 +12,15 @@ use Rattle.onll_task.proofs.images.read_images.Goals as goal
 pub loop-thread-init : goal.loop-thread-init
 loop-thread-init g c =
     let store = g.S.Store.seen c.args.store.now in
-    let names = image_names c.args.logs.now 0 c.args.threads in
+    let names = log_names c.args.logs.now 0 c.args.threads in
     let images = c.new-images.result.items in
     let counts = c.new-counts.result.items in
     let none : images ≡ [] = c.new-images.ensures.items in
     let nothing : counts ≡ [] = c.new-counts.ensures.items in
     let all : c.args.threads ≡ c.args.threads - 0 = omega arith in
     record {
-      so = subst (λ n. ReadStanding names (image_names c.args.logs.now 0 n) store store images counts) all (none_standing names store images counts none nothing);
-      fronts = subst (λ ls. FilesBegin c.args.logs.now 0 ls store) (sym none) tt;
+      so = subst (λ n. ReadStanding names (log_names c.args.logs.now 0 n) store store images counts) all (none_standing names store images counts none nothing);
+      fronts = subst (λ ls. AllBeginWith c.args.logs.now 0 ls store) (sym none) tt;
       few = subst (All (λ count. 64 * count ≤ longest_image)) (sym nothing) (All-nil (λ count. 64 * count ≤ longest_image));
       count = ap length none;
       many = ap length nothing;
@@ -55,4 +55,4 @@ loop-thread-preserved g c =
 pub returns-clause-begins : goal.returns-clause-begins
 returns-clause-begins g c =
     let none : c.args.threads - c.loop-thread.thread ≡ 0 = omega arith in
-    standing_read (record { images = c.loop-thread.images; counts = c.loop-thread.counts }) c.loop-thread.invariant.so (ap (image_names c.args.logs.now c.loop-thread.thread) none)
+    standing_read (record { images = c.loop-thread.images; counts = c.loop-thread.counts }) c.loop-thread.invariant.so (ap (log_names c.args.logs.now c.loop-thread.thread) none)

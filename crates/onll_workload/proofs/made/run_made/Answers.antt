@@ -1,7 +1,6 @@
 use Rattle.std.proofs.Common.{List, sym, ap, ◌∙◌, subst, length, map}
 use Rattle.onll_log.specs.declared.head.LogHead.{LogHead}
 use Rattle.onll_bank.specs.Object.{bank}
-use Rattle.onll_core.proofs.Created.{length-heads_from}
 use Rattle.onll_run.specs.Left.{HasRun, no_base}
 use Rattle.onll_run.specs.Making.{AreHeads}
 use Rattle.onll_run.specs.Ran.{anew, left_by}
@@ -14,7 +13,7 @@ use Rattle.onll_workload.proofs.made.run_made.Goals as goal
 pub run_for_logs-requires-after_bounds : goal.run_for_logs-requires-after_bounds
 run_for_logs-requires-after_bounds g c κs within =
     can_run c.args.workload c.deref-2.result.now _ c.in_ok-devices.devices.items c.requires
-    (ap length (c.deref-2.ensures.value ∙ c.in_ok-heads.ensures.heads) ∙ length-heads_from c.args.workload.threads _ c.deref.result.now 0 c.args.workload.threads)
+    (ap length c.deref-2.ensures.value ∙ c.in_ok-heads.ensures.count)
     (subst (AreHeads c.args.workload.threads 0) (sym c.deref-2.ensures.value) c.in_ok-heads.ensures.fit)
     c.in_ok-scripts.ensures c.in_ok-devices.ensures
 

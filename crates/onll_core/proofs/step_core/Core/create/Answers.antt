@@ -1,7 +1,7 @@
 use Rattle.std.proofs.Common.{ℕ, ◌≡◌, ◌∙◌, sym, ap, length, map}
 use Rattle.std.proofs.lemmas.List.{length-map}
 use Rattle.onll_core.specs.First.{first_threads}
-use Rattle.onll_core.specs.Created.{heads_from}
+use Rattle.onll_log.specs.Head.{heads_from}
 use Rattle.onll_core.proofs.Firsts.{created_keeps, within_limits}
 use Rattle.onll_core.proofs.step_core.Core.create.Goals as goal
 

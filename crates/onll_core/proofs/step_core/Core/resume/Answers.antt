@@ -4,7 +4,8 @@ use Rattle.std.specs.Vec.{vec_capacity}
 use Rattle.onll_model.specs.Trace.{state_after}
 use Rattle.onll_pmem.specs.Pmem.{words_of}
 use Rattle.onll_merge.specs.Recovered.{recovered_in}
-use Rattle.onll_core.specs.Created.{heads_from, created_heads}
+use Rattle.onll_core.specs.Created.{created_heads}
+use Rattle.onll_log.specs.Head.{heads_from}
 use Rattle.onll_core.specs.Resume.{found_in, too_many}
 use Rattle.onll_core.specs.Found.{IsFound}
 use Rattle.onll_core.proofs.Created.{length-heads_from}

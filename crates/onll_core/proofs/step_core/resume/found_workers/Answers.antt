@@ -3,7 +3,7 @@ use Rattle.std.proofs.lemmas.List.{length-map, length_push}
 use Rattle.std.specs.Vec.{vec_len}
 use Rattle.std.specs.Vec.Iter.{into_iter_items}
 use Rattle.onll_pmem.specs.Pmem.{words_of}
-use Rattle.onll_core.specs.Found.{found_thread, IsRoomy}
+use Rattle.onll_core.specs.Found.{found_thread, HasLogRoom}
 use Rattle.onll_core.proofs.FoundWorkers.{roomy_at, image_at, all_found}
 use Rattle.onll_core.proofs.step_core.resume.found_workers.Goals as goal
 
@@ -40,7 +40,7 @@ resume-requires-after_bounds g c κs within =
     let low = r.low_image in
     let image : get_or (map (λ image. words_of image.items) c.args.images.now) c.loop-script.thread [] ≡ words_of c.deref.result.now
     = image_at (λ image. words_of image.items) c.args.images.now c.loop-script.thread c.index-images-thread.result (omega arith) c.index-images-thread.is ∙ ap words_of (sym c.deref.ensures.value) in
-    subst (λ (ls : List (List ℕ)). IsRoomy (get_or c.args.heads.now c.loop-script.thread (record { thread = 0; threads = 0; object = 0; digest = []; format = 0 })) ls (get_or c.args.logs.now c.loop-script.thread (record { head = false; entries = 0; lines = 0 })) c.in-Some.script.items) image r.here
+    subst (λ (ls : List (List ℕ)). HasLogRoom (get_or c.args.heads.now c.loop-script.thread (record { thread = 0; threads = 0; object = 0; digest = []; format = 0 })) ls (get_or c.args.logs.now c.loop-script.thread (record { head = false; entries = 0; lines = 0 })) c.in-Some.script.items) image r.here
 
 pub push_reserved-requires : goal.push_reserved-requires
 push_reserved-requires g c =

@@ -1,6 +1,6 @@
 use Rattle.std.proofs.Common.{ℕ, ◌≡◌, ◌+◌, List, [], ◌∷◌, ◌++◌, length, sym, subst, arith}
 use Rattle.onll_standby.specs.Held.{HeldEntry}
-use Rattle.onll_standby.specs.Holdings.{Keeps}
+use Rattle.onll_standby.specs.Holdings.{KeepsEntries}
 use Rattle.onll_standby.specs.Entry.{TookEntry}
 use Rattle.onll_standby.specs.Stream.{byte_at, entries_course}
 use Rattle.onll_standby.specs.Follower.{EntryHasBegun, IsWholeEntry, FollowsLines, LineUncounted}
@@ -35,7 +35,7 @@ pub returns-clause-took : goal.returns-clause-took
 returns-clause-took g c start heads ls is enough =
     let new = c.take_entry-done.new.self in
     let all : List (List ℕ) = ls ++ c.args.line.now.w ∷ [] in
-    let took : (es : List HeldEntry) (at : ℕ) → byte_at at ≡ c.args.self.now.begins → Keeps g.O.Object.means start (length c.args.self.now.heads.items) es c.args.self.now.holdings
+    let took : (es : List HeldEntry) (at : ℕ) → byte_at at ≡ c.args.self.now.begins → KeepsEntries g.O.Object.means start (length c.args.self.now.heads.items) es c.args.self.now.holdings
     → TookEntry g.O.Object.means start c.args.self.now.heads.items at (c.args.self.now.entry ++ c.args.line.now.w ∷ []) (entries_course g.O.Object.means c.args.self.now.heads.items es at 0 (c.args.self.now.entry ++ c.args.line.now.w ∷ [])) c.take_entry-done.result new.holdings =
     λ es at e keeps. subst (λ (z : List (List ℕ)). TookEntry g.O.Object.means start c.args.self.now.heads.items at z (entries_course g.O.Object.means c.args.self.now.heads.items es at 0 z) c.take_entry-done.result new.holdings)
     c.add.ensures (c.take_entry-done.ensures.taken start es at e keeps) in

@@ -1,5 +1,0 @@
-use Rattle.std.proofs.Common.{◌≡◌, length}
-use Rattle.onll_core_tests.proofs.scripts.deposits.Given as goal
-
-abbrev pub invariant-loop-deposit : goal.invariant-loop-deposit
-invariant-loop-deposit l = length l.script.items ≡ l._deposit

@@ -1,4 +1,0 @@
-use Rattle.onll_runner.proofs.run.told_law.Goals as goal
-
-pub returns : goal.returns
-returns g c = g.met.P.Pmem.told_by_type

@@ -10,11 +10,11 @@ use Rattle.onll_pmem.proofs.Fronts.{length-followed}
 use Rattle.onll_log.specs.ImageFile.{whole_lines}
 use Rattle.onll_outside.specs.Views.{StoreView, FileHolds, with_zeros, image_bytes}
 use Rattle.onll_outside.specs.LineFiles.{IsWholeLine, IsFileFront, FrontHasLines, GivesLines}
-use Rattle.onll_outside.proofs.WholeLines.{whole_to_end}
+use Rattle.onll_outside.proofs.WholeLines.{whole_to_end, length-image_bytes}
 use Rattle.onll_checkpoint.specs.Checkpoint.{CheckpointState}
 use Rattle.onll_checkpoint.specs.Grammar.{checkpoint_in}
 use Rattle.onll_areas.specs.Newest.{longest_area, area_lines, AreaHolds}
-use Rattle.onll_areas.proofs.LinesBack.{whole_back, length-image_bytes}
+use Rattle.onll_areas.proofs.LinesBack.{whole_back}
 
 -- bytes that the file may have, and their lines
 record AreaRead (s : StoreView) (name : List ℕ) (lines : List (List ℕ)) : Type 0 where

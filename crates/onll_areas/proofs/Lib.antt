@@ -3,3 +3,4 @@ pub mod AreaReads
 pub mod KeptDevices
 pub mod Zeros
 pub mod WholeAreas
+pub mod NewestChanges

@@ -12,14 +12,14 @@ use Rattle.onll_log.specs.Masks.{bits, marks_in}
 use Rattle.onll_log.specs.ImageFile.{whole_lines}
 use Rattle.onll_outside.specs.Views.{image_bytes}
 use Rattle.onll_outside.specs.LineFiles.{IsWholeLine}
-use Rattle.onll_outside.proofs.WholeLines.{whole_to_end}
+use Rattle.onll_outside.proofs.WholeLines.{whole_to_end, length-image_bytes}
 use Rattle.onll_checkpoint.specs.Checkpoint.{CheckpointState, FitsCheckpoint}
 use Rattle.onll_checkpoint.specs.Text.{lines_of_text, lines_for, filled_text, text_lines}
 use Rattle.onll_checkpoint.specs.Grammar.{first_words, first_line, checkpoint_image, checkpoint_in}
 use Rattle.onll_checkpoint.proofs.Texts.{length-text_lines, taken, Bytes-append, Bytes-zeros}
 use Rattle.onll_checkpoint.proofs.Found.{checkpoint_in-written}
 use Rattle.onll_areas.specs.Newest.{longest_area, area_lines}
-use Rattle.onll_areas.proofs.LinesBack.{whole_back, length-image_bytes}
+use Rattle.onll_areas.proofs.LinesBack.{whole_back}
 
 -- ---- words of bytes
 low_word_fits : (bs : List ℕ) → Bytes bs → low_word bs < 2 ^ 64

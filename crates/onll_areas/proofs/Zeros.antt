@@ -6,10 +6,9 @@ use Rattle.std.proofs.lemmas.List.{ext_get_or, get_or-take, get_or-replicate, le
 use Rattle.onll_words.specs.Lines.{words_of_bytes}
 use Rattle.onll_pmem.specs.Device.{zero_line}
 use Rattle.onll_outside.specs.Views.{AreZeros}
-use Rattle.onll_outside.proofs.WholeLines.{zeros_whole}
+use Rattle.onll_outside.proofs.WholeLines.{zeros_whole, line_back}
 use Rattle.onll_checkpoint.specs.Grammar.{checkpoint_in}
 use Rattle.onll_areas.specs.Newest.{longest_area, area_lines}
-use Rattle.onll_areas.proofs.LinesBack.{line_back}
 
 zeros_front : (n : ℕ) (bytes : List ℕ) → n ≤ length bytes → AreZeros bytes → take n bytes ≡ replicate n 0
 zeros_front n bytes l h = ext_get_or 0 (take n bytes) (replicate n 0) (length-take-le n bytes l ∙ sym (length-replicate {A = ℕ} n 0))

@@ -13,7 +13,7 @@ use onll_words::{Line, NoMemory};
 use std::alloc::Global;
 
 /// How many bytes of an area's file are read at most.
-const LONGEST_AREA: u64 = 1_048_640;
+pub const LONGEST_AREA: u64 = 1_048_640;
 
 /// The checkpoint that the lines of a file hold, if they hold one. Those that `read_lines` left out are zeros.
 fn found_in(alloc: Global, read: FileLines) -> Result<Option<Checkpoint>, NoMemory>

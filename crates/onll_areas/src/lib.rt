@@ -23,7 +23,7 @@ mod fault;
 mod keeping;
 mod laws;
 
-pub use area::{newest, read_area};
+pub use area::{LONGEST_AREA, newest, read_area};
 pub use fault::KeepFault;
 pub use keeping::{keep_checkpoint, keep_header};
 pub use laws::area_laws;

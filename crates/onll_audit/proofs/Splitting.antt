@@ -1,6 +1,5 @@
 use Rattle.std.proofs.Common.{ℕ, zero, suc, Bool, true, false, List, [], ◌∷◌, ◌≡◌, ◌+◌, ◌-◌, ◌<◌, length, take, drop, get_or, Some, None, refl, ap, sym, ◌∙◌, arith, subst, cond, nat_lt, position, ◌≤◌}
-use Rattle.std.specs.List.{slice_split, join_with_byte}
-use Rattle.std.specs.List.{position_or_len}
+use Rattle.std.specs.List.{slice_split, join_with_byte, position_or_len}
 use Rattle.std.proofs.lemmas.List.Splits.{join_with_byte-slice_split, length-slice_split, slice_split_first, slice_split_none}
 use Rattle.std.proofs.lemmas.List.Sums.{fails_before_first}
 use Rattle.std.proofs.lemmas.List.Quantifiers.{position-Some}

@@ -1,7 +1,6 @@
 -- The counts of each thread's nodes, one node after the other.
-use Rattle.std.proofs.Common.{ℕ, ◌≡◌, ◌++◌, ◌+◌, ◌-◌, ◌<◌, ◌≤◌, ◌⊎◌, ◌==◌, ◌&&◌, inl, inr, Bool, true, false, cond, List, [], ◌∷◌, Option, Some, None, length, get_or, set, take, drop, slice_get, zero, suc, nat_lt, refl, sym, ap, ◌∙◌, arith, eq-eqb, count_by}
+use Rattle.std.proofs.Common.{ℕ, ◌≡◌, ◌++◌, ◌+◌, ◌-◌, ◌<◌, ◌≤◌, ◌⊎◌, ◌==◌, ◌&&◌, inl, inr, Bool, true, false, cond, List, [], ◌∷◌, Option, Some, None, length, get_or, set, take, drop, slice_get, zero, suc, refl, sym, ap, ◌∙◌, arith, eq-eqb, count_by}
 use Rattle.std.proofs.lemmas.Bool.{cases_eq, cases_lt, ne_eqb}
-use Rattle.std.proofs.lemmas.Bool.Decides.{nat_tests}
 use Rattle.std.proofs.lemmas.List.{take_more, drop_more, get_or-set_same, get_or-set_other, length-set, drop_all}
 use Rattle.std.proofs.lemmas.List.Sums.{count_by_more_yes, count_by_more_no}
 use Rattle.onll_words.specs.declared.line.OpRow.{OpRow}
@@ -11,11 +10,6 @@ use Rattle.onll_audit.specs.declared.verdict.Why.{Why}
 use Rattle.onll_audit.specs.declared.verdict.Why.TheVariants as whys
 use Rattle.onll_audit.specs.Verdict.{same_row, nth_row, node_after, node_right, nodes_wrong}
 use Rattle.onll_audit.proofs.Following.{both, eq_fact}
-
--- a number is the one after so many
-pub number_after : (number count : ℕ) → (nat_lt 0 number && (number - 1 == count)) ≡ (number == count + 1)
-number_after zero count = grind (arith, nat_tests)
-number_after (suc n) count = grind (arith, nat_tests)
 
 -- the counts are those of the nodes below, for as many threads as there are lists of rows
 pub record IsTally (rows : List (List OpRow)) (counts : List ℕ) (nodes : List Node) (below : ℕ) : Type 0 where

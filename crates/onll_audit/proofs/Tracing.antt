@@ -29,10 +29,6 @@ same_placed (x ∷ xs) [] g h = elim h [ ]
 same_placed (x ∷ xs) (y ∷ ys) g h =
     ap (λ (p : ℕ). (x.0, p) ∷ xs) h.0 ∙ ap (λ (r : OpRow). (r, y.1) ∷ xs) (sym g.0) ∙ ap (λ (zs : List (OpRow × ℕ)). y ∷ zs) (same_placed xs ys g.1 h.1)
 
-pub begin_rows_same : (xs : List OpRow) → BeginRows xs xs
-begin_rows_same [] = tt
-begin_rows_same (x ∷ xs) = (refl, begin_rows_same xs)
-
 pub begin_same : (xs : List ℕ) → Begin xs xs
 begin_same [] = tt
 begin_same (x ∷ xs) = (refl, begin_same xs)

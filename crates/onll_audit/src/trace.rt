@@ -1,8 +1,8 @@
 //! Whether the nodes of a report are its calls' updates.
 
-ghost use Rattle.std.specs.Prelude.{ℕ, ◌≡◌, ◌<◌, ◌+◌, ◌==◌, ◌++◌, ◌^◌, ◌∷◌, [], true, length, map, drop, get_or, slice_get, IfOk, OnOk};
+ghost use Rattle.std.specs.Prelude.{◌≡◌, ◌<◌, ◌+◌, ◌==◌, ◌++◌, ◌^◌, ◌∷◌, [], true, length, map, drop, get_or, slice_get, IfOk, OnOk};
 ghost use Rattle.std.specs.Option.{option_map};
-ghost use Rattle.onll_audit.specs.Values.{as_lines, as_groups, as_wrong};
+ghost use Rattle.onll_audit.specs.Values.{as_groups, as_wrong};
 ghost use Rattle.onll_audit.specs.Verdict.{thread_places, end_of_call, row_said, rows_said, all_rows, same_row, nth_row, node_after, nodes_wrong};
 
 use crate::judge::{Wrong, end_of_call, line_at};

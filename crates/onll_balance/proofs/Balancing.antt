@@ -14,13 +14,13 @@ use Rattle.onll_model.specs.declared.call.CallEnd.{CallEnd}
 use Rattle.onll_model.specs.declared.call.CallEnd.TheVariants.{Answered, Running, Ordered, FenceFailed, Broken}
 use Rattle.onll_model.specs.Trace.{state_after, after_row, reply_after}
 use Rattle.onll_model.specs.Legal.{placed_updates, EachEnd, HasReply, AreLegalThreads, IsLegal}
-use Rattle.onll_model.proofs.Lists.{all_drop}
+use Rattle.onll_model.proofs.Lists.{all_drop, length_dropped, get_dropped}
 use Rattle.onll_run.specs.Outcomes.{StandsIn}
 use Rattle.onll_balance.specs.Floor.{Floor}
 use Rattle.onll_balance.specs.Measure.{Measure, tally_of, tally, out_by, back_by}
 use Rattle.onll_balance.specs.Balance.{FrontBalanceLaw, FrontFloorLaw, WholeBalanceLaw, WholeFloorLaw}
 use Rattle.onll_balance.proofs.Placing.{over_placed, over_nodes, over_threads, threads_all}
-use Rattle.onll_balance.proofs.Nodes.{fits, length_dropped, get_dropped, next_state}
+use Rattle.onll_balance.proofs.Nodes.{fits, next_state}
 use Rattle.onll_balance.proofs.Standing.{all_in}
 
 abbrev on_row : {Op : Type 0} → (Op → ℕ) → Option Op → ℕ

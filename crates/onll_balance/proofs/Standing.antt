@@ -10,8 +10,8 @@ use Rattle.onll_model.specs.declared.call.Call.TheVariants.{Update, Ask}
 use Rattle.onll_model.specs.declared.call.CallEnd.TheVariants.{Answered, Running, Ordered, FenceFailed, Broken}
 use Rattle.onll_model.specs.Trace.{is_of_thread}
 use Rattle.onll_model.specs.Legal.{placed_updates, placed_rows, EachEnd, HasAnswer, AreLegalThreads}
+use Rattle.onll_model.proofs.Lists.{length_dropped}
 use Rattle.onll_run.specs.Outcomes.{StandsIn}
-use Rattle.onll_balance.proofs.Nodes.{length_dropped}
 
 abbrev PlacedIn : ℕ → List (OpRow × ℕ) → Type 0
 PlacedIn top = AllByRecursion (λ (x : OpRow × ℕ). x.1 ≤ top)

@@ -2,8 +2,7 @@
 
 ghost use Rattle.onll_balance.specs.Floor.{Exact, Floor};
 ghost use Rattle.onll_balance.specs.Measure.{Measure};
-ghost use Rattle.onll_balance.specs.Balance.{FrontBalanceLaw, FrontExactLaw, FrontFloorLaw};
-ghost use Rattle.onll_balance.specs.Balance.{WholeBalanceLaw, WholeExactLaw, WholeFloorLaw};
+ghost use Rattle.onll_balance.specs.Balance.{FrontBalanceLaw, FrontExactLaw, FrontFloorLaw, WholeBalanceLaw, WholeExactLaw, WholeFloorLaw};
 
 use onll_model::Object;
 

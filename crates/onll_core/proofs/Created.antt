@@ -1,4 +1,4 @@
-use Rattle.std.proofs.Common.{ℕ, zero, suc, ◌≡◌, ◌+◌, ◌<◌, ◌≤◌, List, length, Some, sym, refl, ap, ◌∙◌, subst, arith}
+use Rattle.std.proofs.Common.{ℕ, zero, suc, ◌≡◌, ◌+◌, ◌<◌, ◌≤◌, List, length, Some, sym, refl, ◌∙◌, subst, arith}
 use Rattle.onll_model.specs.Limits.{greatest_code}
 use Rattle.std.specs.List.{slice_get}
 use Rattle.onll_model.specs.declared.call.Call.{Call}
@@ -7,6 +7,7 @@ use Rattle.onll_model.specs.Calls.{updates_in}
 use Rattle.onll_log.specs.declared.head.LogHead.{LogHead}
 use Rattle.onll_log.specs.Head.{head_for, heads_from}
 use Rattle.onll_log.proofs.Lines.{length-digest_words}
+use Rattle.onll_start.proofs.Heads.{length-heads_from}
 use Rattle.onll_core.specs.Consistent.{IsConsistent}
 use Rattle.onll_core.specs.First.{IsHeadOf}
 use Rattle.onll_core.specs.First.{AreFirst}
@@ -15,10 +16,6 @@ use Rattle.onll_core.specs.Fences.{CountsFences}
 use Rattle.onll_core.proofs.FirstCore.{first_consistent, first_counts, length-first_threads}
 
 -- A core that is made of scripts within the limits.
-
-pub length-heads_from : (count object : ℕ) (init : List ℕ) (t n : ℕ) → length (heads_from count object init t n) ≡ n
-length-heads_from count object init t zero = refl
-length-heads_from count object init t (suc n) = ap suc (length-heads_from count object init (suc t) n)
 
 pub head_for_is : (count object : ℕ) (init : List ℕ) (t : ℕ) → count ≤ 16 → (1 ≤ object) × (object ≤ greatest_code) → t < count → IsHeadOf count t (head_for 2 t count object init)
 head_for_is count object init t few code low = record {

@@ -7,11 +7,13 @@ use Rattle.onll_model.specs.Legal.{IsLegal}
 use Rattle.onll_model.specs.Segment.{Segment}
 use Rattle.onll_log.specs.declared.head.LogHead.{LogHead}
 use Rattle.onll_merge.specs.Resumed.{entries_of}
+use Rattle.onll_start.specs.Heads.{created_heads}
+use Rattle.onll_start.proofs.Finding.{has_found}
 use Rattle.onll_core.specs.Core.{CoreState}
 use Rattle.onll_core.specs.Step.{steps_of}
 use Rattle.onll_core.specs.First.{first_threads}
 use Rattle.onll_core.specs.Resumed.{resumed_core_threads}
-use Rattle.onll_core.specs.Created.{created_heads, created_core, IsWithinLimits}
+use Rattle.onll_core.specs.Created.{created_core, IsWithinLimits}
 use Rattle.onll_core.specs.Outcomes.{ends_of, script_of}
 use Rattle.onll_core.specs.Reached.{IsReached}
 use Rattle.onll_core.specs.Crash.{heads_of}
@@ -22,7 +24,7 @@ use Rattle.onll_core.proofs.ReachedCores.{created_reached, resumed_reached, step
 use Rattle.onll_core.proofs.Stays.{steps_stay}
 use Rattle.onll_core.proofs.Crashed.{steps_scripts}
 use Rattle.onll_core.proofs.Recovered.{first_heads, resumed_heads, later}
-use Rattle.onll_core.proofs.FoundCores.{has_found, goes_on_from, are_resumed}
+use Rattle.onll_core.proofs.FoundCores.{goes_on_from, are_resumed}
 
 -- Every core that is made of scripts, anew or from images, is durable, whatever steps its threads take.
 

@@ -8,13 +8,14 @@ use Rattle.onll_model.specs.Segment.{Segment}
 use Rattle.onll_model.proofs.Lists.{same_some, some_not_none}
 use Rattle.onll_model.proofs.FirstFrames.{created_resumable}
 use Rattle.onll_model.specs.Calls.{updates_in}
-use Rattle.onll_pmem.specs.Device.{zero_line, zero_lines, settled}
+use Rattle.onll_pmem.specs.Device.{zero_line, zero_lines, settled, fenced_device}
 use Rattle.onll_log.specs.declared.head.LogHead.{LogHead}
 use Rattle.onll_log.specs.Encoding.{log_lines, FitEntries}
+use Rattle.onll_start.specs.Start.{lines_for}
 use Rattle.onll_core.specs.Core.{CoreThread}
 use Rattle.onll_core.specs.Consistent.{IsConsistent}
-use Rattle.onll_core.specs.First.{IsHeadOf, lines_for, first_device, first_thread, first_threads, first_core, AreFirst}
-use Rattle.onll_core.specs.Resumed.{found_device, resumed_core_thread, resumed_core_threads, resumed_core, AreResumed}
+use Rattle.onll_core.specs.First.{IsHeadOf, first_device, first_thread, first_threads, first_core, AreFirst}
+use Rattle.onll_core.specs.Resumed.{resumed_core_thread, resumed_core_threads, resumed_core, AreResumed}
 use Rattle.onll_core.specs.Fences.{CountsFences}
 use Rattle.onll_core.proofs.Begin.{DeviceHolds, HasBegun, IsBegun, begun_consistent, begun_counts}
 
@@ -39,7 +40,7 @@ first_device_holds head lines free e = subst (λ (n : ℕ). DeviceHolds head [] 
 })
 
 -- and of one that is found
-pub found_device_holds : (head : LogHead) (log : List Segment) (lines free : ℕ) → lines ≡ free → DeviceHolds head log free (found_device (log_lines head log ++ zero_lines lines))
+pub found_device_holds : (head : LogHead) (log : List Segment) (lines free : ℕ) → lines ≡ free → DeviceHolds head log free (fenced_device (log_lines head log ++ zero_lines lines))
 found_device_holds head log lines free e = let same = ap (λ (n : ℕ). log_lines head log ++ zero_lines n) e in
     record { fenced = same; read = same; marks = length-replicate (length (log_lines head log ++ zero_lines lines)) false }
 

@@ -1,5 +1,4 @@
-use Rattle.std.proofs.Common.{ℕ, zero, suc, ◌≡◌, ◌+◌, ◌*◌, ◌≤◌, ◌==◌, Bool, true, false, List, length, map, replicate, Option, Some, None, Result, Ok, Err, sym, refl, ap, ◌∙◌, subst, arith, count_by, eqb-true}
-use Rattle.std.specs.Prelude.{if◌then◌else◌}
+use Rattle.std.proofs.Common.{ℕ, zero, suc, ◌≡◌, ◌+◌, ◌*◌, ◌≤◌, Bool, true, List, length, map, replicate, Option, Some, None, Result, Ok, Err, sym, refl, ap, ◌∙◌, subst, arith, count_by}
 use Rattle.std.specs.List.{AllByRecursion, slice_get}
 use Rattle.std.proofs.lemmas.List.{length-map, take_all}
 use Rattle.onll_model.specs.declared.node.Node.{Node}
@@ -7,29 +6,30 @@ use Rattle.onll_model.specs.declared.call.Call.{Call}
 use Rattle.onll_model.specs.Object.{Behaviour}
 use Rattle.onll_model.specs.Trace.{is_of_thread, state_after}
 use Rattle.onll_model.specs.Calls.{updates_in}
-use Rattle.onll_model.specs.Recovered.{operations_front}
 use Rattle.onll_model.proofs.Lists.{same_some, some_not_none, all_at, all_from, all_map}
 use Rattle.onll_log.specs.declared.head.LogHead.{LogHead}
 use Rattle.onll_log.specs.Encoding.{FitsNode, FitsEntry}
-use Rattle.onll_log.specs.Grammar.{Content}
 use Rattle.onll_log.specs.Torn.{AreLines}
 use Rattle.onll_merge.specs.declared.counts.LogCounts.{LogCounts}
-use Rattle.onll_merge.specs.declared.fault.RecoverFault.{RecoverFault}
-use Rattle.onll_merge.specs.declared.fault.ImagesFault.{ImagesFault}
-use Rattle.onll_merge.specs.Merge.{merge, unless}
-use Rattle.onll_merge.specs.Recovered.{contents_from, log_counts, Recovered}
+use Rattle.onll_merge.specs.Merge.{unless}
+use Rattle.onll_merge.specs.Recovered.{log_counts, Recovered}
 use Rattle.onll_merge.specs.Resumed.{entries_of}
 use Rattle.onll_merge.proofs.Backs.{merge-back}
 use Rattle.onll_merge.proofs.Resumed.{each_entries, can_go_on}
-use Rattle.onll_core.specs.declared.fault.ResumeFault.{ResumeFault}
+use Rattle.onll_start.specs.declared.fault.ResumeFault.{ResumeFault}
+use Rattle.onll_start.specs.Heads.{created_heads}
+use Rattle.onll_start.specs.Start.{Found, found_in, too_many}
+use Rattle.onll_start.specs.Found.{IsFound}
+use Rattle.onll_start.proofs.Contents.{contents_are}
+use Rattle.onll_start.proofs.Finding.{HasFound, has_found}
 use Rattle.onll_core.specs.declared.local.Local.{Local}
 use Rattle.onll_core.specs.declared.returned.Returned.{Returned}
 use Rattle.onll_core.specs.Core.{CoreThread, CoreState}
 use Rattle.onll_core.specs.CoreFrame.{seen_in}
-use Rattle.onll_core.specs.Created.{created_heads, IsWithinLimits}
+use Rattle.onll_core.specs.Created.{IsWithinLimits}
 use Rattle.onll_core.specs.Resumed.{resumed_core, AreResumed}
-use Rattle.onll_core.specs.Resume.{Found, old_format, found_merged, found_newer, found_logs, found_in, too_many, going_on, resumed}
-use Rattle.onll_core.specs.Found.{found_threads, HaveLogRoom, IsFound, locals_from}
+use Rattle.onll_core.specs.Resume.{going_on, resumed}
+use Rattle.onll_core.specs.Found.{found_threads, HaveLogRoom, locals_from}
 use Rattle.onll_core.specs.Consistent.{IsConsistent}
 use Rattle.onll_core.specs.Reached.{IsReached}
 use Rattle.onll_core.specs.Kept.{own_place, IsLocal, KeepsCore}
@@ -37,43 +37,11 @@ use Rattle.onll_core.proofs.Created.{are_first}
 use Rattle.onll_core.proofs.FirstCore.{resumed_consistent}
 use Rattle.onll_core.proofs.ReachedCores.{resumed_reached, resumed_fresh}
 use Rattle.onll_core.proofs.Windows.{threads_count}
-use Rattle.onll_core.proofs.FoundLogs.{contents_are, LogsFit, logs_fit, length_fit, segments_fit, same_threads, are_roomy, each_has_names}
+use Rattle.onll_core.proofs.FoundLogs.{LogsFit, logs_fit, length_fit, segments_fit, same_threads, are_roomy, each_has_names}
 
--- A core that goes on from images: what was found, that it can go on, and what its code keeps.
+-- A core that goes on from images: from what, that it can go on, and what its code keeps.
 
--- ---- what was found
-module _ {State Op Query Reply : Type 0} (b : Behaviour State Op Query Reply) (heads : List LogHead) where
-  -- the images are logs of the newest format, which merge to operations' nodes
-  pub record HasFound (images : List (List (List ℕ))) (f : Found) : Type 0 where
-    pub contents : contents_from 0 images ≡ Ok f.logs
-    pub newer : old_format 0 f.logs ≡ None
-    pub merged : merge heads f.logs ≡ Ok f.nodes
-    pub rows : length (operations_front b f.nodes) ≡ length f.nodes
-
-  of_operations : (logs : List Content) (nodes : List Node) (f : Found) (q : Bool) (e : ResumeFault) → (if q then Ok (record { logs = logs; nodes = nodes }) else Err e) ≡ Ok f → (q ≡ true) × (record { logs = logs; nodes = nodes } ≡ f)
-  of_operations logs nodes f true e h = (refl, (cc))
-  of_operations logs nodes f false e h = absurd (cc)
-
-  of_merged : (logs : List Content) (m : Result (List Node) RecoverFault) (f : Found) → found_merged b heads logs m ≡ Ok f
-      → (nodes : List Node) × (m ≡ Ok nodes) × (length (operations_front b nodes) == length nodes ≡ true) × (record { logs = logs; nodes = nodes } ≡ f)
-  of_merged logs (Ok nodes) f h = let x = of_operations logs nodes f (length (operations_front b nodes) == length nodes) _ h in (nodes, refl, x.0, x.1)
-  of_merged logs (Err e) f h = absurd (cc)
-
-  of_newer : (logs : List Content) (o : Option ResumeFault) (f : Found) → found_newer b heads logs o ≡ Ok f → (o ≡ None) × (found_merged b heads logs (merge heads logs) ≡ Ok f)
-  of_newer logs None f h = (refl, h)
-  of_newer logs (Some e) f h = absurd (cc)
-
-  of_logs : (cs : Result (List Content) ImagesFault) (f : Found) → found_logs b heads cs ≡ Ok f → (logs : List Content) × (cs ≡ Ok logs) × (found_newer b heads logs (old_format 0 logs) ≡ Ok f)
-  of_logs (Ok logs) f h = (logs, refl, h)
-  of_logs (Err e) f h = absurd (cc)
-
-  pub has_found : (images : List (List (List ℕ))) (f : Found) → found_in b heads images ≡ Ok f → HasFound images f
-  has_found images f h =
-      let x = of_logs (contents_from 0 images) f h in
-      let y = of_newer x.0 (old_format 0 x.0) f x.2 in
-      let z = of_merged x.0 (merge heads x.0) f y.1 in
-      subst (HasFound images) z.3 (record { contents = x.1; newer = y.0; merged = z.1; rows = eqb-true (length (operations_front b z.0)) (length z.0) z.2 })
-
+-- ---- what it goes on from
 module _ {State Op Query Reply : Type 0} where
   of_going : (initial : State) (heads : List LogHead) (scripts : List (List (Call State Op Query Reply))) (r : Result Found ResumeFault) (c : CoreState State Op Query Reply) → going_on initial heads scripts r ≡ Ok c
       → (f : Found) × (r ≡ Ok f) × (unless (too_many (length heads) f.nodes 0 (map log_counts f.logs) scripts) (resumed_core initial f.nodes heads (entries_of f.logs) scripts) ≡ Ok c)

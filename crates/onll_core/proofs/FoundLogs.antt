@@ -1,14 +1,14 @@
-use Rattle.std.proofs.Common.{ℕ, zero, suc, ◌≡◌, ◌+◌, ◌*◌, ◌<◌, ◌≤◌, Bool, true, false, List, [], ◌∷◌, ◌++◌, length, map, take, drop, Option, Some, None, Result, Ok, Err, sym, refl, ap, ◌∙◌, subst, arith, count_by}
-use Rattle.std.specs.Prelude.{◌||◌, max, nat_lt, if◌then◌else◌, IfSome}
+use Rattle.std.proofs.Common.{ℕ, zero, suc, ◌≡◌, ◌+◌, ◌*◌, ◌<◌, ◌≤◌, Bool, List, [], ◌∷◌, ◌++◌, length, map, take, drop, Option, Some, None, sym, refl, ap, ◌∙◌, subst, arith, count_by}
+use Rattle.std.specs.Prelude.{max, if◌then◌else◌, IfSome}
 use Rattle.std.specs.List.{AllByRecursion, slice_get}
-use Rattle.std.proofs.lemmas.Bool.{ltb-false, ne_eqb}
+use Rattle.std.proofs.lemmas.Bool.{ne_eqb}
 use Rattle.onll_model.specs.declared.node.Node.{Node}
 use Rattle.onll_model.specs.declared.call.Call.{Call}
 use Rattle.onll_model.specs.Trace.{is_of_thread}
 use Rattle.onll_model.specs.Segment.{Segment}
 use Rattle.onll_model.specs.Calls.{updates_in}
 use Rattle.onll_model.proofs.Lists.{same_some, some_not_none}
-use Rattle.onll_pmem.specs.Device.{zero_lines}
+use Rattle.onll_pmem.specs.Device.{zero_lines, fenced_device}
 use Rattle.onll_log.specs.declared.head.LogHead.{LogHead}
 use Rattle.onll_log.specs.Head.{head_line}
 use Rattle.onll_log.specs.Encoding.{log_lines, FitEntries, FitsEntry}
@@ -16,47 +16,18 @@ use Rattle.onll_log.specs.Grammar.{Content, content_of, lines_in, used_with, use
 use Rattle.onll_log.specs.Torn.{AreLines}
 use Rattle.onll_log.proofs.Encoded.{length-log_lines}
 use Rattle.onll_log.proofs.Written.{IsWritten-Holds, IsEmptyLog-no_head, take-used}
-use Rattle.onll_merge.specs.declared.fault.ImagesFault.{ImagesFault}
-use Rattle.onll_merge.specs.declared.fault.RecoverFault.{RecoverFault}
-use Rattle.onll_merge.specs.declared.fault.ImagesFault.TheVariants.{Recover}
 use Rattle.onll_merge.specs.declared.counts.LogCounts.{LogCounts}
-use Rattle.onll_merge.specs.Recovered.{content_before, contents_from, log_counts}
+use Rattle.onll_merge.specs.Recovered.{log_counts}
 use Rattle.onll_merge.specs.Laws.{EachSegment, HeadsFit}
 use Rattle.onll_merge.specs.Resumed.{entries_of}
-use Rattle.onll_core.specs.declared.fault.ResumeFault.{ResumeFault}
-use Rattle.onll_core.specs.declared.fault.ResumeFault.TheVariants.{TooMany}
+use Rattle.onll_start.specs.declared.fault.ResumeFault.TheVariants.{TooMany}
+use Rattle.onll_start.specs.Start.{most_lines, is_too_many, too_many}
+use Rattle.onll_start.proofs.Contents.{unless_some, has_room}
 use Rattle.onll_core.specs.declared.phase.Phase.TheVariants as phases
-use Rattle.onll_core.specs.Resumed.{found_device, resumed_core_thread, resumed_core_threads}
-use Rattle.onll_core.specs.Resume.{most_lines, is_too_many, too_many}
+use Rattle.onll_core.specs.Resumed.{resumed_core_thread, resumed_core_threads}
 use Rattle.onll_core.specs.Found.{front_lines, found_thread, found_threads, HaveLogRoom}
 
 -- What the logs of images are, and the threads that go on in them.
-
--- ---- contents
-before_ok : (i : ℕ) (o : Option Content) (r : Result (List Content) ImagesFault) (logs : List Content) → content_before i o r ≡ Ok logs
-    → (c : Content) × (cs : List Content) × (o ≡ Some c) × (r ≡ Ok cs) × (logs ≡ c ∷ cs)
-before_ok i None r logs e = absurd (cc)
-before_ok i (Some c) (Err fault) logs e = absurd (cc)
-before_ok i (Some c) (Ok cs) logs e = (c, cs, refl, refl, (cc))
-
--- what images hold, image by image
-pub contents_are : (i : ℕ) (images : List (List (List ℕ))) (logs : List Content) → contents_from i images ≡ Ok logs → map content_of images ≡ map Some logs
-contents_are i [] logs e = let none : [] ≡ logs = (cc) in ap (map Some) none
-contents_are i (image ∷ images) logs e =
-    let x = before_ok i (content_of image) (contents_from (i + 1) images) logs e in
-    let rest = contents_are (i + 1) images x.1 x.3 in
-    let here = x.2 in
-    (λ j. here j ∷ rest j) ∙ ap (map Some) (sym x.4)
-
--- an image that is no log is all that refuses them
-before_never : (i : ℕ) (o : Option Content) (r : Result (List Content) ImagesFault) (fault : RecoverFault) → ((f : RecoverFault) → r ≡ Err (Recover f) → ⊥) → content_before i o r ≡ Err (Recover fault) → ⊥
-before_never i None r fault h e = absurd (cc)
-before_never i (Some c) (Ok cs) fault h e = absurd (cc)
-before_never i (Some c) (Err f) fault h e = h fault (cc)
-
-pub contents_never : (i : ℕ) (images : List (List (List ℕ))) (fault : RecoverFault) → contents_from i images ≡ Err (Recover fault) → ⊥
-contents_never i [] fault e = absurd (cc)
-contents_never i (image ∷ images) fault e = before_never i (content_of image) (contents_from (i + 1) images) fault (λ f h. contents_never (i + 1) images f h) e
 
 -- ---- a log
 -- an image of a log that this head fits: its used lines are those of a log of this head
@@ -138,20 +109,6 @@ segments_fit count (head ∷ heads) [] cs t f = absurd f
 segments_fit count (head ∷ heads) (image ∷ images) [] t f = absurd f
 segments_fit count (head ∷ heads) (image ∷ images) (c ∷ cs) t f = (subst (λ (n : ℕ). FitEntries n c.entries) t.0 f.0.fits, segments_fit count heads images cs t.1 f.1)
 
--- ---- room
-neither : (a b : Bool) → a || b ≡ false → (a ≡ false) × (b ≡ false)
-neither true b e = absurd (cc)
-neither false b e = (refl, e)
-
-pub unless_some : (q : Bool) (x : ResumeFault) (rest : Option ResumeFault) → (if q then Some x else rest) ≡ None → (q ≡ false) × (rest ≡ None)
-unless_some true x rest e = absurd (cc)
-unless_some false x rest e = (refl, e)
-
-pub has_room : (threads recovered lines updates : ℕ) → is_too_many threads recovered lines updates ≡ false → (recovered + updates ≤ 4096) × (max 1 lines + updates * (threads + 1) ≤ most_lines)
-has_room threads recovered lines updates e =
-    let x = neither (nat_lt 4096 (recovered + updates)) (nat_lt most_lines (max 1 lines + updates * (threads + 1))) e in
-    (ltb-false 4096 (recovered + updates) x.0, ltb-false most_lines (max 1 lines + updates * (threads + 1)) x.1)
-
 -- ---- threads
 module _ {State Op Query Reply : Type 0} where
   same_thread : (head : LogHead) (image : List (List ℕ)) (c : Content) (script : List (Call State Op Query Reply)) → LogFits head image c → found_thread head image (log_counts c) script ≡ resumed_core_thread head c.entries script
@@ -167,7 +124,7 @@ module _ {State Op Query Reply : Type 0} where
         used = used i;
         logged = length c.entries;
         before = 0;
-        device = found_device (front i ++ zero_lines (updates_in script * (head.threads + 1)));
+        device = fenced_device (front i ++ zero_lines (updates_in script * (head.threads + 1)));
       }
 
   -- the threads that the code makes are those that go on in the logs

@@ -3,7 +3,7 @@ use Rattle.std.specs.Prelude.{max, if◌then◌else◌}
 use Rattle.std.proofs.lemmas.Bool.{ne_eqb}
 use Rattle.std.proofs.lemmas.List.{length-replicate, length-take-le, get_or-map}
 use Rattle.onll_model.specs.declared.call.Call.{Call}
-use Rattle.onll_pmem.specs.Device.{zero_line, zero_lines}
+use Rattle.onll_pmem.specs.Device.{zero_line, zero_lines, fenced_device}
 use Rattle.onll_pmem.specs.Memory.{MemoryState}
 use Rattle.onll_log.specs.declared.head.LogHead.{LogHead}
 use Rattle.onll_log.specs.Head.{head_line}
@@ -11,7 +11,6 @@ use Rattle.onll_merge.specs.declared.counts.LogCounts.{LogCounts}
 use Rattle.onll_core.specs.declared.phase.Phase.TheVariants as phases
 use Rattle.onll_core.specs.Core.{CoreThread}
 use Rattle.onll_core.specs.Kept.{KeepsWorker}
-use Rattle.onll_core.specs.Resumed.{found_device}
 use Rattle.onll_core.specs.Found.{front_lines, found_thread, found_threads, HasLogRoom, HaveLogRoom}
 
 -- What the code of a core keeps of threads that go on in their logs.
@@ -26,7 +25,7 @@ front_long head (suc n) image low =
     omega arith
 
 pub found_worker : {State Op Query Reply : Type 0} (head : LogHead) (script : List (Call State Op Query Reply)) (lines entries room used most : ℕ) (image : List (List ℕ)) (device : MemoryState)
-    → device ≡ record { device = found_device (front_lines head lines image ++ zero_lines room); failing = [] } → lines ≤ length image → used ≡ max 1 lines → entries < max 1 lines → max 1 lines + room ≤ 1000000 → length script ≤ most
+    → device ≡ record { device = fenced_device (front_lines head lines image ++ zero_lines room); failing = [] } → lines ≤ length image → used ≡ max 1 lines → entries < max 1 lines → max 1 lines + room ≤ 1000000 → length script ≤ most
     → KeepsWorker {State = State} {Op = Op} {Query = Query} {Reply = Reply} device.failing most (record { head = head; script = script; returned = []; phase = phases.Idle; began = 0; used = used; logged = entries; before = 0; device = device.device })
 found_worker head script lines entries room used most image device is low used_is few space fits =
     let front = front_long head lines image low in

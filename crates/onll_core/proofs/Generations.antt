@@ -21,14 +21,17 @@ use Rattle.onll_merge.specs.Laws.{HeadsFit}
 use Rattle.onll_merge.specs.Recovered.{log_counts}
 use Rattle.onll_merge.proofs.Images.{their_contents}
 use Rattle.onll_merge.proofs.Backs.{merge-back}
-use Rattle.onll_core.specs.declared.fault.ResumeFault.{ResumeFault}
-use Rattle.onll_core.specs.declared.fault.ResumeFault.TheVariants.{OldFormat, NotOp, TooMany}
+use Rattle.onll_start.specs.declared.fault.ResumeFault.{ResumeFault}
+use Rattle.onll_start.specs.declared.fault.ResumeFault.TheVariants.{OldFormat, NotOp, TooMany}
+use Rattle.onll_start.specs.Heads.{created_heads}
+use Rattle.onll_start.specs.Start.{Found, is_old, old_format, found_merged, found_newer, found_logs, found_in, is_too_many, too_many}
+use Rattle.onll_start.proofs.Finding.{has_found, whole_operations}
 use Rattle.onll_core.specs.Core.{CoreThread, CoreState}
 use Rattle.onll_core.specs.Step.{steps_of}
 use Rattle.onll_core.specs.Consistent.{IsConsistent}
-use Rattle.onll_core.specs.Created.{created_heads, created_core, IsWithinLimits}
+use Rattle.onll_core.specs.Created.{created_core, IsWithinLimits}
 use Rattle.onll_log.specs.Head.{heads_from}
-use Rattle.onll_core.specs.Resume.{Found, is_old, old_format, found_merged, found_newer, found_logs, found_in, is_too_many, too_many, going_on, resumed}
+use Rattle.onll_core.specs.Resume.{going_on, resumed}
 use Rattle.onll_core.specs.Crash.{AreImages, RecoversAll}
 use Rattle.onll_core.specs.Durable.{CoreGoesOn}
 use Rattle.onll_core.specs.Generations.{Generation, IsGeneration, AreGenerations, LeavesAll, GenerationsLaw, PrefixLaw, OnlyTooManyLaw}
@@ -39,7 +42,7 @@ use Rattle.onll_core.proofs.ReachedCores.{steps_reached, reached_consistent}
 use Rattle.onll_core.proofs.Crashed.{images_many}
 use Rattle.onll_core.proofs.Recovered.{later}
 use Rattle.onll_core.proofs.Windows.{threads_count}
-use Rattle.onll_core.proofs.FoundCores.{has_found, goes_on_from}
+use Rattle.onll_core.proofs.FoundCores.{goes_on_from}
 use Rattle.onll_core.proofs.Durable.{StartsSo, begun_starts}
 
 -- What any number of generations leave.
@@ -80,14 +83,6 @@ module _ {State Op Query Reply : Type 0} (b : Behaviour State Op Query Reply) wh
       by_row : (o : Option Op) → IsSome o → where_some o (n ∷ operations_front b nodes) ≡ n ∷ operations_front b nodes
       by_row None e = absurd (cc)
       by_row (Some op) e = refl
-
-  where_short : (o : Option Op) (nodes : List Node) (n : ℕ) → length (where_some o nodes) ≡ suc n → (IsSome o) × (length nodes ≡ suc n)
-  where_short None nodes n e = absurd (omega arith)
-  where_short (Some op) nodes n e = (refl, e)
-
-  pub whole_operations : (nodes : List Node) → length (operations_front b nodes) ≡ length nodes → AllOperations b nodes
-  whole_operations [] e = tt
-  whole_operations (n ∷ nodes) e = let x = where_short (b.op_at n.row) (n ∷ operations_front b nodes) (length nodes) e in (x.0, whole_operations nodes (omega (arith, x.1)))
 
   all_taken : (m : ℕ) (nodes : List Node) → AllOperations b nodes → AllOperations b (take m nodes)
   all_taken zero nodes h = tt
@@ -149,7 +144,7 @@ module _ {State Op Query Reply : Type 0} (b : Behaviour State Op Query Reply) wh
         let from = goes_on_from b code init initial h.images g.scripts is.core is.begun in
         let found = has_found b (created_heads code init g.scripts) h.images from.found from.is in record {
           starts = begun_starts b code init initial g.scripts is.within is.core (inr goes);
-          rows = subst (λ (z : CoreState State Op Query Reply). AllOperations b z.trace) from.core (whole_operations from.found.nodes found.rows);
+          rows = subst (λ (z : CoreState State Op Query Reply). AllOperations b z.trace) from.core (whole_operations b from.found.nodes found.rows);
         }
 
     -- what a generation leaves, with any heads

@@ -33,7 +33,6 @@ pub mod Plays
 pub mod Firsts
 pub mod Durable
 mod FoundLogs
-mod Answered
 mod Heads
 mod FoundWorkers
 mod FoundCores

@@ -11,6 +11,7 @@ use Rattle.onll_model.specs.Frames.{Thread, IsSoundSegment, fenced_segments, seg
 use Rattle.onll_model.specs.Events.{window, next_node}
 use Rattle.onll_model.proofs.Lists.{all_map, all_append, inside}
 use Rattle.onll_model.proofs.Traces.{node_place, count_own, count_other}
+use Rattle.onll_model.proofs.Counting.{few_in_all}
 use Rattle.onll_pmem.specs.Device.{line_at, FillsWords}
 use Rattle.onll_log.specs.Head.{FitsHead}
 use Rattle.onll_log.specs.Encoding.{entry_lines, log_lines, FitsEntry, FitEntries}
@@ -29,7 +30,7 @@ use Rattle.onll_core.specs.Entries.{EntriesAreFew}
 use Rattle.onll_core.specs.Consistent.{IsConsistent}
 use Rattle.onll_core.proofs.Calls.{update_left}
 use Rattle.onll_core.proofs.CoreFrames.{part_at}
-use Rattle.onll_core.proofs.Windows.{window_of, few_in_all, few_of_thread, places, threads_count}
+use Rattle.onll_core.proofs.Windows.{window_of, few_of_thread, places, threads_count}
 use Rattle.onll_core.proofs.Ties.{fenced_is_log, as_front, next_line, length_read}
 
 -- What a step of a consistent core finds, by its kind: its places lie in the trace, its line in the device, and each number

@@ -17,6 +17,7 @@ use Rattle.onll_model.proofs.Lists.{same_some, inside, present, set_here, set_el
 use Rattle.onll_model.proofs.States.{state_after-append}
 use Rattle.onll_model.proofs.Traces.{count_own, count_other}
 use Rattle.onll_model.proofs.FrameParts.{in_trace}
+use Rattle.onll_model.proofs.Counting.{few_in_all}
 use Rattle.onll_core.specs.declared.phase.Phase.{Phase}
 use Rattle.onll_core.specs.declared.phase.Phase.TheVariants as phases
 use Rattle.onll_core.specs.declared.returned.Returned.{Returned}
@@ -29,7 +30,7 @@ use Rattle.onll_core.specs.Consistent.{IsConsistent}
 use Rattle.onll_core.specs.Kept.{IsLocal, HoldsOp, KeepsCore, moved}
 use Rattle.onll_core.proofs.Ready.{MayLink, MaySet}
 use Rattle.onll_core.proofs.CoreFrames.{part_at}
-use Rattle.onll_core.proofs.Windows.{few_in_all, few_of_thread}
+use Rattle.onll_core.proofs.Windows.{few_of_thread}
 use Rattle.onll_pmem.specs.Device.{line_at, FillsWords}
 use Rattle.onll_log.specs.declared.head.LogHead.{LogHead}
 use Rattle.onll_log.specs.Encoding.{entry_lines, FitsEntry}

@@ -3,16 +3,11 @@ use Rattle.onll_model.specs.Limits.{most_threads, most_updates, greatest_code}
 use Rattle.std.specs.List.{AllByRecursion}
 use Rattle.onll_model.specs.declared.call.Call.{Call}
 use Rattle.onll_model.specs.Calls.{updates_in}
-use Rattle.onll_log.specs.declared.head.LogHead.{LogHead}
-use Rattle.onll_log.specs.Head.{heads_from}
+use Rattle.onll_start.specs.Heads.{created_heads}
 use Rattle.onll_core.specs.Core.{CoreState}
 use Rattle.onll_core.specs.First.{first_core}
 
 -- The core that is made of an object, the bytes of its initial state and scripts.
-
--- the heads of the logs of a core that is made of scripts
-abbrev pub created_heads : {State Op Query Reply : Type 0} → ℕ → List ℕ → List (List (Call State Op Query Reply)) → List LogHead
-created_heads object init scripts = heads_from (length scripts) object init 0 (length scripts)
 
 abbrev pub created_core : {State Op Query Reply : Type 0} → State → ℕ → List ℕ → List (List (Call State Op Query Reply))
     → CoreState State Op Query Reply

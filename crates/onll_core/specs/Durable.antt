@@ -7,10 +7,11 @@ use Rattle.onll_model.specs.Legal.{IsLegal}
 use Rattle.onll_model.specs.Frames.{Sound}
 use Rattle.onll_log.specs.declared.head.LogHead.{LogHead}
 use Rattle.onll_log.specs.Torn.{AreLines}
+use Rattle.onll_start.specs.Heads.{created_heads}
 use Rattle.onll_core.specs.Core.{CoreState}
 use Rattle.onll_core.specs.CoreFrame.{frame_of}
 use Rattle.onll_core.specs.Step.{steps_of}
-use Rattle.onll_core.specs.Created.{created_heads, created_core, IsWithinLimits}
+use Rattle.onll_core.specs.Created.{created_core, IsWithinLimits}
 use Rattle.onll_core.specs.Resume.{resumed}
 use Rattle.onll_core.specs.Outcomes.{ends_of}
 use Rattle.onll_core.specs.CallTimes.{AreInTime}

@@ -1,18 +1,15 @@
-use Rattle.std.specs.Prelude.{ℕ, ◌≡◌, ◌+◌, ◌*◌, ◌≤◌, List, [], ◌∷◌, length, Some, slice_get}
+use Rattle.std.specs.Prelude.{ℕ, ◌≡◌, ◌≤◌, List, [], ◌∷◌, length, Some, slice_get}
 use Rattle.onll_model.specs.Limits.{most_threads, most_updates}
 use Rattle.onll_model.specs.declared.call.Call.{Call}
 use Rattle.onll_model.specs.Calls.{updates_in}
 use Rattle.onll_pmem.specs.Device.{DeviceState, Write, WriteBack, Fence, after_steps, new_device}
 use Rattle.onll_log.specs.declared.head.LogHead.{LogHead}
 use Rattle.onll_log.specs.Head.{FitsHead, head_line}
+use Rattle.onll_start.specs.Start.{lines_for}
 use Rattle.onll_core.specs.declared.phase.Phase.TheVariants as phases
 use Rattle.onll_core.specs.Core.{CoreThread, CoreState}
 
 -- The first state of a core that begins anew.
-
--- how many lines a log takes: its head, and a whole entry of each update
-abbrev pub lines_for : ℕ → ℕ → ℕ
-lines_for updates threads = 1 + updates * (threads + 1)
 
 -- a device of this many lines whose head was written, written back and fenced
 abbrev pub first_device : LogHead → ℕ → DeviceState

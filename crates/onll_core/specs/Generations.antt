@@ -2,14 +2,15 @@
 use Rattle.std.specs.Prelude.{ℕ, ◌≡◌, List, [], ◌∷◌, length, take, Result, Ok, Err}
 use Rattle.onll_model.specs.declared.call.Call.{Call}
 use Rattle.onll_model.specs.Object.{Behaviour}
-use Rattle.onll_core.specs.declared.fault.ResumeFault.{ResumeFault}
-use Rattle.onll_core.specs.declared.fault.ResumeFault.TheVariants.{TooMany}
+use Rattle.onll_start.specs.declared.fault.ResumeFault.{ResumeFault}
+use Rattle.onll_start.specs.declared.fault.ResumeFault.TheVariants.{TooMany}
+use Rattle.onll_start.specs.Start.{Found, found_in}
 use Rattle.onll_core.specs.Core.{CoreState}
 use Rattle.onll_core.specs.Step.{steps_of}
 use Rattle.onll_core.specs.Created.{created_core, IsWithinLimits}
 use Rattle.onll_log.specs.Head.{heads_from}
 use Rattle.onll_core.specs.Crash.{AreImages, RecoversAll}
-use Rattle.onll_core.specs.Resume.{Found, found_in, resumed}
+use Rattle.onll_core.specs.Resume.{resumed}
 
 -- a generation: its scripts, the steps of its threads, and the images that its crash left
 pub record Generation (State Op Query Reply : Type 0) : Type 0 where

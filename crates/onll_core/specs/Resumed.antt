@@ -1,4 +1,4 @@
-use Rattle.std.specs.Prelude.{ℕ, suc, ◌≡◌, ◌+◌, ◌*◌, ◌≤◌, false, true, List, [], ◌∷◌, ◌++◌, length, replicate, Some, slice_get, count_by}
+use Rattle.std.specs.Prelude.{ℕ, suc, ◌≡◌, ◌+◌, ◌*◌, ◌≤◌, true, List, [], ◌∷◌, ◌++◌, length, replicate, Some, slice_get, count_by}
 use Rattle.onll_model.specs.Limits.{most_threads, most_updates}
 use Rattle.std.specs.List.{AllByRecursion}
 use Rattle.onll_model.specs.declared.call.Call.{Call}
@@ -7,7 +7,7 @@ use Rattle.onll_model.specs.Trace.{is_of_thread}
 use Rattle.onll_model.specs.Segment.{Segment}
 use Rattle.onll_model.specs.FrameLaws.{IsResumable}
 use Rattle.onll_model.specs.Calls.{updates_in}
-use Rattle.onll_pmem.specs.Device.{DeviceState, zero_lines}
+use Rattle.onll_pmem.specs.Device.{zero_lines, fenced_device}
 use Rattle.onll_log.specs.declared.head.LogHead.{LogHead}
 use Rattle.onll_log.specs.Encoding.{log_lines, FitEntries}
 use Rattle.onll_log.specs.Grammar.{lines_in}
@@ -16,10 +16,6 @@ use Rattle.onll_core.specs.Core.{CoreThread, CoreState}
 use Rattle.onll_core.specs.First.{IsHeadOf}
 
 -- The first state of a core that goes on from recovered logs.
-
--- a device that was found with these lines, all fenced: nothing is written back, and no fence is counted
-abbrev pub found_device : List (List ℕ) → DeviceState
-found_device lines = record { fenced = lines; read = lines; backed = replicate (length lines) false; fences = 0 }
 
 -- a thread that goes on in its log, with room for a whole entry of each update
 abbrev pub resumed_core_thread : {State Op Query Reply : Type 0} → LogHead → List Segment
@@ -33,7 +29,7 @@ resumed_core_thread head log script = record {
   used = suc (lines_in log);
   logged = length log;
   before = 0;
-  device = found_device (log_lines head log ++ zero_lines (updates_in script * (head.threads + 1)));
+  device = fenced_device (log_lines head log ++ zero_lines (updates_in script * (head.threads + 1)));
 }
 
 -- one thread for each head, its log and its script

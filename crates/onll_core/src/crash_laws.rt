@@ -1,6 +1,7 @@
 //! What a crash of a core leaves and what is recovered from it, for every object, whatever threads take steps.
 
-ghost use Rattle.onll_core.specs.Based.{BaseLaw, SameRefusalLaw, SameBaseLaw};
+ghost use Rattle.onll_start.specs.Based.{BaseLaw};
+ghost use Rattle.onll_core.specs.Based.{SameRefusalLaw, SameBaseLaw};
 ghost use Rattle.onll_core.specs.Durable.{DurableLaw};
 ghost use Rattle.onll_core.specs.Generations.{GenerationsLaw, PrefixLaw, OnlyTooManyLaw};
 ghost use Rattle.onll_core.specs.CrashLaws.{CoreImageLaw, RestLaw, PickedLaw, RecoveryLaw, HeadsLaw, LaterCrashLaw, CoreCrashLaw, ResumedCrashLaw, ReachedCrashLaw, GoOnLaw, MoreNodesLaw, NextCrashLaw};

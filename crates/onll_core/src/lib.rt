@@ -23,8 +23,6 @@
 
 mod crash;
 mod crash_laws;
-mod fault;
-mod found;
 mod laws;
 mod local;
 mod outcomes;
@@ -36,11 +34,8 @@ mod worker;
 pub use crash_laws::{
     base_law, crash_law, durable_law, generations_law, image_law, next_crash_law, recovery_law,
 };
-pub use fault::ResumeFault;
-pub use found::find_start;
 pub use laws::{consistency_law, fence_law, stays_law, step_event_law};
 pub use outcomes::{order_law, reached_law, report_law, return_law};
 pub use phase::Phase;
 pub use returned::{Current, Returned, Stepped};
 pub use step_core::Core;
-pub use worker::count_updates;

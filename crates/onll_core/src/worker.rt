@@ -3,11 +3,10 @@
 ghost use Rattle.std.specs.Prelude.{◌≡◌, ◌+◌, ◌<◌, ◌≤◌, ◌++◌, suc, [], length, take, IfOk};
 ghost use Rattle.onll_model.specs.Limits.{most_threads, most_updates};
 ghost use Rattle.onll_model.specs.Calls.{updates_in};
-ghost use Rattle.onll_pmem.specs.Device.{line_at, zero_lines, FillsWords, after_step, Write, WriteBack};
+ghost use Rattle.onll_pmem.specs.Device.{fenced_device, line_at, zero_lines, FillsWords, after_step, Write, WriteBack};
 ghost use Rattle.onll_pmem.specs.Pmem.{words_of};
 ghost use Rattle.std.specs.Vec.{vec_capacity};
 ghost use Rattle.onll_core.specs.First.{first_device, first_thread};
-ghost use Rattle.onll_core.specs.Resumed.{found_device};
 ghost use Rattle.onll_core.specs.Found.{front_lines, found_thread, HasLogRoom};
 ghost use Rattle.onll_core.specs.Step.{turned, begun, on_device, logged, returning, next_call};
 
@@ -15,7 +14,7 @@ use crate::phase::Phase;
 use crate::returned::Returned;
 use onll_log::LogHead;
 use onll_merge::LogCounts;
-use onll_model::{Call, Object};
+use onll_model::{Call, Object, count_updates};
 use onll_pmem::{MemPmem, Pmem};
 use onll_words::{Line, NoMemory};
 use std::alloc::{AllocError, Global};
@@ -26,20 +25,6 @@ pub fn with_room<T: Drop>(alloc: Global, count: usize) -> Result<Vec<T>, NoMemor
     ensures { IfOk result (λ v. (v.items ≡ []) × (vec_capacity v ≡ count)) }
 {
     Vec::with_capacity(alloc, count).map_err(|_| NoMemory)
-}
-
-/// How many of these calls are updates.
-pub fn count_updates<O: Object>(calls: &[Call<O>]) -> u64
-    requires { updates_in calls.now ≤ most_updates }
-    ensures { result ≡ updates_in calls.now }
-{
-    let mut updates = 0;
-    for call in calls {
-        if let Call::Update(_) = call {
-            updates += 1;
-        }
-    }
-    updates
 }
 
 /// A device of this many lines that holds the head of a log, made durable.
@@ -70,7 +55,7 @@ fn with_zeros(alloc: Global, front: &[Line], room: usize) -> Result<Vec<Line>, A
 fn device_of(alloc: Global, front: &[Line], room: u64) -> Result<MemPmem, NoMemory>
     requires { length front.now + room ≤ 1000000 }
     ensures { IfOk result (λ device. device
-        ≡ record { device = found_device (words_of front.now ++ zero_lines room); failing = [] }) }
+        ≡ record { device = fenced_device (words_of front.now ++ zero_lines room); failing = [] }) }
 {
     match with_zeros(alloc, front, room as usize) {
         Ok(lines) => MemPmem::of_image(alloc, lines, Vec::new(alloc)),
@@ -99,7 +84,7 @@ fn found_device(
     requires within { lines ≤ length image.now }
     requires few { lines + 1 + room ≤ 1000000 }
     ensures { IfOk result (λ device. device ≡ record {
-      device = found_device (front_lines head.now lines (words_of image.now) ++ zero_lines room);
+      device = fenced_device (front_lines head.now lines (words_of image.now) ++ zero_lines room);
       failing = [];
     }) }
 {

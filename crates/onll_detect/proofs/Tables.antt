@@ -9,8 +9,9 @@ use Rattle.std.proofs.lemmas.Bool.Decides.{nat_tests}
 use Rattle.onll_model.specs.declared.node.Node.{Node}
 use Rattle.onll_model.specs.Object.{Behaviour}
 use Rattle.onll_model.specs.Trace.{is_of_thread, node_at, state_after, after_row, IsNumbered, NumberedAbove}
-use Rattle.onll_model.specs.Recovered.{operations_front, where_some}
+use Rattle.onll_model.specs.Recovered.{operations_front}
 use Rattle.onll_model.proofs.Traces.{count_own, count_other}
+use Rattle.onll_model.proofs.FoldLegal.{all_operations}
 use Rattle.onll_detect.specs.Outcomes.{places_of, all_places, replies_of, reply_to, numbered_in, at_place, at_reply, find_in, table_of, ArePlacesWithin, IsNowhere, IsOutcome, OutcomeLaw}
 
 -- ---- tables
@@ -146,18 +147,6 @@ own_within t below count (n ∷ nodes) most =
 places_within : (t threads count : ℕ) (nodes : List Node) → length nodes ≤ count → ArePlacesWithin count (all_places t threads nodes)
 places_within t zero count nodes most = tt
 places_within t (suc threads) count nodes most = (own_within t 0 count nodes (omega arith), places_within (t + 1) threads count nodes most)
-
--- ---- rows that are operations
-where_same : {A : Type 0} (o : Option A) (n : Node) (front nodes : List Node) → where_some o (n ∷ front) ≡ n ∷ nodes → IsSome o × (front ≡ nodes)
-where_same None n front nodes e = (cc)
-where_same (Some x) n front nodes e = (refl, (cc))
-
--- nodes all of whose rows are operations
-pub all_operations : {State Op Query Reply : Type 0} (b : Behaviour State Op Query Reply) (nodes : List Node) → operations_front b nodes ≡ nodes
-    → AllByRecursion (λ (n : Node). IsSome (b.op_at n.row)) nodes
-all_operations b [] e = tt
-all_operations b (n ∷ nodes) e =
-    let found = where_same (b.op_at n.row) n (operations_front b nodes) nodes e in (found.0, all_operations b nodes found.1)
 
 module _ {State Op Query Reply : Type 0} (b : Behaviour State Op Query Reply) where
   -- the reply of a node

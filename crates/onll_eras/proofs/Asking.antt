@@ -11,9 +11,9 @@ use Rattle.onll_merge.specs.Recovered.{Recovered, expected_heads, state_recovere
 use Rattle.onll_model.specs.Trace.{state_after}
 use Rattle.onll_outside.specs.Views.{StoreView}
 use Rattle.onll_text.specs.declared.any_object.AnyObject.{AnyObject}
-use Rattle.onll_text.specs.declared.any_object.AnyObject.TheVariants as objects
 use Rattle.onll_text.specs.Init.{init_of}
-use Rattle.onll_text.specs.Kinds.{ObjectKind, on_object}
+use Rattle.onll_text.specs.Kinds.{ObjectKind, kind_at, on_object}
+use Rattle.onll_text.proofs.EachKind.{kind_and_state, by_kind}
 use Rattle.onll_task.specs.declared.answer.Stop.{Stop}
 use Rattle.onll_task.specs.Doing.{Task, Stage, after_stage, Fulfils, DoesStage, BeginsBy}
 use Rattle.onll_task.specs.Images.{images_stage}
@@ -155,10 +155,10 @@ module _ {A : Type 0} (writes : List (List ℕ)) (store after : StoreView) (name
 -- over an object of whatever kind
 pub object_does : {A : Type 0} (call : EraCall) (era : NewestEra) (store after : StoreView) (result : Result (Vec ℕ A) Stop) (object : AnyObject)
     → on_object (λ k s. DoesFound call era k s store after result) object → Fulfils (call_work call).writes store after (on_object (found_task call era) object) result
-object_does call era store after result (objects.Bank s) h = h.does
-object_does call era store after result (objects.Map s) h = h.does
-object_does call era store after result (objects.Queue s) h = h.does
-object_does call era store after result (objects.Lease s) h = h.does
+object_does call era store after result object h =
+    let held = kind_and_state object in
+    let does = subst (λ (says : Type 0). says) (by_kind {A = Type 0} (λ kind s. DoesFound call era (kind_at kind) s store after result) object) h in
+    subst (λ (task : Task). Fulfils (call_work call).writes store after task result) (sym (by_kind {A = Task} (λ kind s. found_task call era (kind_at kind) s) object)) does.does
 
 -- what is asked is the work of its command
 pub asked_does : {A : Type 0} (writes : List (List ℕ)) (store after : StoreView) (asked : Asked) (names : EraNames) (threads : ℕ) (result : Result (Vec ℕ A) Stop)

@@ -6,6 +6,7 @@ use Rattle.std.specs.List.{AllByRecursion}
 use Rattle.std.specs.Str.{bytes_eq}
 use Rattle.std.proofs.lemmas.Bool.{cases_Bool}
 use Rattle.std.proofs.lemmas.Slice.Eq.{bytes_eq-Decides}
+use Rattle.onll_model.specs.Limits.{greatest_code}
 use Rattle.onll_outside.specs.Views.{StoreView, AreZeros, image_bytes}
 use Rattle.onll_task.specs.declared.ending.Ending.{Ending}
 use Rattle.onll_task.specs.declared.ending.Ending.TheVariants.{Done}
@@ -44,10 +45,6 @@ stay_one names name store after in_ o = record { tells = o.tells; file = λ tell
 stay_files : (names : List (List ℕ)) (store after : StoreView) → FilesStay store after → AllButStay names store after
 stay_files names store after f = record { tells = f.tells; file = λ tells other differs. f.file tells other }
 
-in_append_right : (xs ys : List (List ℕ)) (name : List ℕ) → IsIn ys name → IsIn (xs ++ ys) name
-in_append_right [] ys name h = h
-in_append_right (x ∷ xs) ys name h = λ other d. in_append_right xs ys name h other d.1
-
 front_of : (xs ys : List (List ℕ)) (other : List ℕ) → AllByRecursion (λ n. other ≡ n → ⊥) (xs ++ ys) → AllByRecursion (λ n. other ≡ n → ⊥) xs
 front_of [] ys other d = tt
 front_of (x ∷ xs) ys other d = (d.0, front_of xs ys other d.1)
@@ -80,7 +77,7 @@ written_other store name bytes other n = ⊎_elim
     (cases_Bool (bytes_eq other name))
 
 -- ---- the logs
-module _ (logs : List ℕ) (code : ℕ) (text : List ℕ) (threads : ℕ) (few : threads ≤ 16) (known : code ≤ 4) (Goes : StoreView → Type 0) where
+module _ (logs : List ℕ) (code : ℕ) (text : List ℕ) (threads : ℕ) (few : threads ≤ 16) (known : code ≤ greatest_code) (Goes : StoreView → Type 0) where
   -- they were kept, and it goes on
   record KeptAll (store : StoreView) (t n : ℕ) : Type 0 where
     kept : StoreView
@@ -112,7 +109,7 @@ module _ (logs : List ℕ) (code : ℕ) (text : List ℕ) (threads : ℕ) (few :
       apart u zero b w = tt
       apart u (suc m) b w = ((λ e. let same = same_thread logs t u (omega arith) (omega arith) e in omega arith), apart (suc u) m (omega arith) (omega arith))
 
-module _ (logs : List ℕ) (code : ℕ) (text : List ℕ) (threads : ℕ) (few : threads ≤ 16) (known : code ≤ 4) (next : Job) (after : StoreView) where
+module _ (logs : List ℕ) (code : ℕ) (text : List ℕ) (threads : ℕ) (few : threads ≤ 16) (known : code ≤ greatest_code) (next : Job) (after : StoreView) where
   abbrev Cut : StoreView → Type 0
   Cut kept = JobCut kept after next
 
@@ -144,7 +141,7 @@ written_this : (store : StoreView) (name bytes : List ℕ) → (written store na
 written_this store name bytes = ap (λ (b : Bool). cond {A = Option (List ℕ)} b (Some bytes) (store.file name)) ((bytes_eq-Decides name name).1 refl)
 
 -- ---- the whole
-module _ (ckpt : List ℕ) (code threads : ℕ) (c : CheckpointState) (fits : FitsCheckpoint c) (few : threads ≤ 16) (known : code ≤ 4) (ending : Ending) (text : List ℕ)
+module _ (ckpt : List ℕ) (code threads : ℕ) (c : CheckpointState) (fits : FitsCheckpoint c) (few : threads ≤ 16) (known : code ≤ greatest_code) (ending : Ending) (text : List ℕ)
     (store after : StoreView) (tells : store.tells ≡ true) where
   abbrev this : List ℕ
   this = area_name ckpt (area_of c)

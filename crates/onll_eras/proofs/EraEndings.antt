@@ -21,7 +21,7 @@ use Rattle.onll_text.specs.Reports.{SaysOnly}
 use Rattle.onll_text.proofs.EachKind.{each_kind}
 use Rattle.onll_outside.specs.Views.{StoreView, SameFaults, Rose, counted}
 use Rattle.onll_outside.specs.declared.store.FaultKind.TheVariants as kinds
-use Rattle.onll_recovery.specs.RecoverJob.{data_with}
+use Rattle.onll_task.specs.RecoverySaid.{data_with}
 use Rattle.onll_task.specs.Writing.{written}
 use Rattle.onll_areas.specs.Newest.{newest}
 use Rattle.onll_checkpoint.specs.Checkpoint.{CheckpointState}

@@ -5,15 +5,16 @@ use Rattle.std.specs.List.{flat_map}
 use Rattle.onll_words.specs.Texts.{line_text, AreWords, AreMeaningful, says_something}
 use Rattle.std.proofs.Common.{true}
 use Rattle.onll_words.proofs.Decimals.{IsWord-decimal}
+use Rattle.onll_words.proofs.Joined.{AreMeaningful-append, line_same, text_determined}
 use Rattle.onll_model.specs.Object.{Behaviour}
 use Rattle.onll_merge.specs.Recovered.{Recovered}
 use Rattle.onll_text.specs.Lines.{node_lines, state_lines, recovered_line}
 use Rattle.onll_text.specs.Reports.{SaysOnly}
 use Rattle.onll_text.specs.Wording.{Wording}
-use Rattle.onll_text.proofs.Determined.{text_determined, AreMeaningful-append, line_same, nodes_determined, nodes_meaningful, state_determined, state_meaningful, says_only}
-use Rattle.onll_recovery.specs.RecoverJob.{RecoverData, held_lines, data_with}
-use Rattle.onll_recovery.proofs.Determined.{first_number, helds_determined, helds_meaningful, logs-data, recover_same}
-use Rattle.onll_recovery.proofs.RecoverSteps.{recovered_in_words}
+use Rattle.onll_text.proofs.Determined.{nodes_determined, nodes_meaningful, state_determined, state_meaningful, says_only}
+use Rattle.onll_task.specs.RecoverySaid.{RecoverData, held_lines, data_with}
+use Rattle.onll_task.proofs.Determined.{first_number, helds_determined, helds_meaningful, logs-data, recover_same}
+use Rattle.onll_task.proofs.RecoverSteps.{recovered_in_words}
 use Rattle.onll_eras.specs.EraReports.{Newest, RestoreData, RestoreReads, NewestReads, CheckpointData, CheckpointReads, era_line, place_line, place_in, newest_line, restore_lines, checkpoint_lines, logs_with_nodes}
 
 -- ---- words

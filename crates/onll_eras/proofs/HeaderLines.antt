@@ -7,6 +7,7 @@ use Rattle.sha2.specs.Sha256.{digest_bytes, sha256}
 use Rattle.onll_words.specs.Bytes.{words_in, low_word}
 use Rattle.onll_words.specs.Lines.{bytes_of_words}
 use Rattle.onll_words.proofs.WordBytes.{Bytes, dropped, length-words_in}
+use Rattle.onll_model.specs.Limits.{greatest_code}
 use Rattle.onll_log.specs.Head.{digest_words, head_front, head_for, head_line}
 use Rattle.onll_log.specs.ImageFile.{image_lines}
 use Rattle.onll_outside.specs.Views.{image_bytes}
@@ -44,14 +45,14 @@ Bytes-sha256 m = Bytes-digest _ 8
 digest_fits : (bytes : List ℕ) → AllByRecursion (λ w. w < 2 ^ 64) (digest_words bytes)
 digest_fits bytes = words_fit 3 (take 24 (sha256 bytes)) (taken 24 (sha256 bytes) (Bytes-sha256 bytes))
 
-header_whole : (code threads t : ℕ) (text : List ℕ) → t < threads → threads ≤ 16 → code ≤ 4 → IsWholeLine (head_line (head_for 2 t threads code text))
+header_whole : (code threads t : ℕ) (text : List ℕ) → t < threads → threads ≤ 16 → code ≤ greatest_code → IsWholeLine (head_line (head_for 2 t threads code text))
 header_whole code threads t text l few known = record {
   eight = let d = length-words_in low_word 3 (take 24 (sha256 (bytes_of_words (head_front 2 t threads code) ++ text))) in omega arith;
   words = (omega arith, (omega arith, (omega arith, (omega arith, (omega arith, digest_fits (bytes_of_words (head_front 2 t threads code) ++ text))))));
 }
 
 -- a header alone is read back
-pub header_back : (code threads t : ℕ) (text : List ℕ) → t < threads → threads ≤ 16 → code ≤ 4
+pub header_back : (code threads t : ℕ) (text : List ℕ) → t < threads → threads ≤ 16 → code ≤ greatest_code
     → header_image code text threads t ≡ image_lines (image_bytes (header_image code text threads t))
 header_back code threads t text l few known =
     sym (image_lines-image_bytes (header_image code text threads t) (record { each = (header_whole code threads t text l few known, tt); few = omega arith }))

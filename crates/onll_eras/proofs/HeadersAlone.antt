@@ -2,6 +2,7 @@
 
 use Rattle.std.proofs.Common.{ℕ, zero, suc, ◌≡◌, ◌+◌, ◌<◌, ◌≤◌, List, [], ◌∷◌, length, map, take, refl, ap, ◌∙◌, subst, arith, Ok}
 use Rattle.std.specs.Prelude.{Some}
+use Rattle.onll_model.specs.Limits.{greatest_code}
 use Rattle.onll_model.specs.Object.{Behaviour}
 use Rattle.onll_model.specs.declared.node.Node.{Node}
 use Rattle.onll_model.specs.Segment.{Agrees}
@@ -26,7 +27,7 @@ pub length-header_images : (code : ℕ) (text : List ℕ) (threads t n : ℕ) �
 length-header_images code text threads t zero = refl
 length-header_images code text threads t (suc n) = ap suc (length-header_images code text threads (suc t) n)
 
-module _ (code : ℕ) (text : List ℕ) (threads : ℕ) (known : (1 ≤ code) × (code ≤ 4)) (few : threads ≤ 16) where
+module _ (code : ℕ) (text : List ℕ) (threads : ℕ) (known : (1 ≤ code) × (code ≤ greatest_code)) (few : threads ≤ 16) where
   fits : (t : ℕ) → t < threads → FitsHead (head_for 2 t threads code text)
   fits t l = record { thread = l; threads = few; object = known; format = (omega arith, omega arith); digest = length-digest_words _ }
 

@@ -8,7 +8,6 @@ pub mod EraSays
 pub mod HeaderLines
 pub mod HeadersAlone
 pub mod NamesApart
-pub mod NewestChanges
 pub mod NextEra
 pub mod RestoreSays
 pub mod StateKept

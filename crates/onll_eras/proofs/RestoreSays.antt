@@ -18,7 +18,7 @@ use Rattle.onll_text.specs.PrintsBack.{state_text}
 use Rattle.onll_text.specs.Kinds.{ObjectKind, kind_at, object_at, on_object}
 use Rattle.onll_text.specs.Reports.{SaysOnly}
 use Rattle.onll_outside.specs.Views.{StoreView}
-use Rattle.onll_recovery.specs.RecoverJob.{data_with}
+use Rattle.onll_task.specs.RecoverySaid.{data_with}
 use Rattle.onll_task.specs.declared.ending.Ending.TheVariants.{Done, BadLog}
 use Rattle.onll_open.specs.Names.{log_name}
 use Rattle.onll_task.specs.Reading.{FileIsTold}

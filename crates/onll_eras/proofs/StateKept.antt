@@ -15,6 +15,7 @@ use Rattle.onll_task.specs.Writing.{AllButStay}
 use Rattle.onll_checkpoint.specs.Checkpoint.{CheckpointState}
 use Rattle.onll_checkpoint.specs.Grammar.{checkpoint_in}
 use Rattle.onll_areas.specs.Newest.{area_lines, counting, newer, newest}
+use Rattle.onll_areas.proofs.NewestChanges.{parity, counts, newest_number, left_kept, right_kept, left_new, right_new}
 use Rattle.onll_eras.specs.Names.{EraNames, area_name, area_files}
 use Rattle.onll_eras.specs.Eras.{Era, era_of, next_area}
 use Rattle.onll_eras.specs.EraJob.{started}
@@ -22,7 +23,6 @@ use Rattle.onll_eras.specs.Restored.{TellLogs, RestoredTo, Restores, era_in}
 use Rattle.onll_eras.specs.Begun.{IsNone, AreNamesApart, header_images, IsPrinted, IsEraAfter, HoldsNoCheckpoint, LeavesEra, BeginsNext}
 use Rattle.onll_eras.proofs.EachObject.{at_object, each_object}
 use Rattle.onll_eras.proofs.NamesApart.{none_of_era}
-use Rattle.onll_eras.proofs.NewestChanges.{parity, counts, newest_number, left_kept, right_kept, left_new, right_new}
 use Rattle.onll_eras.proofs.HeadersAlone.{header_logs, headers_give, length-header_images}
 
 -- ---- files that stay

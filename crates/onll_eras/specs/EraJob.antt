@@ -22,7 +22,8 @@ use Rattle.onll_open.specs.Names.{log_name, log_names}
 use Rattle.onll_task.specs.Images.{images_stage}
 use Rattle.onll_task.specs.Job.{Job, Read, Keep}
 use Rattle.onll_task.specs.Doing.{Task, Work, Stage, after_stage, whole_stage, report_task, say_task, assured_stage, keep_stage, write_stage, then_stage}
-use Rattle.onll_recovery.specs.RecoverJob.{data_with, fault_line}
+use Rattle.onll_task.specs.RecoverySaid.{data_with}
+use Rattle.onll_task.specs.Faults.{fault_line}
 use Rattle.onll_checkpoint.specs.Checkpoint.{CheckpointState}
 use Rattle.onll_checkpoint.specs.Text.{lines_for}
 use Rattle.onll_checkpoint.specs.Grammar.{checkpoint_image}

@@ -9,7 +9,7 @@ use Rattle.onll_text.specs.Lines.{node_lines, state_lines, recovered_line}
 use Rattle.onll_text.specs.Reports.{StateReads}
 use Rattle.onll_checkpoint.specs.Checkpoint.{CheckpointState}
 use Rattle.onll_merge.specs.Recovered.{Recovered}
-use Rattle.onll_recovery.specs.RecoverJob.{RecoverData, RecoverReads, held_lines, log_lines}
+use Rattle.onll_task.specs.RecoverySaid.{RecoverData, RecoverReads, held_lines, log_lines}
 
 -- areas that were made
 abbrev pub areas_text : List ℕ → List ℕ

@@ -1,7 +1,7 @@
 //! An era begins: its logs, the file of its text, and its area, in this order.
 
 ghost use Rattle.std.specs.Prelude.{◌≡◌, ◌≤◌, ◌++◌, ◌∷◌, [], codes, length, string_bytes, IfOk};
-ghost use Rattle.onll_model.specs.Limits.{most_threads};
+ghost use Rattle.onll_model.specs.Limits.{most_threads, greatest_code};
 ghost use Rattle.onll_log.specs.Head.{head_line, FitsHead};
 ghost use Rattle.onll_checkpoint.specs.Text.{lines_for};
 ghost use Rattle.onll_checkpoint.specs.Grammar.{checkpoint_image};
@@ -19,7 +19,8 @@ use onll_task::{Stop, kept_or, write_bytes};
 use onll_text::Piece;
 use std::alloc::{AllocError, Global};
 
-/// Keeps a log that has its header alone as the file of a thread, or gives what is said in place of that.
+/// Keeps a log that has its header alone as the file of a thread. It stops with the place 0 of the thread where its fence fails, and names
+/// the file where the store fails.
 fn begin_log<S: Store>(
     alloc: Global,
     logs: &str,
@@ -43,7 +44,7 @@ fn begin_log<S: Store>(
     kept_or(alloc, &name, &said, kept)
 }
 
-/// Begins the log of each thread, in their order, over the bytes of the era's text; or gives what is said in place of that.
+/// Begins the log of each thread, in their order, over the bytes of the era's text. It stops at the first that can't be kept.
 fn begin_logs<S: Store>(
     alloc: Global,
     logs: &str,
@@ -53,7 +54,7 @@ fn begin_logs<S: Store>(
     store: &mut S,
 ) -> Result<(), Stop>
     requires few { threads ≤ most_threads }
-    requires known { (1 ≤ code) × (code ≤ 4) }
+    requires known { (1 ≤ code) × (code ≤ greatest_code) }
     ensures { let stage = headers_stage logs.now code text.now threads in
         DoesStage (log_names logs.now 0 threads) (S.seen store.old) (S.seen store.new) stage (λ done. done) result }
 {
@@ -77,7 +78,8 @@ fn text_name(alloc: Global, area: &str) -> Result<String, AllocError>
     Ok(name)
 }
 
-/// Keeps a checkpoint as the file of its area, or gives what is said in place of that.
+/// Keeps a checkpoint as the file of its area. It stops with the area's number where a fence fails, and names the file where the store
+/// fails.
 fn keep_area<S: Store>(
     alloc: Global,
     name: &str,
@@ -100,7 +102,7 @@ fn keep_area<S: Store>(
 
 /// Begins the era of a checkpoint for so many threads, of an object of this code: keeps a log with its header alone for each thread, writes
 /// the file of the era's text, and keeps the checkpoint as its area, which is the one of its number's parity. Until that is kept the era
-/// before is the newest. Or gives what is said in place of that.
+/// before is the newest. It stops at the first of all these that fails.
 pub fn begin_era<S: Store>(
     alloc: Global,
     ckpt: &str,
@@ -110,7 +112,7 @@ pub fn begin_era<S: Store>(
     store: &mut S,
 ) -> Result<(), Stop>
     requires few { threads ≤ most_threads }
-    requires known { (1 ≤ code) × (code ≤ 4) }
+    requires known { (1 ≤ code) × (code ≤ greatest_code) }
     ensures { let stage = begun_stage ckpt.now code threads checkpoint.now in
         DoesStage (area_files ckpt.now (area_of checkpoint.now) threads) (S.seen store.old) (S.seen store.new) stage (λ done. done) result }
 {

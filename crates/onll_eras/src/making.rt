@@ -11,7 +11,7 @@ use onll_outside::Store;
 use onll_task::{Stop, write_bytes};
 use std::alloc::{AllocError, Global};
 
-/// Makes both areas empty files, or gives what is said in place of that.
+/// Makes both areas empty files, the even one first. It stops at the first that can't be written.
 fn write_areas<S: Store>(alloc: Global, ckpt: &str, store: &mut S) -> Result<(), Stop>
     ensures { DoesStage (log_names ckpt.now 0 2) (S.seen store.old) (S.seen store.new) (empty_stage ckpt.now) (λ done. done) result }
 {
@@ -35,7 +35,7 @@ fn areas_text(alloc: Global, ckpt: &str) -> Result<Vec<u8>, AllocError>
     Ok(text)
 }
 
-/// Makes both areas of this name empty files, and says so; or gives what is said in place of that.
+/// Makes both areas of this name empty files, and says so. It stops at the first that can't be written, and names it.
 pub fn make_areas<S: Store>(alloc: Global, ckpt: &str, store: &mut S) -> Result<Vec<u8>, Stop>
     ensures { let work = areas_work ckpt.now in
         Fulfils work.writes (S.seen store.old) (S.seen store.new) work.task result }

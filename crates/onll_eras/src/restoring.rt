@@ -10,7 +10,7 @@ ghost use Rattle.onll_text.specs.Bytes.{begins_line, with_lines};
 ghost use Rattle.onll_text.specs.Kinds.{kind_by};
 ghost use Rattle.onll_text.specs.Lines.{state_lines};
 ghost use Rattle.onll_text.specs.Reports.{NodeReads};
-ghost use Rattle.onll_recovery.specs.RecoverJob.{HeldReads, held_of, data_with};
+ghost use Rattle.onll_task.specs.RecoverySaid.{HeldReads, held_of, data_with};
 ghost use Rattle.onll_task.specs.Doing.{Fulfils};
 ghost use Rattle.onll_task.specs.Stop.{StopSays};
 ghost use Rattle.onll_eras.specs.EraCall.{era_found};
@@ -20,8 +20,7 @@ ghost use Rattle.onll_eras.specs.EraReports.{at_end_text, newest_in, newest_line
 use crate::era::NewestEra;
 use onll_checkpoint::Checkpoint;
 use onll_merge::Recovery;
-use onll_recovery::{put_count, put_logs, put_nodes};
-use onll_task::{Ending, Stop};
+use onll_task::{Ending, Stop, put_count, put_logs, put_nodes};
 use onll_text::{Piece, Report, Texted};
 use onll_words::NoMemory;
 use std::alloc::Global;

@@ -24,8 +24,7 @@ use onll_log::TestedImage;
 use onll_merge::{Recovery, StateFault, expected_heads};
 use onll_open::log_name;
 use onll_outside::{OutsideFault, Store};
-use onll_recovery::{bad_logs, recover_tested};
-use onll_task::{InitText, Stop, init_file, read_images};
+use onll_task::{InitText, Stop, bad_logs, init_file, read_images, recover_tested};
 use onll_text::{AnyObject, TextFault, Texted, read_init};
 use std::alloc::Global;
 
@@ -169,7 +168,7 @@ fn over_newest<S: Store>(
     }
 }
 
-/// The checkpoint of an area, or what is said in its place.
+/// The checkpoint that an area's file holds, if it holds one. It stops only where the file can't be read, and names it.
 fn area_of<S: Store>(
     alloc: Global,
     ckpt: &str,
@@ -187,7 +186,7 @@ fn area_of<S: Store>(
     }
 }
 
-/// The newest checkpoint of both areas, or what is said in its place.
+/// The newest checkpoint of both areas, if there is one. It stops only where one of their files can't be read.
 fn newest_area<S: Store>(
     alloc: Global,
     ckpt: &str,

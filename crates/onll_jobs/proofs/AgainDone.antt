@@ -4,16 +4,18 @@ use Rattle.std.proofs.Common.{ℕ, suc, List, [], ◌∷◌, ◌≡◌, ◌≤�
 use Rattle.std.specs.List.{AllByRecursion}
 use Rattle.onll_model.specs.declared.call.Call.{Call}
 use Rattle.onll_model.specs.Object.{Behaviour}
-use Rattle.onll_core.specs.declared.fault.ResumeFault.{ResumeFault}
-use Rattle.onll_core.specs.declared.fault.ResumeFault.TheVariants.{Images, OldFormat, NotOp, TooMany, NoMemory}
+use Rattle.onll_start.specs.declared.fault.ResumeFault.{ResumeFault}
+use Rattle.onll_start.specs.declared.fault.ResumeFault.TheVariants.{Images, OldFormat, NotOp, TooMany, NoMemory}
+use Rattle.onll_start.specs.Heads.{created_heads}
+use Rattle.onll_start.specs.Start.{Found, found_in}
 use Rattle.onll_core.specs.Core.{CoreState}
 use Rattle.onll_core.specs.Turns.{turns_of}
 use Rattle.onll_core.specs.Step.{steps_of}
-use Rattle.onll_core.specs.Created.{created_heads, IsWithinLimits}
+use Rattle.onll_core.specs.Created.{IsWithinLimits}
 use Rattle.onll_log.specs.Head.{heads_from}
 use Rattle.onll_core.specs.Crash.{heads_of, images_of}
 use Rattle.onll_core.specs.Durable.{CoreBegins}
-use Rattle.onll_core.specs.Resume.{Found, found_in, resumed}
+use Rattle.onll_core.specs.Resume.{resumed}
 use Rattle.onll_core.proofs.Kept.{steps_consistent}
 use Rattle.onll_core.proofs.Crashed.{picked_images}
 use Rattle.onll_core.proofs.Durable.{begun_starts, always_durable}
@@ -27,13 +29,13 @@ use Rattle.onll_text.specs.Schedule.{schedule_of}
 use Rattle.onll_text.specs.Script.{script_of}
 use Rattle.onll_text.specs.Wording.{Wording}
 use Rattle.onll_text.proofs.EachKind.{IsKnown, kind_goes}
-use Rattle.onll_outside.specs.Views.{StoreView}
+use Rattle.onll_outside.specs.Views.{StoreView, image_bytes}
 use Rattle.onll_task.specs.declared.ending.Ending.{Ending}
 use Rattle.onll_task.specs.declared.ending.Ending.TheVariants.{Done, Refused}
 use Rattle.onll_task.specs.declared.ending.Exit.{Exit}
 use Rattle.onll_task.specs.Doing.{Task, lines_stage, each_job}
 use Rattle.onll_open.specs.Names.{log_name, log_names}
-use Rattle.onll_task.specs.Images.{image_bytes, writing_images}
+use Rattle.onll_task.specs.Images.{writing_images}
 use Rattle.onll_task.specs.Job.{Job, Threads, Decides, on_value, reading_whole}
 use Rattle.onll_task.specs.Printed.{exit_status}
 use Rattle.onll_task.specs.Reading.{FileIsTold}
@@ -41,8 +43,10 @@ use Rattle.onll_task.specs.Writing.{written}
 use Rattle.onll_log.specs.Torn.{AreLines}
 use Rattle.onll_merge.specs.declared.fault.StateFault.{StateFault}
 use Rattle.onll_merge.specs.Recovered.{Recovered, recovered_with, state_recovered}
-use Rattle.onll_recovery.specs.AgainJob.{resume_text, resumed_task, goes_on_task, planned_task, again_task}
-use Rattle.onll_recovery.specs.ReplayJob.{scripts_stage, replay_report, run_task, crash_task}
+use Rattle.onll_recovery.specs.AgainJob.{resumed_task, goes_on_task, planned_task, again_task}
+use Rattle.onll_task.specs.NotResumed.{resume_text}
+use Rattle.onll_recovery.specs.ReplayJob.{replay_report, run_task, crash_task}
+use Rattle.onll_task.specs.Scripts.{scripts_stage}
 use Rattle.onll_recovery.proofs.Resumes.{GoesOrMany, goes_or_many, resumed_on, on_recovered}
 use Rattle.onll_jobs.specs.AgainPromises.{TellsValue, TellScripts, TellsPlan, SaysOn, GoesOnLeft, GoesOnRun, RunGoesOn}
 use Rattle.onll_jobs.specs.Command.{form_of, Again}

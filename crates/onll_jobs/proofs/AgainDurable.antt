@@ -4,12 +4,13 @@ use Rattle.std.proofs.Common.{ℕ, ◌∙◌, List, ◌≡◌, ◌≤◌, ◌⊎
 use Rattle.onll_model.specs.declared.call.Call.{Call}
 use Rattle.std.specs.List.{AllByRecursion}
 use Rattle.onll_log.specs.Torn.{AreLines}
-use Rattle.onll_core.specs.declared.fault.ResumeFault.{ResumeFault}
-use Rattle.onll_core.specs.declared.fault.ResumeFault.TheVariants.{Images, OldFormat, NotOp, TooMany, NoMemory}
+use Rattle.onll_start.specs.declared.fault.ResumeFault.{ResumeFault}
+use Rattle.onll_start.specs.declared.fault.ResumeFault.TheVariants.{Images, OldFormat, NotOp, TooMany, NoMemory}
+use Rattle.onll_start.specs.Heads.{created_heads}
 use Rattle.onll_core.specs.Core.{CoreState}
 use Rattle.onll_core.specs.Turns.{turns_of}
 use Rattle.onll_core.specs.Step.{steps_of}
-use Rattle.onll_core.specs.Created.{created_heads, IsWithinLimits}
+use Rattle.onll_core.specs.Created.{IsWithinLimits}
 use Rattle.onll_core.specs.Crash.{images_of}
 use Rattle.onll_core.specs.Durable.{CoreBegins}
 use Rattle.onll_core.specs.Resume.{resumed}
@@ -25,7 +26,8 @@ use Rattle.onll_task.specs.declared.ending.Ending.{Ending}
 use Rattle.onll_task.specs.declared.ending.Ending.TheVariants.{Done, BadLog}
 use Rattle.onll_task.specs.Job.{JobEnds}
 use Rattle.onll_merge.specs.Recovered.{recovered_with}
-use Rattle.onll_recovery.specs.AgainJob.{resume_ending, resumed_task}
+use Rattle.onll_recovery.specs.AgainJob.{resumed_task}
+use Rattle.onll_task.specs.NotResumed.{resume_ending}
 use Rattle.onll_recovery.specs.ReplayJob.{replay_report}
 use Rattle.onll_recovery.proofs.Resumes.{resumed_on, on_recovered}
 use Rattle.onll_jobs.specs.AgainPromises.{HasReadFiles, IsResumedReport, HasBadLogs}

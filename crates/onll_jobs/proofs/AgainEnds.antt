@@ -10,8 +10,8 @@ use Rattle.onll_words.specs.Lines.{words_of_bytes}
 use Rattle.onll_words.proofs.WordBytes.{length-words_in}
 use Rattle.onll_log.specs.ImageFile.{longest_image, image_lines}
 use Rattle.onll_log.specs.Torn.{AreLines}
-use Rattle.onll_core.specs.declared.fault.ResumeFault.{ResumeFault}
-use Rattle.onll_core.specs.declared.fault.ResumeFault.TheVariants.{Images, OldFormat, NotOp, TooMany, NoMemory}
+use Rattle.onll_start.specs.declared.fault.ResumeFault.{ResumeFault}
+use Rattle.onll_start.specs.declared.fault.ResumeFault.TheVariants.{Images, OldFormat, NotOp, TooMany, NoMemory}
 use Rattle.onll_core.specs.Core.{CoreState}
 use Rattle.onll_core.specs.Turns.{turns_of}
 use Rattle.onll_core.specs.Step.{steps_of}
@@ -34,7 +34,8 @@ use Rattle.onll_task.specs.Job.{Threads, JobEnds}
 use Rattle.onll_merge.specs.declared.fault.StateFault.{StateFault}
 use Rattle.onll_merge.specs.Recovered.{Recovered, state_recovered}
 use Rattle.onll_recovery.specs.ReplayJob.{run_task}
-use Rattle.onll_recovery.specs.AgainJob.{resume_ending, resumed_task, goes_on_task, planned_task, again_task}
+use Rattle.onll_recovery.specs.AgainJob.{resumed_task, goes_on_task, planned_task, again_task}
+use Rattle.onll_task.specs.NotResumed.{resume_ending}
 use Rattle.onll_jobs.specs.AgainPromises.{HasReadFiles}
 use Rattle.onll_jobs.specs.Command.{form_of, Again}
 use Rattle.onll_jobs.specs.Durable.{with_images}

@@ -17,7 +17,7 @@ use Rattle.onll_task.specs.declared.ending.Ending.TheVariants.{Done, Usage, Faul
 use Rattle.onll_task.specs.Doing.{Task}
 use Rattle.onll_task.specs.Job.{JobEnds, Threads}
 use Rattle.onll_task.specs.Reading.{ReadsWhole}
-use Rattle.onll_recovery.specs.ReplayJob.{ReadScripts}
+use Rattle.onll_task.specs.Scripts.{ReadScripts}
 use Rattle.onll_audit.specs.Printed.{longest_report}
 use Rattle.onll_jobs.specs.AuditJob.{or_bad_line, judged_of, verdict_task, report_judged_task, audit_task}
 use Rattle.onll_jobs.specs.AuditPromises.{HasFoundLegal, HasFoundWrong}

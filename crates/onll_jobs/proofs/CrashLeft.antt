@@ -3,13 +3,14 @@
 use Rattle.std.proofs.Common.{ℕ, List, ◌≡◌, ⊎_elim, length, take, Ok, sym, refl, ap, ◌∙◌, subst}
 use Rattle.std.proofs.lemmas.List.{length-map, take_at}
 use Rattle.onll_log.specs.declared.head.LogHead.{LogHead}
+use Rattle.onll_start.specs.Heads.{created_heads}
+use Rattle.onll_start.specs.Start.{found_in}
 use Rattle.onll_core.specs.Core.{CoreState}
-use Rattle.onll_core.specs.Created.{created_heads, created_core}
+use Rattle.onll_core.specs.Created.{created_core}
 use Rattle.onll_log.specs.Head.{heads_from}
 use Rattle.onll_core.specs.Crash.{RecoversAll}
 use Rattle.onll_core.specs.Durable.{CoreGoesOn}
 use Rattle.onll_core.specs.Outcomes.{script_of}
-use Rattle.onll_core.specs.Resume.{found_in}
 use Rattle.onll_core.specs.Step.{steps_of}
 use Rattle.onll_core.proofs.Crashed.{images_many, steps_heads}
 use Rattle.onll_core.proofs.Durable.{StartsSo, begun_starts, always_durable}

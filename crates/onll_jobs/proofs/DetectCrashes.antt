@@ -15,8 +15,8 @@ use Rattle.onll_merge.specs.declared.fault.StateFault.{StateFault}
 use Rattle.onll_merge.specs.Merge.{top_of}
 use Rattle.onll_merge.specs.Recovered.{Recovered, recovered_with, expected_heads, state_recovered}
 use Rattle.onll_merge.proofs.Backs.{merge-back}
+use Rattle.onll_start.specs.Heads.{created_heads}
 use Rattle.onll_core.specs.Core.{CoreState}
-use Rattle.onll_core.specs.Created.{created_heads}
 use Rattle.onll_core.specs.Outcomes.{ends_of, script_of}
 use Rattle.onll_core.specs.Step.{steps_of}
 use Rattle.onll_core.proofs.Crashed.{steps_scripts}

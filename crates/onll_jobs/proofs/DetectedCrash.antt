@@ -14,6 +14,7 @@ use Rattle.onll_model.specs.Object.{Behaviour}
 use Rattle.onll_model.specs.Recovered.{operations_front}
 use Rattle.onll_model.specs.Trace.{node_at, reply_after, IsNumbered}
 use Rattle.onll_model.proofs.Lists.{same_some, some_not_none}
+use Rattle.onll_model.proofs.Listed.{row_listed, placed_at}
 use Rattle.onll_core.specs.declared.returned.Returned.{Returned}
 use Rattle.onll_core.specs.Core.{CoreThread, CoreState}
 use Rattle.onll_core.specs.Crash.{HoldsUpdate, HoldsCall, HoldAllReturned}
@@ -25,7 +26,7 @@ use Rattle.onll_detect.proofs.Tables.{found}
 use Rattle.onll_text.specs.Lines.{call_line}
 use Rattle.onll_text.specs.Wording.{Wording}
 use Rattle.onll_recovery.specs.DetectJob.{update_lines, scripts_lines, update_rows, stranger_to, is_in_script}
-use Rattle.onll_jobs.proofs.DetectedNodes.{get_map, get_there, get_taken, all_at, one_of, row_listed, placed_at, thread_at, placed_nth, placed_row, update_line_at, script_line_at, no_stranger, in_script}
+use Rattle.onll_jobs.proofs.DetectedNodes.{get_map, get_there, get_taken, all_at, one_of, thread_at, placed_nth, placed_row, update_line_at, script_line_at, no_stranger, in_script}
 
 -- A core whose history is legal from no node on, and a front of its trace, of operations, that holds every returned call.
 pub record IsKept {State Op Query Reply : Type 0} (b : Behaviour State Op Query Reply) (s : State) (c : CoreState State Op Query Reply) (nodes : List Node) : Type 0 where

@@ -14,7 +14,7 @@ use Rattle.onll_model.specs.Calls.{updates_in}
 use Rattle.onll_model.specs.Object.{Behaviour}
 use Rattle.onll_model.specs.Legal.{place_in, at_place, placed_updates, placed_rows, AreLegalThreads, IsLegal}
 use Rattle.onll_model.specs.Trace.{is_of_thread}
-use Rattle.onll_standby.proofs.Counting.{few_in_all}
+use Rattle.onll_model.proofs.Counting.{few_in_all}
 
 -- a thread has a row for each of its nodes
 one_row : (own : Bool) (row : OpRow × ℕ) (rest : List (OpRow × ℕ)) → length (cond own (row ∷ []) [] ++ rest) ≡ cond {A = ℕ} own 1 0 + length rest

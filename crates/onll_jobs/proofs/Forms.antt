@@ -3,7 +3,7 @@ use Rattle.std.proofs.lemmas.Bool.{leb-true}
 use Rattle.onll_model.proofs.Lists.{same_some, some_not_none}
 use Rattle.onll_log.proofs.Accepted.{both_true}
 use Rattle.onll_eras.specs.Names.{EraNames}
-use Rattle.onll_jobs.specs.Command.{Form, Replay, Again, Run, Restore, Checkpoint, Follow, Audit, named_form, form_of, is_within, within_limits}
+use Rattle.onll_jobs.specs.Command.{Form, Replay, Again, Run, Checkpoint, Follow, Audit, named_form, form_of, is_within, within_limits}
 
 -- The scripts of a replay, anew or going on.
 
@@ -31,13 +31,6 @@ pub few-scripts-again : (words : List (List ℕ)) (init schedule logs : List ℕ
 few-scripts-again words init schedule logs scripts e =
     let both = both_true (nat_le 1 (length scripts)) (nat_le (length scripts) 16) (form_within words (Again init schedule logs scripts) e) in
     leb-true (length scripts) 16 both.1
-
--- eras are of 1 to 16 threads
-pub few-restored : (words : List (List ℕ)) (names : EraNames) (threads : ℕ) → form_of words ≡ Some (Restore names threads)
-    → (1 ≤ threads) × (threads ≤ 16)
-few-restored words names threads e =
-    let both = both_true (nat_le 1 threads) (nat_le threads 16) (form_within words (Restore names threads) e) in
-    (leb-true 1 threads both.0, leb-true threads 16 both.1)
 
 pub few-checkpointed : (words : List (List ℕ)) (names : EraNames) (threads : ℕ) → form_of words ≡ Some (Checkpoint names threads)
     → (1 ≤ threads) × (threads ≤ 16)

@@ -32,3 +32,4 @@ pub mod AuditEnds
 mod AuditRuns
 mod FewNodes
 mod RunJudged
+pub mod FoldSteps

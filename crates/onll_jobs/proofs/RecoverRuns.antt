@@ -16,9 +16,10 @@ use Rattle.onll_merge.specs.declared.fault.RecoverFault.{RecoverFault}
 use Rattle.onll_merge.specs.Merge.{merge}
 use Rattle.onll_merge.specs.Recovered.{Recovered, recovered_with, expected_heads, state_recovered}
 use Rattle.onll_merge.proofs.Images.{their_contents}
-use Rattle.onll_core.specs.Created.{created_heads}
-use Rattle.onll_core.proofs.Based.{base_is}
-use Rattle.onll_core.proofs.Created.{length-heads_from}
+use Rattle.onll_start.specs.Heads.{created_heads}
+use Rattle.onll_start.proofs.Based.{base_is}
+use Rattle.onll_start.proofs.Heads.{length-heads_from}
+use Rattle.onll_start.specs.Start.{Found, found_in}
 use Rattle.onll_core.proofs.Operations.{AllOperations}
 use Rattle.onll_run.specs.Outcomes.{failed_in, fault_in}
 use Rattle.onll_run.specs.Left.{LogLeft, LogsTell, AreLeftImages, ImagesRecover, content_in, fenced_in}
@@ -33,12 +34,12 @@ use Rattle.onll_task.specs.Job.{Threads, Decides}
 use Rattle.onll_task.specs.Printed.{exit_status}
 use Rattle.onll_task.specs.Running.{RunPlan, FileHoldsLog, HoldsLogs, broken_threads}
 use Rattle.onll_task.proofs.FileLines.{image_lines-image_bytes, mixed_fit, fenced_fit}
-use Rattle.onll_core.specs.Resume.{Found, found_in}
 use Rattle.onll_recovery.specs.RecoverJob.{recover_report, images_task}
 use Rattle.onll_recovery.proofs.Resumes.{found_is}
-use Rattle.onll_recovery.proofs.Crashes.{format_by, format_tested, HaveFormat2, AreFormat2, format_is, heads_have_format, heads_expected, take_operations, recovered_is}
+use Rattle.onll_recovery.proofs.Crashes.{format_by, format_tested, HaveFormat2, AreFormat2, format_is, heads_have_format, heads_expected, take_operations}
+use Rattle.onll_task.proofs.OperationRows.{recovered_is}
 use Rattle.onll_runner.proofs.FaultLines.{length-fault_lines}
-use Rattle.onll_runner.proofs.RunRecovers.{AreTold, run_told, run_operations}
+use Rattle.onll_task.proofs.RunRecovers.{AreTold, run_told, run_operations}
 use Rattle.onll_jobs.specs.Durable.{TellsImage, TellImages}
 use Rattle.onll_jobs.specs.Over.{RecoverOver, over_task}
 use Rattle.onll_jobs.specs.RunPromises.{fault_count, plan_from, BeginsFrom}

@@ -15,7 +15,7 @@ use Rattle.onll_text.specs.Wording.{Wording}
 use Rattle.onll_text.specs.Init.{init_of}
 use Rattle.onll_text.specs.Kinds.{ObjectKind, kind_at}
 use Rattle.onll_text.specs.Schedule.{schedule_of}
-use Rattle.onll_outside.specs.Views.{StoreView}
+use Rattle.onll_outside.specs.Views.{StoreView, image_bytes}
 use Rattle.onll_task.specs.declared.ending.Ending.{Ending}
 use Rattle.onll_task.specs.declared.ending.Ending.TheVariants.{Done, Usage, BadLog, Faulty, Judged}
 use Rattle.onll_merge.specs.declared.fault.StateFault.{StateFault}
@@ -24,7 +24,7 @@ use Rattle.onll_task.specs.Writing.{FilesStay, written}
 use Rattle.onll_open.specs.Files.{SameCounts}
 use Rattle.onll_task.specs.Job.{Job, Threads, JobEnds}
 use Rattle.onll_open.specs.Names.{log_name}
-use Rattle.onll_task.specs.Images.{image_bytes, writing_images}
+use Rattle.onll_task.specs.Images.{writing_images}
 use Rattle.onll_jobs.specs.Seen.{Seen}
 use Rattle.onll_jobs.specs.Command.{form_of, Replay}
 use Rattle.onll_jobs.specs.Says.{job_of, PutWhole}

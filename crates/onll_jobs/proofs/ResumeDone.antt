@@ -3,12 +3,13 @@
 use Rattle.std.proofs.Common.{ℕ, List, ◌≡◌, inl, inr, length, Some, Result, Ok, Err, refl, sym, ap, ◌∙◌, subst}
 use Rattle.onll_model.specs.declared.call.Call.{Call}
 use Rattle.onll_log.specs.declared.head.LogHead.{LogHead}
-use Rattle.onll_core.specs.declared.fault.ResumeFault.{ResumeFault}
-use Rattle.onll_core.specs.declared.fault.ResumeFault.TheVariants as faults
+use Rattle.onll_start.specs.declared.fault.ResumeFault.{ResumeFault}
+use Rattle.onll_start.specs.declared.fault.ResumeFault.TheVariants as faults
+use Rattle.onll_start.specs.Heads.{created_heads}
+use Rattle.onll_start.specs.Start.{Found, found_in, base_in}
 use Rattle.onll_core.specs.Core.{CoreState}
-use Rattle.onll_core.specs.Created.{created_heads}
 use Rattle.onll_log.specs.Head.{heads_from}
-use Rattle.onll_core.specs.Resume.{Found, found_in, base_in, resumed}
+use Rattle.onll_core.specs.Resume.{resumed}
 use Rattle.onll_core.proofs.Based.{same_refusal}
 use Rattle.onll_text.specs.declared.any_object.Kind.{Kind}
 use Rattle.onll_text.specs.Kinds.{kind_at}
@@ -23,7 +24,7 @@ use Rattle.onll_task.specs.Images.{images_stage}
 use Rattle.onll_task.specs.Job.{Job, Say, Threads}
 use Rattle.onll_task.specs.Printed.{status_of, exit_status}
 use Rattle.onll_outside.specs.Views.{Puts}
-use Rattle.onll_recovery.specs.AgainJob.{resume_text}
+use Rattle.onll_task.specs.NotResumed.{resume_text}
 use Rattle.onll_recovery.proofs.Resumes.{GoesOrMany, goes_or_many}
 use Rattle.onll_runner.specs.ResumeJob.{based_task, reopened_task, resume_task}
 use Rattle.onll_jobs.specs.AgainPromises.{TellScripts}

@@ -2,10 +2,10 @@
 
 use Rattle.std.proofs.Common.{ℕ, List, [], ◌∷◌, ◌≡◌, ◌⊎◌, inl, inr, length, Some, Result, Ok, Err, refl, sym}
 use Rattle.onll_model.specs.declared.call.Call.{Call}
-use Rattle.onll_core.specs.declared.fault.ResumeFault.{ResumeFault}
-use Rattle.onll_core.specs.declared.fault.ResumeFault.TheVariants.{Images, OldFormat, NotOp, TooMany, NoMemory}
-use Rattle.onll_core.specs.Created.{created_heads}
-use Rattle.onll_core.specs.Resume.{Found, base_in}
+use Rattle.onll_start.specs.declared.fault.ResumeFault.{ResumeFault}
+use Rattle.onll_start.specs.declared.fault.ResumeFault.TheVariants.{Images, OldFormat, NotOp, TooMany, NoMemory}
+use Rattle.onll_start.specs.Heads.{created_heads}
+use Rattle.onll_start.specs.Start.{Found, base_in}
 use Rattle.onll_text.specs.declared.any_object.Kind.{Kind}
 use Rattle.onll_text.specs.Init.{init_of}
 use Rattle.onll_text.specs.Kinds.{ObjectKind, kind_at}
@@ -18,8 +18,8 @@ use Rattle.onll_open.specs.Names.{log_names}
 use Rattle.onll_task.specs.Images.{images_stage}
 use Rattle.onll_task.specs.Job.{Job, Threads, JobEnds}
 use Rattle.onll_task.specs.Reading.{RefusesFile}
-use Rattle.onll_recovery.specs.AgainJob.{resume_ending}
-use Rattle.onll_recovery.specs.ReplayJob.{ReadScripts, scripts_stage}
+use Rattle.onll_task.specs.NotResumed.{resume_ending}
+use Rattle.onll_task.specs.Scripts.{ReadScripts, scripts_stage}
 use Rattle.onll_runner.specs.ResumeJob.{based_task, reopened_task, resume_task}
 use Rattle.onll_jobs.specs.Command.{Resume, form_of}
 use Rattle.onll_jobs.specs.Over.{ResumeOver, object_task}

@@ -3,9 +3,9 @@
 use Rattle.std.proofs.Common.{ℕ, zero, suc, List, [], ◌∷◌, ◌≡◌, ◌⊎◌, inl, inr, length, Option, Some, None, Result, Ok, Err, refl, subst}
 use Rattle.onll_model.specs.declared.call.Call.{Call}
 use Rattle.onll_log.specs.ImageFile.{image_lines}
-use Rattle.onll_core.specs.declared.fault.ResumeFault.{ResumeFault}
-use Rattle.onll_core.specs.Created.{created_heads}
-use Rattle.onll_core.specs.Resume.{Found, base_in}
+use Rattle.onll_start.specs.declared.fault.ResumeFault.{ResumeFault}
+use Rattle.onll_start.specs.Heads.{created_heads}
+use Rattle.onll_start.specs.Start.{Found, base_in}
 use Rattle.onll_text.specs.declared.any_object.AnyObject.{AnyObject}
 use Rattle.onll_text.specs.declared.any_object.Kind.{Kind}
 use Rattle.onll_text.specs.Init.{init_of}
@@ -21,7 +21,7 @@ use Rattle.onll_task.specs.Job.{Job, Threads, JobCut, on_value, reading_whole}
 use Rattle.onll_task.specs.Reading.{ReadsWhole}
 use Rattle.onll_task.specs.Running.{RunPlan, RunLeft, RunCut, broken_threads}
 use Rattle.onll_task.specs.Writing.{FilesStay}
-use Rattle.onll_recovery.specs.ReplayJob.{ReadScripts, scripts_stage}
+use Rattle.onll_task.specs.Scripts.{ReadScripts, scripts_stage}
 use Rattle.onll_runner.specs.ResumeJob.{based_task, reopened_task, resume_task}
 use Rattle.onll_runner.specs.RunJob.{run_plan, run_task, calls_task, said_task}
 use Rattle.onll_jobs.specs.Command.{OverInit, Resume, Run, form_of}

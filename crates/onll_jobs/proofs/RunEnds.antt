@@ -4,7 +4,7 @@
 use Rattle.std.proofs.Common.{ℕ, zero, suc, List, [], ◌∷◌, ◌≡◌, ◌≤◌, ◌⊎◌, inl, inr, Option, Some, None, refl, sym, ap, ◌∙◌, subst, arith}
 use Rattle.onll_model.specs.declared.call.Call.{Call}
 use Rattle.onll_model.specs.declared.call.CallEnd.{CallEnd}
-use Rattle.onll_core.specs.Resume.{Found}
+use Rattle.onll_start.specs.Start.{Found}
 use Rattle.onll_run.specs.Outcomes.{failed_in}
 use Rattle.onll_run.specs.Left.{LogLeft}
 use Rattle.onll_text.specs.declared.any_object.Kind.{Kind}
@@ -20,7 +20,7 @@ use Rattle.onll_task.specs.Job.{Threads, JobEnds}
 use Rattle.onll_task.specs.Running.{RunPlan, RunLeft, FileHoldsLog, HoldsLogs, HasKept, HeaderFault, DeviceFault, RunStops, broken_threads}
 use Rattle.onll_task.specs.Writing.{FilesStay}
 use Rattle.onll_open.specs.Files.{SameCounts}
-use Rattle.onll_recovery.specs.ReplayJob.{ReadScripts}
+use Rattle.onll_task.specs.Scripts.{ReadScripts}
 use Rattle.onll_runner.specs.RunJob.{run_plan, run_task, calls_task, said_task}
 use Rattle.onll_runner.specs.RunReport.{plan_report}
 use Rattle.onll_runner.proofs.FaultLines.{length-fault_lines}

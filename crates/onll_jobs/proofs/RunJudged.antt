@@ -10,7 +10,7 @@ use Rattle.onll_model.specs.declared.call.Call.{Call}
 use Rattle.onll_model.specs.declared.call.CallEnd.{CallEnd}
 use Rattle.onll_model.specs.declared.call.CallEnd.TheVariants.{Answered, Running, Ordered, FenceFailed, Broken}
 use Rattle.onll_model.proofs.Lists.{same_some, some_not_none}
-use Rattle.onll_core.proofs.Created.{length-heads_from}
+use Rattle.onll_start.proofs.Heads.{length-heads_from}
 use Rattle.onll_run.specs.Outcomes.{failed_in}
 use Rattle.onll_run.specs.Left.{AllOver, HasRun}
 use Rattle.onll_text.specs.Kinds.{ObjectKind}
@@ -27,10 +27,10 @@ use Rattle.onll_audit.proofs.Lengths.{report_short}
 use Rattle.onll_outside.specs.Views.{StoreView}
 use Rattle.onll_task.specs.RunSaid.{RunData, log_data}
 use Rattle.onll_task.specs.Running.{RunLeft, PlanReads, plan_data}
-use Rattle.onll_recovery.specs.ReplayJob.{ReadScripts}
+use Rattle.onll_task.specs.Scripts.{ReadScripts}
 use Rattle.onll_runner.specs.RunJob.{run_plan}
 use Rattle.onll_runner.specs.RunReport.{fault_lines, faults_at, plan_report}
-use Rattle.onll_runner.proofs.RunRecovers.{run_told}
+use Rattle.onll_task.proofs.RunRecovers.{run_told}
 use Rattle.onll_jobs.specs.AuditJob.{judged_of, or_bad_line}
 use Rattle.onll_jobs.proofs.FewNodes.{few_nodes}
 use Rattle.onll_jobs.proofs.SaidEnds.{few_updates}

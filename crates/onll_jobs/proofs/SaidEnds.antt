@@ -17,7 +17,7 @@ use Rattle.onll_open.specs.Names.{log_names}
 use Rattle.onll_task.specs.Reading.{ReadsWhole, RefusesFile, CannotRead}
 use Rattle.onll_task.specs.Writing.{CannotWrite}
 use Rattle.onll_task.specs.Job.{Job, JobEnds, on_value, reading_whole}
-use Rattle.onll_recovery.specs.ReplayJob.{ReadScripts, scripts_stage}
+use Rattle.onll_task.specs.Scripts.{ReadScripts, scripts_stage}
 
 -- ---- endings that neither a file nor a text gives
 abbrev pub IsSaid : Ending → Type 0

@@ -3,6 +3,7 @@ use Rattle.std.specs.List.{All, flat_map}
 use Rattle.std.proofs.lemmas.Fmt.{decimal_injective}
 use Rattle.std.proofs.lemmas.List.Elements.{All-head, All-tail}
 use Rattle.onll_words.specs.Texts.{line_text, AreMeaningful}
+use Rattle.onll_words.proofs.Joined.{text_determined, AreMeaningful-append, line_same, line_none}
 use Rattle.onll_model.specs.declared.node.Node.{Node}
 use Rattle.onll_model.specs.Segment.{Segment}
 use Rattle.onll_log.specs.declared.head.LogHead.{LogHead}
@@ -10,7 +11,7 @@ use Rattle.onll_log.specs.Grammar.{Content, used_by}
 use Rattle.onll_text.specs.Reports.{SaysOnly}
 use Rattle.onll_text.specs.Kinds.{object_name}
 use Rattle.onll_text.proofs.EachKind.{object_name_determined}
-use Rattle.onll_text.proofs.Determined.{text_determined, AreMeaningful-append, line_same, line_none, says_only}
+use Rattle.onll_text.proofs.Determined.{says_only}
 use Rattle.onll_jobs.specs.ShowJob.{head_line, row_line, row_lines, entry_words, entry_lines, entries_lines, count_words, content_lines, show_report}
 use Rattle.onll_jobs.specs.ShowJob.{ShownLog, shown_lines, RowReads, EntryReads, LogShownReads, ShowReads, shown_with, show_data}
 use Rattle.onll_jobs.proofs.ShowWords.{head_line_in_words, row_in_words, entry_in_words, count_in_words}

@@ -9,7 +9,7 @@ use Rattle.std.specs.Option.{IfSome}
 use Rattle.onll_model.specs.Limits.{greatest_code}
 use Rattle.onll_log.specs.declared.head.LogHead.{LogHead}
 use Rattle.onll_log.specs.Grammar.{Content, used_by}
-use Rattle.onll_text.specs.Bytes.{begins_line, with_word, with_words, with_lines}
+use Rattle.onll_text.specs.Bytes.{begins_line, with_words, with_lines}
 use Rattle.onll_text.proofs.EachKind.{IsWord-object_name}
 use Rattle.onll_text.proofs.Appending.{with_words-line, with_lines-one, with_lines-append}
 use Rattle.onll_jobs.specs.ShowJob.{head_line, head_words, row_line, row_lines, entry_words, entry_lines, entries_lines, count_words, content_lines, EntryReads, ShowReads, shown_with, show_data}
@@ -21,9 +21,6 @@ head_line_in_words thread threads object = (
   record { some = refl; bytes = refl },
   (record { some = refl; bytes = refl }, (IsWord-decimal thread, (record { some = refl; bytes = refl }, (IsWord-decimal threads, (record { some = refl; bytes = refl }, (IsWord-object_name object, tt)))))),
 )
-
-pub head_in_words : (head : LogHead) → AreWords (head_words head)
-head_in_words head = head_line_in_words head.thread head.threads head.object
 
 pub entry_in_words : (number : ℕ) (s : Segment) → AreWords (entry_words number s)
 entry_in_words number s = (
@@ -42,12 +39,6 @@ numbers_in_words (n ∷ ns) = (IsWord-decimal n, numbers_in_words ns)
 pub row_in_words : (place : ℕ) (node : Node) → AreWords (row_line place node)
 row_in_words place node =
     (record { some = refl; bytes = refl }, (IsWord-decimal place, (IsWord-decimal node.thread, (IsWord-decimal node.number, numbers_in_words node.row.w))))
-
--- one number more after those so far
-pub numbers_more : (out new : List ℕ) (numbers : List ℕ) (i : ℕ) → i < length numbers → new ≡ with_word out (decimal (get_or numbers i 0))
-    → with_words new (map decimal (drop (i + 1) numbers)) ≡ with_words out (map decimal (drop i numbers))
-numbers_more out new numbers i h e =
-    ap (λ t. with_words t (map decimal (drop (i + 1) numbers))) e ∙ sym (ap (λ t. with_words out (map decimal t)) (drop_more numbers i 0 h))
 
 -- the bytes after the parts of a node's line
 pub row_parts : (place : ℕ) (node : Node) (old began counted new : List ℕ) → begins_line old ≡ true

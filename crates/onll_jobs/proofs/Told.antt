@@ -14,7 +14,7 @@ use Rattle.onll_open.specs.Names.{log_name, log_names}
 use Rattle.onll_task.specs.Job.{Job, JobEnds, on_value, reading_whole}
 use Rattle.onll_task.specs.Reading.{FileIsTold}
 use Rattle.onll_task.proofs.Jobs.{held_bytes, cannot}
-use Rattle.onll_recovery.specs.ReplayJob.{ReadScripts, scripts_stage}
+use Rattle.onll_task.specs.Scripts.{ReadScripts, scripts_stage}
 use Rattle.onll_jobs.specs.AgainPromises.{TellScripts}
 use Rattle.onll_jobs.specs.Durable.{TellImages}
 use Rattle.onll_jobs.specs.RunPromises.{TellsText}

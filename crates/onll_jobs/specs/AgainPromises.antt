@@ -2,14 +2,15 @@
 
 use Rattle.std.specs.Prelude.{ℕ, ◌≡◌, List, [], ◌∷◌, length, Some, Result, Ok, Err}
 use Rattle.onll_model.specs.declared.call.Call.{Call}
-use Rattle.onll_core.specs.declared.fault.ResumeFault.{ResumeFault}
-use Rattle.onll_core.specs.declared.fault.ResumeFault.TheVariants.{TooMany}
+use Rattle.onll_start.specs.declared.fault.ResumeFault.{ResumeFault}
+use Rattle.onll_start.specs.declared.fault.ResumeFault.TheVariants.{TooMany}
+use Rattle.onll_start.specs.Heads.{created_heads}
+use Rattle.onll_start.specs.Start.{found_in}
 use Rattle.onll_core.specs.Core.{CoreState}
-use Rattle.onll_core.specs.Created.{created_heads}
 use Rattle.onll_log.specs.Head.{heads_from}
 use Rattle.onll_core.specs.Crash.{images_of, RecoversAll}
 use Rattle.onll_core.specs.Durable.{AlwaysDurable}
-use Rattle.onll_core.specs.Resume.{found_in, resumed}
+use Rattle.onll_core.specs.Resume.{resumed}
 use Rattle.onll_core.specs.Step.{steps_of}
 use Rattle.onll_core.specs.Turns.{turns_of}
 use Rattle.onll_run.specs.Left.{ImagesRecover}
@@ -27,8 +28,9 @@ use Rattle.onll_task.specs.Images.{images_stage}
 use Rattle.onll_task.specs.Reading.{FileIsTold, Reads}
 use Rattle.onll_task.specs.Writing.{FilesStay}
 use Rattle.onll_merge.specs.Recovered.{recovered_with}
-use Rattle.onll_recovery.specs.AgainJob.{resume_ending, resume_text}
-use Rattle.onll_recovery.specs.ReplayJob.{ReadScripts, replay_report}
+use Rattle.onll_task.specs.NotResumed.{resume_ending, resume_text}
+use Rattle.onll_recovery.specs.ReplayJob.{replay_report}
+use Rattle.onll_task.specs.Scripts.{ReadScripts}
 use Rattle.onll_jobs.specs.Command.{Again, form_of}
 use Rattle.onll_jobs.specs.Durable.{TellImages, AreLeftFiles, FilesLeaveAll, with_images}
 use Rattle.onll_jobs.specs.RunPromises.{plan_from}

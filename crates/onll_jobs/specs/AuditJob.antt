@@ -14,7 +14,7 @@ use Rattle.onll_audit.specs.Printed.{longest_report}
 use Rattle.onll_audit.specs.Verdict.{verdict_of}
 use Rattle.onll_task.specs.declared.ending.Ending.TheVariants.{Judged}
 use Rattle.onll_task.specs.Doing.{Task, after_stage, report_task, say_task, text_stage}
-use Rattle.onll_recovery.specs.ReplayJob.{scripts_stage}
+use Rattle.onll_task.specs.Scripts.{scripts_stage}
 
 -- ---- the report that is read
 -- the verdict on a text, or its first line that is none of a report; line 0 where it is too long

@@ -15,7 +15,7 @@ use Rattle.onll_outside.specs.Views.{StoreView}
 use Rattle.onll_task.specs.declared.ending.Ending.TheVariants.{Done}
 use Rattle.onll_task.specs.Reading.{FileIsTold, ReadsWhole}
 use Rattle.onll_task.specs.Running.{RunLeft, PlanReads}
-use Rattle.onll_recovery.specs.ReplayJob.{ReadScripts}
+use Rattle.onll_task.specs.Scripts.{ReadScripts}
 use Rattle.onll_runner.specs.RunJob.{run_plan}
 use Rattle.onll_runner.specs.RunReport.{plan_report}
 use Rattle.onll_jobs.specs.AgainPromises.{TellScripts}

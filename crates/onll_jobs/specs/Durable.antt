@@ -3,29 +3,30 @@
 use Rattle.std.specs.Prelude.{ℕ, suc, ◌≡◌, List, [], ◌∷◌, length, take, Some, None, Ok}
 use Rattle.onll_model.specs.declared.call.Call.{Call}
 use Rattle.onll_log.specs.ImageFile.{image_lines}
+use Rattle.onll_start.specs.Heads.{created_heads}
+use Rattle.onll_start.specs.Start.{found_in}
 use Rattle.onll_core.specs.Core.{CoreState}
-use Rattle.onll_core.specs.Created.{created_heads, created_core, IsWithinLimits}
+use Rattle.onll_core.specs.Created.{created_core, IsWithinLimits}
 use Rattle.onll_log.specs.Head.{heads_from}
 use Rattle.onll_core.specs.Crash.{images_of, AreImages, RecoversAll}
 use Rattle.onll_core.specs.Durable.{AlwaysDurable, CoreBegins}
-use Rattle.onll_core.specs.Resume.{found_in}
 use Rattle.onll_core.specs.Step.{steps_of}
 use Rattle.onll_text.specs.declared.any_object.AnyObject.{AnyObject}
 use Rattle.onll_text.specs.declared.schedule.Schedule.{Schedule}
 use Rattle.onll_text.specs.Init.{init_of}
 use Rattle.onll_text.specs.Schedule.{schedule_of}
 use Rattle.onll_text.specs.Kinds.{ObjectKind, on_object}
-use Rattle.onll_outside.specs.Views.{StoreView, Puts}
+use Rattle.onll_outside.specs.Views.{StoreView, Puts, image_bytes}
 use Rattle.onll_task.specs.declared.ending.Ending.TheVariants.{Done}
 use Rattle.onll_jobs.specs.Seen.{Seen}
 use Rattle.onll_jobs.specs.Command.{Recover, Replay, form_of}
 use Rattle.onll_task.specs.Reading.{FileIsTold, Reads, ReadsWhole}
 use Rattle.onll_task.specs.Writing.{FilesStay, written}
 use Rattle.onll_open.specs.Names.{log_name}
-use Rattle.onll_task.specs.Images.{image_bytes}
 use Rattle.onll_merge.specs.Recovered.{recovered_with}
 use Rattle.onll_recovery.specs.RecoverJob.{recover_report}
-use Rattle.onll_recovery.specs.ReplayJob.{played, ReadScripts, replay_report}
+use Rattle.onll_recovery.specs.ReplayJob.{played, replay_report}
+use Rattle.onll_task.specs.Scripts.{ReadScripts}
 use Rattle.onll_jobs.specs.Says.{NoneRose, SaysThis}
 
 -- ---- a replay

@@ -2,11 +2,11 @@
 
 use Rattle.std.specs.Prelude.{ℕ, ◌≡◌, ◌⊎◌, List, [], ◌∷◌, length, Some, Result, Ok, Err}
 use Rattle.onll_model.specs.declared.call.Call.{Call}
-use Rattle.onll_core.specs.declared.fault.ResumeFault.{ResumeFault}
-use Rattle.onll_core.specs.declared.fault.ResumeFault.TheVariants.{TooMany}
-use Rattle.onll_core.specs.Created.{created_heads}
+use Rattle.onll_start.specs.declared.fault.ResumeFault.{ResumeFault}
+use Rattle.onll_start.specs.declared.fault.ResumeFault.TheVariants.{TooMany}
+use Rattle.onll_start.specs.Heads.{created_heads}
 use Rattle.onll_log.specs.Head.{heads_from}
-use Rattle.onll_core.specs.Resume.{Found, found_in, base_in}
+use Rattle.onll_start.specs.Start.{Found, found_in, base_in}
 use Rattle.onll_run.specs.Left.{ImagesRecover}
 use Rattle.onll_text.specs.declared.any_object.AnyObject.{AnyObject}
 use Rattle.onll_text.specs.Init.{init_of}
@@ -18,8 +18,8 @@ use Rattle.onll_task.specs.declared.ending.Ending.{Ending}
 use Rattle.onll_task.specs.declared.ending.Ending.TheVariants.{Refused, BadLog}
 use Rattle.onll_task.specs.Images.{images_stage}
 use Rattle.onll_task.specs.Reading.{FileIsTold, Reads, RefusesFile}
-use Rattle.onll_recovery.specs.AgainJob.{resume_ending, resume_text}
-use Rattle.onll_recovery.specs.ReplayJob.{ReadScripts}
+use Rattle.onll_task.specs.NotResumed.{resume_ending, resume_text}
+use Rattle.onll_task.specs.Scripts.{ReadScripts}
 use Rattle.onll_jobs.specs.AgainPromises.{TellScripts}
 use Rattle.onll_jobs.specs.Command.{Resume, form_of}
 use Rattle.onll_jobs.specs.Durable.{TellImages, AreLeftFiles, FilesLeaveAll}

@@ -4,8 +4,8 @@ use Rattle.std.specs.Prelude.{ℕ, ◌≡◌, ◌<◌, ◌≤◌, ◌^◌, ◌�
 use Rattle.std.specs.List.{AllByRecursion}
 use Rattle.onll_model.specs.declared.call.Call.{Call}
 use Rattle.onll_model.specs.declared.call.CallEnd.{CallEnd}
-use Rattle.onll_core.specs.Created.{created_heads}
-use Rattle.onll_core.specs.Resume.{Found, base_in}
+use Rattle.onll_start.specs.Heads.{created_heads}
+use Rattle.onll_start.specs.Start.{Found, base_in}
 use Rattle.onll_run.specs.Left.{HasRun}
 use Rattle.onll_text.specs.Refusal.{Refusal}
 use Rattle.onll_text.specs.Script.{script_of}
@@ -17,7 +17,7 @@ use Rattle.onll_task.specs.Images.{images_stage}
 use Rattle.onll_task.specs.Reading.{FileIsTold, ReadsWhole}
 use Rattle.onll_task.specs.Running.{RunPlan, RunLeft, PlanReads, HasKept, HeaderFault, DeviceFault, RunCut}
 use Rattle.onll_task.specs.Writing.{FilesStay}
-use Rattle.onll_recovery.specs.ReplayJob.{ReadScripts}
+use Rattle.onll_task.specs.Scripts.{ReadScripts}
 use Rattle.onll_runner.specs.ResumeJob.{resume_plan}
 use Rattle.onll_runner.specs.RunJob.{run_plan}
 use Rattle.onll_runner.specs.RunReport.{fault_lines, plan_report}
@@ -69,15 +69,16 @@ module _ (from : Option Found) (k : ObjectKind) (init : List ℕ) (s : k.State) 
     pub printed : text ≡ plan_report (plan_from from k init logs s scripts) left
     pub rose : after.device_faults ≡ counted store.device_faults (fault_count left.ends)
 
-  -- The fence of a thread's header failed, and this text says which. A log that is gone on from still begins with what it held.
+  -- The fence of a thread's header failed, and this text says which. A log that is gone on from still begins with what it held; the file
+  -- of one that is begun may hold its header.
   pub record HasNoHeader : Type 0 where
     pub scripts : List (List (Call k.State k.Op k.Query k.Reply))
     pub read : ReadScripts k.wording store names scripts
     pub begins : BeginsFrom from k init store logs scripts
     pub fault : HeaderFault (plan_from from k init logs s scripts) store after text
 
-  -- A thread's device could not be made or kept, and this text says which. Where it could not be made, so does each log; where it could
-  -- not be kept, each log before it is kept, and so does each that is not.
+  -- A thread's device could not be made or kept, and this text says which. Where it could not be made, each log begins with what it held;
+  -- where it could not be kept, each log before it is kept, and each other one too, or it begins with what it held.
   pub record HasNoDevice : Type 0 where
     pub scripts : List (List (Call k.State k.Op k.Query k.Reply))
     pub read : ReadScripts k.wording store names scripts
@@ -95,8 +96,8 @@ module _ (from : Option Found) (k : ObjectKind) (init : List ℕ) (s : k.State) 
 module _ (from : Option Found) (k : ObjectKind) (init : List ℕ) (s : k.State) (store after : StoreView) (logs : List ℕ)
     (names : List (List ℕ)) where
   -- Memory could not be had after the files were read: no file changed; or no device was kept, and each log that is gone on from still
-  -- begins with what it held; or what the run left is kept up to some thread's log, and so stand the files of those after it; or it is
-  -- kept whole.
+  -- begins with what it held; or what the run left is kept up to some thread's log, and each of those after it too, or it stands so; or it
+  -- is kept whole.
   pub record HasCut : Type 0 where
     pub scripts : List (List (Call k.State k.Op k.Query k.Reply))
     pub read : ReadScripts k.wording store names scripts

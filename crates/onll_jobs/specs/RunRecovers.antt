@@ -2,7 +2,7 @@
 
 use Rattle.std.specs.Prelude.{ℕ, ◌≡◌, List, true, length, map, Option, Some, Ok}
 use Rattle.std.specs.List.{AllByRecursion}
-use Rattle.onll_core.specs.Resume.{Found}
+use Rattle.onll_start.specs.Start.{Found}
 use Rattle.onll_run.specs.Left.{ImagesRecover, content_in}
 use Rattle.onll_merge.specs.Recovered.{recovered_with}
 use Rattle.onll_text.specs.declared.any_object.AnyObject.{AnyObject}

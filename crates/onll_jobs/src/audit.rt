@@ -12,8 +12,7 @@ ghost use Rattle.onll_jobs.specs.AuditJob.{verdict_within, judged_of, wrong_line
 use onll_audit::{AuditFault, Verdict, Why, audit};
 use onll_model::Call;
 use onll_outside::Store;
-use onll_recovery::script_files;
-use onll_task::{Ending, Stop, read_bytes};
+use onll_task::{Ending, Stop, read_bytes, script_files};
 use onll_text::{Piece, Reason, Report, Texted};
 use onll_words::NoMemory;
 use std::alloc::Global;
@@ -38,7 +37,7 @@ fn judge<O: Texted + Drop>(
     audit(alloc, object, scripts, text)
 }
 
-/// The verdict on the report that a file holds, or what is said in its place.
+/// The verdict on the report that a file holds. It stops where the file can't be read, and with the first line that is of no form.
 fn judge_file<O: Texted + Drop, S: Store>(
     alloc: Global,
     object: O,

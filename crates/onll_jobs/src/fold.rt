@@ -12,8 +12,7 @@ ghost use Rattle.onll_task.specs.Doing.{Fulfils};
 
 use onll_model::{Call, CallEnd, Node};
 use onll_outside::Store;
-use onll_recovery::put_nodes;
-use onll_task::{Stop, script_file};
+use onll_task::{Stop, put_nodes, script_file};
 use onll_text::{Report, Texted};
 use onll_words::NoMemory;
 use std::alloc::Global;

@@ -8,10 +8,10 @@ ghost use Rattle.onll_jobs.specs.Over.{over_in, is_over, OverFits, DoesOver, ove
 use crate::{audit, fold};
 use onll_model::MOST_THREADS;
 use onll_outside::{Gate, Store};
-use onll_recovery::{again_on, detect_on, recover_files, replay_on};
+use onll_recovery::{PlayTexts, again_on, detect_on, recover_files, replay_on};
 use onll_run::Surroundings;
 use onll_runner::{resume_on, run_on};
-use onll_shipping::{LONGEST_PIECE, follow_on};
+use onll_shipping::{LONGEST_PIECE, StreamFile, follow_on};
 use onll_task::{Stop, init_file};
 use onll_text::{AnyObject, Texted};
 use std::alloc::Global;
@@ -107,12 +107,28 @@ fn over_one<R: Threads + Wait + Sync, O: Texted + Drop + Send + Sync, S: Store, 
             schedule,
             logs,
             scripts,
-        } => replay_on(alloc, object, init, schedule, logs, scripts, store),
+        } => {
+            let texts = PlayTexts {
+                init,
+                schedule,
+                logs,
+                scripts,
+            };
+            replay_on(alloc, object, &texts, store)
+        }
         Over::Again {
             schedule,
             logs,
             scripts,
-        } => again_on(alloc, object, init, schedule, logs, scripts, store),
+        } => {
+            let texts = PlayTexts {
+                init,
+                schedule,
+                logs,
+                scripts,
+            };
+            again_on(alloc, object, &texts, store)
+        }
         Over::Resume { logs, scripts } => resume_on(around, object, init, logs, scripts, store),
         Over::Run { logs, scripts } => run_on(around, object, init, logs, scripts, store),
         Over::Detect { logs, scripts } => detect_on(alloc, object, init, logs, scripts, store),
@@ -120,7 +136,14 @@ fn over_one<R: Threads + Wait + Sync, O: Texted + Drop + Send + Sync, S: Store, 
             threads,
             stream,
             piece,
-        } => follow_on(alloc, object, init, threads, stream, piece as usize, store),
+        } => {
+            let stream = StreamFile {
+                name: stream,
+                threads,
+                piece: piece as usize,
+            };
+            follow_on(alloc, object, init, &stream, store)
+        }
         Over::Audit { report, scripts } => audit::audit_on(alloc, object, report, scripts, store),
     }
 }

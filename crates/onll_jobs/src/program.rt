@@ -19,7 +19,7 @@ use std::alloc::Global;
 use std::sync::Wait;
 use std::thread::Threads;
 
-/// A command's report, or what is said in its place.
+/// Does a command, and gives its report. What stops it has its own text and ending.
 fn command_answer<R: Threads + Wait + Sync, S: Store, G: Gate + Sync>(
     rt: &R,
     alloc: Global,
@@ -42,7 +42,7 @@ fn command_answer<R: Threads + Wait + Sync, S: Store, G: Gate + Sync>(
     }
 }
 
-/// What the words ask for, or what is said in its place.
+/// Does what the words ask for, and gives its report. Words of no form stop with the usage text, and nothing is done.
 fn answer_to<R: Threads + Wait + Sync, S: Store, G: Gate + Sync>(
     rt: &R,
     alloc: Global,

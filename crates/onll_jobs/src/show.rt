@@ -200,7 +200,7 @@ fn shown(alloc: Global, image: &TestedImage<'_>) -> Result<Vec<u8>, Stop>
     }
 }
 
-/// Shows the image of a file: its report, or what is said in its place.
+/// Shows the image of a file. It stops where the file can't be read, and where what it holds is no log.
 pub(crate) fn answer<S: Store>(alloc: Global, image: &str, store: &mut S) -> Result<Vec<u8>, Stop>
     ensures { Fulfils [] (S.seen store.old) (S.seen store.new) (show_work image.now).task result }
 {

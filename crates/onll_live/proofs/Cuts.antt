@@ -1,6 +1,5 @@
 -- An object stands where the beginning of its next era was cut, and where it has ended.
-use Rattle.std.proofs.Common.{ℕ, zero, suc, List, [], ◌∷◌, ◌≡◌, ◌+◌, ◌≤◌, max, true, false, length, cond, arith}
-use Rattle.std.proofs.Common.{refl, sym, ap, ◌∙◌, ◌⊎◌, inl, inr}
+use Rattle.std.proofs.Common.{ℕ, zero, suc, List, [], ◌∷◌, ◌≡◌, ◌+◌, ◌≤◌, max, true, false, length, cond, arith, refl, sym, ap, ◌∙◌, ◌⊎◌, inl, inr}
 use Rattle.std.specs.Prelude.{Option, Some, None, Result, Ok, replicate}
 use Rattle.std.specs.Option.{option_or, option_map}
 use Rattle.onll_model.specs.declared.node.Node.{Node}
@@ -12,8 +11,7 @@ use Rattle.onll_log.specs.Grammar.{Content}
 use Rattle.onll_merge.specs.declared.fault.RecoverFault.{RecoverFault}
 use Rattle.onll_merge.specs.declared.fault.ImagesFault.{ImagesFault}
 use Rattle.onll_merge.specs.Merge.{disorder, foreign, merge, nodes_to, stray_above, top_of, unless, unlike}
-use Rattle.onll_merge.specs.Recovered.{Recovered, content_before, contents_from, merged, recovered_with, state_recovered}
-use Rattle.onll_merge.specs.Recovered.{with_logs, with_operations}
+use Rattle.onll_merge.specs.Recovered.{Recovered, content_before, contents_from, merged, recovered_with, state_recovered, with_logs, with_operations}
 use Rattle.onll_outside.specs.Views.{StoreView}
 use Rattle.onll_open.specs.declared.fault.FilesFault.{FilesFault}
 use Rattle.onll_open.specs.declared.fault.FilesFault.TheVariants.{Gone, OldFormat, Threads}

@@ -1,28 +1,12 @@
 -- The newest of two areas, when one of them changes.
-use Rattle.std.proofs.Common.{ℕ, ◌≡◌, ◌+◌, ◌%◌, ◌<◌, ◌≤◌, Bool, true, false, refl, sym, ap, ◌∙◌, subst, arith, ◌⊎◌, inl, inr, ◌==◌, eqb-true, eq-eqb}
+use Rattle.std.proofs.Common.{ℕ, ◌≡◌, ◌+◌, ◌%◌, ◌<◌, ◌≤◌, Bool, true, false, refl, sym, ap, ◌∙◌, subst, arith, ◌⊎◌, inl, inr}
 use Rattle.std.specs.Prelude.{Option, Some, None, nat_lt, if◌then◌else◌}
 use Rattle.std.proofs.lemmas.Bool.{cases_Bool}
 use Rattle.std.proofs.lemmas.Bool.Decides.{nat_tests}
 use Rattle.onll_checkpoint.specs.Checkpoint.{CheckpointState}
 use Rattle.onll_areas.specs.Newest.{counting, newer, newest_of}
+use Rattle.onll_areas.proofs.NewestChanges.{parity, counts}
 use Rattle.onll_live.specs.Eras.{number_of}
-
--- a checkpoint counts where its number has the area's parity
-pub counts : (area : ℕ) (c : CheckpointState) → c.number % 2 ≡ area → counting area (Some c) ≡ Some c
-counts area c e = ap (λ (b : Bool). if b then Some c else None) (eq-eqb (c.number % 2) area e)
-
--- what counts is numbered by the area's parity
-pub parity : (area : ℕ) (o : Option CheckpointState) (c : CheckpointState) → counting area o ≡ Some c → c.number % 2 ≡ area
-parity area None c e = absurd (cc)
-parity area (Some d) c e = at (cases_Bool (d.number % 2 == area))
-  where
-    at : (d.number % 2 == area ≡ true) ⊎ (d.number % 2 == area ≡ false) → c.number % 2 ≡ area
-    at (inl t) =
-        let here : Some d ≡ Some c = sym (ap (λ (b : Bool). if b then Some d else None) t) ∙ e in
-        let same : d ≡ c = (cc) in
-        subst (λ (x : CheckpointState). x.number % 2 ≡ area) same (eqb-true (d.number % 2) area t)
-    at (inr f) =
-        let here : None ≡ Some c = sym (ap (λ (b : Bool). if b then Some d else None) f) ∙ e in absurd (cc)
 
 -- the newest is numbered as high as each
 left_within : (o p : Option CheckpointState) → number_of o ≤ number_of (newer o p)

@@ -19,14 +19,14 @@ use Rattle.onll_log.specs.ImageFile.{whole_lines}
 use Rattle.onll_outside.specs.LineFiles.{IsWholeLine, IsFileFront, FrontHasLines, GivesLines}
 use Rattle.onll_outside.specs.Directory.{SizeOf}
 use Rattle.onll_outside.specs.Views.{StoreView, FileHolds, KeepsDevice, SameFiles, SameOthers, BeginsWith, MayWipe, MayKeep, KeptOrZeros, AreZeros, HoldsImageOf, IsFresh, image_bytes, with_zeros}
-use Rattle.onll_outside.proofs.WholeLines.{whole_to_end}
+use Rattle.onll_outside.proofs.WholeLines.{whole_to_end, line_back, line_bytes_many, length-image_bytes}
 use Rattle.onll_checkpoint.specs.Checkpoint.{CheckpointState}
 use Rattle.onll_checkpoint.specs.Text.{lines_of_text, text_in}
 use Rattle.onll_checkpoint.specs.Grammar.{is_first_line, checkpoint_in}
 use Rattle.onll_areas.specs.Keeping.{StaysOrZeros}
 use Rattle.onll_areas.specs.Newest.{AreaHolds, longest_area, area_lines}
 use Rattle.onll_areas.proofs.AreaReads.{area_holds}
-use Rattle.onll_areas.proofs.LinesBack.{line_back, line_bytes_many, length-image_bytes, whole_back}
+use Rattle.onll_areas.proofs.LinesBack.{whole_back}
 use Rattle.onll_areas.proofs.Zeros.{none_in_zeros}
 use Rattle.onll_live.specs.Eras.{AreaGives}
 use Rattle.onll_live.specs.Settled.{IsRewritten, IsUntorn, IsUntornFile, KeepsCheckpoint, KeepsArea}

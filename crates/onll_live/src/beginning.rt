@@ -9,8 +9,7 @@ ghost use Rattle.onll_open.specs.Files.{FileIsMade, SameBut, SameCounts};
 ghost use Rattle.onll_open.specs.Names.{log_names};
 ghost use Rattle.onll_live.specs.Refusals.{of_clear, of_keep};
 ghost use Rattle.onll_live.specs.Beginning.{AreCleared, BeginFaults, BeginsEra, ClearFaults, ClearFileFaults, EndsBy, EntersEra};
-ghost use Rattle.onll_live.specs.Beginning.{EraStands, IsNextEra, MissesEra, NoneSaved, OthersOfEra, SaveFaults, SavesEra, StaysInEra, StaysOrBegins};
-ghost use Rattle.onll_live.specs.Beginning.{ToldBy};
+ghost use Rattle.onll_live.specs.Beginning.{EraStands, IsNextEra, MissesEra, NoneSaved, OthersOfEra, SaveFaults, SavesEra, StaysInEra, StaysOrBegins, ToldBy};
 ghost use Rattle.onll_live.specs.Causes.{NextCause, NextFaults, NextFences, NextLocks, changed_files, files_of_era};
 ghost use Rattle.onll_live.specs.LiveCauses.{CannotFollow};
 

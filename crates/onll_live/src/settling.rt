@@ -13,14 +13,11 @@ ghost use Rattle.onll_live.specs.Settled.{IsRewritten, AreasSettled, IsUntorn, K
 use crate::fault::EraFault;
 use crate::finding::not_read;
 use crate::names::area_name;
-use onll_areas::read_area;
+use onll_areas::{LONGEST_AREA, read_area};
 use onll_outside::{Directory, FileLines, OutsideFault, Store};
 use onll_pmem::Pmem;
 use onll_words::{Line, NoMemory};
 use std::alloc::Global;
-
-/// How many bytes of an area's file are read at most.
-const LONGEST_AREA: u64 = 1_048_640;
 
 /// A device tells its fenced words by its type.
 pub(crate) fn told_law<P: Pmem>()

@@ -26,7 +26,7 @@ use Rattle.onll_locked.specs.DoNext.{with_end, after_end, after_node, EndsSo}
 use Rattle.onll_locked.specs.Kept.{EachLocked, AgreeCounts, IsWithin, KeepsThread, KeepsLocked, IsLegalLocked}
 use Rattle.onll_locked.proofs.Places.{last_more, failed_more, places_more, left_update, left_ask}
 use Rattle.onll_locked.proofs.Reports.{end_more, next_is, within_longer, reads_order, updates_order, MayEnd, legal_other, legal_more, legal_end, all_legal}
-use Rattle.onll_locked.proofs.Counting.{few_in_all}
+use Rattle.onll_model.proofs.Counting.{few_in_all}
 
 -- What the object under one lock keeps is kept by each call.
 

@@ -1,6 +1,6 @@
 //! How far each thread of an object under one lock has come.
 
-ghost use Rattle.std.specs.Prelude.{◌≡◌, ◌+◌, ◌<◌, ◌≤◌, ◌++◌, ◌∷◌, [], None, length, IfOk};
+ghost use Rattle.std.specs.Prelude.{◌≡◌, ◌+◌, ◌<◌, [], None, length, IfOk};
 ghost use Rattle.std.specs.Vec.{vec_capacity};
 ghost use Rattle.onll_locked.specs.Locked.{first_thread, next_call, failed_at, own_places, EndHasNode, HasNoNode};
 ghost use Rattle.onll_locked.specs.DoNext.{with_end};

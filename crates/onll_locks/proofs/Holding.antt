@@ -1,7 +1,6 @@
 -- What one operation does to a lock, and what many do.
 use Rattle.std.proofs.Common.{ℕ, zero, suc, Bool, true, false, List, [], ◌∷◌, ◌≡◌, ◌≢◌, ◌==◌, ◌&&◌, ◌+◌, ◌-◌, ◌^◌, ◌<◌, ◌≤◌, ◌⊎◌, inl, inr, ⊎_elim}
-use Rattle.std.proofs.Common.{Option, Some, None, if◌then◌else◌, nat_lt, length, take, refl, sym, ap, ◌∙◌, subst, arith}
-use Rattle.std.proofs.Common.{get_or-set_same, get_or-set_other, slice_set}
+use Rattle.std.proofs.Common.{Option, Some, None, if◌then◌else◌, nat_lt, length, take, refl, sym, ap, ◌∙◌, subst, arith, get_or-set_same, get_or-set_other, slice_set}
 use Rattle.std.specs.List.{slice_get}
 use Rattle.std.proofs.lemmas.Bool.{cases_lt, lt-ltb, le-ltb}
 use Rattle.std.proofs.lemmas.Bool.Decides.{eqb_tells}
@@ -16,8 +15,7 @@ use Rattle.onll_locks.specs.declared.locks.LockOp.{LockOp}
 use Rattle.onll_locks.specs.declared.locks.LockOp.TheVariants.{Acquire, Release}
 use Rattle.onll_locks.specs.declared.locks.LockReply.{LockReply}
 use Rattle.onll_locks.specs.declared.locks.LockReply.TheVariants as gives
-use Rattle.onll_locks.specs.Locks.{after_acquire, after_release, granting, held_by, is_holder, lock_next, lock_reply}
-use Rattle.onll_locks.specs.Locks.{lock_at, lock_of, locks, never, next, reply}
+use Rattle.onll_locks.specs.Locks.{after_acquire, after_release, granting, held_by, is_holder, lock_next, lock_reply, lock_at, lock_of, locks, never, next, reply}
 use Rattle.onll_locks.specs.Laws.{AloneLaw, GrantLaw, GrantedAt, HoldsLaw, IsGrantOf, ReleasedBetween, GrantsRiseLaw, lock_before}
 
 -- ---- one lock

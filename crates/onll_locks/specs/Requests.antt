@@ -1,6 +1,5 @@
 -- Requests, as lines say them.
-use Rattle.std.specs.Prelude.{ℕ, List, [], ◌∷◌, ◌-◌, ◌==◌, Option, Some, None, Result, Ok, Err, if◌then◌else◌}
-use Rattle.std.specs.Prelude.{codes, length, slice_index, take}
+use Rattle.std.specs.Prelude.{ℕ, List, [], ◌∷◌, ◌-◌, ◌==◌, Option, Some, None, Result, Ok, Err, if◌then◌else◌, codes, length, slice_index, take}
 use Rattle.std.specs.Str.{bytes_eq}
 use Rattle.onll_words.specs.Numbers.{number_of}
 use Rattle.onll_words.specs.Texts.{words_of}

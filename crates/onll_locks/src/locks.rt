@@ -1,8 +1,7 @@
 //! A table of locks, each held by one client at a time, with a token that rises with each grant.
 
 ghost use Rattle.std.specs.Prelude.{◌≡◌};
-ghost use Rattle.onll_locks.specs.Locks.{acquire_reply, after_acquire, after_release, holder_answer, release_reply};
-ghost use Rattle.onll_locks.specs.Locks.{lock_next, lock_reply, locks};
+ghost use Rattle.onll_locks.specs.Locks.{acquire_reply, after_acquire, after_release, holder_answer, release_reply, lock_next, lock_reply, locks};
 
 use onll_rows::PlainState;
 use std::alloc::{AllocError, Global};

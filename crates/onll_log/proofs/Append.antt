@@ -1,6 +1,6 @@
 -- Lines that are written after others, one by one.
-use Rattle.std.proofs.Common.{ℕ, zero, suc, ◌≡◌, ◌+◌, ◌-◌, ◌<◌, ◌≤◌, List, [], ◌∷◌, ◌++◌, length, set, take, sym, refl, ap, ◌∙◌, subst, inr, arith, append_assoc, length-append}
-use Rattle.std.proofs.lemmas.List.{set_at, take_more, length-take-le, length-replicate, get_or-append-add}
+use Rattle.std.proofs.Common.{ℕ, zero, suc, ◌≡◌, ◌+◌, ◌-◌, ◌<◌, List, [], ◌∷◌, ◌++◌, length, set, take, sym, refl, ap, ◌∙◌, subst, inr, arith, append_assoc, length-append}
+use Rattle.std.proofs.lemmas.List.{set_at, take_more, length-take-le, get_or-append-add}
 use Rattle.onll_pmem.specs.Device.{line_at, zero_line, zero_lines, FillsWords, FillsLines}
 use Rattle.onll_model.specs.Segment.{Segment}
 use Rattle.onll_log.specs.declared.head.LogHead.{LogHead}
@@ -8,7 +8,6 @@ use Rattle.onll_log.specs.Encoding.{entry_lines, log_lines, FitsEntry}
 use Rattle.onll_log.specs.Torn.{IsLine, log_image}
 use Rattle.onll_log.specs.Append.{written_front}
 use Rattle.onll_log.proofs.Lines.{FillsWords-zero_line, AreLines-entry_lines}
-use Rattle.onll_log.proofs.Encoded.{length-entry_lines}
 use Rattle.onll_log.proofs.Torn.{Among-front, log_image-more}
 
 -- ---- first and last
@@ -24,16 +23,6 @@ take-whole (x ∷ xs) (suc n) e = ap (λ (z : List (List ℕ)). x ∷ z) (take-w
 pub written_front-all : (done lines : List (List ℕ)) (front zeros : ℕ) → front ≡ length lines → written_front done lines front zeros ≡ done ++ (lines ++ zero_lines zeros)
 written_front-all done lines front zeros e =
     let z : length lines - front + zeros ≡ zeros = omega arith in let t = take-whole lines front e in λ i. done ++ (t i ++ zero_lines (z i))
-
-pub length-written_front : (done lines : List (List ℕ)) (front zeros : ℕ) → front ≤ length lines → length (written_front done lines front zeros) ≡ length done + length lines + zeros
-length-written_front done lines front zeros l =
-    omega (
-      arith,
-      length-append done (take front lines ++ zero_lines (length lines - front + zeros)),
-      length-append (take front lines) (zero_lines (length lines - front + zeros)),
-      length-take-le front lines l,
-      length-replicate (length lines - front + zeros) zero_line,
-    )
 
 -- ---- the next line
 -- the lines before the next one, and then zeros
@@ -82,12 +71,3 @@ FillsLines-written_front head ss s front zeros f =
     let lines : List (List ℕ) = entry_lines head (length ss) s in
     subst (FillsLines (written_front (log_lines head ss) lines front zeros)) (sym (log_image-more head ss s zeros))
     (FillsLines-after (log_lines head ss) (take front lines ++ zero_lines (length lines - front + zeros)) (lines ++ zero_lines zeros) (Among-front lines front zeros (AreLines-entry_lines head (length ss) s f)))
-
--- the log before and after
-pub log_image-before : (head : LogHead) (ss : List Segment) (s : Segment) (zeros : ℕ) → written_front (log_lines head ss) (entry_lines head (length ss) s) 0 zeros ≡ log_image head ss (suc (length s.nodes) + zeros)
-log_image-before head ss s zeros = written_front-none (log_lines head ss) (entry_lines head (length ss) s) zeros ∙ ap (λ (n : ℕ). log_lines head ss ++ zero_lines (n + zeros)) (length-entry_lines head (length ss) s)
-
-pub log_image-after : (head : LogHead) (ss : List Segment) (s : Segment) (front zeros : ℕ) → front ≡ suc (length s.nodes) → written_front (log_lines head ss) (entry_lines head (length ss) s) front zeros ≡ log_image head (ss ++ s ∷ []) zeros
-log_image-after head ss s front zeros e =
-    let lines : List (List ℕ) = entry_lines head (length ss) s in
-    written_front-all (log_lines head ss) lines front zeros (e ∙ sym (length-entry_lines head (length ss) s)) ∙ sym (log_image-more head ss s zeros)

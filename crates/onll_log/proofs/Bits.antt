@@ -1,5 +1,5 @@
 -- Bits below a number, and the marks of lines.
-use Rattle.std.proofs.Common.{◌≡◌, ℕ, suc, ◌+◌, ◌-◌, ◌*◌, ◌^◌, ◌<◌, ◌≤◌, not, cond, ◌==◌, Bool, true, false, List, [], ◌∷◌, ◌++◌, length, get_or, drop, sym, refl, ap, ◌∙◌, subst, arith}
+use Rattle.std.proofs.Common.{◌≡◌, ℕ, suc, ◌+◌, ◌-◌, ◌*◌, ◌^◌, ◌<◌, ◌≤◌, cond, Bool, true, false, List, [], ◌∷◌, ◌++◌, length, get_or, drop, sym, refl, ap, ◌∙◌, subst, arith}
 use Rattle.std.proofs.Math.Nat.{pow-suc, pow-le-pow_right}
 use Rattle.std.proofs.lemmas.List.{length-drop, drop_more}
 use Rattle.onll_words.specs.declared.line.Line.{Line}
@@ -26,12 +26,6 @@ bits_on_lt (false ∷ bs) above k l = let h = bits_on_lt bs above k l in let e =
 pub length-marks_in : (ws : List ℕ) → length (marks_in ws) ≡ length ws
 length-marks_in [] = refl
 length-marks_in (w ∷ ws) = ap suc (length-marks_in ws)
-
--- one word more of a line, from its end
-pub marks-word : (ws : List ℕ) (i j above : ℕ) → suc i ≡ j → i < length ws
-    → bits_on (marks_in (drop i ws)) above ≡ cond {A = ℕ} (not (get_or ws i 0 == 0)) 1 0 + 2 * bits_on (marks_in (drop j ws)) above
-marks-word ws i j above e l = let next : i + 1 ≡ j = omega arith in
-    ap (λ (us : List ℕ). bits_on (marks_in us) above) (drop_more ws i 0 l) ∙ ap (λ (n : ℕ). cond {A = ℕ} (not (get_or ws i 0 == 0)) 1 0 + 2 * bits_on (marks_in (drop n ws)) above) next
 
 -- the bits of the last words of a line
 pub marks_lt : (ws : List ℕ) (i n above k : ℕ) → length ws ≡ i + n → above < 2 ^ k → bits_on (marks_in (drop i ws)) above < 2 ^ (n + k)

@@ -1,5 +1,5 @@
 -- What the decoder's steps make of lines.
-use Rattle.std.proofs.Common.{◌≡◌, ℕ, zero, suc, ◌+◌, ◌-◌, ◌*◌, ◌<◌, ◌≤◌, ◌==◌, eqb, Bool, true, false, List, [], ◌∷◌, ◌++◌, length, get_or, set, take, drop, map, replicate, sym, refl, ap, ◌∙◌, subst, arith, append_assoc, append-nil, length-append, ◌⊎◌, inl, inr}
+use Rattle.std.proofs.Common.{◌≡◌, ℕ, zero, suc, ◌+◌, ◌-◌, ◌*◌, ◌<◌, ◌≤◌, ◌==◌, eqb, Bool, true, false, List, [], ◌∷◌, ◌++◌, length, get_or, set, take, drop, map, replicate, sym, refl, ap, ◌∙◌, subst, arith, append_assoc, length-append, ◌⊎◌, inl, inr}
 use Rattle.std.specs.Prelude.{◌&&◌, nat_le}
 use Rattle.std.specs.Cmp.Lexicographic.{pointwise}
 use Rattle.std.proofs.lemmas.Bool.{leb-true, le-leb, cases_Bool}
@@ -126,24 +126,6 @@ pub record Read (head : LogHead) (lines : List Line) (entries : List Entry) (at 
 -- the lines that are left begin with the next one
 words_left : (lines : List Line) (at : ℕ) (d : Line) → at < length lines → words_of (drop at lines) ≡ (get_or lines at d).w ∷ words_of (drop (at + 1) lines)
 words_left lines at d l = ap words_of (drop_more lines at d l)
-
-pub Read-none : (head : LogHead) (lines : List Line) → Read head lines [] 0
-Read-none head lines = record { within = omega arith; few = omega arith; all = refl }
-
--- at the end of the lines
-pub Read-all : (head : LogHead) (lines : List Line) (entries : List Entry) (at : ℕ) → Read head lines entries at → length lines ≤ at → entries ≡ placed_from 1 (entries_from head 0 0 (words_of lines))
-Read-all head lines entries at r l = at_end (drop at lines) (omega (arith, length-drop at lines)) r.all
-  where
-    at_end : (left : List Line) → length left ≡ 0 → entries ++ placed_from (at + 1) (entries_from head (length entries) 0 (words_of left)) ≡ placed_from 1 (entries_from head 0 0 (words_of lines)) → entries ≡ placed_from 1 (entries_from head 0 0 (words_of lines))
-    at_end [] e all = sym (append-nil entries) ∙ all
-    at_end (x ∷ xs) e all = absurd (omega arith)
-
--- where no entry is accepted
-pub Read-refused : (head : LogHead) (lines : List Line) (entries : List Entry) (at : ℕ) (d : Line) → Read head lines entries at → at < length lines
-    → is_entry head (length entries) (get_or lines at d).w (words_of (drop (at + 1) lines)) ≡ false → entries ≡ placed_from 1 (entries_from head 0 0 (words_of lines))
-Read-refused head lines entries at d r l refused =
-    let none : entries_from head (length entries) 0 (words_of (drop at lines)) ≡ [] = ap (entries_from head (length entries) 0) (words_left lines at d l) ∙ entries_from-none head (length entries) (get_or lines at d).w (words_of (drop (at + 1) lines)) refused in
-    sym (append-nil entries) ∙ ap (λ (ss : List Segment). entries ++ placed_from (at + 1) ss) (sym none) ∙ r.all
 
 -- where one is
 pub Read-more : (head : LogHead) (lines : List Line) (entries : List Entry) (at next : ℕ) (d : Line) (e : Entry) → Read head lines entries at → at < length lines

@@ -1,5 +1,5 @@
 -- What is encoded is read back.
-use Rattle.std.proofs.Common.{ℕ, zero, suc, ◌≡◌, ◌≢◌, ◌+◌, ◌*◌, ◌≤◌, Bool, true, List, [], ◌∷◌, ◌++◌, length, take, drop, map, sym, refl, ap, ◌∙◌, arith, append_assoc, append-nil, length-append, eq-eqb}
+use Rattle.std.proofs.Common.{ℕ, zero, suc, ◌≡◌, ◌+◌, ◌*◌, ◌≤◌, Bool, true, List, [], ◌∷◌, ◌++◌, length, take, drop, map, sym, refl, ap, ◌∙◌, arith, append_assoc, append-nil, length-append, eq-eqb}
 use Rattle.std.specs.Prelude.{Option, Some, None, ◌==◌, ◌||◌, nat_le, cond}
 use Rattle.std.specs.List.{AllByRecursion}
 use Rattle.std.proofs.lemmas.Bool.{le-leb, lt-ltb}
@@ -10,9 +10,9 @@ use Rattle.onll_model.specs.Names.{name_of, words_of_node}
 use Rattle.onll_model.specs.Segment.{Segment}
 use Rattle.onll_model.proofs.Names.{node_of_its_name}
 use Rattle.onll_log.specs.declared.head.LogHead.{LogHead}
-use Rattle.onll_log.specs.Head.{word, log_magic, head_line, head_of, is_head, FitsHead}
+use Rattle.onll_log.specs.Head.{log_magic, head_line, head_of, is_head, FitsHead}
 use Rattle.onll_log.specs.Encoding.{guard, entry_front, entry_line, entry_lines, entries_lines, log_lines, node_lines, FitsNode, FitsEntry, FitEntries}
-use Rattle.onll_log.specs.Grammar.{all_named, is_entry, node_of_line, segment_of, entries_from, Content, are_zero_lines, content_of, lines_in, used_with}
+use Rattle.onll_log.specs.Grammar.{all_named, is_entry, node_of_line, segment_of, entries_from, Content, are_zero_lines, content_of, lines_in}
 use Rattle.onll_log.proofs.Accepted.{and_true, is_entry-Accepted, entries_from-entry, entries_from-none, is_entry-no_magic}
 
 -- ---- the head
@@ -26,14 +26,6 @@ pub is_head-head_line : (head : LogHead) → FitsHead head → is_head (head_lin
 is_head-head_line head f =
     and_true _ _ (eq-eqb log_magic log_magic refl) (and_true _ _ (format_test head.format f.format.0 f.format.1) (and_true _ _ (lt-ltb _ _ f.thread)
     (and_true _ _ (le-leb _ _ f.threads) (and_true _ _ (le-leb _ _ f.object.0) (le-leb _ _ f.object.1)))))
-
--- different heads have different lines
-pub head_line-differs : (a b : LogHead) → a ≢ b → head_line a ≢ head_line b
-head_line-differs a b n e = n (ap head_of e)
-
--- so the heads of the two formats have
-pub head_line-formats : (a b : LogHead) → a.format ≢ b.format → head_line a ≢ head_line b
-head_line-formats a b n e = n (ap (λ (line : List ℕ). word line 1) e)
 
 pub head_of-head_line : (head : LogHead) → head_of (head_line head) ≡ head
 head_of-head_line head = refl
@@ -157,9 +149,6 @@ FitEntries-append threads (s ∷ ss) more f g = (f.0, FitEntries-append threads 
 pub lines_in-append : (ss more : List Segment) → lines_in (ss ++ more) ≡ lines_in ss + lines_in more
 lines_in-append [] more = omega arith
 lines_in-append (s ∷ ss) more = let h = lines_in-append ss more in omega arith
-
-pub used_with-append : (head : LogHead) (ss more : List Segment) → used_with (Some head) (ss ++ more) ≡ used_with (Some head) ss + lines_in more
-used_with-append head ss more = let h = lines_in-append ss more in omega arith
 
 -- ---- how many lines
 pub length-entry_lines : (head : LogHead) (before : ℕ) (s : Segment) → length (entry_lines head before s) ≡ suc (length s.nodes)

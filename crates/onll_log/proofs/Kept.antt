@@ -2,7 +2,7 @@
 use Rattle.std.proofs.Common.{ℕ, zero, suc, ◌≡◌, ◌+◌, ◌-◌, ◌*◌, ◌^◌, ◌<◌, ◌≤◌, Bool, true, false, true≢false, List, [], ◌∷◌, ◌++◌, length, get_or, take, drop, sym, refl, ap, ◌∙◌, subst, arith, append-nil, length-append, Result, Ok, Err}
 use Rattle.std.specs.Prelude.{OnOk, OnErr, Option, Some, is_err}
 use Rattle.std.specs.List.{All}
-use Rattle.std.proofs.lemmas.List.{length-map, length-replicate, get_or-append_right, get_or-replicate, take_at}
+use Rattle.std.proofs.lemmas.List.{length-map, length-replicate, take_at}
 use Rattle.std.proofs.Math.Seq.{take-append_seam}
 use Rattle.std.proofs.lemmas.List.Elements.{recursion_from_All}
 use Rattle.onll_model.specs.declared.node.Node.{Node}
@@ -44,11 +44,6 @@ used_of_log d head ss broken h =
 
 pub held_by_used : (head : LogHead) (ss : List Segment) → FitsHead head → FitEntries head.threads ss → Holds (log_lines head ss) head ss
 held_by_used head ss h f = ap content_of (sym (append-nil (log_lines head ss))) ∙ Holds-log_image head ss 0 h f
-
--- after the last entry all is zero
-pub line_at-log_image : (head : LogHead) (ss : List Segment) (zeros line : ℕ) → 1 + lines_in ss ≤ line → line < 1 + lines_in ss + zeros → line_at (log_image head ss zeros) line ≡ zero_line
-line_at-log_image head ss zeros line after before =
-    get_or-append_right (log_lines head ss) (zero_lines zeros) (1 + lines_in ss) line [] (length-log_lines head ss) after ∙ get_or-replicate zeros (line - (1 + lines_in ss)) zero_line [] (omega arith)
 
 -- ---- one entry more
 pub lines_in-more : (ss : List Segment) (s : Segment) → lines_in (ss ++ s ∷ []) ≡ lines_in ss + suc (length s.nodes)

@@ -15,3 +15,4 @@ pub mod Writing
 pub mod Kept
 pub mod Deciding
 pub mod Surveys
+pub mod NewHeads

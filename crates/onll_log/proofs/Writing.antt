@@ -1,5 +1,5 @@
 -- Lines that are written and handed over to the next fence.
-use Rattle.std.proofs.Common.{ℕ, zero, suc, ◌≡◌, ◌+◌, ◌-◌, ◌<◌, ◌≤◌, ◌==◌, true, false, true≢false, List, [], ◌∷◌, ◌++◌, length, get_or, set, replicate, take, sym, refl, ap, ◌∙◌, subst, arith, ◌≢◌, eqb-true}
+use Rattle.std.proofs.Common.{ℕ, zero, suc, ◌≡◌, ◌+◌, ◌-◌, ◌<◌, ◌≤◌, ◌==◌, true, false, List, [], ◌∷◌, ◌++◌, length, get_or, set, replicate, take, sym, refl, ap, ◌∙◌, subst, arith, eqb-true}
 use Rattle.std.specs.Prelude.{Option, Some, None}
 use Rattle.std.proofs.lemmas.List.{ext_get_or, get_or-replicate, length-replicate, length-map, length-take-le, map_more}
 use Rattle.std.proofs.Math.Seq.{get_or-append_right}
@@ -14,7 +14,7 @@ use Rattle.onll_log.specs.Encoding.{node_lines}
 use Rattle.onll_log.specs.Grammar.{is_zero_line}
 use Rattle.onll_log.specs.Log.{placed_lines, PutsLines}
 use Rattle.onll_log.proofs.Accepted.{both_true}
-use Rattle.onll_log.proofs.Placed.{placed_lines-none, placed_lines-one, placed_lines-append, length-placed_lines}
+use Rattle.onll_log.proofs.Placed.{placed_lines-one, placed_lines-append}
 
 -- ---- lines of zeros
 zero_words : (n : ℕ) (ws : List ℕ) → length ws ≡ n → is_zero_line ws ≡ true → ws ≡ replicate n 0
@@ -25,9 +25,6 @@ zero_words (suc n) (w ∷ ws) l e = let h = both_true (w == 0) (is_zero_line ws)
 
 pub zero_line-test : (ws line : List ℕ) → ws ≡ line → length ws ≡ 8 → is_zero_line ws ≡ true → line ≡ zero_line
 zero_line-test ws line e l t = sym e ∙ zero_words 8 ws l t
-
-pub dirty-test : (ws line : List ℕ) → ws ≡ line → is_zero_line ws ≡ false → line ≢ zero_line
-dirty-test ws line e f z = true≢false (sym (ap is_zero_line (e ∙ z)) ∙ f)
 
 pub zero_lines-each : (lines : List (List ℕ)) → ((line : ℕ) → line < length lines → line_at lines line ≡ zero_line) → lines ≡ zero_lines (length lines)
 zero_lines-each lines h = ext_get_or [] lines (zero_lines (length lines)) (sym (length-replicate (length lines) zero_line)) (λ line l. h line l ∙ sym (get_or-replicate (length lines) line zero_line [] l))
@@ -65,10 +62,6 @@ Puts-one old mid new line value l read fences faults told read2 fences2 faults2 
       fenced = λ durable s. subst (λ (t : Option Told). ToldSettled t durable) told_is (ToldSettled-put old.told line durable s);
     }
 
--- ---- more lines
-pub Puts-none : (d : DeviceView) (from : ℕ) → PutsLines d d from []
-Puts-none d from = record { read = sym (placed_lines-none d.read from); fences = refl; faults = refl; backed = λ a. a; fenced = λ durable s. s }
-
 pub Puts-then : (old mid new : DeviceView) (from next : ℕ) (xs ys : List (List ℕ)) → from + length xs ≤ length old.read → next ≡ from + length xs
     → PutsLines old mid from xs → PutsLines mid new next ys → PutsLines old new from (xs ++ ys)
 Puts-then old mid new from next xs ys l e p q = record {
@@ -78,9 +71,6 @@ Puts-then old mid new from next xs ys l e p q = record {
   backed = λ a. q.backed (p.backed a);
   fenced = λ durable s. q.fenced durable (p.fenced durable s);
 }
-
-pub length-Puts : (old new : DeviceView) (from : ℕ) (lines : List (List ℕ)) → PutsLines old new from lines → from + length lines ≤ length old.read → length new.read ≡ length old.read
-length-Puts old new from lines p l = ap length p.read ∙ length-placed_lines old.read from lines l
 
 -- the line of one node more
 pub Puts-node : (old mid new : DeviceView) (from i : ℕ) (nodes : List Node) (d : Node) (value : List ℕ) → from + length nodes ≤ length old.read → i < length nodes → value ≡ words_of_node (get_or nodes i d)

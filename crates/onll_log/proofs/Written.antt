@@ -142,10 +142,6 @@ SomeWritten-entries_from (suc fuel) head before (h ∷ ls) l e =
     (λ (t : is_entry head before h ls ≡ false). SomeWritten-none head before h ls t)
     (cases_Bool (is_entry head before h ls))
 
--- so what is accepted fits
-pub FitEntries-entries_from : (head : LogHead) (before : ℕ) (lines : List (List ℕ)) → AreLines lines → FitEntries head.threads (entries_from head before 0 lines)
-FitEntries-entries_from head before lines eights = (SomeWritten-entries_from (length lines) head before lines (omega arith) eights).1.fit
-
 -- ---- an image
 IsWritten-head : (line : List ℕ) (rest : List (List ℕ)) → IsLine line → AreLines rest → is_head line ≡ true → IsWritten (line ∷ rest) (head_of line) (entries_from (head_of line) 0 0 rest)
 IsWritten-head line rest eight eights e =

@@ -1,4 +1,4 @@
-use Rattle.std.specs.Prelude.{ℕ, zero, suc, ◌≤◌, ◌<◌, ◌≡◌, ◌==◌, ◌&&◌, ◌||◌, ◌++◌, Bool, List, [], ◌∷◌, length, take, drop, nat_le, nat_lt, slice_index_or}
+use Rattle.std.specs.Prelude.{ℕ, zero, suc, ◌≤◌, ◌<◌, ◌≡◌, ◌+◌, ◌==◌, ◌&&◌, ◌||◌, ◌++◌, Bool, List, [], ◌∷◌, length, take, drop, nat_le, nat_lt, slice_index_or}
 use Rattle.onll_model.specs.Limits.{most_threads, greatest_code}
 use Rattle.sha2.specs.Sha256.{sha256}
 use Rattle.onll_words.specs.Lines.{bytes_of_words}
@@ -47,6 +47,18 @@ pub record FitsHead (head : LogHead) : Type 0 where
   pub object : (1 ≤ head.object) × (head.object ≤ greatest_code)
   pub format : (1 ≤ head.format) × (head.format ≤ 2)
   pub digest : length head.digest ≡ 3
+
+-- the head of the log of thread t, one of so many, of the newest format
+pub record IsThreadHead (count t : ℕ) (head : LogHead) : Type 0 where
+  pub thread : head.thread ≡ t
+  pub threads : head.threads ≡ count
+  pub format : head.format ≡ 2
+  pub fits : FitsHead head
+
+-- the heads of the logs of threads, in their order, the first of them thread t
+abbrev pub AreHeads : ℕ → ℕ → List LogHead → Type 0
+AreHeads count t [] = Unit {0}
+AreHeads count t (head ∷ heads) = IsThreadHead count t head × AreHeads count (t + 1) heads
 
 -- whether a line is the head of a log of either format
 abbrev pub is_head : List ℕ → Bool

@@ -1,6 +1,6 @@
 //! A message that is digested, and the words of its digest.
 
-ghost use Rattle.std.specs.Prelude.{◌≡◌, List, ℕ, ◌++◌, [], length};
+ghost use Rattle.std.specs.Prelude.{◌≡◌, List, ℕ, ◌++◌, []};
 ghost use Rattle.onll_words.specs.Lines.{bytes_of_words};
 ghost use Rattle.onll_log.specs.Head.{digest_words};
 ghost use Rattle.onll_log.specs.Digest.{IsMessage};

@@ -1,9 +1,9 @@
 //! Decoding an image of a log.
 
-ghost use Rattle.std.specs.Prelude.{◌≡◌, ℕ, ◌+◌, ◌*◌, ◌<◌, ◌≤◌, ◌^◌, ◌==◌, length, map, take, drop, true, Some, None, IfOk, OnOk, IfErr, MatchResult};
+ghost use Rattle.std.specs.Prelude.{◌≡◌, ◌+◌, ◌<◌, ◌≤◌, ◌==◌, length, map, take, drop, true, Some, None, IfOk, IfErr};
 ghost use Rattle.onll_model.specs.Limits.{most_threads};
 ghost use Rattle.onll_pmem.specs.Pmem.{words_of};
-ghost use Rattle.onll_log.specs.Head.{is_head, head_of, word};
+ghost use Rattle.onll_log.specs.Head.{word};
 ghost use Rattle.onll_log.specs.Grammar.{all_named, is_entry, node_of_line, segment_of, entries_from, is_zero_line, are_zero_lines, content_of, used_by};
 ghost use Rattle.onll_log.specs.declared.image.DecodeFault.TheVariants.{NoMemory};
 ghost use Rattle.onll_log.specs.Decoded.{segment_in, segments_in, content_in, placed_from, Refuses};

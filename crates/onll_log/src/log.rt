@@ -1,17 +1,16 @@
 //! The log of a thread over its device.
 
-ghost use Rattle.std.specs.Prelude.{◌≡◌, ℕ, ◌+◌, ◌-◌, ◌*◌, ◌^◌, ◌<◌, ◌≤◌, ◌⊎◌, List, [], ◌∷◌, ◌++◌, length, take, drop, true, false, is_err, IfNone, IfSome, IfOk, IfErr, OnOk, OnErr, Some};
+ghost use Rattle.std.specs.Prelude.{◌≡◌, ℕ, ◌+◌, ◌-◌, ◌*◌, ◌^◌, ◌<◌, ◌≤◌, ◌⊎◌, [], ◌∷◌, ◌++◌, length, take, false, is_err, IfNone, IfSome, IfOk, IfErr, OnOk, OnErr, Some};
 ghost use Rattle.std.specs.Cow.{cow_slice_items};
 ghost use Rattle.onll_model.specs.Limits.{most_threads, most_updates};
 ghost use Rattle.std.specs.List.{All};
 ghost use Rattle.onll_model.specs.Segment.{Segment, last_place};
-ghost use Rattle.onll_pmem.specs.Device.{line_at, zero_line, zero_lines, FillsLines};
+ghost use Rattle.onll_pmem.specs.Device.{line_at, zero_line, zero_lines};
 ghost use Rattle.onll_pmem.specs.Pmem.{words_of, ToldBacked, ToldSettled};
 ghost use Rattle.onll_log.specs.Head.{FitsHead};
 ghost use Rattle.onll_log.specs.Decoded.{segments_in, content_in};
 ghost use Rattle.onll_log.specs.Encoding.{log_lines, node_lines, entry_lines, CanHold};
 ghost use Rattle.onll_log.specs.Grammar.{content_of, lines_in};
-ghost use Rattle.onll_log.specs.Torn.{log_image};
 ghost use Rattle.onll_log.specs.Log.{free_of, IsNewest, EndsInZeros, HoldsLog, PutsLines, IsDirty, IsClean, IsMade, IsHeaderPending, NotMade, Appends};
 
 use crate::cause::MakeCause;

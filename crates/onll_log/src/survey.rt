@@ -1,6 +1,6 @@
 //! A log's entries seen as a whole.
 
-ghost use Rattle.std.specs.Prelude.{◌≡◌, ◌+◌, ◌-◌, ◌*◌, ◌<◌, ◌^◌, ◌∷◌, suc, List, length};
+ghost use Rattle.std.specs.Prelude.{◌≡◌, ◌+◌, ◌-◌, ◌<◌, ◌^◌, ◌∷◌, suc, List, length};
 ghost use Rattle.std.specs.Option.{option_or};
 ghost use Rattle.onll_model.specs.Segment.{Segment};
 ghost use Rattle.onll_log.specs.Survey.{disorder_from, survey_of, with_entry, entries_known};

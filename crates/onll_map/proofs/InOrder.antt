@@ -72,7 +72,3 @@ puts_rest done (p ∷ ps) room h =
     ap (λ (s : Entries). puts s ps) (map_next-in_order done ps p.0 p.1 room h)
     ∙ puts_rest (done ++ p ∷ []) ps room (subst (λ (xs : Pairs). IsMap (record { pairs = xs; room = room })) (sym regrouped) h)
     ∙ ap (λ (xs : Pairs). record { pairs = xs; room = room }) regrouped
-
--- a map is its pairs put in turn into an empty one
-pub puts-pairs : (s : Entries) → IsMap s → puts (record { pairs = []; room = s.room }) s.pairs ≡ s
-puts-pairs s h = puts_rest [] s.pairs s.room h

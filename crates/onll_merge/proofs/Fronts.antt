@@ -98,7 +98,7 @@ Has-lies (c ∷ cs) p h = let P : Option Node → Type 0 = λ o. (x : Node) × (
     (LiesIn-append p c.entries (all_segments cs) h)
 
 -- ---- no refusal
-same_head-self : (h : LogHead) → same_head h h ≡ true
+pub same_head-self : (h : LogHead) → same_head h h ≡ true
 same_head-self h = ap (λ (b : Bool). b && ((h.threads == h.threads) && ((h.object == h.object) && (same_words h.digest h.digest && (h.format == h.format))))) (eq-eqb h.thread h.thread refl)
     ∙ (ap (λ (b : Bool). b && ((h.object == h.object) && (same_words h.digest h.digest && (h.format == h.format)))) (eq-eqb h.threads h.threads refl)
     ∙ (ap (λ (b : Bool). b && (same_words h.digest h.digest && (h.format == h.format))) (eq-eqb h.object h.object refl)
@@ -108,7 +108,7 @@ fits_run-same : (o : Option LogHead) (h : LogHead) → IfSome o (λ head. head �
 fits_run-same None h e = refl
 fits_run-same (Some head) h e = ap (λ (z : LogHead). same_head z h) e ∙ same_head-self h
 
-no_foreign : (i : ℕ) (cs : List Content) (hs : List LogHead) → HeadsFit cs hs → foreign i cs hs ≡ None
+pub no_foreign : (i : ℕ) (cs : List Content) (hs : List LogHead) → HeadsFit cs hs → foreign i cs hs ≡ None
 no_foreign i [] hs f = refl
 no_foreign i (c ∷ cs) [] f = refl
 no_foreign i (c ∷ cs) (h ∷ hs) f = ap (λ (b : Bool). cond {A = Option RecoverFault} b (foreign (suc i) cs hs) (Some (NotThisRun i))) (fits_run-same c.head h f.0) ∙ no_foreign (suc i) cs hs f.1

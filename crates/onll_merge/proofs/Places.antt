@@ -55,13 +55,6 @@ Rises-above last [] k d r l = absurd (omega arith)
 Rises-above last (e ∷ es) zero d r l = r.0
 Rises-above last (e ∷ es) (suc k) d r l = let h = Rises-above e.place es k d r.1 (omega arith) in let g = r.0 in omega arith
 
-pub Rises-along : (last : ℕ) (es : List Entry) (i j : ℕ) (d : Entry) → Rises last (segments_in es) → i ≤ j → j < length es → (get_or es i d).place ≤ (get_or es j d).place
-Rises-along last [] i j d r l m = absurd (omega arith)
-Rises-along last (e ∷ es) zero zero d r l m = omega arith
-Rises-along last (e ∷ es) zero (suc j) d r l m = let h = Rises-above e.place es j d r.1 (omega arith) in omega arith
-Rises-along last (e ∷ es) (suc i) zero d r l m = absurd (omega arith)
-Rises-along last (e ∷ es) (suc i) (suc j) d r l m = Rises-along e.place es i j d r.1 (omega arith) (omega arith)
-
 -- the first entry that ends above `place` holds no place below its own
 pub node_in_log-between : (es : List Entry) (place at q : ℕ) (d : Entry) → Rises 0 (segments_in es) → at < length es → ((k : ℕ) (d : Entry) → k < at → (get_or es k d).place < place + 1)
     → place < q → q + length (get_or es at d).nodes ≤ (get_or es at d).place → node_in_log (segments_in es) q ≡ None

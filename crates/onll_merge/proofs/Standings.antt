@@ -88,11 +88,6 @@ pub stand_higher : (p q : ℕ) (cursors : List CursorState) → p ≤ q → Stan
 stand_higher p q cursors l h =
     all_weaker (StandsBelow p) (StandsBelow q) (λ c. all_weaker (λ (s : Segment). s.place < p) (λ (s : Segment). s.place < q) (λ s k. omega (arith, k, l)) (entries_passed c)) cursors h
 
--- cursors before the first entry stand below all places
-pub stand_first : (p : ℕ) (cursors : List CursorState) → AllByRecursion (λ (c : CursorState). c.passed ≡ 0) cursors → StandBelow p cursors
-stand_first p [] h = tt
-stand_first p (c ∷ cursors) h = (subst (λ (n : ℕ). AllByRecursion (λ (s : Segment). s.place < p) (take n c.content.entries)) (sym h.0) tt, stand_first p cursors h.1)
-
 -- the entries of each image rise
 pub rise_at : (cursors : List CursorState) (i : ℕ) (d : CursorState) → AllRise (contents_under cursors) → i < length cursors → Rises 0 (get_or cursors i d).content.entries
 rise_at [] i d h l = absurd (omega arith)

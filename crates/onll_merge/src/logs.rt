@@ -2,7 +2,7 @@
 
 ghost use Rattle.std.specs.Prelude.{◌≡◌, ℕ, ◌+◌, ◌<◌, ◌≤◌, ◌⊎◌, length, drop, Some, None, IfOk, OnOk, MatchResult};
 ghost use Rattle.onll_model.specs.Limits.{most_threads};
-ghost use Rattle.onll_merge.specs.Merge.{AllRise, contents_in, fits_run, foreign, unlike, disorder, top_of, node_in_logs, nodes_to, first_to, differs, clash_at, gap_at};
+ghost use Rattle.onll_merge.specs.Merge.{AllRise, contents_in, fits_run, foreign, unlike, disorder, top_of, node_in_logs, nodes_to, first_to, differs, clash_at};
 ghost use Rattle.onll_merge.specs.Passed.{ArePassedInAll};
 ghost use Rattle.onll_merge.specs.declared.fault.RecoverFault.TheVariants.{NoMemory};
 

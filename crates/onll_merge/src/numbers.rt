@@ -6,7 +6,7 @@ ghost use Rattle.onll_model.specs.Trace.{is_of_thread};
 ghost use Rattle.onll_merge.specs.Merge.{stray_above};
 
 use crate::fault::RecoverFault;
-use onll_model::Node;
+use onll_model::{MOST_THREADS, Node};
 
 /// How many of these nodes are the thread's.
 fn count_own(nodes: &[Node], thread: u64) -> u64
@@ -16,7 +16,7 @@ fn count_own(nodes: &[Node], thread: u64) -> u64
 }
 
 /// The same where it is known of each thread that a run can have.
-fn count_known(counts: &[u64; 16], nodes: &[Node], thread: u64) -> u64
+fn count_known(counts: &[u64; MOST_THREADS as usize], nodes: &[Node], thread: u64) -> u64
     requires { (t : ℕ) → t < most_threads → get_or counts.now t 0 ≡ count_by (is_of_thread t) nodes.now }
     ensures { result ≡ count_by (is_of_thread thread) nodes.now }
 {
@@ -30,7 +30,7 @@ fn count_known(counts: &[u64; 16], nodes: &[Node], thread: u64) -> u64
 pub fn check_numbers(nodes: &[Node]) -> Result<(), RecoverFault>
     ensures { MatchResult result (λ _. stray_above [] nodes.now ≡ None) (λ e. stray_above [] nodes.now ≡ Some e) }
 {
-    let mut counts = [0u64; 16];
+    let mut counts = [0u64; MOST_THREADS as usize];
     for (below, node) in nodes.iter().enumerate() {
         let wanted = count_known(&counts, &nodes[..below], node.thread) + 1;
         if node.number != wanted {
@@ -41,7 +41,7 @@ pub fn check_numbers(nodes: &[Node]) -> Result<(), RecoverFault>
                 wanted,
             });
         }
-        if node.thread < 16 {
+        if node.thread < MOST_THREADS {
             counts[node.thread as usize] = wanted;
         }
     }

@@ -1,8 +1,6 @@
 //! Counting over files, in one era after the other.
 
 ghost use Rattle.std.specs.Prelude.{IfOk, IfErr};
-ghost use Rattle.onll_rows.specs.Sketch.{behaviour_of};
-ghost use Rattle.onll_meter.specs.Meter.{meter, zero};
 ghost use Rattle.onll_meter.specs.Metering.{CannotLiveOn, HasLivedOn};
 
 use crate::clerk::{Clerk, Tally};

@@ -1,4 +1,4 @@
-use Rattle.std.proofs.Common.{ℕ, List, [], ◌∷◌, ◌++◌, ◌≡◌, ◌+◌, ◌-◌, ◌≤◌, ◌<◌, None, length, take, refl, sym, ap, ◌∙◌, arith, append_assoc, length-append, count_by, cond}
+use Rattle.std.proofs.Common.{ℕ, List, [], ◌∷◌, ◌++◌, ◌≡◌, ◌+◌, ◌-◌, ◌≤◌, ◌<◌, None, length, take, refl, sym, ap, ◌∙◌, arith, append_assoc, length-append, count_by, cond, Option, Some, IsSome}
 use Rattle.std.proofs.Math.Seq.{take-append_seam}
 use Rattle.std.proofs.lemmas.List.Sums.{sum_by-append}
 use Rattle.std.specs.List.{AllByRecursion}
@@ -12,6 +12,7 @@ use Rattle.onll_model.specs.Legal.{placed_updates, placed_rows, EachEnd, EachLat
 use Rattle.onll_model.specs.Fold.{fold_trace, fold_ends, fold_state}
 use Rattle.onll_model.specs.FoldLaws.{AreAnswered}
 use Rattle.onll_model.proofs.States.{state_after-append}
+use Rattle.onll_model.specs.Recovered.{operations_front, where_some}
 
 -- the updates stand at the places of their nodes
 fold_places : {State Op Query Reply : Type 0} (b : Behaviour State Op Query Reply) (s : State) (n : ℕ) (calls : List (Call State Op Query Reply))
@@ -121,3 +122,14 @@ pub fold_reaches : {State Op Query Reply : Type 0} (b : Behaviour State Op Query
 fold_reaches b s n [] = refl
 fold_reaches b s n (Update op ∷ calls) = fold_reaches b (b.next s op) (n + 1) calls ∙ ap (λ o. state_after b (after_row b s o) (fold_trace b (n + 1) calls)) (sym (b.op_of_its_row op))
 fold_reaches b s n (Ask query ∷ calls) = fold_reaches b s n calls
+
+-- ---- rows
+-- nodes all of whose rows are operations
+pub where_same : {A : Type 0} (o : Option A) (n : Node) (front nodes : List Node) → where_some o (n ∷ front) ≡ n ∷ nodes → IsSome o × (front ≡ nodes)
+where_same None n front nodes e = (cc)
+where_same (Some x) n front nodes e = (refl, (cc))
+
+pub all_operations : {State Op Query Reply : Type 0} (b : Behaviour State Op Query Reply) (nodes : List Node) → operations_front b nodes ≡ nodes → AllByRecursion (λ (n : Node). IsSome (b.op_at n.row)) nodes
+all_operations b [] e = tt
+all_operations b (n ∷ nodes) e =
+    let found = where_same (b.op_at n.row) n (operations_front b nodes) nodes e in (found.0, all_operations b nodes found.1)

@@ -6,7 +6,7 @@ use Rattle.onll_model.specs.Trace.{node_at}
 use Rattle.onll_model.specs.Segment.{Segment, LiesIn, Covers, Rises, last_place, nodes_between}
 use Rattle.onll_model.specs.Frames.{Frame, Thread, Activity, Rest, Walk, Logging, Fenced, Sound, IsLast, IsAvailable, is_available, AreApart, IsSoundSegment, IsWindow, fenced_segments, segments_of, open_at, open_place, IsSettled, IsPending, Follows}
 use Rattle.onll_model.specs.Events.{with_thread, with_flag, resting_at, window, logging, fencing, stuck_at}
-use Rattle.onll_model.proofs.Lists.{same_some, inside, at_window, length_window, all_append, all_left, all_right, all_map}
+use Rattle.onll_model.proofs.Lists.{same_some, at_window, length_window, all_append, all_left, all_right, all_map}
 use Rattle.onll_model.proofs.Segments.{covers_still, rises_snoc, last_snoc, lies_left, lies_right, lies_of_thread}
 use Rattle.onll_model.proofs.Traces.{node_place, few_nodes}
 use Rattle.onll_model.proofs.Flags.{flag_set}

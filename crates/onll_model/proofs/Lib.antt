@@ -17,3 +17,6 @@ pub mod Looks
 pub mod StandOrder
 pub mod FrameExample
 pub mod Placed
+pub mod LegalRows
+pub mod Counting
+pub mod Listed

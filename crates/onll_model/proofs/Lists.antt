@@ -64,6 +64,16 @@ module _ {A : Type 0} where
   at_end [] x = refl
   at_end (y ∷ xs) x = at_end xs x
 
+  pub length_dropped : (m : ℕ) (xs : List A) → m ≤ length xs → m + length (drop m xs) ≡ length xs
+  length_dropped zero xs low = omega arith
+  length_dropped (suc m) [] low = absurd (omega (arith, low))
+  length_dropped (suc m) (x ∷ xs) low = let rest = length_dropped m xs (omega (arith, low)) in omega (arith, rest)
+
+  pub get_dropped : (m : ℕ) (xs : List A) (i : ℕ) → slice_get (drop m xs) i ≡ slice_get xs (m + i)
+  get_dropped zero xs i = let z : i ≡ 0 + i = omega arith in ap (slice_get xs) z
+  get_dropped (suc m) [] i = refl
+  get_dropped (suc m) (x ∷ xs) i = let z : suc m + i ≡ suc (m + i) = omega arith in get_dropped m xs i ∙ sym (ap (slice_get (x ∷ xs)) z)
+
   pub take_before : (xs ys : List A) (p : ℕ) → p ≤ length xs → take p (xs ++ ys) ≡ take p xs
   take_before xs ys zero l = refl
   take_before [] ys (suc p) l = absurd (omega arith)

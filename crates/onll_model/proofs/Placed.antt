@@ -8,7 +8,7 @@ use Rattle.onll_model.specs.declared.call.CallEnd.{CallEnd}
 use Rattle.onll_model.specs.Object.{Behaviour}
 use Rattle.onll_model.specs.Trace.{node_at, is_of_thread}
 use Rattle.onll_model.specs.Legal.{place_in, at_place, placed_updates, placed_rows, EachEnd}
-use Rattle.onll_model.proofs.Lists.{same_some, some_not_none}
+use Rattle.onll_model.proofs.Lists.{same_some, some_not_none, get_dropped}
 
 -- An update that has a place has its node there.
 
@@ -79,11 +79,6 @@ row_at t below (n ∷ nodes) row place h = by (is_of_thread t n) refl (λ k. row
     by true e rest k = ⊎_elim
         (λ (same : (row, place) ≡ (n.row, below + 1)). let p = ap (λ z. z.1) same in record { index = 0; node = n; here = refl; place_is = omega arith; own = eqb-true n.thread t e; row_is = sym (ap (λ z. z.0) same) })
         (λ (more : IsIn (row, place) (placed_rows t (below + 1) nodes)). later (rest more)) k
-
-get_dropped : (n : ℕ) (xs : List Node) (i : ℕ) → slice_get (drop n xs) i ≡ slice_get xs (n + i)
-get_dropped zero xs i = let z : i ≡ 0 + i = omega arith in ap (slice_get xs) z
-get_dropped (suc n) [] i = refl
-get_dropped (suc n) (x ∷ xs) i = let z : suc n + i ≡ suc (n + i) = omega arith in get_dropped n xs i ∙ sym (ap (slice_get (x ∷ xs)) z)
 
 -- where a thread's placed updates are its nodes above the base, each stands at its place
 pub own_node : {State Op Query Reply : Type 0} (b : Behaviour State Op Query Reply) (base : ℕ) (trace : List Node) (t : ℕ) (calls : List (Call State Op Query Reply)) (ends : List (CallEnd State Op Query Reply))

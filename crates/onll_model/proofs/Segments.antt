@@ -42,11 +42,6 @@ pub lies_at : (q : ℕ) (ss : List Segment) → LiesIn q ss → (i : ℕ) × (s 
 lies_at q [] h = absurd h
 lies_at q (s ∷ ss) h = ⊎_elim (λ (w : Within q s). (0, s, refl, w)) (λ (l : LiesIn q ss). let r = lies_at q ss l in (suc r.0, r.1, r.2, r.3)) h
 
-pub lies_from : (q : ℕ) (ss : List Segment) (i : ℕ) (s : Segment) → slice_get ss i ≡ Some s → Within q s → LiesIn q ss
-lies_from q [] i s e w = some_not_none s (sym e)
-lies_from q (x ∷ ss) zero s e w = inl (subst (Within q) (sym (same_some x s e)) w)
-lies_from q (x ∷ ss) (suc i) s e w = inr (lies_from q ss i s e w)
-
 -- what lies in a thread's fenced segments lies in those of all
 pub lies_of_thread : (q : ℕ) (ths : List Thread) (t : ℕ) (th : Thread) → slice_get ths t ≡ Some th → LiesIn q th.fenced → LiesIn q (fenced_segments ths)
 lies_of_thread q [] t th e l = some_not_none th (sym e)

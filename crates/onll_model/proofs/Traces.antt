@@ -67,10 +67,6 @@ numbered_above_from below (y ∷ xs) h = (
   numbered_above_from (below ++ y ∷ []) xs (λ i x e. h (suc i) x e ∙ ap (λ (l : List Node). count_by (is_of_thread x.thread) l + 1) (sym (append_assoc below (y ∷ []) (take i xs)))),
 )
 
--- and the other way round
-pub numbered_from : (trace : List Node) → ((p : ℕ) (x : Node) → node_at trace p ≡ Some x → x.number ≡ count_by (is_of_thread x.thread) (take (p - 1) trace) + 1) → IsNumbered trace
-numbered_from trace h = numbered_above_from [] trace (λ i x e. let k : suc i - 1 ≡ i = omega arith in subst (λ (n : ℕ). x.number ≡ count_by (is_of_thread x.thread) (take n trace) + 1) k (h (suc i) x e))
-
 -- nodes of different threads are no more than the threads
 
 abbrev Differ : List Node → Type 0

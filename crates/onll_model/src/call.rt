@@ -1,5 +1,9 @@
 //! The calls of a script, and what becomes of them.
 
+ghost use Rattle.std.specs.Prelude.{◌≡◌, ◌≤◌};
+ghost use Rattle.onll_model.specs.Limits.{most_updates};
+ghost use Rattle.onll_model.specs.Calls.{updates_in};
+
 use crate::object::Object;
 
 /// A call of a script. The calls of one script are made one after the other.
@@ -9,6 +13,20 @@ pub enum Call<O: Object> {
     Update(O::Op),
     /// A read. It has no node: it is answered from the state after those up to some place.
     Ask(O::Query),
+}
+
+/// How many of these calls are updates.
+pub fn count_updates<O: Object>(calls: &[Call<O>]) -> u64
+    requires { updates_in calls.now ≤ most_updates }
+    ensures { result ≡ updates_in calls.now }
+{
+    let mut updates = 0;
+    for call in calls {
+        if let Call::Update(_) = call {
+            updates += 1;
+        }
+    }
+    updates
 }
 
 /// What became of a call, as a report says it. The places of a trace are numbered from 1.

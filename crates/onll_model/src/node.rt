@@ -1,7 +1,7 @@
 //! The node of a trace, its name, and its line in a log.
 
 ghost use Rattle.std.specs.Prelude.{◌≡◌, ◌≤◌};
-ghost use Rattle.onll_model.specs.Names.{name_of, node_of_name, HasNumber, HasName, words_of_node};
+ghost use Rattle.onll_model.specs.Names.{name_of, node_of_name, HasName, words_of_node};
 
 use crate::limits::MOST_UPDATES;
 use onll_words::{Line, OpRow};

@@ -27,7 +27,8 @@ use Rattle.onll_outside.specs.Views.{StoreView}
 use Rattle.onll_shared.specs.Found.{content_held, head_held}
 use Rattle.onll_shared.specs.Passes.{OnllView, PassView, log_of, spot_of}
 use Rattle.onll_shared.specs.Starts.{IsWholeLogOf, HasBegun, IsNewcomer, room_of}
-use Rattle.onll_run.specs.Making.{AreHeads, StandsBy, AllCanOpen, AreOpen}
+use Rattle.onll_log.specs.Head.{AreHeads}
+use Rattle.onll_run.specs.Making.{StandsBy, AllCanOpen, AreOpen}
 use Rattle.onll_run.proofs.Headers.{opened_lines}
 use Rattle.onll_run.proofs.Merging.{SameEntries, merge_filled}
 use Rattle.onll_open.specs.Names.{log_name}

@@ -5,10 +5,10 @@ use Rattle.std.proofs.lemmas.List.{map-append, reverse-append, append_cancel_lef
 use Rattle.std.specs.List.{AllByRecursion}
 use Rattle.onll_model.proofs.Lists.{all_append}
 use Rattle.onll_pmem.specs.Pmem.{DeviceView}
-use Rattle.onll_outside.specs.Views.{StoreView, SameFiles, SameOthers, SameFaults, SameDevices, HandsBack, IsFresh, counted, one_fault}
+use Rattle.onll_outside.specs.Views.{StoreView, SameFiles, SameOthers, SameFaults, SameDevices, HandsBack, IsFresh, counted, one_fault, HandsEach, risen, fault_of, fences_in}
 use Rattle.onll_open.specs.Names.{log_name, log_names}
 use Rattle.onll_open.specs.Files.{SameBut, SameCounts}
-use Rattle.onll_open.specs.Devices.{HandsEach, NoneCounted, risen, fault_of, fences_in}
+use Rattle.onll_open.specs.Devices.{NoneCounted}
 
 pub faults_more : (store mid after : StoreView) → SameFaults store mid → SameFaults mid after → SameFaults store after
 faults_more store mid after first then_ = (then_.0 ∙ first.0, then_.1 ∙ first.1)

@@ -7,9 +7,9 @@ use Rattle.onll_pmem.specs.Pmem.{DeviceView}
 use Rattle.onll_log.specs.declared.head.LogHead.{LogHead}
 use Rattle.onll_log.specs.Grammar.{Content}
 use Rattle.onll_merge.specs.Recovered.{log_counts}
-use Rattle.onll_outside.specs.Views.{StoreView, counted}
+use Rattle.onll_outside.specs.Views.{StoreView, counted, HandsEach, risen, fault_of}
 use Rattle.onll_run.specs.Making.{HeaderFailed, HeadersTo}
-use Rattle.onll_open.specs.Devices.{HandsEach, HeadIs, risen, fault_of}
+use Rattle.onll_open.specs.Devices.{HeadIs}
 
 pub counted_twice : (n a b : ℕ) → counted (counted n a) b ≡ counted n (a + b)
 counted_twice n a b = omega arith

@@ -1,8 +1,9 @@
 -- Devices that are kept as files, one thread after the other.
 use Rattle.std.proofs.Common.{ℕ, zero, suc, List, [], ◌∷◌, ◌++◌, ◌≡◌, ◌+◌, ◌<◌, ◌^◌, ◌⊎◌, inl, inr, length, map, reverse, refl, sym, ap, ◌∙◌, subst, arith, append_assoc, append-nil, length-append, Err}
+use Rattle.std.specs.List.{AllByRecursion}
 use Rattle.std.proofs.lemmas.List.{map-append, length-map, reverse-append, reverse-reverse, length-reverse}
 use Rattle.onll_pmem.specs.Pmem.{DeviceView}
-use Rattle.onll_outside.specs.Views.{StoreView, SameFiles, SameOthers, SameFaults, SameDevices, HandsBack, HoldsImageOf, KeepsDevice, MayKeep, FaultsOf, Rose}
+use Rattle.onll_outside.specs.Views.{StoreView, SameFiles, SameOthers, SameFaults, SameDevices, HandsBack, HoldsImageOf, KeepsDevice, MayKeep, FaultsOf, Rose, HandsEach, risen, fault_of, fences_in}
 use Rattle.onll_outside.specs.declared.OutsideFault.{OutsideFault}
 use Rattle.onll_outside.specs.declared.OutsideFault.TheVariants.{Failed, NoMemory}
 use Rattle.onll_outside.specs.declared.store.FaultKind.{FaultKind}
@@ -13,9 +14,8 @@ use Rattle.onll_open.specs.Names.{log_name, log_names}
 use Rattle.onll_open.specs.Files.{SameBut, LogCallFailed, DeviceFaults, LogFaults}
 use Rattle.onll_open.specs.declared.fault.DeviceFault.{DeviceFault}
 use Rattle.onll_open.specs.declared.fault.DeviceFault.TheVariants as devices
-use Rattle.onll_open.specs.Devices.{HandsEach, risen, fault_of, fences_in}
 use Rattle.onll_open.specs.Faults.{fault_at}
-use Rattle.onll_open.specs.Keeping.{AreKept, AreKeptTo, AreAsBefore, KeepFails, device_in, devices_in}
+use Rattle.onll_open.specs.Keeping.{AreKept, AreKeptTo, MayKeepEach, KeepFails, device_in, devices_in}
 use Rattle.onll_open.proofs.Handing.{name_differs, others_on, HandedSo, map_reverse, handed_next}
 
 kept_stays : (name : List ℕ) (d : DeviceView) (mid new : StoreView) → new.tells ≡ mid.tells → new.file name ≡ mid.file name → KeepsDevice mid name d → KeepsDevice new name d
@@ -36,6 +36,10 @@ pub kept_same : (logs : List ℕ) (t : ℕ) (ds : List DeviceView) (mid new : St
 kept_same logs t [] mid new same h = tt
 kept_same logs t (d ∷ ds) mid new same h = (kept_stays (log_name logs t) d mid new same.tells (same.file (log_name logs t)) h.0, kept_same logs (suc t) ds mid new same h.1)
 
+-- each thread's file, from thread t on, is as it was
+abbrev AreAsBefore : List ℕ → ℕ → ℕ → StoreView → StoreView → Type 0
+AreAsBefore logs t threads old new = AllByRecursion (λ name. new.file name ≡ old.file name) (log_names logs t threads)
+
 later_none : (logs : List ℕ) (t n : ℕ) (store : StoreView) → AreAsBefore logs t n store store
 later_none logs t zero store = tt
 later_none logs t (suc n) store = (refl, later_none logs (suc t) n store)
@@ -51,11 +55,16 @@ later_next logs last t (suc n) old mid new less few others h =
     let differs : log_name logs t ≡ log_name logs last → ⊥ = λ same. let is = name_differs logs t last (omega (arith, few)) (omega (arith, less, few)) same in absurd (omega (arith, is, less)) in
     (others.file (log_name logs t) differs ∙ h.0, later_next logs last (suc t) n old mid new (omega (arith, less)) (omega (arith, few)) others h.1)
 
+-- files that are as they were may be those of any devices
+may_keep_later : (logs : List ℕ) (t : ℕ) (ds : List DeviceView) (old new : StoreView) → AreAsBefore logs t (length ds) old new → MayKeepEach logs t ds old new
+may_keep_later logs t [] old new h = tt
+may_keep_later logs t (d ∷ ds) old new h = ((λ on. inl h.0), may_keep_later logs (suc t) ds old new h.1)
+
 kept_to : (logs : List ℕ) (t last : ℕ) (fs : List DeviceView) (d : DeviceView) (ds : List DeviceView) (old new : StoreView) → t + length fs ≡ last → AreKept logs t fs new → MayKeep (log_name logs last) d old new
     → AreAsBefore logs (suc last) (length ds) old new → AreKeptTo logs t (fs ++ d ∷ ds) (length fs) old new
 kept_to logs t last [] d ds old new e kept may later =
     let here : last ≡ t = omega (arith, e) in
-    (subst (λ i. MayKeep (log_name logs i) d old new) here may, subst (λ i. AreAsBefore logs (suc i) (length ds) old new) here later)
+    (subst (λ i. MayKeep (log_name logs i) d old new) here may, may_keep_later logs (suc t) ds old new (subst (λ i. AreAsBefore logs (suc i) (length ds) old new) here later))
 kept_to logs t last (f ∷ fs) d ds old new e kept may later = (kept.0, kept_to logs (suc t) last fs d ds old new (omega (arith, e)) kept.1 may later)
 
 may_keep_since : (name : List ℕ) (d : DeviceView) (old mid new last : StoreView) → mid.file name ≡ old.file name → SameFiles new last → MayKeep name d mid new → MayKeep name d old last
@@ -184,9 +193,13 @@ module _ {Device : Type 0} (means : Device → DeviceView) where
       }
 
 -- ---- and then no file changes
+may_each_then : (logs : List ℕ) (t : ℕ) (ds : List DeviceView) (old mid new : StoreView) → SameFiles mid new → MayKeepEach logs t ds old mid → MayKeepEach logs t ds old new
+may_each_then logs t [] old mid new same h = tt
+may_each_then logs t (d ∷ ds) old mid new same h = (may_keep_since (log_name logs t) d old old mid new refl same h.0, may_each_then logs (suc t) ds old mid new same h.1)
+
 kept_to_then : (logs : List ℕ) (t : ℕ) (ds : List DeviceView) (kept : ℕ) (old mid new : StoreView) → SameFiles mid new → AreKeptTo logs t ds kept old mid → AreKeptTo logs t ds kept old new
 kept_to_then logs t [] kept old mid new same h = absurd h
-kept_to_then logs t (d ∷ ds) zero old mid new same h = (may_keep_since (log_name logs t) d old old mid new refl same h.0, later_since logs (suc t) (length ds) old mid new same h.1)
+kept_to_then logs t (d ∷ ds) zero old mid new same h = may_each_then logs t (d ∷ ds) old mid new same h
 kept_to_then logs t (d ∷ ds) (suc kept) old mid new same h = (kept_stays (log_name logs t) d mid new same.tells (same.file (log_name logs t)) h.0, kept_to_then logs (suc t) ds kept old mid new same h.1)
 
 pub fails_then : (logs : List ℕ) (ds : List DeviceView) (old mid new : StoreView) (thread : ℕ) (f : OutsideFault) → SameFiles mid new → SameFaults mid new → KeepFails logs ds old mid thread f → KeepFails logs ds old new thread f

@@ -1,5 +1,4 @@
 pub mod Handing
-pub mod NewHeads
 pub mod FirstEntries
 pub mod ReadImages
 pub mod Decoding

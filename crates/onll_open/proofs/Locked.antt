@@ -182,25 +182,6 @@ open_faults T logs threads old mid new last (NotReopened thread) first fs then_ 
 open_faults T logs threads old mid new last (HeaderFailed thread) first fs then_ same h = (same_within old mid new last first.0 then_.0 h.0, then_.1.0 ∙ h.1 ∙ (λ i. counted (first.1.0 i) 1))
 open_faults T logs threads old mid new last NoMemory first fs then_ same h = same_within old mid new last first.0 then_.0 h
 
-pub open_gives_back : (T : Type 0) (store : StoreView) (logs : List ℕ) (threads : ℕ) (old new : List (List ℕ)) (a b : StoreView) (fault : OpenFault) → AreFree store logs old → AreFree store logs new → HeldFaults {T = T} logs threads a b (Err fault)
-    → OpenLocks {T = T} store logs old new (Err fault)
-open_gives_back T store logs threads old new a b (Files files.InUse) first last h = absurd h
-open_gives_back T store logs threads old new a b (Files files.NotLocked) first last h = absurd h
-open_gives_back T store logs threads old new a b (Files (files.NotLog log)) first last h = (first, last)
-open_gives_back T store logs threads old new a b (Files (files.OldFormat log)) first last h = (first, last)
-open_gives_back T store logs threads old new a b (Files (files.Threads were)) first last h = (first, last)
-open_gives_back T store logs threads old new a b (Files (files.Gone log)) first last h = (first, last)
-open_gives_back T store logs threads old new a b (Files (files.NotOneRun fault)) first last h = (first, last)
-open_gives_back T store logs threads old new a b (Files (files.NotOperation place)) first last h = (first, last)
-open_gives_back T store logs threads old new a b (Files (files.NotRead thread)) first last h = (first, last)
-open_gives_back T store logs threads old new a b (Files files.NoMemory) first last h = (first, last)
-open_gives_back T store logs threads old new a b (NoRoom thread) first last h = (first, last)
-open_gives_back T store logs threads old new a b (Full thread) first last h = (first, last)
-open_gives_back T store logs threads old new a b (NotMade thread) first last h = (first, last)
-open_gives_back T store logs threads old new a b (NotReopened thread) first last h = (first, last)
-open_gives_back T store logs threads old new a b (HeaderFailed thread) first last h = (first, last)
-open_gives_back T store logs threads old new a b NoMemory first last h = λ free. last
-
 -- why logs could not be locked, as why nothing is given and nothing opened
 module _ (T : Type 0) {State Op Query Reply : Type 0} (b : Behaviour State Op Query Reply) (store : StoreView) (logs : List ℕ) (heads : List LogHead) (locked after : List (List ℕ)) where
   pub lock_refuses : (fault : FilesFault) → LocksLogs {T = T} store logs locked after (Err fault) → FilesRefuse b store logs heads fault

@@ -16,15 +16,15 @@ use Rattle.onll_open.specs.declared.fault.FilesFault.TheVariants as files
 use Rattle.onll_open.specs.declared.fault.OpenFault.{OpenFault}
 use Rattle.onll_open.specs.declared.fault.OpenFault.TheVariants.{Files, NoRoom, Full, NotMade, NotReopened, HeaderFailed, NoMemory}
 use Rattle.onll_open.specs.Asking.{RoomRefused, room_refused}
-use Rattle.onll_open.specs.Devices.{IsDeviceOf}
+use Rattle.onll_open.specs.Devices.{IsDeviceOf, fronts_by}
 use Rattle.onll_open.specs.Faults.{of_device, of_files}
 use Rattle.onll_open.specs.Names.{log_name}
-use Rattle.onll_open.specs.Files.{KeepFronts, KeepsFront, DeviceFaults, LogCallFailed, SameBut, SameCounts, SameLogs}
+use Rattle.onll_open.specs.Files.{KeepFronts, KeepsFront, HoldsHeader, LeaveFronts, LeavesFront, DeviceFaults, LogCallFailed, SameBut, SameCounts, SameLogs}
 use Rattle.onll_open.specs.Opening.{NotOpenedOver, CannotOpen, FilesGive, FilesRefuse, GivesRoom, HasFound, HasOpened, HeldFaults, NothingLost, ReadFaults}
 use Rattle.onll_open.proofs.Handing.{faults_more, counts_more}
 use Rattle.onll_open.proofs.GivenLogs.{read_there, give_same}
 use Rattle.onll_open.proofs.Locked.{logs_back, logs_more, logs_of_files}
-use Rattle.onll_open.proofs.Reopening.{keep_same}
+use Rattle.onll_open.proofs.Reopening.{keep_same, keeps_since}
 
 zeros_there : (name : List ℕ) (old mid new : StoreView) → mid.file name ≡ old.file name → KeptOrZeros name mid new → KeptOrZeros name old new
 zeros_there name old mid new file (inl same) = inl (same ∙ file)
@@ -39,6 +39,39 @@ pub keep_there : (logs : List ℕ) (t : ℕ) (fronts : List (List (List ℕ))) (
 keep_there logs t [] old mid new same h = tt
 keep_there logs t (front ∷ fronts) old mid new same h =
     (keeps_there (log_name logs t) front old mid new same.tells (same.file t) h.0, keep_there logs (suc t) fronts old mid new same h.1)
+
+-- ---- files of logs whose headers may have been written
+-- those that are left as they are where none was
+pub leave_kept : (logs : List ℕ) (t : ℕ) (heads : List LogHead) (fronts : List (List (List ℕ))) (old new : StoreView) → KeepFronts logs t fronts old new → LeaveFronts logs t heads fronts old new
+leave_kept logs t [] fronts old new h = h
+leave_kept logs t (head ∷ heads) [] old new h = tt
+leave_kept logs t (head ∷ heads) (front ∷ fronts) old new h = (by front h.0, leave_kept logs (suc t) heads fronts old new h.1)
+  where
+    by : (front : List (List ℕ)) → KeepsFront (log_name logs t) front old new → LeavesFront (log_name logs t) head front old new
+    by [] k = inl k
+    by (line ∷ lines) k = k
+
+leaves_there : (name : List ℕ) (head : LogHead) (front : List (List ℕ)) (old mid new : StoreView) → mid.tells ≡ old.tells → mid.file name ≡ old.file name → LeavesFront name head front mid new → LeavesFront name head front old new
+leaves_there name head [] old mid new tells file (inl h) = inl (zeros_there name old mid new file h)
+leaves_there name head [] old mid new tells file (inr h) = inr h
+leaves_there name head (line ∷ front) old mid new tells file h = keeps_there name (line ∷ front) old mid new tells file h
+
+leave_there : (logs : List ℕ) (t : ℕ) (heads : List LogHead) (fronts : List (List (List ℕ))) (old mid new : StoreView) → SameLogs logs old mid → LeaveFronts logs t heads fronts mid new → LeaveFronts logs t heads fronts old new
+leave_there logs t [] fronts old mid new same h = keep_there logs t fronts old mid new same h
+leave_there logs t (head ∷ heads) [] old mid new same h = tt
+leave_there logs t (head ∷ heads) (front ∷ fronts) old mid new same h =
+    (leaves_there (log_name logs t) head front old mid new same.tells (same.file t) h.0, leave_there logs (suc t) heads fronts old mid new same h.1)
+
+leaves_since : (name : List ℕ) (head : LogHead) (front : List (List ℕ)) (old mid new : StoreView) → new.file name ≡ mid.file name → LeavesFront name head front old mid → LeavesFront name head front old new
+leaves_since name head [] old mid new file (inl h) = inl (keeps_since name [] old mid new file h)
+leaves_since name head [] old mid new file (inr h) = inr (record { more = h.more; image = h.image; file = file ∙ h.file; mixed = h.mixed })
+leaves_since name head (line ∷ front) old mid new file h = keeps_since name (line ∷ front) old mid new file h
+
+leave_same : (logs : List ℕ) (t : ℕ) (heads : List LogHead) (fronts : List (List (List ℕ))) (old mid new : StoreView) → SameFiles mid new → LeaveFronts logs t heads fronts old mid → LeaveFronts logs t heads fronts old new
+leave_same logs t [] fronts old mid new same h = keep_same logs t fronts old mid new same h
+leave_same logs t (head ∷ heads) [] old mid new same h = tt
+leave_same logs t (head ∷ heads) (front ∷ fronts) old mid new same h =
+    (leaves_since (log_name logs t) head front old mid new (same.file (log_name logs t)) h.0, leave_same logs (suc t) heads fronts old mid new same h.1)
 
 module _ {State Op Query Reply : Type 0} (b : Behaviour State Op Query Reply) (old mid : StoreView) (logs : List ℕ) (same : SameLogs logs old mid) (heads : List LogHead) where
   give_there : (r : Result Recovered FilesFault) → FilesGive b mid logs heads r → FilesGive b old logs heads r
@@ -101,14 +134,14 @@ module _ {State Op Query Reply : Type 0} (b : Behaviour State Op Query Reply) (o
     counts = h.counts;
   }
 
-  pub lost_there : (threads : ℕ) (asked : Option (List ℕ)) (new : StoreView) → NothingLost b mid logs heads threads asked new → NothingLost b old logs heads threads asked new
-  lost_there threads asked new (inl h) = inl (logs_more logs old mid new same h)
-  lost_there threads asked new (inr h) = inr (h.0, h.1, found_there threads h.0 h.1 h.2, h.3, keep_there logs 0 _ old mid new same h.4)
+  pub lost_there : (threads : ℕ) (asked : Option (List ℕ)) (written : List LogHead) (new : StoreView) → NothingLost b mid logs heads threads asked written new → NothingLost b old logs heads threads asked written new
+  lost_there threads asked written new (inl h) = inl (logs_more logs old mid new same h)
+  lost_there threads asked written new (inr h) = inr (h.0, h.1, found_there threads h.0 h.1 h.2, h.3, leave_there logs 0 written (fronts_by h.1.logs h.0) old mid new same h.4)
 
   -- and of one after it, in which no file is another
-  pub lost_last : (threads : ℕ) (asked : Option (List ℕ)) (new last : StoreView) → SameFiles new last → NothingLost b mid logs heads threads asked new → NothingLost b mid logs heads threads asked last
-  lost_last threads asked new last files_same (inl h) = inl (logs_more logs mid new last h (logs_of_files logs new last files_same))
-  lost_last threads asked new last files_same (inr h) = inr (h.0, h.1, h.2, h.3, keep_same logs 0 _ mid new last files_same h.4)
+  pub lost_last : (threads : ℕ) (asked : Option (List ℕ)) (written : List LogHead) (new last : StoreView) → SameFiles new last → NothingLost b mid logs heads threads asked written new → NothingLost b mid logs heads threads asked written last
+  lost_last threads asked written new last files_same (inl h) = inl (logs_more logs mid new last h (logs_of_files logs new last files_same))
+  lost_last threads asked written new last files_same (inr h) = inr (h.0, h.1, h.2, h.3, leave_same logs 0 written (fronts_by h.1.logs h.0) mid new last files_same h.4)
 
 -- ---- of logs that are locked
 failed_there : (kind : FaultKind) (logs : List ℕ) (threads thread : ℕ) (old mid new : StoreView) → SameFaults old mid → LogCallFailed kind logs threads thread mid new → LogCallFailed kind logs threads thread old new

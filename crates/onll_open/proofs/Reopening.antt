@@ -7,7 +7,7 @@ use Rattle.onll_model.specs.Segment.{Segment}
 use Rattle.onll_pmem.specs.Device.{zero_line, zero_lines}
 use Rattle.onll_pmem.specs.Pmem.{DeviceView}
 use Rattle.onll_log.specs.declared.head.LogHead.{LogHead}
-use Rattle.onll_log.specs.Head.{head_of, is_head}
+use Rattle.onll_log.specs.Head.{head_of, is_head, AreHeads}
 use Rattle.onll_log.specs.Grammar.{Content, content_of, entries_from, are_zero_lines, lines_in, used_with, used_by}
 use Rattle.onll_log.specs.Log.{IsNewest}
 use Rattle.onll_log.specs.Tested.{used_in}
@@ -16,7 +16,7 @@ use Rattle.onll_merge.specs.declared.counts.LogCounts.{LogCounts}
 use Rattle.onll_merge.specs.Laws.{HeadsFit}
 use Rattle.onll_merge.specs.Recovered.{log_counts}
 use Rattle.onll_outside.specs.Views.{StoreView, SameOthers, SameFiles, IsFresh, BeginsWith, AreWipedWords, AreZeros, KeptOrZeros, MayWipe, word_bytes, image_bytes, with_zeros}
-use Rattle.onll_run.specs.Making.{AreHeads, StandsBy, HeldBefore, AllCanOpen}
+use Rattle.onll_run.specs.Making.{StandsBy, HeldBefore, AllCanOpen}
 use Rattle.onll_open.specs.Names.{log_name}
 use Rattle.onll_open.specs.Files.{BeginsAs, FilesBegin, KeepsFront, KeepFronts, front_in}
 use Rattle.onll_open.specs.Misfits.{head_of_content}
@@ -283,18 +283,6 @@ head_lines (log ∷ logs) (image ∷ images) s = (by log.head refl, head_lines l
     by (Some head) e = subst (λ (o : Option LogHead). HasHeadLine (is_some o) image) (sym e) (all_used log image head s.0 e).1
 
 -- ---- a device that was not had
-pub made_at : (front : List (List ℕ)) (thread : ℕ) → length front ≡ 0 → IsDeviceAt front thread (NotMade thread)
-made_at [] thread e = refl
-made_at (line ∷ front) thread e = absurd (omega (arith, e))
-
-pub again_at : (front : List (List ℕ)) (thread : ℕ) → 0 < length front → IsDeviceAt front thread (NotReopened thread)
-again_at [] thread some = absurd (omega (arith, some))
-again_at (line ∷ front) thread some = refl
-
-pub memory_at : (front : List (List ℕ)) (thread : ℕ) → IsDeviceAt front thread NoMemory
-memory_at [] thread = tt
-memory_at (line ∷ front) thread = tt
-
 no_front : (head : Bool) (image : List (List ℕ)) → HasHeadLine head image → front_by head image ≡ [] → head ≡ false
 no_front false image line e = refl
 no_front true image line e = let none = ap length e in absurd (omega (arith, line, none))

@@ -1,5 +1,5 @@
 -- Rooms, one thread after the other.
-use Rattle.std.proofs.Common.{ℕ, zero, suc, Bool, true, false, true≢false, List, [], ◌∷◌, ◌++◌, ◌≡◌, ◌+◌, ◌<◌, ◌≤◌, ◌||◌, length, drop, get_or, cond, Option, Some, None, is_some, refl, sym, ap, ◌∙◌, subst, arith, append_assoc}
+use Rattle.std.proofs.Common.{ℕ, zero, suc, Bool, true, false, true≢false, List, [], ◌∷◌, ◌≡◌, ◌+◌, ◌<◌, ◌≤◌, ◌||◌, length, drop, get_or, cond, Option, Some, None, is_some, refl, sym, ap, ◌∙◌, subst, arith}
 use Rattle.std.specs.Prelude.{count_by, nat_lt, if◌then◌else◌}
 use Rattle.std.specs.List.{slice_get}
 use Rattle.onll_model.proofs.Lists.{same_some, some_not_none}
@@ -10,7 +10,7 @@ use Rattle.onll_model.specs.Limits.{most_updates}
 use Rattle.onll_model.specs.declared.node.Node.{Node}
 use Rattle.onll_model.specs.Trace.{is_of_thread}
 use Rattle.onll_merge.specs.declared.counts.LogCounts.{LogCounts}
-use Rattle.onll_open.specs.Rooms.{most_lines, lines_with, is_too_many, first_full, lines_for}
+use Rattle.onll_open.specs.Rooms.{most_lines, lines_with, is_too_many, first_full}
 
 -- the thread whose turn it is
 pub full_step : (threads : ℕ) (nodes : List Node) (t : ℕ) (logs : List LogCounts) (rooms : List ℕ) (none : LogCounts) → t < length logs → t < length rooms
@@ -19,19 +19,6 @@ pub full_step : (threads : ℕ) (nodes : List Node) (t : ℕ) (logs : List LogCo
 full_step threads nodes t logs rooms none low less =
     ap (λ (ls : List LogCounts). first_full threads nodes t ls (drop t rooms)) (drop_more logs t none low)
     ∙ ap (λ (rs : List ℕ). first_full threads nodes t (get_or logs t none ∷ drop (t + 1) logs) rs) (drop_more rooms t 0 less)
-
--- it has too many
-pub full_here : (threads : ℕ) (nodes : List Node) (t : ℕ) (logs : List LogCounts) (rooms : List ℕ) (none : LogCounts) → t < length logs → t < length rooms
-    → is_too_many threads (count_by (is_of_thread t) nodes) (get_or logs t none).lines (get_or rooms t 0) ≡ true → first_full threads nodes t (drop t logs) (drop t rooms) ≡ Some t
-full_here threads nodes t logs rooms none low less e =
-    full_step threads nodes t logs rooms none low less ∙ ap (λ b. cond {A = Option ℕ} b (Some t) (first_full threads nodes (t + 1) (drop (t + 1) logs) (drop (t + 1) rooms))) e
-
--- it hasn't
-pub full_later : (threads : ℕ) (nodes : List Node) (t : ℕ) (logs : List LogCounts) (rooms : List ℕ) (none : LogCounts) → t < length logs → t < length rooms
-    → is_too_many threads (count_by (is_of_thread t) nodes) (get_or logs t none).lines (get_or rooms t 0) ≡ false
-    → first_full threads nodes t (drop t logs) (drop t rooms) ≡ first_full threads nodes (t + 1) (drop (t + 1) logs) (drop (t + 1) rooms)
-full_later threads nodes t logs rooms none low less e =
-    full_step threads nodes t logs rooms none low less ∙ ap (λ b. cond {A = Option ℕ} b (Some t) (first_full threads nodes (t + 1) (drop (t + 1) logs) (drop (t + 1) rooms))) e
 
 none_by : (b : Bool) (t : ℕ) (rest : Option ℕ) → cond {A = Option ℕ} b (Some t) rest ≡ None → (b ≡ false) × (rest ≡ None)
 none_by true t rest e = absurd (true≢false (ap is_some e))
@@ -46,22 +33,6 @@ pub room_is : (threads nodes used room : ℕ) → is_too_many threads nodes used
 room_is threads nodes used room e =
     let both = or_false (nat_lt most_updates (nodes + room)) (nat_lt most_lines (lines_with threads used room)) e in
     (ltb-false most_updates (nodes + room) both.0, ltb-false most_lines (lines_with threads used room) both.1)
-
-pub none_full : (threads : ℕ) (nodes : List Node) (t : ℕ) (logs : List LogCounts) (rooms : List ℕ) (none : LogCounts) → t < length logs → t < length rooms → first_full threads nodes t (drop t logs) (drop t rooms) ≡ None
-    → (is_too_many threads (count_by (is_of_thread t) nodes) (get_or logs t none).lines (get_or rooms t 0) ≡ false) × (first_full threads nodes (t + 1) (drop (t + 1) logs) (drop (t + 1) rooms) ≡ None)
-none_full threads nodes t logs rooms none low less e =
-    none_by (is_too_many threads (count_by (is_of_thread t) nodes) (get_or logs t none).lines (get_or rooms t 0)) t (first_full threads nodes (t + 1) (drop (t + 1) logs) (drop (t + 1) rooms))
-    (sym (full_step threads nodes t logs rooms none low less) ∙ e)
-
--- the lines of one device more
-pub lines_step : (threads t : ℕ) (logs : List LogCounts) (rooms lines more : List ℕ) (none : LogCounts) (n : ℕ) → t < length logs → t < length rooms → n ≡ lines_with threads (get_or logs t none).lines (get_or rooms t 0) → more ≡ lines ++ n ∷ []
-    → lines ++ lines_for threads (drop t logs) (drop t rooms) ≡ lines_for threads logs rooms → more ++ lines_for threads (drop (t + 1) logs) (drop (t + 1) rooms) ≡ lines_for threads logs rooms
-lines_step threads t logs rooms lines more none n low less is e all =
-    let rest = lines_for threads (drop (t + 1) logs) (drop (t + 1) rooms) in
-    let here : lines_for threads (drop t logs) (drop t rooms) ≡ n ∷ rest =
-    ap (λ (ls : List LogCounts). lines_for threads ls (drop t rooms)) (drop_more logs t none low) ∙ ap (λ (rs : List ℕ). lines_for threads (get_or logs t none ∷ drop (t + 1) logs) rs) (drop_more rooms t 0 less)
-    ∙ ap (λ m. m ∷ rest) (sym is) in
-    ap (λ ls. ls ++ rest) e ∙ (append_assoc lines (n ∷ []) rest ∙ (ap (λ ls. lines ++ ls) (sym here) ∙ all))
 
 -- ---- no thread is full
 -- each thread, the first of them thread t, has numbers and lines left

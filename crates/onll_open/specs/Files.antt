@@ -1,14 +1,15 @@
 -- What the files of an object's logs hold, and what calls leave of them.
-use Rattle.std.specs.Prelude.{ℕ, suc, Bool, true, false, List, [], ◌∷◌, ◌≡◌, ◌<◌, ◌≤◌, ◌⊎◌, Result, Ok, Err, Option, Some, None, length, map}
+use Rattle.std.specs.Prelude.{ℕ, suc, Bool, true, false, List, [], ◌∷◌, ◌≡◌, ◌+◌, ◌<◌, ◌≤◌, ◌⊎◌, Result, Ok, Err, Option, Some, None, length, map}
 use Rattle.std.specs.Option.{is_some}
 use Rattle.std.specs.List.{AllByRecursion}
+use Rattle.onll_log.specs.declared.head.LogHead.{LogHead}
 use Rattle.onll_log.specs.Grammar.{content_of}
 use Rattle.onll_log.specs.ImageFile.{longest_image}
 use Rattle.onll_log.specs.Tested.{used_in}
+use Rattle.onll_log.specs.Torn.{log_image}
 use Rattle.onll_outside.specs.LineFiles.{GivesLines, IsWholeLine}
-use Rattle.onll_outside.specs.Views.{StoreView, SameFaults, SameDevices, SameFiles, BeginsWith, KeptOrZeros, MayWipe, Rose}
-use Rattle.onll_outside.specs.Views.{image_bytes, with_zeros}
-use Rattle.onll_pmem.specs.Device.{zero_lines}
+use Rattle.onll_outside.specs.Views.{StoreView, SameFaults, SameDevices, SameFiles, BeginsWith, KeptOrZeros, MayWipe, Rose, image_bytes, with_zeros}
+use Rattle.onll_pmem.specs.Device.{Mixed, zero_lines}
 use Rattle.onll_outside.specs.declared.store.FaultKind.{FaultKind}
 use Rattle.onll_outside.specs.declared.store.FaultKind.TheVariants.{Device, Reopen}
 use Rattle.onll_open.specs.declared.fault.DeviceFault.{DeviceFault}
@@ -126,8 +127,8 @@ pub record AreRead (logs : List ℕ) (lines : List (List (List ℕ))) (store : S
   pub stand : StandFor lines images
   pub begin : FilesBegin logs 0 (map front_in lines) store
 
--- What opening leaves of the file of a log: where the store tells it, it begins with these lines as before, and what follows is wiped in
--- part or not. The file of a log without a head is as it was, or holds zeros alone.
+-- What making the device of a log leaves of its file: where the store tells it, it begins with these lines as before, and what follows is
+-- wiped in part or not. The file of a log without a head is as it was, or holds zeros alone.
 abbrev pub KeepsFront : List ℕ → List (List ℕ) → StoreView → StoreView → Type 0
 KeepsFront name [] old new = KeptOrZeros name old new
 KeepsFront name (line ∷ front) old new = MayWipe name (image_bytes (line ∷ front)) old new
@@ -136,3 +137,25 @@ KeepsFront name (line ∷ front) old new = MayWipe name (image_bytes (line ∷ f
 abbrev pub KeepFronts : List ℕ → ℕ → List (List (List ℕ)) → StoreView → StoreView → Type 0
 KeepFronts logs t [] old new = Unit {0}
 KeepFronts logs t (front ∷ fronts) old new = KeepsFront (log_name logs t) front old new × KeepFronts logs (suc t) fronts old new
+
+-- ---- headers
+-- The named file holds what a device may leave on which the header of this head was written, and nothing else, also where its fence was
+-- not made: each word is the header's or zero.
+pub record HoldsHeader (store : StoreView) (name : List ℕ) (head : LogHead) : Type 0 where
+  pub more : ℕ
+  pub image : List (List ℕ)
+  pub file : store.file name ≡ Some (image_bytes image)
+  pub mixed : Mixed (zero_lines (1 + more)) (log_image head [] more) image
+
+-- What opening leaves of the file of a log whose header of this head may have been written, where it has none: it is left so, or, the
+-- store's device being over a file of the system, holds that header.
+abbrev pub LeavesFront : List ℕ → LogHead → List (List ℕ) → StoreView → StoreView → Type 0
+LeavesFront name head [] old new = KeptOrZeros name old new ⊎ HoldsHeader new name head
+LeavesFront name head (line ∷ front) old new = KeepsFront name (line ∷ front) old new
+
+-- the same of each thread's, from thread t on; behind the logs of these heads no header was written
+abbrev pub LeaveFronts : List ℕ → ℕ → (written : List LogHead) → List (List (List ℕ)) → StoreView → StoreView → Type 0
+LeaveFronts logs t [] fronts old new = KeepFronts logs t fronts old new
+LeaveFronts logs t (head ∷ heads) [] old new = Unit {0}
+LeaveFronts logs t (head ∷ heads) (front ∷ fronts) old new =
+    LeavesFront (log_name logs t) head front old new × LeaveFronts logs (suc t) heads fronts old new

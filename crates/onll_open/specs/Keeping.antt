@@ -1,9 +1,9 @@
 -- The files of logs that are kept.
-use Rattle.std.specs.Prelude.{ℕ, zero, suc, List, [], ◌∷◌, ◌≡◌, length, map, Result, Err}
+use Rattle.std.specs.Prelude.{ℕ, zero, suc, List, [], ◌∷◌, ◌≡◌, map, Result, Err}
 use Rattle.std.specs.List.{AllByRecursion}
 use Rattle.onll_pmem.specs.Pmem.{DeviceView}
 use Rattle.onll_outside.specs.LineFiles.{IsWholeLine}
-use Rattle.onll_outside.specs.Views.{StoreView, FaultsOf, KeepsDevice, MayKeep, SameFiles}
+use Rattle.onll_outside.specs.Views.{StoreView, FaultsOf, KeepsDevice, MayKeep, SameFiles, HandsEach}
 use Rattle.onll_outside.specs.declared.OutsideFault.{OutsideFault}
 use Rattle.onll_outside.specs.declared.store.FaultKind.TheVariants.{Keep}
 use Rattle.onll_trace.specs.declared.trace.Ended.{Ended}
@@ -11,10 +11,9 @@ use Rattle.onll_shared.specs.Ends.{HasClosed}
 use Rattle.onll_shared.specs.Passes.{OnllView, PassView}
 use Rattle.onll_open.specs.declared.keeping.CloseFault.{CloseFault}
 use Rattle.onll_open.specs.declared.keeping.CloseFault.TheVariants.{NoMemory, NotKept}
-use Rattle.onll_open.specs.Devices.{HandsEach}
 use Rattle.onll_open.specs.Files.{SameCounts}
 use Rattle.onll_open.specs.Locking.{AreFree}
-use Rattle.onll_open.specs.Names.{log_name, log_names}
+use Rattle.onll_open.specs.Names.{log_name}
 
 -- each device was kept as its thread's file, from thread t on
 abbrev pub AreKept : List ℕ → ℕ → List DeviceView → StoreView → Type 0
@@ -25,18 +24,20 @@ AreKept logs t (d ∷ ds) store = KeepsDevice store (log_name logs t) d × AreKe
 abbrev pub AreWhole : List DeviceView → Type 0
 AreWhole ds = AllByRecursion (λ (d : DeviceView). AllByRecursion IsWholeLine d.read) ds
 
--- each thread's file, from thread t on, is as it was
-abbrev pub AreAsBefore : List ℕ → ℕ → ℕ → StoreView → StoreView → Type 0
-AreAsBefore logs t threads old new = AllByRecursion (λ name. new.file name ≡ old.file name) (log_names logs t threads)
+-- Where the store tells its files, each thread's, from thread t on, is as it was or holds an image of its device. A device that is given
+-- up leaves its file so: one over a file of the system writes it at each fence.
+abbrev pub MayKeepEach : List ℕ → ℕ → List DeviceView → StoreView → StoreView → Type 0
+MayKeepEach logs t [] old new = Unit {0}
+MayKeepEach logs t (d ∷ ds) old new = MayKeep (log_name logs t) d old new × MayKeepEach logs (suc t) ds old new
 
--- This many devices were kept as their threads' files, from thread t on. The file of the next is as it was or holds an image of its
--- device, and those after it are as they were.
+-- This many devices were kept as their threads' files, from thread t on. The file of the next, and of each after it, is as it was or
+-- holds an image of its device.
 abbrev pub AreKeptTo : List ℕ → ℕ → List DeviceView → (kept : ℕ) → StoreView → StoreView → Type 0
 AreKeptTo logs t [] kept old new = ⊥
-AreKeptTo logs t (d ∷ ds) zero old new = MayKeep (log_name logs t) d old new × AreAsBefore logs (suc t) (length ds) old new
+AreKeptTo logs t (d ∷ ds) zero old new = MayKeepEach logs t (d ∷ ds) old new
 AreKeptTo logs t (d ∷ ds) (suc kept) old new = KeepsDevice new (log_name logs t) d × AreKeptTo logs (suc t) ds kept old new
 
--- The devices before that of this thread were kept, and that one could not be.
+-- The devices before that of this thread were kept, and that one could not be. Those after it were given up.
 pub record KeepFails (logs : List ℕ) (ds : List DeviceView) (old new : StoreView) (thread : ℕ) (fault : OutsideFault) : Type 0 where
   pub files : AreKeptTo logs 0 ds thread old new
   pub faults : FaultsOf {T = Unit {0}} (record { kind = Keep; name = log_name logs thread }) old new (Err fault)

@@ -1,6 +1,5 @@
 -- Logs that are not those of so many threads that go on, as their heads and entries say before they are merged.
-use Rattle.std.specs.Prelude.{ℕ, ◌+◌, ◌==◌, ◌||◌, if◌then◌else◌, Bool, true, false, List, [], ◌∷◌, length}
-use Rattle.std.specs.Prelude.{Option, Some, None, Result, Ok, Err}
+use Rattle.std.specs.Prelude.{ℕ, ◌+◌, ◌==◌, ◌||◌, if◌then◌else◌, Bool, true, false, List, [], ◌∷◌, length, Option, Some, None, Result, Ok, Err}
 use Rattle.std.specs.Option.{option_or, option_map, is_some}
 use Rattle.onll_model.specs.Object.{Behaviour}
 use Rattle.onll_model.specs.Segment.{Segment}

@@ -1,12 +1,11 @@
 -- How an object is opened over the files of its logs, and why it isn't.
-use Rattle.std.specs.Prelude.{ℕ, true, false, List, [], ◌∷◌, ◌+◌, ◌*◌, ◌≤◌, ◌≡◌, ◌⊎◌, length, map, Result, Ok, Err, Option, Some, None}
+use Rattle.std.specs.Prelude.{ℕ, true, false, List, [], ◌∷◌, ◌+◌, ◌*◌, ◌≤◌, ◌≡◌, ◌⊎◌, length, map, take, Result, Ok, Err, Option, Some, None}
 use Rattle.std.specs.List.{AllByRecursion}
 use Rattle.onll_model.specs.declared.node.Node.{Node}
 use Rattle.onll_model.specs.Object.{Behaviour}
 use Rattle.onll_pmem.specs.Pmem.{DeviceView}
 use Rattle.onll_log.specs.declared.head.LogHead.{LogHead}
 use Rattle.onll_log.specs.Log.{LogState, free_of}
-use Rattle.onll_merge.specs.declared.counts.LogCounts.{LogCounts}
 use Rattle.onll_merge.specs.Merge.{merge}
 use Rattle.onll_merge.specs.Recovered.{Recovered}
 use Rattle.onll_outside.specs.Views.{StoreView, SameFaults, SameDevices, counted}
@@ -14,7 +13,7 @@ use Rattle.onll_outside.specs.declared.store.FaultKind.TheVariants.{Read, Device
 use Rattle.onll_shared.specs.Found.{content_held, head_held}
 use Rattle.onll_shared.specs.Passes.{OnllView, PassView}
 use Rattle.onll_shared.specs.Starts.{AreLogs, HasBegun}
-use Rattle.onll_run.specs.Making.{AreHeads}
+use Rattle.onll_log.specs.Head.{AreHeads}
 use Rattle.onll_run.specs.Outcomes.{HasRoomFor}
 use Rattle.onll_open.specs.declared.fault.FilesFault.{FilesFault}
 use Rattle.onll_open.specs.declared.fault.FilesFault.TheVariants as files
@@ -22,7 +21,7 @@ use Rattle.onll_open.specs.declared.fault.OpenFault.{OpenFault}
 use Rattle.onll_open.specs.declared.fault.OpenFault.TheVariants.{Files, NoRoom, Full, NotMade, NotReopened, HeaderFailed, NoMemory}
 use Rattle.onll_open.specs.Asking.{rooms_of, room_refused}
 use Rattle.onll_open.specs.Devices.{HeadIs, fronts_by}
-use Rattle.onll_open.specs.Files.{FilesHold, AreRead, KeepFronts, LogCallFailed, SameCounts, SameLogs}
+use Rattle.onll_open.specs.Files.{FilesHold, AreRead, LeaveFronts, LogCallFailed, SameCounts, SameLogs}
 use Rattle.onll_open.specs.Locking.{LockFailed}
 use Rattle.onll_open.specs.Misfits.{found_in}
 use Rattle.onll_open.specs.Rooms.{first_full, most_lines}
@@ -64,6 +63,22 @@ module _ {State Op Query Reply Device : Type 0} (b : Behaviour State Op Query Re
     pub begun : HasBegun b means onll opened rooms passes
     pub roomy : AllByRecursion (IsRoomy means onll) passes
     pub short : AllByRecursion (IsShortLog means) opened
+
+-- Of logs of these heads those up to which headers may have been written where an object was not opened: to the one whose fence failed;
+-- and none before all devices are had.
+abbrev pub written_at : List LogHead → OpenFault → List LogHead
+written_at heads (Files fault) = []
+written_at heads (NoRoom thread) = []
+written_at heads (Full thread) = []
+written_at heads (NotMade thread) = []
+written_at heads (NotReopened thread) = []
+written_at heads (HeaderFailed thread) = take (thread + 1) heads
+written_at heads NoMemory = heads
+
+-- the same whatever the answer
+abbrev pub written_by : {T : Type 0} → List LogHead → Result T OpenFault → List LogHead
+written_by heads (Ok x) = heads
+written_by heads (Err fault) = written_at heads fault
 
 module _ {State Op Query Reply : Type 0} (b : Behaviour State Op Query Reply) (store : StoreView) (logs : List ℕ)
     (heads : List LogHead) where
@@ -125,11 +140,12 @@ module _ {State Op Query Reply : Type 0} (b : Behaviour State Op Query Reply) (s
   CannotOpen threads asked NoMemory = Unit {0}
 
   -- Nothing that the logs hold is lost, whatever the answer: no thread's file changed; or the files give nodes, and each that holds a log
-  -- with a head begins with the lines that hold it, as before, what follows being wiped in part or not; another is as it was or zeros.
-  abbrev pub NothingLost : ℕ → Option (List ℕ) → StoreView → Type 0
-  NothingLost threads asked new = SameLogs logs store new
+  -- with a head begins with the lines that hold it, as before, what follows being wiped in part or not. Another is as it was or zeros, or
+  -- holds its own log's header, where that is one of these that may have been written.
+  abbrev pub NothingLost : ℕ → Option (List ℕ) → (written : List LogHead) → StoreView → Type 0
+  NothingLost threads asked written new = SameLogs logs store new
       ⊎ ((lines : List (List (List ℕ))) × (found : Recovered) × HasFound threads lines found
-      × (room_refused threads asked found ≡ None) × KeepFronts logs 0 (fronts_by found.logs lines) store new)
+      × (room_refused threads asked found ≡ None) × LeaveFronts logs 0 written (fronts_by found.logs lines) store new)
 
 -- why logs were not opened over what was found, where each thread has room
 abbrev pub NotOpenedOver : Recovered → OpenFault → Type 0

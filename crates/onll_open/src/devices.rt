@@ -1,17 +1,16 @@
 //! The devices of an object's logs, over their files.
 
-ghost use Rattle.std.specs.Prelude.{◌≡◌, ◌≤◌, ◌+◌, IsSome, length, map, reverse, string_bytes, All, IfOk, IfErr, OnOk};
+ghost use Rattle.std.specs.Prelude.{◌≡◌, ◌≤◌, ◌+◌, IsSome, length, map, reverse, All, IfOk, IfErr, OnOk};
 ghost use Rattle.std.specs.List.{AllByRecursion};
 ghost use Rattle.onll_model.specs.Limits.{most_threads};
 ghost use Rattle.onll_pmem.specs.Pmem.{words_of};
 ghost use Rattle.onll_log.specs.Grammar.{content_of};
 ghost use Rattle.onll_log.specs.Decoded.{content_in};
 ghost use Rattle.onll_merge.specs.Merge.{contents_in};
-ghost use Rattle.onll_outside.specs.Views.{SameFiles, SameFaults, SameDevices, SameOthers, IsFresh, with_zeros};
+ghost use Rattle.onll_outside.specs.Views.{SameFiles, SameFaults, SameDevices, SameOthers, IsFresh, with_zeros, HandsEach};
 ghost use Rattle.onll_open.specs.Names.{log_name, log_names};
 ghost use Rattle.onll_open.specs.Files.{BeginsAs, DeviceFaults, FilesBegin, KeepFronts, KeepsFront, SameBut, SameCounts};
-ghost use Rattle.onll_open.specs.Devices.{AreReopened, IsHeld, AreHeld, AreWithin, HandsEach, HaveHeadLines, IsDeviceAt, IsDeviceOf};
-ghost use Rattle.onll_open.specs.Devices.{NoneCounted, front_by, fronts_by};
+ghost use Rattle.onll_open.specs.Devices.{AreReopened, IsHeld, AreHeld, AreWithin, HaveHeadLines, IsDeviceAt, IsDeviceOf, NoneCounted, front_by, fronts_by};
 
 use crate::fault::DeviceFault;
 use crate::names::log_name;

@@ -1,7 +1,7 @@
 //! Why an object isn't opened over files, or isn't kept in them.
 
 ghost use Rattle.std.specs.Prelude.{◌≡◌};
-ghost use Rattle.onll_open.specs.Faults.{fault_at, of_device, of_files, of_read, of_state, refused_as};
+ghost use Rattle.onll_open.specs.Faults.{fault_at, of_device, of_files, of_read, refused_as};
 ghost use Rattle.onll_open.specs.declared.fault.DeviceFault.TheVariants.{NoMemory as DeviceOutOfMemory};
 ghost use Rattle.onll_open.specs.declared.fault.FilesFault.TheVariants.{NoMemory as OutOfMemory};
 ghost use Rattle.onll_open.specs.declared.fault.OpenFault.TheVariants.{NoMemory as OpenOutOfMemory};
@@ -91,7 +91,8 @@ pub enum OpenFault {
     /// The file of this thread's log could not be made a device.
     #[error("file {thread} could not be opened to be written")]
     NotReopened { thread: u64 },
-    /// The log of this thread was to be begun, and the fence of its header failed.
+    /// The log of this thread was to be begun, and the fence of its header failed. Its file, and each before it whose log was to be begun,
+    /// may hold its header.
     #[error("the fence of the header of log {thread} failed")]
     HeaderFailed { thread: u64 },
     /// Memory ran out.
@@ -99,8 +100,8 @@ pub enum OpenFault {
     NoMemory,
 }
 
-/// The device of this thread's log could not be kept as its file. Those of the threads before it were kept, and the files of those after
-/// it are as they were.
+/// The device of this thread's log could not be kept as its file. Those of the threads before it were kept; its file, and each of those
+/// after it, is as it was or holds an image of its device.
 #[derive(Clone, Copy, Debug, PartialEq, Eq, Error)]
 #[error("log {thread} could not be kept: {fault}")]
 pub struct NotKept {

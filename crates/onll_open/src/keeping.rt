@@ -5,7 +5,7 @@ ghost use Rattle.std.specs.List.{AllByRecursion};
 ghost use Rattle.onll_model.specs.Limits.{most_threads};
 ghost use Rattle.onll_outside.specs.Directory.{is_locked};
 ghost use Rattle.onll_outside.specs.LineFiles.{IsWholeLine};
-ghost use Rattle.onll_outside.specs.Views.{SameFaults, SameOthers, FaultsOf, KeepsDevice, HandsBack, MayKeep};
+ghost use Rattle.onll_outside.specs.Views.{SameFaults, SameOthers, FaultsOf, KeepsDevice, HandsBack, MayKeep, HandsEach};
 ghost use Rattle.onll_outside.specs.declared.store.FaultKind.TheVariants as kinds;
 ghost use Rattle.onll_trace.specs.Closing.{AreAll};
 ghost use Rattle.onll_trace.specs.declared.trace.Ended.{Ended as SomeEnded};
@@ -14,7 +14,6 @@ ghost use Rattle.onll_shared.specs.Ends.{HasClosed};
 ghost use Rattle.onll_run.specs.Making.{device_of};
 ghost use Rattle.onll_open.specs.Names.{log_name, log_names};
 ghost use Rattle.onll_open.specs.Files.{SameBut};
-ghost use Rattle.onll_open.specs.Devices.{HandsEach};
 ghost use Rattle.onll_open.specs.Keeping.{AreKept, AreWhole, CannotClose, CloseLocks, KeepFails, devices_in};
 
 use crate::devices::give_up_all;
@@ -94,8 +93,8 @@ fn keep_device<S: Store>(
     store.keep(alloc, &name, device)
 }
 
-/// Keeps each device as its thread's file, in their order. Where one can't be kept, those after it are given up, and their files are as
-/// they were.
+/// Keeps each device as its thread's file, in their order. Where one can't be kept, those after it are given up: each of their files is as
+/// it was, or holds an image of its device.
 pub fn keep_devices<S: Store>(
     alloc: Global,
     store: &mut S,

@@ -4,7 +4,6 @@
 mod anew;
 mod devices;
 mod fault;
-mod heads;
 mod keeping;
 mod locking;
 mod misfits;
@@ -18,7 +17,6 @@ mod rooms;
 pub use anew::new_found;
 pub use devices::{decode_logs, give_up_all, open_devices};
 pub use fault::{DeviceFault, FileFault, FilesFault, NotKept, OpenFault};
-pub use heads::new_heads;
 pub use keeping::{CloseFault, close, keep_devices};
 pub use named::{NamedFilesFault, NamedNotKept, NamedOpenFault};
 pub use names::{log_lock_name, log_name};

@@ -3,8 +3,7 @@
 ghost use Rattle.std.specs.Prelude.{◌≡◌, ◌⊎◌, Ok, Err, length, IfOk, MatchResult};
 ghost use Rattle.onll_merge.specs.Recovered.{recovered_in};
 ghost use Rattle.onll_model.specs.Trace.{state_after};
-ghost use Rattle.onll_open.specs.Misfits.{found_in, first_gone, first_headless, first_old, has_entries, have_entries, head_in};
-ghost use Rattle.onll_open.specs.Misfits.{is_old, misfit, other_number, other_threads};
+ghost use Rattle.onll_open.specs.Misfits.{found_in, first_gone, first_headless, first_old, has_entries, have_entries, head_in, is_old, misfit, other_number, other_threads};
 ghost use Rattle.onll_open.specs.declared.fault.FilesFault.TheVariants.{NoMemory as OutOfMemory};
 
 use crate::fault::{FilesFault, refused_as};

@@ -11,17 +11,15 @@ ghost use Rattle.onll_open.specs.Files.{KeepFronts, SameBut};
 ghost use Rattle.onll_open.specs.Heads.{heads_of};
 ghost use Rattle.onll_open.specs.Locking.{OpenLocks};
 ghost use Rattle.onll_open.specs.Rooms.{first_full};
-ghost use Rattle.onll_open.specs.Opening.{AreOpenLogs, NotOpenedOver, CannotOpen, FilesRefuse, GoesOn, HasFound, HasOpened, HasRoomIn};
-ghost use Rattle.onll_open.specs.Opening.{HeldFaults, NothingLost, OpenFaults, ReadFaults};
+ghost use Rattle.onll_open.specs.Opening.{AreOpenLogs, NotOpenedOver, CannotOpen, FilesRefuse, GoesOn, HasFound, HasOpened, HasRoomIn, HeldFaults, NothingLost, OpenFaults, ReadFaults, written_by};
 
 use crate::devices::{decode_logs, give_up_all, open_devices};
 use crate::fault::{FilesFault, OpenFault};
-use crate::heads::new_heads;
 use crate::locking::{lock_logs, unlock_logs};
 use crate::misfits::recover_logs;
 use crate::reading::read_images;
 use crate::rooms::{first_empty, first_full, lines_for, rooms_left};
-use onll_log::{LogHead, TestedImage, ThreadLog};
+use onll_log::{LogHead, TestedImage, ThreadLog, new_heads};
 use onll_merge::Recovery;
 use onll_model::Object;
 use onll_outside::{Directory, Store};
@@ -111,7 +109,8 @@ fn choose_rooms(
     }
 }
 
-/// The logs of what was found, each opened over its file, or begun on it where it has no head.
+/// The logs of what was found, each opened over its file, or begun on it where it has no head. What `kept` says is of a store that tells
+/// its files: of a header that was written on a device over a file of the system it doesn't say so.
 fn open_all<O: Object, S: Store>(
     alloc: Global,
     store: &mut S,
@@ -146,7 +145,7 @@ fn open_all<O: Object, S: Store>(
     }
 }
 
-/// An object that goes on from what was found, with these rooms.
+/// An object that goes on from what was found, with these rooms. What `kept` says is what it says of `open_all`.
 fn open_found<O: Object + Drop, S: Store>(
     alloc: Global,
     store: &mut S,
@@ -199,8 +198,8 @@ fn open_held<O: Described + Drop, S: Directory>(
     ensures refused { IfErr result (CannotOpen O.means (S.seen store.old) logs.now (heads_of O.CODE (O.description object) threads)
         threads (asked_in asked)) }
     ensures faults { HeldFaults logs.now threads (S.seen store.old) (S.seen store.new) result }
-    ensures kept { NothingLost O.means (S.seen store.old) logs.now (heads_of O.CODE (O.description object) threads) threads
-        (asked_in asked) (S.seen store.new) }
+    ensures kept { let heads = heads_of O.CODE (O.description object) threads in
+        NothingLost O.means (S.seen store.old) logs.now heads threads (asked_in asked) (written_by heads result) (S.seen store.new) }
     ensures others { SameBut (log_names logs.now 0 threads) (S.seen store.old) (S.seen store.new) }
 {
     let found = find(alloc, store, logs, &object, threads)?;
@@ -228,8 +227,8 @@ fn open_asked<O: Described + Drop, S: Directory>(
     ensures refused { IfErr result (CannotOpen O.means (S.seen store.old) logs.now (heads_of O.CODE (O.description object) threads)
         threads (asked_in asked)) }
     ensures faults { OpenFaults logs.now threads (S.seen store.old) (S.seen store.new) result }
-    ensures kept { NothingLost O.means (S.seen store.old) logs.now (heads_of O.CODE (O.description object) threads) threads
-        (asked_in asked) (S.seen store.new) }
+    ensures kept { let heads = heads_of O.CODE (O.description object) threads in
+        NothingLost O.means (S.seen store.old) logs.now heads threads (asked_in asked) (written_by heads result) (S.seen store.new) }
     ensures others { SameBut (held_names logs.now threads) (S.seen store.old) (S.seen store.new) }
 {
     let name = lock_logs(alloc, store, logs)?;
@@ -262,8 +261,8 @@ pub fn open<O: Described + Drop, S: Directory>(
     ensures refused { IfErr result (CannotOpen O.means (S.seen store.old) logs.now (heads_of O.CODE (O.description object) threads)
         threads None) }
     ensures faults { OpenFaults logs.now threads (S.seen store.old) (S.seen store.new) result }
-    ensures kept { NothingLost O.means (S.seen store.old) logs.now (heads_of O.CODE (O.description object) threads) threads None
-        (S.seen store.new) }
+    ensures kept { let heads = heads_of O.CODE (O.description object) threads in
+        NothingLost O.means (S.seen store.old) logs.now heads threads None (written_by heads result) (S.seen store.new) }
     ensures others { SameBut (held_names logs.now threads) (S.seen store.old) (S.seen store.new) }
 {
     open_asked(alloc, store, logs, object, threads, None)
@@ -288,8 +287,9 @@ pub fn open_with_rooms<O: Described + Drop, S: Directory>(
     ensures refused { IfErr result (CannotOpen O.means (S.seen store.old) logs.now
         (heads_of O.CODE (O.description object) (length rooms.now)) (length rooms.now) (Some rooms.now)) }
     ensures faults { OpenFaults logs.now (length rooms.now) (S.seen store.old) (S.seen store.new) result }
-    ensures kept { NothingLost O.means (S.seen store.old) logs.now (heads_of O.CODE (O.description object) (length rooms.now))
-        (length rooms.now) (Some rooms.now) (S.seen store.new) }
+    ensures kept { let heads = heads_of O.CODE (O.description object) (length rooms.now) in
+        NothingLost O.means (S.seen store.old) logs.now heads (length rooms.now) (Some rooms.now) (written_by heads result)
+        (S.seen store.new) }
     ensures others { SameBut (held_names logs.now (length rooms.now)) (S.seen store.old) (S.seen store.new) }
 {
     let asked = rooms.to_vec(alloc)?;

@@ -1,6 +1,6 @@
 //! What the files of an object's logs hold.
 
-ghost use Rattle.std.specs.Prelude.{◌≡◌, ◌≤◌, true, length, IfOk};
+ghost use Rattle.std.specs.Prelude.{◌≡◌, true, length, IfOk};
 ghost use Rattle.onll_pmem.specs.Device.{zero_lines};
 ghost use Rattle.onll_outside.specs.Views.{SameDevices, SameFiles, FaultsOf};
 ghost use Rattle.onll_outside.specs.declared.store.FaultKind.TheVariants as kinds;

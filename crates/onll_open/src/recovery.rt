@@ -12,10 +12,10 @@ ghost use Rattle.onll_open.specs.Names.{log_lock_name};
 ghost use Rattle.onll_open.specs.Opening.{FilesGive, FilesRefuse, ReadFaults, RecoverFaults};
 
 use crate::fault::FilesFault;
-use crate::heads::new_heads;
 use crate::locking::{lock_logs, unlock_logs};
 use crate::misfits::recover_logs;
 use crate::reading::read_images;
+use onll_log::new_heads;
 use onll_merge::Recovery;
 use onll_outside::Directory;
 use onll_rows::Described;

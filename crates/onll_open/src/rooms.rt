@@ -1,9 +1,9 @@
 //! How many updates each thread may order.
 
-ghost use Rattle.std.specs.Prelude.{◌≡◌, ◌≤◌, ◌+◌, ◌*◌, ◌^◌, ◌<◌, length, max, count_by, IfOk, MatchOption, Some, None};
-ghost use Rattle.onll_model.specs.Limits.{most_threads, most_updates};
+ghost use Rattle.std.specs.Prelude.{◌≡◌, ◌≤◌, ◌+◌, ◌*◌, ◌<◌, length, max, count_by, IfOk, Some, None};
+ghost use Rattle.onll_model.specs.Limits.{most_threads};
 ghost use Rattle.onll_model.specs.Trace.{is_of_thread};
-ghost use Rattle.onll_open.specs.Rooms.{first_empty, first_full, is_too_many, lines_for, lines_with, most_lines, room_left, rooms_left};
+ghost use Rattle.onll_open.specs.Rooms.{first_empty, first_full, is_too_many, lines_for, room_left, rooms_left};
 
 use onll_merge::LogCounts;
 use onll_model::{MOST_THREADS, MOST_UPDATES, Node};

@@ -37,10 +37,6 @@ PutsFront-more a b x y h = record {
 pub Puts-more : (a b : SinkView) (x y : List ℕ) → Puts a b x → PutsFront a b (x ++ y)
 Puts-more a b x y h = record { front = x; rest = y; whole = refl; puts = h }
 
--- nothing was put
-pub PutsFront-none : (a b : SinkView) (x : List ℕ) → b.taken ≡ a.taken → PutsFront a b x
-PutsFront-none a b x h = record { front = []; rest = x; whole = refl; puts = h ∙ sym (taken_with-nil a.taken) }
-
 -- a put after one that was Ok, by its answer
 pub PutOf-after : {T : Type 0} (a b c : SinkView) (x y : List ℕ) (r : Result T OutsideFault) → PutOf b c y r → Puts a b x → b.faults ≡ a.faults → PutOf a c (x ++ y) r
 PutOf-after a b c x y (Ok v) k h same = (Puts-then a b c x y h k.0, k.1 ∙ same)

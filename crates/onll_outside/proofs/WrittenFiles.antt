@@ -7,8 +7,8 @@ use Rattle.onll_outside.specs.declared.mem_store.Named.{Named}
 use Rattle.onll_pmem.specs.Device.{IsImage, Mixed}
 use Rattle.onll_pmem.specs.Pmem.{Told}
 use Rattle.onll_pmem.specs.Memory.{MemoryState, memory_view}
-use Rattle.onll_outside.specs.Views.{SameOthers, IsImageOf}
-use Rattle.onll_outside.specs.MemStore.{FilesHeld, texts_of, file_in, place_in, with_file, store_of, called}
+use Rattle.onll_outside.specs.Views.{IsImageOf}
+use Rattle.onll_outside.specs.MemStore.{texts_of, file_in, place_in, with_file}
 
 -- What a file written in memory is, and what the others are.
 
@@ -72,10 +72,6 @@ file_in-other (f ∷ files) name bytes other no_name = ⊎_elim
     ap (λ b. file_in (cond b ((f.0, bytes) ∷ files) (f ∷ with_file files name bytes)) other) t
     ∙ ap (λ found. cond (bytes_eq f.0 other) (Some f.1) found) (file_in-other files name bytes other no_name))
     (cases_Bool (bytes_eq f.0 name))
-
--- a store after a write
-pub others_same : (old : FilesHeld) (name bytes : List ℕ) → SameOthers name (store_of old) (store_of (record (called old) { files = with_file old.files name bytes }))
-others_same old name bytes = record { tells = refl; file = λ other no_name. file_in-other old.files name bytes other no_name }
 
 some_same : {A : Type 0} (x y : A) → Some x ≡ Some y → x ≡ y
 some_same x y e = (cc)

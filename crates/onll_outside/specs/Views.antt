@@ -1,7 +1,6 @@
 -- What a store and a sink tell, and what a call leaves as it was.
 
-use Rattle.std.specs.Prelude.{ℕ, Bool, true, List, ◌++◌, ◌≡◌, ◌+◌, ◌-◌, ◌^◌, ◌≤◌, min, Result, Ok, Err, Option, Some, None, take}
-use Rattle.std.specs.Prelude.{◌*◌, ◌⊎◌, ◌==◌, if◌then◌else◌, length, drop}
+use Rattle.std.specs.Prelude.{ℕ, Bool, true, List, ◌++◌, ◌≡◌, ◌+◌, ◌-◌, ◌^◌, ◌≤◌, min, Result, Ok, Err, Option, Some, None, take, ◌*◌, ◌⊎◌, ◌==◌, if◌then◌else◌, length, drop, map, ◌∷◌, []}
 use Rattle.std.specs.List.{All, flat_map}
 use Rattle.onll_words.specs.Lines.{bytes_of_words}
 use Rattle.onll_pmem.specs.Device.{zero_lines, Mixed}
@@ -177,3 +176,20 @@ KeepsDevice view name d = view.tells ≡ true → HoldsImageOf view name d
 -- where the store tells its files, the named one is as it was, or holds an image of the device
 abbrev pub MayKeep : List ℕ → DeviceView → StoreView → StoreView → Type 0
 MayKeep name d old new = new.tells ≡ true → (new.file name ≡ old.file name) ⊎ HoldsImageOf new name d
+
+-- ---- handed back
+-- a count after each of these more
+abbrev pub risen : ℕ → List ℕ → ℕ
+risen n [] = n
+risen n (more ∷ rest) = risen (counted n more) rest
+
+abbrev pub fences_in : DeviceView → ℕ
+fences_in d = d.fences
+
+abbrev pub fault_of : DeviceView → ℕ
+fault_of d = one_fault d.faults
+
+-- these devices were handed back, the first of them first, and no other
+pub record HandsEach (ds : List DeviceView) (old new : StoreView) : Type 0 where
+  pub faults : new.device_faults ≡ risen old.device_faults (map fault_of ds)
+  pub fences : new.device_fences ≡ risen old.device_fences (map fences_in ds)

@@ -1,7 +1,6 @@
 -- A list that goes on with the same, of which a front is held.
 use Rattle.std.proofs.Common.{◌≡◌, ℕ, ◌+◌, ◌-◌, ◌<◌, ◌≤◌, ◌++◌, List, length, set, drop, replicate, sym, ap, ◌∙◌, append_assoc, arith}
-use Rattle.std.proofs.lemmas.List.{length-append, length-replicate, length-set, replicate-append-replicate, set-append_left}
-use Rattle.std.proofs.lemmas.List.{drop-replicate}
+use Rattle.std.proofs.lemmas.List.{length-append, length-replicate, length-set, replicate-append-replicate, set-append_left, drop-replicate}
 use Rattle.std.proofs.Math.Seq.{drop-append-add}
 use Rattle.onll_pmem.specs.Front.{followed}
 

@@ -1,6 +1,6 @@
 //! A device over a file.
 
-ghost use Rattle.std.specs.Prelude.{◌≡◌, ℕ, ◌+◌, ◌-◌, ◌^◌, ◌<◌, ◌≤◌, ◌++◌, Bool, false, refl, length, IfOk, OnOk, OnErr};
+ghost use Rattle.std.specs.Prelude.{◌≡◌, ◌+◌, ◌-◌, ◌^◌, ◌<◌, ◌≤◌, ◌++◌, false, refl, length, IfOk, OnOk, OnErr};
 ghost use Rattle.onll_pmem.specs.Device.{zero_lines, line_at, FillsWords, is_marked};
 ghost use Rattle.onll_pmem.specs.Pmem.{words_of};
 ghost use Rattle.onll_pmem.specs.File.{FileState, file_view, few_faults, words_in_file, written, passed, failed};

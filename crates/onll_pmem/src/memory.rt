@@ -1,8 +1,8 @@
 //! A device in memory, with fences that fail as told.
 
-ghost use Rattle.std.specs.Prelude.{◌≡◌, ℕ, ◌+◌, ◌-◌, ◌^◌, ◌<◌, ◌≤◌, ◌++◌, not, is_ok, true, refl, length, IfOk, OnOk, OnErr};
+ghost use Rattle.std.specs.Prelude.{◌≡◌, ◌+◌, ◌-◌, ◌^◌, ◌<◌, ◌≤◌, ◌++◌, not, is_ok, true, refl, length, IfOk, OnOk, OnErr};
 ghost use Rattle.onll_pmem.specs.Device.{new_device, fenced_device, image_of, IsImage, zero_lines, line_at, FillsWords, settled, Write, WriteBack, Fence, FailedFence};
-ghost use Rattle.onll_pmem.specs.Pmem.{words_of, EightWords};
+ghost use Rattle.onll_pmem.specs.Pmem.{words_of};
 ghost use Rattle.std.specs.Cow.{cow_slice_items};
 ghost use Rattle.onll_pmem.specs.Memory.{MemoryState, fails, faults_in_le, stepped, memory_view, EvenBut};
 

@@ -1,6 +1,6 @@
 //! The trait of a persistent device: lines that are written, written back and fenced.
 
-ghost use Rattle.std.specs.Prelude.{◌≡◌, ℕ, ◌+◌, ◌-◌, ◌^◌, ◌<◌, ◌≤◌, ◌++◌, Bool, is_some, length, slice_set, IfSome, OnOk, OnErr};
+ghost use Rattle.std.specs.Prelude.{◌≡◌, ◌+◌, ◌-◌, ◌^◌, ◌<◌, ◌≤◌, ◌++◌, Bool, is_some, length, slice_set, IfSome, OnOk, OnErr};
 ghost use Rattle.onll_pmem.specs.Device.{line_at, zero_lines, FillsWords};
 ghost use Rattle.onll_pmem.specs.Pmem.{DeviceView, words_of, told_written, told_backed, told_fenced, ToldLines, EightWords};
 

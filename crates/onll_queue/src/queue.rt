@@ -1,6 +1,6 @@
 //! The queue, on a ring of the kit.
 
-ghost use Rattle.std.specs.Prelude.{◌≡◌, ℕ, ◌<◌, ◌≤◌, [], length, IfOk, slice_index};
+ghost use Rattle.std.specs.Prelude.{◌≡◌, ◌<◌, ◌≤◌, [], length, IfOk, slice_index};
 ghost use Rattle.onll_model.specs.Limits.{most_elements};
 ghost use Rattle.std.proofs.Common.{rules};
 ghost use Rattle.onll_queue.specs.Items.{IsQueue};

@@ -1,38 +1,31 @@
-use Rattle.std.proofs.Common.{ℕ, zero, suc, Bool, true, false, List, [], ◌∷◌, ◌≡◌, ◌+◌, ◌==◌, ⊎_elim, eqb-true, cond, length, map, take, Option, Some, None, IsSome, refl, ap, ◌∙◌, sym, subst, arith, Result, Ok, Err}
+use Rattle.std.proofs.Common.{ℕ, zero, suc, Bool, true, false, List, [], ◌∷◌, ◌≡◌, ◌+◌, ◌==◌, ⊎_elim, eqb-true, cond, length, map, take, Some, None, refl, ap, ◌∙◌, sym, subst, arith, Ok}
 use Rattle.std.proofs.lemmas.Bool.{cases_Bool}
-use Rattle.std.proofs.lemmas.Bool.Decides.{nat_tests}
 use Rattle.std.proofs.lemmas.List.{length-map}
 use Rattle.std.specs.List.{AllByRecursion}
 use Rattle.onll_model.specs.declared.node.Node.{Node}
 use Rattle.onll_model.specs.declared.call.Call.{Call}
 use Rattle.onll_model.specs.Object.{Behaviour}
-use Rattle.onll_model.specs.Recovered.{operations_front, where_some}
 use Rattle.onll_model.specs.Frames.{Thread}
 use Rattle.onll_model.proofs.Lists.{same_some, some_not_none}
 use Rattle.onll_log.specs.declared.head.LogHead.{LogHead}
 use Rattle.onll_log.specs.Head.{word, is_head, head_of, head_for, heads_from}
 use Rattle.onll_log.specs.Grammar.{Content, content_of, entries_from, are_zero_lines, format_in}
-use Rattle.onll_merge.specs.Merge.{merge, top_of}
+use Rattle.onll_merge.specs.Merge.{top_of}
 use Rattle.onll_merge.specs.FrameLogs.{AreLogsOf}
+use Rattle.onll_start.specs.Heads.{created_heads}
+use Rattle.onll_start.proofs.Heads.{length-heads_from}
 use Rattle.onll_core.specs.Core.{CoreThread, CoreState}
 use Rattle.onll_core.specs.CoreFrame.{frame_thread}
 use Rattle.onll_core.specs.Step.{steps_of}
-use Rattle.onll_core.specs.Created.{created_heads, created_core}
+use Rattle.onll_core.specs.Created.{created_core}
 use Rattle.onll_core.specs.Consistent.{IsConsistent}
 use Rattle.onll_core.specs.Crash.{AreImages, heads_of, Recovers}
-use Rattle.onll_core.proofs.Created.{length-heads_from}
-use Rattle.onll_core.specs.Generations.{Generation, IsGeneration, AreGenerations, LeavesAll}
-use Rattle.onll_core.proofs.Generations.{generation_starts}
-use Rattle.onll_core.proofs.ReachedCores.{steps_reached, reached_consistent}
 use Rattle.onll_core.proofs.Images.{image_either}
 use Rattle.onll_core.proofs.Crashed.{images_many, are_held, steps_heads}
 use Rattle.onll_core.proofs.Recovered.{first_heads}
 use Rattle.onll_core.proofs.Operations.{AllOperations, steps_operations}
-use Rattle.onll_merge.specs.declared.fault.StateFault.{StateFault}
-use Rattle.onll_merge.specs.declared.fault.StateFault.TheVariants.{NotOperation}
-use Rattle.onll_merge.specs.declared.fault.RecoverFault.{RecoverFault}
-use Rattle.onll_merge.specs.declared.fault.ImagesFault.{ImagesFault}
-use Rattle.onll_merge.specs.Recovered.{Recovered, recovered_with, content_before, contents_from, heads_for, expected_heads, with_logs, merged, with_operations, state_recovered}
+use Rattle.onll_merge.specs.Recovered.{recovered_with, content_before, contents_from, heads_for, expected_heads, state_recovered}
+use Rattle.onll_task.proofs.OperationRows.{recovered_is}
 
 -- The images of a core that was made of scripts are logs of this run, and what is recovered from them are operations.
 
@@ -113,42 +106,19 @@ contents_are i (image ∷ images) (log ∷ logs) e =
     let after = contents_are (i + 1) images logs rest in
     λ j. content_before i (here j) (after j)
 
--- ---- the rows
-where_is : {A : Type 0} (o : Option A) (nodes : List Node) → IsSome o → where_some o nodes ≡ nodes
-where_is None nodes h = absurd (cc)
-where_is (Some x) nodes h = refl
-
-equal : {A : Type 0} (n : ℕ) (x y : A) → cond (n == n) x y ≡ x
-equal {A} n x y = let e : (n == n) ≡ true = grind (arith, nat_tests) in ap (λ (t : Bool). cond t x y) e
-
 module _ {State Op Query Reply : Type 0} (b : Behaviour State Op Query Reply) where
-  pub front_is : (nodes : List Node) → AllOperations b nodes → operations_front b nodes ≡ nodes
-  front_is [] h = refl
-  front_is (n ∷ nodes) h = where_is (b.op_at n.row) (n ∷ operations_front b nodes) h.0 ∙ ap (λ (l : List Node). n ∷ l) (front_is nodes h.1)
-
+  -- ---- the rows
   pub take_operations : (k : ℕ) (nodes : List Node) → AllOperations b nodes → AllOperations b (take k nodes)
   take_operations zero nodes h = tt
   take_operations (suc k) [] h = tt
   take_operations (suc k) (n ∷ nodes) h = (h.0, take_operations k nodes h.1)
 
-  abbrev rows_by : Recovered → List Node → Result Recovered StateFault
-  rows_by r front = cond (length front == length r.nodes) (Ok r) (Err (NotOperation (length front + 1)))
-
-  operations_are : (r : Recovered) → AllOperations b r.nodes → with_operations b (Ok r) ≡ Ok r
-  operations_are r h = ap (rows_by r) (front_is r.nodes h) ∙ equal (length r.nodes) (Ok r) (Err (NotOperation (length r.nodes + 1)))
-
   -- ---- what is recovered
-  pub recovered_is : (images : List (List (List ℕ))) (heads : List LogHead) (logs : List Content) (nodes : List Node)
-      → contents_from 0 images ≡ Ok logs → merge heads logs ≡ Ok nodes → AllOperations b nodes → state_recovered b heads images ≡ Ok (recovered_with logs nodes)
-  recovered_is images heads logs nodes c m o =
-      ap (λ (cs : Result (List Content) ImagesFault). with_operations b (merged heads cs)) c
-      ∙ ap (λ (r : Result (List Node) RecoverFault). with_operations b (with_logs logs r)) m ∙ operations_are (recovered_with logs nodes) o
-
   -- images of a core recover to operations
   pub images_recover : (heads : List LogHead) (c : CoreState State Op Query Reply) (images : List (List (List ℕ))) → AllOperations b c.trace → (r : Recovers heads c images)
       → state_recovered b heads images ≡ Ok (recovered_with r.logs r.nodes)
   images_recover heads c images rows r =
-      recovered_is images heads r.logs r.nodes (contents_are 0 images r.logs r.contents) r.recovered
+      recovered_is b images heads r.logs r.nodes (contents_are 0 images r.logs r.contents) r.recovered
       (subst (AllOperations b) (sym r.front) (take_operations (top_of r.logs) c.trace rows))
 
   -- images of a consistent core whose logs have such heads are read by format 2
@@ -181,16 +151,3 @@ module _ {State Op Query Reply : Type 0} (b : Behaviour State Op Query Reply) wh
       let c = created_core s code init scripts in
       ap (λ heads. state_recovered b heads images) (made_heads code init s scripts ts)
       ∙ images_recover (created_heads code init scripts) (steps_of b c ts) images (steps_operations b c ts tt) r
-
-  -- So is what a crash left of the newest of any number of generations, with the heads that its images are expected to have.
-  pub generation_recovered : (code : ℕ) (init : List ℕ) (s : State) (count : ℕ) (older : List (Generation State Op Query Reply)) (g : Generation State Op Query Reply) (is : IsGeneration b code init s count older g)
-      → AreGenerations b code init s count older → (leaves : LeavesAll b code init s count older g is)
-      → state_recovered b (expected_heads code init g.images) g.images ≡ Ok (recovered_with leaves.all.recovers.logs leaves.all.recovers.nodes)
-  generation_recovered code init s count older g is earlier leaves =
-      let starts = generation_starts b code init s count older g is earlier in
-      let n = length g.scripts in
-      let c = steps_of b is.core g.steps in
-      let k = reached_consistent b n c (steps_reached b n is.core g.steps starts.starts.reached) in
-      let same : heads_of c.threads ≡ heads_from n code init 0 n = steps_heads b is.core g.steps ∙ starts.starts.heads_are in
-      ap (λ heads. state_recovered b heads g.images) (heads_are n code init c g.images k same is.left ∙ ap (λ m. heads_from m code init 0 m) is.many)
-      ∙ images_recover (heads_from count code init 0 count) c g.images (steps_operations b is.core g.steps starts.rows) leaves.all.recovers

@@ -1,10 +1,7 @@
 pub mod Crashes
 pub mod Resumes
 pub mod Determined
-pub mod FoldSteps
 pub mod PrintedReads
-pub mod RecoverSteps
 pub mod ReplaySteps
 pub mod Replays
-pub mod Standing
 pub mod Detects

@@ -1,8 +1,8 @@
-use Rattle.std.proofs.Common.{ℕ, zero, suc, ◌≡◌, ◌+◌, ◌<◌, ◌≤◌, ◌^◌, Bool, true, false, List, [], ◌∷◌, ◌++◌, Some, None, length, drop, get_or, map, sym, ap, ◌∙◌, subst, arith}
+use Rattle.std.proofs.Common.{ℕ, zero, suc, ◌≡◌, ◌+◌, ◌<◌, ◌≤◌, ◌^◌, List, [], ◌∷◌, ◌++◌, Some, length, drop, get_or, map, sym, ap, ◌∙◌, subst, arith}
 use Rattle.std.specs.Option.{IfSome}
 use Rattle.std.specs.List.{All, slice_get}
-use Rattle.std.proofs.lemmas.List.{drop_more, drop_all}
-use Rattle.std.proofs.lemmas.List.Elements.{All-cons, All-nil}
+use Rattle.std.proofs.lemmas.List.{drop_more}
+use Rattle.std.proofs.lemmas.List.Elements.{All-cons}
 use Rattle.std.proofs.lemmas.Option.{same_Some}
 use Rattle.onll_model.specs.declared.node.Node.{Node}
 use Rattle.onll_model.specs.declared.call.Call.{Call}
@@ -16,8 +16,7 @@ use Rattle.onll_core.specs.Core.{CoreThread}
 use Rattle.onll_core.specs.Outcomes.{returned_end, current_ends, current_in, ends_of, script_of}
 use Rattle.onll_merge.specs.declared.counts.LogCounts.{LogCounts}
 use Rattle.onll_text.specs.Wording.{Wording}
-use Rattle.onll_text.specs.Reports.{EndReads, EndsRead, EachReads, LogReads}
-use Rattle.onll_recovery.specs.RecoverJob.{HeldReads, held_with, held_of}
+use Rattle.onll_text.specs.Reports.{EndsRead, EachReads, LogReads}
 use Rattle.onll_text.specs.Lines.{LogData}
 use Rattle.onll_recovery.specs.ReplayJob.{counts_of}
 use Rattle.onll_recovery.proofs.ReplaySteps.{if_at, thread_at}
@@ -71,24 +70,6 @@ module _ {State Op Query Reply : Type 0} where
       let more : EachReads w (map script_of (drop (suc t) ths)) (map ends_of (drop (suc t) ths)) = subst (λ j. EachReads w (map script_of (drop j ths)) (map ends_of (drop j ths))) s rest in
       subst (λ (l : List (CoreThread State Op Query Reply)). EachReads w (map script_of l) (map ends_of l)) (sym x.2) (own, more)
 
-  -- one outcome before those that are left, and none where none is left
-  pub end_reads : (w : Wording State Op Query Reply) (i : ℕ) (ends : List (CallEnd State Op Query Reply)) (end : CallEnd State Op Query Reply) → slice_get ends i ≡ Some end → EndReads w end
-      → All (EndReads w) (drop (i + 1) ends) → All (EndReads w) (drop i ends)
-  end_reads w i [] end e reads rest = cc e
-  end_reads w zero (x ∷ ends) end e reads rest = All-cons (EndReads w) x ends (subst (EndReads w) (sym (same_Some x end e)) reads) rest
-  end_reads w (suc i) (x ∷ ends) end e reads rest =
-      let up : suc i + 1 ≡ suc (i + 1) = omega arith in
-      end_reads w i ends end e reads (subst (λ j. All (EndReads w) (drop j (x ∷ ends))) up rest)
-
-  pub no_end : (w : Wording State Op Query Reply) (i : ℕ) (ends : List (CallEnd State Op Query Reply)) → slice_get ends i ≡ None → All (EndReads w) (drop i ends)
-  no_end w zero [] e = All-nil (EndReads w)
-  no_end w (suc i) [] e = All-nil (EndReads w)
-  no_end w zero (x ∷ ends) e = cc e
-  no_end w (suc i) (x ∷ ends) e = no_end w i ends e
-
-  pub ends_done : (w : Wording State Op Query Reply) (i : ℕ) (ends : List (CallEnd State Op Query Reply)) → length ends ≤ i → All (EndReads w) (drop i ends)
-  ends_done w i ends most = subst (All (EndReads w)) (sym (drop_all i ends most)) (All-nil (EndReads w))
-
   -- one log's numbers before those of the rest
   pub logs_more : (t : ℕ) (logs : List LogCounts) (ths : List (CoreThread State Op Query Reply)) (none d : LogCounts) (fences : ℕ) → t < length logs → t < length ths
       → IfSome (slice_get ths t) (λ th. fences ≡ fences_of th) → d ≡ get_or logs t none → d.entries < 2 ^ 64 → d.lines < 2 ^ 64 → fences < 2 ^ 64
@@ -105,21 +86,3 @@ module _ {State Op Query Reply : Type 0} where
       subst (λ (l : List (CoreThread State Op Query Reply)). All LogReads (counts_of (drop t logs) l)) (sym x.2)
       (subst (λ (l : List LogCounts). All LogReads (counts_of l (th ∷ drop (suc t) ths))) (sym left)
       (All-cons LogReads told (counts_of (drop (t + 1) logs) (drop (suc t) ths)) (record { entries = entries; lines = used; fences = few }) more))
-
--- a log's numbers, where it has a head
-held_reads : (head : Bool) (entries lines : ℕ) → entries < 2 ^ 64 → lines < 2 ^ 64 → HeldReads (held_with head entries lines)
-held_reads false entries lines g h = tt
-held_reads true entries lines g h = (g, h)
-
--- one of them before those of the rest
-pub helds_more : (i : ℕ) (logs : List LogCounts) (none d : LogCounts) → i < length logs → d ≡ get_or logs i none → d.entries < 2 ^ 64 → d.lines < 2 ^ 64
-    → All HeldReads (map held_of (drop (i + 1) logs)) → All HeldReads (map held_of (drop i logs))
-helds_more i logs none d h same entries used rest =
-    let left : drop i logs ≡ d ∷ drop (i + 1) logs = drop_more logs i none h ∙ ap (λ (y : LogCounts). y ∷ drop (i + 1) logs) (sym same) in
-    subst (λ (l : List LogCounts). All HeldReads (map held_of l)) (sym left)
-    (All-cons HeldReads (held_of d) (map held_of (drop (i + 1) logs)) (held_reads d.head d.entries d.lines entries used) rest)
-
--- one element of what a list is made into before those of the rest
-pub made_one_more : {X Y : Type 0} (f : X → Y) (P : Y → Type 0) (xs : List X) (i : ℕ) (x : X) → i < length xs → x ≡ get_or xs i x → P (f x) → All P (map f (drop (i + 1) xs)) → All P (map f (drop i xs))
-made_one_more f P xs i x h same first rest =
-    subst (λ l. All P (map f l)) (sym (drop_more xs i x h ∙ ap (λ y. y ∷ drop (i + 1) xs) (sym same))) (All-cons P (f x) (map f (drop (i + 1) xs)) first rest)

@@ -1,4 +1,4 @@
-use Rattle.std.proofs.Common.{codes, decimal, ℕ, zero, suc, ◌≡◌, ◌+◌, ◌<◌, ◌≤◌, Bool, List, [], ◌∷◌, ◌++◌, Option, Some, None, length, drop, get_or, map, refl, sym, ap, ◌∙◌, subst, arith}
+use Rattle.std.proofs.Common.{ℕ, zero, suc, ◌≡◌, ◌+◌, ◌<◌, ◌≤◌, Bool, List, [], ◌∷◌, ◌++◌, Option, Some, None, length, drop, get_or, map, refl, sym, ap, ◌∙◌, subst, arith}
 use Rattle.std.specs.List.{slice_get}
 use Rattle.std.proofs.lemmas.List.{drop_more, append-nil}
 use Rattle.onll_words.specs.Texts.{AreWords, line_text}
@@ -16,14 +16,11 @@ use Rattle.onll_core.specs.Outcomes.{returned_end, current_ends, current_in, end
 use Rattle.onll_merge.specs.declared.counts.LogCounts.{LogCounts}
 use Rattle.onll_text.specs.Wording.{Wording}
 use Rattle.onll_text.specs.Bytes.{with_lines}
-use Rattle.onll_text.specs.Lines.{call_line, call_lines, trace_line, node_line, log_line, flagged_lines}
+use Rattle.onll_text.specs.Lines.{call_lines, trace_line, node_line, log_line, flagged_lines}
 use Rattle.onll_text.proofs.Appending.{with_lines-one, with_lines-append}
 use Rattle.onll_recovery.specs.ReplayJob.{begun_lines, crash_line, fenced_lines, run_lines}
 
 -- The parts of a replay's report, as they are appended one after the other.
-
-pub resumed_in_words : (nodes : ℕ) → AreWords (codes "resumed" ∷ decimal nodes ∷ [])
-resumed_in_words nodes = (record { some = refl; bytes = refl }, (IsWord-decimal nodes, tt))
 
 pub crash_in_words : (keep : ℕ) → AreWords (crash_line keep)
 crash_in_words keep = (record { some = refl; bytes = refl }, (IsWord-decimal keep, tt))
@@ -59,49 +56,17 @@ module _ {State Op Query Reply : Type 0} where
   beyond (r ∷ rs) more zero few h = absurd (omega arith)
   beyond (r ∷ rs) more (suc i) few h = beyond rs more i few (omega arith)
 
-  drop_at : (ends : List (CallEnd State Op Query Reply)) (i : ℕ) (end : CallEnd State Op Query Reply) → slice_get ends i ≡ Some end → drop i ends ≡ end ∷ drop (suc i) ends
-  drop_at [] i end e = absurd (cc)
-  drop_at (x ∷ ends) zero end e = ap (λ (y : CallEnd State Op Query Reply). y ∷ ends) (same e)
-    where
-      same : {a b : CallEnd State Op Query Reply} → Some a ≡ Some b → a ≡ b
-      same p = (cc)
-  drop_at (x ∷ ends) (suc i) end e = drop_at ends i end e
-
   drop_none : (ends : List (CallEnd State Op Query Reply)) (i : ℕ) → slice_get ends i ≡ None → drop i ends ≡ []
   drop_none [] zero e = refl
   drop_none [] (suc i) e = refl
   drop_none (x ∷ ends) zero e = absurd (cc)
   drop_none (x ∷ ends) (suc i) e = drop_none ends i e
 
-  no_calls : (w : Wording State Op Query Reply) (thread k : ℕ) (ends : List (CallEnd State Op Query Reply)) → call_lines w thread k [] ends ≡ []
-  no_calls w thread k [] = refl
-  no_calls w thread k (end ∷ ends) = refl
-
-  -- one call's line before those of the rest
-  pub call_more : (w : Wording State Op Query Reply) (out text : List ℕ) (thread i : ℕ) (calls : List (Call State Op Query Reply)) (ends : List (CallEnd State Op Query Reply)) (call : Call State Op Query Reply) (end : CallEnd State Op Query Reply)
-      → i < length calls → call ≡ get_or calls i call → slice_get ends i ≡ Some end → text ≡ out ++ line_text (call_line w thread (i + 1) call end)
-      → with_lines text (call_lines w thread (i + 1) (drop (i + 1) calls) (drop (i + 1) ends)) ≡ with_lines out (call_lines w thread i (drop i calls) (drop i ends))
-  call_more w out text thread i calls ends call end h same at e =
-      let s : i + 1 ≡ suc i = omega arith in
-      let rest = call_lines w thread (i + 1) (drop (i + 1) calls) (drop (i + 1) ends) in
-      ap (λ t. with_lines t rest) e
-      ∙ sym (with_lines-one out (call_line w thread (i + 1) call end) rest)
-      ∙ ap (λ (x : Call State Op Query Reply). with_lines out (call_lines w thread i (x ∷ drop (i + 1) calls) (end ∷ drop (i + 1) ends))) same
-      ∙ sym (ap (λ (l : List (Call State Op Query Reply)). with_lines out (call_lines w thread i l (end ∷ drop (i + 1) ends))) (drop_more calls i call h))
-      ∙ ap (λ j. with_lines out (call_lines w thread i (drop i calls) (end ∷ drop j ends))) s
-      ∙ sym (ap (λ (l : List (CallEnd State Op Query Reply)). with_lines out (call_lines w thread i (drop i calls) l)) (drop_at ends i end at))
-
   -- no further call has begun
   pub calls_done : (w : Wording State Op Query Reply) (out : List ℕ) (thread i : ℕ) (calls : List (Call State Op Query Reply)) (ends : List (CallEnd State Op Query Reply)) → slice_get ends i ≡ None
       → out ≡ with_lines out (call_lines w thread i (drop i calls) (drop i ends))
   calls_done w out thread i calls ends at =
       sym (append-nil out) ∙ sym (ap (λ (l : List (CallEnd State Op Query Reply)). with_lines out (call_lines w thread i (drop i calls) l)) (drop_none ends i at))
-
-  -- the script is at its end
-  pub script_done : (w : Wording State Op Query Reply) (out : List ℕ) (thread i : ℕ) (calls : List (Call State Op Query Reply)) (ends : List (CallEnd State Op Query Reply)) → drop i calls ≡ []
-      → out ≡ with_lines out (call_lines w thread i (drop i calls) ends)
-  script_done w out thread i calls ends e =
-      sym (append-nil out) ∙ sym (ap (with_lines out) (no_calls w thread i ends)) ∙ sym (ap (λ (l : List (Call State Op Query Reply)). with_lines out (call_lines w thread i l ends)) e)
 
 -- ---- the threads
 module _ {State Op Query Reply : Type 0} where

@@ -1,7 +1,7 @@
 -- The parts of a replay, one after the other.
 
-use Rattle.std.proofs.Common.{Vec, ℕ, zero, suc, ◌≡◌, ◌+◌, ◌-◌, ◌<◌, List, [], ◌∷◌, ◌++◌, Option, None, IsSome, length, drop, get_or, map, Result, Ok, Err, refl, sym, ap, ◌∙◌, subst, arith}
-use Rattle.std.proofs.lemmas.List.{drop_more, length-map}
+use Rattle.std.proofs.Common.{Vec, ℕ, zero, suc, ◌≡◌, ◌+◌, ◌-◌, ◌<◌, List, [], ◌∷◌, ◌++◌, Option, None, IsSome, length, get_or, map, Result, Ok, Err, refl, sym, ap, ◌∙◌, subst, arith}
+use Rattle.std.proofs.lemmas.List.{length-map}
 use Rattle.std.specs.List.{AllByRecursion, slice_get}
 use Rattle.std.specs.Option.{IfSome}
 use Rattle.onll_words.specs.declared.line.Line.{Line}
@@ -34,12 +34,8 @@ use Rattle.onll_open.specs.Names.{log_names}
 use Rattle.onll_task.specs.Images.{AllDecide, writing_stage}
 use Rattle.onll_task.specs.Doing.{text_stage, Fulfils, DoesStage}
 use Rattle.onll_recovery.specs.ReplayJob.{played, run_task, crash_task, schedule_task}
-use Rattle.onll_recovery.proofs.Standing.{crash_stands}
+use Rattle.onll_task.proofs.Standing.{crash_stands}
 use Rattle.onll_task.proofs.Stages.{wrote_does, stop_does, read_does}
-
--- ---- scripts
-pub name_next : {X : Type 0} (f : X → List ℕ) (names : List X) (i : ℕ) (name : X) → i < length names → name ≡ get_or names i name → map f (drop i names) ≡ f name ∷ map f (drop (i + 1) names)
-name_next f names i name h same = ap (map f) (drop_more names i name h) ∙ ap (λ x. f x ∷ map f (drop (i + 1) names)) (sym same)
 
 -- ---- a core's scripts are those that it was made of
 made_scripts : {State Op Query Reply : Type 0} (count code : ℕ) (init : List ℕ) (t : ℕ) (scripts : List (List (Call State Op Query Reply)))

@@ -19,18 +19,19 @@ use Rattle.onll_merge.specs.declared.fault.RecoverFault.{RecoverFault}
 use Rattle.onll_merge.specs.Merge.{merge, unless}
 use Rattle.onll_merge.specs.Recovered.{content_before, contents_from, log_counts, recovered_with, state_recovered}
 use Rattle.onll_merge.specs.Resumed.{entries_of}
-use Rattle.onll_core.specs.declared.fault.ResumeFault.{ResumeFault}
-use Rattle.onll_core.specs.declared.fault.ResumeFault.TheVariants.{Images, OldFormat, NotOp, TooMany, NoMemory}
+use Rattle.onll_start.specs.declared.fault.ResumeFault.{ResumeFault}
+use Rattle.onll_start.specs.declared.fault.ResumeFault.TheVariants.{Images, OldFormat, NotOp, TooMany, NoMemory}
+use Rattle.onll_start.specs.Heads.{created_heads}
+use Rattle.onll_start.specs.Start.{Found, is_old, old_format, is_too_many, found_operations, found_merged, found_newer, found_logs, found_in, too_many}
+use Rattle.onll_start.proofs.Heads.{length-heads_from}
 use Rattle.onll_core.specs.Core.{CoreState}
-use Rattle.onll_core.specs.Created.{created_heads}
 use Rattle.onll_core.specs.Crash.{heads_of, Recovers}
 use Rattle.onll_core.specs.Outcomes.{script_of}
 use Rattle.onll_core.specs.Resumed.{resumed_core, resumed_core_threads}
-use Rattle.onll_core.specs.Resume.{Found, is_old, old_format, is_too_many, found_operations, found_merged, found_newer, found_logs, found_in, too_many, going_on, resumed}
+use Rattle.onll_core.specs.Resume.{going_on, resumed}
 use Rattle.onll_core.specs.Step.{steps_of}
 use Rattle.onll_core.specs.Turns.{turns_of}
 use Rattle.onll_core.proofs.Crashed.{steps_heads, steps_scripts}
-use Rattle.onll_core.proofs.Created.{length-heads_from}
 use Rattle.onll_core.proofs.Operations.{AllOperations, steps_operations}
 use Rattle.onll_text.specs.declared.schedule.Schedule.{Schedule}
 use Rattle.onll_text.specs.Wording.{Wording}
@@ -40,12 +41,12 @@ use Rattle.onll_task.specs.declared.answer.Stop.{Stop}
 use Rattle.onll_open.specs.Names.{log_names}
 use Rattle.onll_task.specs.Images.{AllDecide}
 use Rattle.onll_task.specs.Doing.{Fulfils}
-use Rattle.onll_task.specs.Stop.{StopSays}
-use Rattle.onll_task.proofs.Stages.{wider, says_does}
 use Rattle.onll_recovery.specs.ReplayJob.{crash_task}
-use Rattle.onll_recovery.specs.AgainJob.{resume_ending, resume_text, resumed_task}
-use Rattle.onll_recovery.proofs.Crashes.{AreFormat2, head_format, contents_are, front_is, images_recover}
-use Rattle.onll_recovery.proofs.Standing.{contents_stand}
+use Rattle.onll_recovery.specs.AgainJob.{resumed_task}
+use Rattle.onll_task.specs.NotResumed.{resume_ending, resume_text}
+use Rattle.onll_recovery.proofs.Crashes.{AreFormat2, head_format, contents_are, images_recover}
+use Rattle.onll_task.proofs.OperationRows.{front_is}
+use Rattle.onll_task.proofs.Standing.{contents_stand}
 
 -- ---- what a core that goes on has
 -- as many logs as images
@@ -197,16 +198,6 @@ no_report (Images fault) e = cc e
 no_report (OldFormat log) e = cc e
 no_report (NotOp place) e = cc e
 no_report NoMemory e = cc e
-
--- it is said why
-pub not_resumed_does : {A State Op Query Reply : Type 0} (b : Behaviour State Op Query Reply) (w : Wording State Op Query Reply) (logs : List ℕ) (names : List (List ℕ)) (scripts : List (List (Call State Op Query Reply))) (plan : Schedule)
-    (all : List (List ℕ)) (fault : ResumeFault) {found : Result (CoreState State Op Query Reply) ResumeFault} (store : StoreView) (s : Stop)
-    → found ≡ Err fault → StopSays s (λ end said. (end ≡ resume_ending fault) × (said ≡ resume_text names fault))
-    → Fulfils {A = A} all store store (resumed_task b w logs names scripts plan found) (Err s)
-not_resumed_does {A} {State} {Op} {Query} {Reply} b w logs names scripts plan all fault {found} store s e says =
-    let does = says_does {A = A} store (resume_ending fault) (resume_text names fault) s (no_report fault) says in
-    subst (λ (x : Result (CoreState State Op Query Reply) ResumeFault). Fulfils {A = A} all store store (resumed_task b w logs names scripts plan x) (Err s)) (sym e)
-    (record { done = tt; reports = tt; stops = does.stops; files = wider all store store does.files })
 
 -- ---- what images of format 2 give
 two_not_one : (n : ℕ) → n ≡ 2 → (n == 1) ≡ false

@@ -1,48 +1,23 @@
 -- What `again INIT SCHEDULE LOGS SCRIPT..` does: a core goes on from the images of an earlier generation, plays a schedule and
 -- crashes, the images are written back, and the run and what recovery finds are said.
 
-use Rattle.std.specs.Prelude.{ℕ, List, [], ◌∷◌, Some, Result, Ok, Err, codes, decimal, get_or, length}
-use Rattle.onll_words.specs.Texts.{line_text}
+use Rattle.std.specs.Prelude.{ℕ, List, Some, Result, Ok, Err, length}
 use Rattle.onll_model.specs.declared.call.Call.{Call}
 use Rattle.onll_model.specs.Object.{Behaviour}
-use Rattle.onll_merge.specs.Faults.{state_fault}
-use Rattle.onll_merge.specs.declared.fault.StateFault.TheVariants.{NotOperation}
-use Rattle.onll_core.specs.declared.fault.ResumeFault.{ResumeFault}
-use Rattle.onll_core.specs.declared.fault.ResumeFault.TheVariants.{Images, OldFormat, NotOp, TooMany, NoMemory}
+use Rattle.onll_start.specs.declared.fault.ResumeFault.{ResumeFault}
 use Rattle.onll_core.specs.Core.{CoreState}
 use Rattle.onll_core.specs.Step.{steps_of}
 use Rattle.onll_core.specs.Turns.{turns_of}
 use Rattle.onll_core.specs.Resume.{resumed}
-use Rattle.onll_text.specs.declared.reason.Reason.TheVariants as reasons
 use Rattle.onll_text.specs.declared.schedule.Schedule.{Schedule}
 use Rattle.onll_text.specs.Kinds.{ObjectKind}
-use Rattle.onll_text.specs.Refusal.{refused}
 use Rattle.onll_text.specs.Schedule.{schedule_of}
 use Rattle.onll_text.specs.Wording.{Wording}
-use Rattle.onll_task.specs.declared.ending.Ending.{Ending}
-use Rattle.onll_task.specs.declared.ending.Ending.TheVariants.{Refused, BadLog}
-use Rattle.onll_task.specs.Printed.{refusal_text}
 use Rattle.onll_task.specs.Doing.{Task, after_stage, say_task, text_stage}
 use Rattle.onll_task.specs.Images.{images_stage}
-use Rattle.onll_recovery.specs.RecoverJob.{fault_line}
-use Rattle.onll_recovery.specs.ReplayJob.{crash_task, scripts_stage}
-
--- ---- the refusals
--- a script whose thread has too many updates is refused; all else is said of the logs
-abbrev pub resume_ending : ResumeFault → Ending
-resume_ending (TooMany thread) = Refused
-resume_ending (Images fault) = BadLog
-resume_ending (OldFormat log) = BadLog
-resume_ending (NotOp place) = BadLog
-resume_ending NoMemory = BadLog
-
--- the line that says why no core goes on from images with the scripts of these files; want of memory, which no images give, has none
-abbrev pub resume_text : List (List ℕ) → ResumeFault → List ℕ
-resume_text names (TooMany thread) = refusal_text (get_or names thread []) (refused 0 reasons.TooMany)
-resume_text names (Images fault) = fault_line (state_fault fault)
-resume_text names (OldFormat log) = line_text (codes "log" ∷ decimal log ∷ codes "of" ∷ codes "format" ∷ decimal 1 ∷ [])
-resume_text names (NotOp place) = fault_line (NotOperation place)
-resume_text names NoMemory = []
+use Rattle.onll_task.specs.NotResumed.{resume_ending, resume_text}
+use Rattle.onll_recovery.specs.ReplayJob.{crash_task}
+use Rattle.onll_task.specs.Scripts.{scripts_stage}
 
 -- ---- the work
 -- a core plays the schedule and crashes, as in a replay; or it is said why there is none

@@ -21,8 +21,8 @@ use Rattle.onll_text.specs.Lines.{call_line, recovered_line}
 use Rattle.onll_task.specs.declared.ending.Ending.TheVariants.{BadLog}
 use Rattle.onll_task.specs.Doing.{Task, after_stage, report_task, say_task}
 use Rattle.onll_task.specs.Images.{images_stage}
-use Rattle.onll_recovery.specs.RecoverJob.{fault_line}
-use Rattle.onll_recovery.specs.ReplayJob.{scripts_stage}
+use Rattle.onll_task.specs.Faults.{fault_line}
+use Rattle.onll_task.specs.Scripts.{scripts_stage}
 
 -- ---- the report
 -- The line of an update, which is call number k of a thread, and of what became of it: `call T K CALL -> REPLY at P`, or

@@ -22,17 +22,17 @@ use Rattle.onll_text.specs.declared.schedule.Schedule.{Schedule}
 use Rattle.onll_text.specs.Kinds.{ObjectKind}
 use Rattle.onll_text.specs.Wording.{Wording}
 use Rattle.onll_text.specs.Lines.{LogData, call_lines, thread_lines, trace_line, flagged_lines, log_line, counted_lines, recovered_line, state_lines}
-use Rattle.onll_text.specs.Script.{script_of}
 use Rattle.onll_text.specs.Schedule.{schedule_of}
 use Rattle.onll_text.specs.Reports.{EachReads, NodeReads, LogReads, StateReads, SaysOnly}
-use Rattle.onll_outside.specs.Views.{StoreView}
 use Rattle.onll_task.specs.declared.ending.Ending.TheVariants.{BadLog}
 use Rattle.onll_merge.specs.declared.fault.StateFault.{StateFault}
-use Rattle.onll_task.specs.Doing.{Task, Stage, after_stage, each_stage, report_task, say_task, text_stage}
+use Rattle.onll_task.specs.Doing.{Task, after_stage, report_task, say_task, text_stage}
 use Rattle.onll_task.specs.Images.{writing_stage}
-use Rattle.onll_recovery.specs.RecoverJob.{fault_line}
+use Rattle.onll_task.specs.Faults.{fault_line}
 use Rattle.onll_merge.specs.declared.counts.LogCounts.{LogCounts}
 use Rattle.onll_merge.specs.Recovered.{Recovered, state_recovered}
+use Rattle.onll_task.specs.Scripts.{scripts_stage}
+use Rattle.onll_task.specs.RunSaid.{resumed_lines}
 
 -- the core that is made of scripts, after the steps of turns
 abbrev pub played : {State Op Query Reply : Type 0} → Behaviour State Op Query Reply → ℕ → List ℕ → State
@@ -45,11 +45,6 @@ abbrev pub begun_lines : {State Op Query Reply : Type 0} → Wording State Op Qu
     → List (CoreThread State Op Query Reply) → List (List (List ℕ))
 begun_lines w t [] = []
 begun_lines w t (th ∷ ths) = call_lines w t 0 th.script (ends_of th) ++ begun_lines w (t + 1) ths
-
--- the line of how many nodes the core goes on from; none where it begins anew
-abbrev pub resumed_lines : Option ℕ → List (List (List ℕ))
-resumed_lines None = []
-resumed_lines (Some nodes) = (codes "resumed" ∷ decimal nodes ∷ []) ∷ []
 
 abbrev pub crash_line : ℕ → List (List ℕ)
 crash_line keep = codes "crash" ∷ decimal keep ∷ []
@@ -151,16 +146,6 @@ abbrev pub schedule_task : (k : ObjectKind) → List ℕ → k.State → (schedu
     → List (List (Call k.State k.Op k.Query k.Reply)) → Task
 schedule_task k init s schedule logs scripts = after_stage (text_stage schedule (schedule_of (length scripts)))
     (λ (plan : Schedule). crash_task k.means k.wording logs None scripts (played k.means k.code init s scripts plan.turns) plan.keep)
-
--- scripts are read, one after the other
-abbrev pub scripts_stage : {State Op Query Reply : Type 0} → Wording State Op Query Reply → List (List ℕ)
-    → Stage (List (List (Call State Op Query Reply)))
-scripts_stage w names = each_stage (λ name. text_stage name (script_of w)) names
-
--- a script is read from each of these files
-abbrev pub ReadScripts : {State Op Query Reply : Type 0} → Wording State Op Query Reply → StoreView → List (List ℕ)
-    → List (List (Call State Op Query Reply)) → Type 0
-ReadScripts w store names scripts = (scripts_stage w names).known store scripts
 
 abbrev pub scripts_task : (k : ObjectKind) → (init schedule logs : List ℕ) → List (List ℕ) → k.State → Task
 scripts_task k init schedule logs names s = after_stage (scripts_stage k.wording names) (schedule_task k init s schedule logs)

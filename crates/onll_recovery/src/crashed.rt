@@ -1,6 +1,6 @@
 //! A core that crashes: its images are written, and its run and what they give are said.
 
-ghost use Rattle.std.specs.Prelude.{[], IfOk, ◌≡◌, ◌++◌, ◌<◌, ◌≤◌, ◌^◌, length, slice_get, true, IsSome, IfSome, IfErr, OnOk, All, map, get_or};
+ghost use Rattle.std.specs.Prelude.{[], IfOk, ◌≡◌, ◌++◌, ◌<◌, ◌≤◌, ◌^◌, length, slice_get, true, IsSome, IfErr, OnOk, All, map, get_or};
 ghost use Rattle.onll_model.specs.Limits.{most_threads};
 ghost use Rattle.std.specs.List.{AllByRecursion};
 ghost use Rattle.onll_words.specs.Texts.{line_text};
@@ -14,22 +14,20 @@ ghost use Rattle.onll_merge.specs.Recovered.{recovered_in, state_recovered};
 ghost use Rattle.onll_pmem.specs.Pmem.{words_of};
 ghost use Rattle.std.specs.Cow.{cow_slice_items};
 ghost use Rattle.onll_open.specs.Names.{log_name, log_names};
-ghost use Rattle.onll_task.specs.Images.{Decides, AllDecide, image_bytes, writing_stage};
+ghost use Rattle.onll_task.specs.Images.{Decides, AllDecide, writing_stage};
 ghost use Rattle.onll_task.specs.Stop.{StopSays};
 ghost use Rattle.onll_task.specs.Writing.{HasWritten, CannotWrite, WriteStops};
-ghost use Rattle.onll_recovery.specs.ReplayJob.{begun_lines, resumed_lines, crash_line, fenced_lines, run_lines, crash_lines, replay_report, CrashedRunReads, counts_of, replay_data, run_task, crash_task};
+ghost use Rattle.onll_recovery.specs.ReplayJob.{begun_lines, crash_line, fenced_lines, run_lines, crash_lines, replay_report, CrashedRunReads, counts_of, replay_data, run_task, crash_task};
 ghost use Rattle.onll_task.specs.Doing.{Fulfils, DoesStage};
-ghost use Rattle.onll_outside.specs.Views.{StoreView, SameOthers, with_zeros};
+ghost use Rattle.onll_outside.specs.Views.{StoreView, SameOthers, with_zeros, image_bytes};
 
-use crate::faults::bad_logs;
-use crate::recover::{put_count, recover_tested};
 use onll_core::{Core, Current, Returned, report_law};
 use onll_log::{LogHead, TestedImage};
 use onll_merge::{LogCounts, Recovery, StateFault};
 use onll_model::{Call, CallEnd, Node};
 use onll_outside::Store;
 use onll_pmem::Pmem;
-use onll_task::{Stop, write_image};
+use onll_task::{Stop, bad_logs, put_count, put_resumed, recover_tested, write_image};
 use onll_text::{Piece, Report, Texted};
 use onll_words::{Line, NoMemory};
 use std::alloc::Global;
@@ -127,19 +125,6 @@ fn put_run<O: Texted + Drop>(core: &Core<O>, out: &mut Report) -> Result<(), NoM
     let trace = core.trace();
     out.trace_line(trace.len() as u64)?;
     put_flagged::<O>(trace, core.flags(), out)
-}
-
-/// The line of how many nodes are gone on from; none where a run begins anew.
-pub fn put_resumed(resumed: Option<u64>, out: &mut Report) -> Result<(), NoMemory>
-    requires { begins_line out.old ≡ true }
-    ensures lines { OnOk result (out.new ≡ with_lines out.old (resumed_lines resumed)) }
-    ensures begins { OnOk result (begins_line out.new ≡ true) }
-    ensures reads { OnOk result (IfSome resumed (λ nodes. nodes < 2 ^ 64)) }
-{
-    match resumed {
-        Some(nodes) => out.line(&[Piece::Text(b"resumed"), Piece::Number(nodes)]),
-        None => Ok(()),
-    }
 }
 
 /// The line of the schedule's crash.

@@ -1,6 +1,6 @@
 //! The command `detect`: which updates of scripts took effect, by the logs of their run.
 
-ghost use Rattle.std.specs.Prelude.{[], ◌∷◌, ◌≡◌, ◌+◌, ◌<◌, ◌≤◌, ◌^◌, ◌++◌, length, true, map, string_bytes, slice_get, IfOk, OnOk, MatchResult};
+ghost use Rattle.std.specs.Prelude.{[], ◌∷◌, ◌≡◌, ◌+◌, ◌<◌, ◌≤◌, ◌^◌, ◌++◌, length, true, map, string_bytes, slice_get, IfOk, OnOk};
 ghost use Rattle.std.specs.List.{AllByRecursion, flat_map};
 ghost use Rattle.onll_model.specs.Calls.{updates_in};
 ghost use Rattle.onll_model.specs.Limits.{most_threads};
@@ -16,15 +16,12 @@ ghost use Rattle.onll_task.specs.Doing.{Fulfils};
 ghost use Rattle.onll_task.specs.Stop.{StopSays};
 ghost use Rattle.onll_recovery.specs.DetectJob.{outcome_line, update_lines, scripts_lines, detect_lines, update_rows, is_in_script, stranger, stranger_to, stranger_line, lines_task, nodes_task, detected_task, outcomes_task, detect_images_task, detect_task};
 
-use crate::faults::bad_logs;
-use crate::recover::{put_count, recover_tested};
-use crate::replay::script_files;
 use onll_detect::{DetectFault, Outcome, Outcomes};
 use onll_log::{LogHead, TestedImage};
 use onll_merge::{StateFault, expected_heads};
 use onll_model::{Call, CallEnd, Node, Object};
 use onll_outside::Store;
-use onll_task::{Ending, Stop, read_images};
+use onll_task::{Ending, Stop, bad_logs, put_count, read_images, recover_tested, script_files};
 use onll_text::{Piece, Report, Texted};
 use onll_words::{NoMemory, OpRow};
 use std::alloc::{AllocError, Global};

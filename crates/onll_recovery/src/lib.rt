@@ -4,15 +4,12 @@
 mod again;
 mod crashed;
 mod detect;
-mod faults;
-mod nodes;
+mod playing;
 mod recover;
 mod replay;
 
-pub use again::{again_on, not_resumed};
-pub use crashed::put_resumed;
+pub use again::again_on;
 pub use detect::detect_on;
-pub use faults::bad_logs;
-pub use nodes::put_nodes;
-pub use recover::{put_count, put_logs, recover_files, recover_tested};
-pub use replay::{replay_on, script_files};
+pub use playing::PlayTexts;
+pub use recover::recover_files;
+pub use replay::replay_on;

@@ -1,20 +1,21 @@
 //! The command `replay`: a schedule of scripts played on the step core, its crash, and what is recovered.
 
-ghost use Rattle.std.specs.Prelude.{[], IfOk, ◌≡◌, ◌≤◌, length, IsSome, All, map, string_bytes};
+ghost use Rattle.std.specs.Prelude.{IfOk, ◌≡◌, ◌≤◌, length, IsSome, All, map, string_bytes};
 ghost use Rattle.onll_model.specs.Limits.{most_threads, most_updates};
 ghost use Rattle.std.specs.List.{AllByRecursion};
 ghost use Rattle.onll_model.specs.Calls.{updates_in};
 ghost use Rattle.onll_text.specs.Schedule.{IsPlayable};
 ghost use Rattle.onll_open.specs.Names.{log_names};
 ghost use Rattle.onll_text.specs.Kinds.{kind_by};
-ghost use Rattle.onll_recovery.specs.ReplayJob.{played, schedule_task, scripts_stage, scripts_task};
-ghost use Rattle.onll_task.specs.Doing.{Fulfils, DoesStage};
+ghost use Rattle.onll_recovery.specs.ReplayJob.{played, schedule_task, scripts_task};
+ghost use Rattle.onll_task.specs.Doing.{Fulfils};
 
 use crate::crashed::crash;
+use crate::playing::PlayTexts;
 use onll_core::Core;
 use onll_model::Call;
 use onll_outside::Store;
-use onll_task::{Stop, schedule_file, script_file};
+use onll_task::{Stop, schedule_file, script_files};
 use onll_text::{Schedule, Texted};
 use onll_words::NoMemory;
 use std::alloc::Global;
@@ -40,69 +41,45 @@ fn played<O: Texted + Drop>(
     Ok(core)
 }
 
-/// The calls of each script, or what is said in their place.
-pub fn script_files<O: Texted, S: Store>(
-    alloc: Global,
-    names: &[String],
-    store: &mut S,
-) -> Result<Vec<Vec<Call<O>>>, Stop>
-    ensures begins { let stage = scripts_stage O.wording (map string_bytes names.now) in
-        DoesStage [] (S.seen store.old) (S.seen store.new) stage (λ scripts. map (λ script. script.items) scripts.items) result }
-    ensures count { IfOk result (λ scripts. length scripts.items ≡ length names.now) }
-    ensures updates { IfOk result (λ scripts. All (λ script. updates_in script.items ≤ most_updates) scripts.items) }
-{
-    let mut scripts = Vec::new(alloc);
-    for name in names {
-        match script_file::<O, S>(alloc, name, store) {
-            Ok(script) => scripts.push(script)?,
-            Err(stop) => return Err(stop),
-        }
-    }
-    Ok(scripts)
-}
-
 /// Reads the schedule of these scripts, plays it on the object, and crashes.
 fn replay_scripts<O: Texted + Drop, S: Store>(
     alloc: Global,
     object: O,
-    init: &[u8],
-    schedule: &str,
-    logs: &str,
+    texts: &PlayTexts<'_>,
     scripts: Vec<Vec<Call<O>>>,
     store: &mut S,
 ) -> Result<Vec<u8>, Stop>
     requires few { (1 ≤ length scripts.items) × (length scripts.items ≤ most_threads) }
     requires updates { All (λ script. updates_in script.items ≤ most_updates) scripts.items }
     ensures { let calls = map (λ script. script.items) scripts.items in
-        let task = schedule_task (kind_by O.means O.wording O.CODE) init.now object schedule.now logs.now calls in
-        Fulfils (log_names logs.now 0 (length scripts.items)) (S.seen store.old) (S.seen store.new) task result }
+        let k = kind_by O.means O.wording O.CODE in
+        let task = schedule_task k texts.now.init.now object texts.now.schedule.now texts.now.logs.now calls in
+        Fulfils (log_names texts.now.logs.now 0 (length scripts.items)) (S.seen store.old) (S.seen store.new) task result }
 {
-    match schedule_file(alloc, schedule, scripts.len() as u64, store) {
+    match schedule_file(alloc, texts.schedule, scripts.len() as u64, store) {
         Ok(plan) => {
-            let core = played(alloc, object, init, scripts, &plan)?;
-            crash(alloc, &core, None, plan.keep, logs, store)
+            let core = played(alloc, object, texts.init, scripts, &plan)?;
+            crash(alloc, &core, None, plan.keep, texts.logs, store)
         }
         Err(stop) => Err(stop),
     }
 }
 
-/// Replays the schedule of a file on an object, whose initial state these bytes say.
+/// Replays the schedule of a file on an object, whose initial state the texts say.
 pub fn replay_on<O: Texted + Drop, S: Store>(
     alloc: Global,
     object: O,
-    init: &[u8],
-    schedule: &str,
-    logs: &str,
-    scripts: &[String],
+    texts: &PlayTexts<'_>,
     store: &mut S,
 ) -> Result<Vec<u8>, Stop>
-    requires { (1 ≤ length scripts.now) × (length scripts.now ≤ most_threads) }
-    ensures { let names = map string_bytes scripts.now in
-        let task = scripts_task (kind_by O.means O.wording O.CODE) init.now schedule.now logs.now names object in
-        Fulfils (log_names logs.now 0 (length scripts.now)) (S.seen store.old) (S.seen store.new) task result }
+    requires { (1 ≤ length texts.now.scripts.now) × (length texts.now.scripts.now ≤ most_threads) }
+    ensures { let names = map string_bytes texts.now.scripts.now in
+        let k = kind_by O.means O.wording O.CODE in
+        let task = scripts_task k texts.now.init.now texts.now.schedule.now texts.now.logs.now names object in
+        Fulfils (log_names texts.now.logs.now 0 (length texts.now.scripts.now)) (S.seen store.old) (S.seen store.new) task result }
 {
-    match script_files::<O, S>(alloc, scripts, store) {
-        Ok(calls) => replay_scripts(alloc, object, init, schedule, logs, calls, store),
+    match script_files::<O, S>(alloc, texts.scripts, store) {
+        Ok(calls) => replay_scripts(alloc, object, texts, calls, store),
         Err(stop) => Err(stop),
     }
 }

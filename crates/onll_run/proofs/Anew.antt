@@ -1,5 +1,5 @@
 -- What scripts need that are run over logs which are begun anew, and how many of these are begun.
-use Rattle.std.proofs.Common.{◌≡◌, ℕ, zero, suc, ◌+◌, ◌*◌, ◌<◌, ◌≤◌, List, [], ◌∷◌, length, take, replicate, None, Ok, refl, sym, ap, ◌∙◌, subst, arith}
+use Rattle.std.proofs.Common.{◌≡◌, ℕ, zero, suc, ◌+◌, ◌*◌, ◌≤◌, List, [], ◌∷◌, length, take, replicate, None, Ok, refl, sym, ap, ◌∙◌, subst, arith}
 use Rattle.std.specs.Prelude.{max}
 use Rattle.std.specs.List.{AllByRecursion}
 use Rattle.std.proofs.lemmas.List.{length-replicate}
@@ -14,18 +14,14 @@ use Rattle.onll_pmem.specs.Pmem.{DeviceView}
 use Rattle.onll_log.specs.declared.head.LogHead.{LogHead}
 use Rattle.onll_log.specs.Grammar.{Content}
 use Rattle.onll_merge.specs.Merge.{top_of, AllRise, merge}
-use Rattle.onll_merge.specs.Laws.{all_segments, EachSegment, HeadsFit}
+use Rattle.onll_merge.specs.Laws.{EachSegment, HeadsFit}
 use Rattle.onll_merge.proofs.Fronts.{merge-front}
 use Rattle.onll_outside.specs.Views.{IsFresh}
-use Rattle.onll_run.specs.Left.{AfterRun, HasRun, no_base, begun_logs}
+use Rattle.onll_run.specs.Left.{AfterRun, HasRun, no_base}
 use Rattle.onll_run.specs.Ran.{IsRoomyFor, HaveNumbers, HasBase, going_on, anew}
 
 abbrev empty : Content
 empty = record { head = None; entries = [] }
-
-no_segments : (n : ℕ) → all_segments (replicate n empty) ≡ []
-no_segments zero = refl
-no_segments (suc n) = no_segments n
 
 no_top : (n : ℕ) → top_of (replicate n empty) ≡ 0
 no_top zero = refl
@@ -81,16 +77,3 @@ module _ {State Op Query Reply : Type 0} where
 pub ran_anew : {State Op Query Reply : Type 0} (b : Behaviour State Op Query Reply) (state : State) (heads : List LogHead) (scripts : List (List (Call State Op Query Reply))) (left : AfterRun State Op Query Reply) (base : List Content)
     → base ≡ (no_base (length heads)).logs → HasRun b (going_on state heads [] base scripts) left → HasRun b (anew state heads scripts) left
 ran_anew b state heads scripts left base is run = subst (λ (logs : List Content). HasRun b (going_on state heads [] logs scripts) left) is run
-
--- so many of the first logs are begun
-pub begun_first : (n t : ℕ) → t < n → begun_logs (take (t + 1) (no_base n).logs) ≡ t + 1
-begun_first zero t low = absurd (omega arith)
-begun_first (suc n) zero low = refl
-begun_first (suc n) (suc t) low =
-    let next : suc t + 1 ≡ suc (t + 1) = omega arith in
-    let rest = begun_first n t (omega arith) in
-    ap (λ (k : ℕ). begun_logs (take k (no_base (suc n)).logs)) next ∙ (omega arith)
-
-pub begun_all : (n : ℕ) → begun_logs (no_base n).logs ≡ n
-begun_all zero = refl
-begun_all (suc n) = let rest = begun_all n in omega arith

@@ -1,6 +1,6 @@
 -- What a run leaves, from what each thread made.
 use Rattle.std.proofs.Common.{◌≡◌, ℕ, zero, suc, ◌+◌, ◌-◌, ◌<◌, ◌≤◌, ◌↔◌, Bool, true, false, if◌then◌else◌, List, [], ◌∷◌, ◌++◌, length, map, take, Option, Some, None, Ok, refl, sym, ap, ◌∙◌, subst, arith}
-use Rattle.std.specs.Prelude.{is_some, slice_index_or, drop, max, count_by, Err, All}
+use Rattle.std.specs.Prelude.{is_some, slice_index_or, drop, max, count_by, All}
 use Rattle.std.specs.List.{AllByRecursion, slice_get}
 use Rattle.std.proofs.lemmas.List.{drop_at, length-map}
 use Rattle.std.proofs.lemmas.List.Elements.{All-from_recursion}
@@ -30,11 +30,10 @@ use Rattle.onll_trace.specs.declared.trace.Ended.{Ended}
 use Rattle.onll_trace.specs.Closing.{ends_of as ended_of}
 use Rattle.onll_trace.specs.Plans.{HasRooms, base_place}
 use Rattle.onll_shared.specs.Passes.{OnllView, PassView, log_of, spot_of}
-use Rattle.onll_shared.specs.Starts.{AreLogs, IsWholeLogOf, IsNewcomer, HasBegun, entries_of}
+use Rattle.onll_shared.specs.Starts.{AreLogs, IsWholeLogOf, IsNewcomer, HasBegun}
 use Rattle.onll_shared.specs.Found.{content_held, head_held}
 use Rattle.onll_shared.specs.Crash.{head_of}
-use Rattle.onll_shared.specs.Ends.{HasClosed}
-use Rattle.onll_shared.specs.Ends.{content_in as content_of_pass}
+use Rattle.onll_shared.specs.Ends.{HasClosed, content_in as content_of_pass}
 use Rattle.onll_run.specs.Outcomes.{failed_in, fault_in}
 use Rattle.onll_run.specs.Workers.{HasWorked}
 use Rattle.onll_run.specs.Left.{Base, ScriptPlan, AfterRun, LogLeft, LogTells, LogsTell, HasRun, content_in, failed_at, fenced_in, flags_by}
@@ -42,7 +41,8 @@ use Rattle.onll_run.specs.Ended.{ThreadRun, script_of, ends_of, after_of, log_le
 use Rattle.onll_run.specs.declared.worker.WorkerEnd.{WorkerEnd}
 use Rattle.onll_run.specs.Crew.{AreFit, AreReadyPasses, AreDone, runs_of, pass_done, script_done, ends_done, CanEnd}
 use Rattle.onll_run.specs.Done.{HaveDone}
-use Rattle.onll_run.specs.Making.{AreHeads, StandsBy, CanOpen, AllCanOpen, IsOpen, AreOpen}
+use Rattle.onll_log.specs.Head.{AreHeads}
+use Rattle.onll_run.specs.Making.{StandsBy, CanOpen, AllCanOpen, IsOpen, AreOpen}
 use Rattle.onll_run.specs.Ran.{AreRoomy, HaveNumbers, CanRun, IsKeptLog, AreKeptLogs, going_on, available, node_in, flag_in}
 use Rattle.onll_run.proofs.Beginning.{ready_all}
 use Rattle.onll_run.proofs.Ending.{passes_end}

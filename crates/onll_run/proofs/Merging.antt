@@ -1,33 +1,17 @@
 -- What logs merge to doesn't hang on the heads that they have, where each is the expected one.
-use Rattle.std.proofs.Common.{◌≡◌, ℕ, zero, suc, ◌==◌, ◌&&◌, Bool, true, List, [], ◌∷◌, ◌++◌, Option, Some, None, Ok, refl, sym, ap, ◌∙◌, option_to_list, cond, eq-eqb}
-use Rattle.std.specs.Prelude.{max, if◌then◌else◌, IfSome}
+use Rattle.std.proofs.Common.{◌≡◌, ℕ, zero, suc, List, [], ◌∷◌, ◌++◌, Option, Some, None, Ok, refl, sym, ap, ◌∙◌, option_to_list}
+use Rattle.std.specs.Prelude.{max, if◌then◌else◌}
 use Rattle.std.specs.Option.{option_or, option_map_or}
 use Rattle.onll_model.specs.declared.node.Node.{Node}
 use Rattle.onll_log.specs.declared.head.LogHead.{LogHead}
-use Rattle.onll_log.specs.Grammar.{Content, same_words}
+use Rattle.onll_log.specs.Grammar.{Content}
 use Rattle.onll_merge.specs.declared.fault.RecoverFault.{RecoverFault}
-use Rattle.onll_merge.specs.declared.fault.RecoverFault.TheVariants.{NotThisRun, Clash, Gap}
+use Rattle.onll_merge.specs.declared.fault.RecoverFault.TheVariants.{Clash, Gap}
 use Rattle.onll_log.specs.Survey.{top_in_log}
-use Rattle.onll_merge.specs.Merge.{node_in_log, node_in_logs, nodes_to, top_of, same_head, fits_run, foreign, disorder_in, disorder, first_to, agrees_at, differs, clash_from, clash_at, gap_at, unlike, stray_above, unless, merge}
+use Rattle.onll_merge.specs.Merge.{node_in_log, node_in_logs, nodes_to, top_of, foreign, disorder_in, disorder, first_to, agrees_at, differs, clash_from, clash_at, gap_at, unlike, stray_above, unless, merge}
 use Rattle.onll_merge.specs.Laws.{HeadsFit}
-use Rattle.onll_merge.proofs.Asked.{same_words-self}
 use Rattle.onll_merge.proofs.Backs.{merge-back}
-
--- ---- heads
-same_head_self : (h : LogHead) → same_head h h ≡ true
-same_head_self h = ap (λ (b : Bool). b && ((h.threads == h.threads) && ((h.object == h.object) && (same_words h.digest h.digest && (h.format == h.format))))) (eq-eqb h.thread h.thread refl)
-    ∙ (ap (λ (b : Bool). b && ((h.object == h.object) && (same_words h.digest h.digest && (h.format == h.format)))) (eq-eqb h.threads h.threads refl)
-    ∙ (ap (λ (b : Bool). b && (same_words h.digest h.digest && (h.format == h.format))) (eq-eqb h.object h.object refl)
-    ∙ (ap (λ (b : Bool). b && (h.format == h.format)) (same_words-self h.digest) ∙ eq-eqb h.format h.format refl)))
-
-fits_same : (o : Option LogHead) (h : LogHead) → IfSome o (λ head. head ≡ h) → fits_run o h ≡ true
-fits_same None h e = refl
-fits_same (Some head) h e = ap (λ (z : LogHead). same_head z h) e ∙ same_head_self h
-
-no_foreign : (i : ℕ) (cs : List Content) (hs : List LogHead) → HeadsFit cs hs → foreign i cs hs ≡ None
-no_foreign i [] hs f = refl
-no_foreign i (c ∷ cs) [] f = refl
-no_foreign i (c ∷ cs) (h ∷ hs) f = ap (λ (b : Bool). cond {A = Option RecoverFault} b (foreign (suc i) cs hs) (Some (NotThisRun i))) (fits_same c.head h f.0) ∙ no_foreign (suc i) cs hs f.1
+use Rattle.onll_merge.proofs.Fronts.{no_foreign}
 
 -- ---- entries
 -- each log has the entries of the one at its place

@@ -22,8 +22,7 @@ use Rattle.onll_trace.specs.Plans.{base_place}
 use Rattle.onll_trace.specs.Spots.{SpotView, base_of}
 use Rattle.onll_trace.specs.Closing.{IsIn}
 use Rattle.onll_shared.specs.Passes.{OnllView, PassView, IsTied, IsBetween, spot_of}
-use Rattle.onll_shared.specs.Crash.{IsLeft, IsKept}
-use Rattle.onll_shared.specs.Crash.{AreLeft as AreLeftOf}
+use Rattle.onll_shared.specs.Crash.{IsLeft, IsKept, AreLeft as AreLeftOf}
 use Rattle.onll_shared.specs.Ends.{broken_of}
 use Rattle.onll_shared.proofs.Parts.{pending_of}
 use Rattle.onll_shared.proofs.Chosen.{contained, index_of, crash_recovers}

@@ -10,18 +10,6 @@ use Rattle.onll_run.specs.declared.logs.RunFault.{RunFault}
 use Rattle.onll_run.specs.declared.logs.RunFault.TheVariants as faults
 use Rattle.onll_run.specs.Left.{begun_logs}
 
--- the head of the log of thread t, one of so many
-pub record IsThreadHead (count t : ℕ) (head : LogHead) : Type 0 where
-  pub thread : head.thread ≡ t
-  pub threads : head.threads ≡ count
-  pub format : head.format ≡ 2
-  pub fits : FitsHead head
-
--- the heads of the logs of threads, in their order, the first of them thread t
-abbrev pub AreHeads : ℕ → ℕ → List LogHead → Type 0
-AreHeads count t [] = Unit {0}
-AreHeads count t (head ∷ heads) = IsThreadHead count t head × AreHeads count (t + 1) heads
-
 abbrev pub device_of : {Device : Type 0} → LogState Device → Device
 device_of log = log.device
 

@@ -17,7 +17,8 @@ use Rattle.onll_run.specs.declared.run.RunOutcome.{RunOutcome}
 use Rattle.onll_run.specs.Outcomes.{failed_in, fault_in}
 use Rattle.onll_run.specs.Left.{ScriptPlan, AfterRun, no_base, one_begun, fenced_in}
 use Rattle.onll_run.specs.Ended.{log_left}
-use Rattle.onll_run.specs.Making.{AreHeads, HeldBefore}
+use Rattle.onll_log.specs.Head.{AreHeads}
+use Rattle.onll_run.specs.Making.{HeldBefore}
 
 -- ---- what the call needs
 -- A device that was not fenced yet, and reads as what its log held before, with lines for that, or for the header where the log is

@@ -2,7 +2,7 @@
 
 ghost use Rattle.std.specs.Prelude.{◌≡◌, ◌≤◌, ◌++◌, List, length, map, All, IfOk, IfErr, Ok, Err};
 ghost use Rattle.std.specs.List.{AllByRecursion};
-ghost use Rattle.onll_model.specs.Limits.{most_threads, most_updates};
+ghost use Rattle.onll_model.specs.Limits.{most_updates};
 ghost use Rattle.onll_model.specs.Calls.{updates_in};
 ghost use Rattle.onll_merge.specs.Merge.{contents_in, merge};
 ghost use Rattle.onll_trace.specs.Closing.{AreAll};
@@ -19,7 +19,7 @@ use crate::crew::run_passes;
 use crate::logs::{RunFault, new_logs, open_logs};
 use crate::worker::WorkerEnd;
 use onll_log::{Decoded, LogHead, ThreadLog};
-use onll_model::{Call, CallEnd, Node, Object};
+use onll_model::{Call, CallEnd, Node, Object, count_updates};
 use onll_outside::Gate;
 use onll_pmem::Pmem;
 use onll_shared::{Closed, Onll, Pass};
@@ -142,20 +142,6 @@ fn finish_logs<O: Object + Drop, P: Pmem + Drop>(
         Ok(logs) => Ok(RunLogs { threads, logs }),
         Err(_) => Err(NoMemory),
     }
-}
-
-/// How many of these calls are updates.
-fn count_updates<O: Object>(calls: &[Call<O>]) -> u64
-    requires { updates_in calls.now ≤ most_updates }
-    ensures { result ≡ updates_in calls.now }
-{
-    let mut updates = 0;
-    for call in calls {
-        if let Call::Update(_) = call {
-            updates += 1;
-        }
-    }
-    updates
 }
 
 /// How many updates each script has.

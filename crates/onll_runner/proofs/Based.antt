@@ -9,17 +9,17 @@ use Rattle.onll_log.specs.Grammar.{Content, content_of}
 use Rattle.onll_merge.specs.declared.counts.LogCounts.{LogCounts}
 use Rattle.onll_merge.specs.Recovered.{Recovered, log_counts}
 use Rattle.onll_model.specs.declared.node.Node.{Node}
-use Rattle.onll_core.specs.Found.{IsFound}
-use Rattle.onll_core.proofs.Based.{base_is}
+use Rattle.onll_start.specs.Found.{IsFound}
+use Rattle.onll_start.proofs.Based.{base_is}
 use Rattle.onll_run.specs.Left.{LogLeft}
 use Rattle.onll_run.specs.Ran.{going_on}
 use Rattle.std.proofs.lemmas.List.{length-map}
 use Rattle.onll_log.specs.ImageFile.{image_lines}
 use Rattle.onll_log.specs.Tested.{used_in}
-use Rattle.onll_core.specs.declared.fault.ResumeFault.{ResumeFault}
-use Rattle.onll_core.specs.declared.fault.ResumeFault.TheVariants.{Images, OldFormat, NotOp, TooMany, NoMemory}
-use Rattle.onll_core.specs.Created.{created_heads}
-use Rattle.onll_core.specs.Resume.{Found, found_logs, with_room, base_in}
+use Rattle.onll_start.specs.declared.fault.ResumeFault.{ResumeFault}
+use Rattle.onll_start.specs.declared.fault.ResumeFault.TheVariants.{Images, OldFormat, NotOp, TooMany, NoMemory}
+use Rattle.onll_start.specs.Heads.{created_heads}
+use Rattle.onll_start.specs.Start.{Found, found_logs, with_room, base_in}
 use Rattle.onll_outside.specs.Views.{StoreView}
 use Rattle.onll_text.specs.Kinds.{ObjectKind}
 use Rattle.onll_task.specs.declared.ending.Ending.TheVariants.{Done}
@@ -31,11 +31,11 @@ use Rattle.onll_task.specs.Images.{AllDecide}
 use Rattle.onll_task.specs.Running.{RunPlan, RunLeft, AreSized}
 use Rattle.onll_task.specs.Stop.{StopSays}
 use Rattle.onll_task.proofs.Stages.{wider, says_does}
-use Rattle.onll_recovery.specs.AgainJob.{resume_ending, resume_text}
-use Rattle.onll_recovery.proofs.Standing.{contents_stand}
+use Rattle.onll_task.specs.NotResumed.{resume_ending, resume_text}
+use Rattle.onll_task.proofs.Standing.{contents_stand}
 use Rattle.onll_runner.specs.RunJob.{calls_task}
 use Rattle.onll_runner.specs.Ground.{lines_over}
-use Rattle.onll_runner.specs.ResumeJob.{AreLong, AreRead, plan_over, based_task}
+use Rattle.onll_runner.specs.ResumeJob.{AreLong, AreKeptImages, plan_over, based_task}
 use Rattle.onll_runner.specs.RunEnds.{lines_left}
 use Rattle.onll_runner.proofs.Lines.{sizes_again}
 
@@ -95,7 +95,7 @@ module _ {k : ObjectKind} (threads : RunPlan k → (RunLeft k → Job) → Job) 
 
 -- what was run over the logs of these images has its sizes
 pub sized_again : {A : Type 0} (k : ObjectKind) {V : Type 0} (items : V → List (Call k.State k.Op k.Query k.Reply)) (logs : List ℕ) (heads : List LogHead) (scripts : List V) (images : List (List (List ℕ))) (counts : List ℕ) (store : StoreView)
-    (r : Recovered) (found : IsFound (base_in k.means heads (map items scripts) images) r) (state : k.State) (threads : RunPlan k → (RunLeft k → Job) → Job) → AreRead logs (length (map items scripts)) images counts store → (new : StoreView) (res : Result (Vec ℕ A) Stop)
+    (r : Recovered) (found : IsFound (base_in k.means heads (map items scripts) images) r) (state : k.State) (threads : RunPlan k → (RunLeft k → Job) → Job) → AreKeptImages logs (length (map items scripts)) images counts store → (new : StoreView) (res : Result (Vec ℕ A) Stop)
     → ((held : List Content) → map content_of images ≡ map Some held
     → ((left : List LogLeft) → map lines_left left ≡ lines_over (length (map items scripts)) r.logs counts (map items scripts)
     → AreSized {k = k} (record { logs = logs; reopens = true; run = going_on state heads r.nodes held (map items scripts) }) left store)

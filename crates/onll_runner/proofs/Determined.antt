@@ -5,6 +5,7 @@ use Rattle.std.specs.List.{flat_map}
 use Rattle.std.proofs.lemmas.List.{append_cancel_left}
 use Rattle.onll_words.specs.Texts.{line_text, AreMeaningful}
 use Rattle.onll_words.proofs.Decimals.{IsWord-decimal}
+use Rattle.onll_words.proofs.Joined.{AreMeaningful-append, line_same, text_determined}
 use Rattle.onll_model.specs.declared.call.Call.{Call}
 use Rattle.onll_model.specs.declared.call.CallEnd.{CallEnd}
 use Rattle.onll_model.specs.Object.{Behaviour}
@@ -13,11 +14,10 @@ use Rattle.onll_run.specs.Left.{AfterRun}
 use Rattle.onll_text.specs.Wording.{Wording}
 use Rattle.onll_text.specs.Lines.{trace_line, state_lines, LogData, thread_lines, flagged_lines, counted_lines, recovered_line}
 use Rattle.onll_text.specs.Reports.{NoNodeNext, SaysOnly}
-use Rattle.onll_text.proofs.Determined.{text_determined, AreMeaningful-append, line_same, state_determined, state_meaningful, says_only}
-use Rattle.onll_recovery.specs.ReplayJob.{resumed_lines}
-use Rattle.onll_recovery.proofs.RecoverSteps.{recovered_in_words}
-use Rattle.onll_recovery.proofs.Determined.{NoResumedNext, no_resumed, resumed_meaningful, resumed_determined, threads_determined, threads_meaningful, flagged_determined, flagged_meaningful, logs_determined, logs_meaningful}
-use Rattle.onll_task.specs.RunSaid.{RunData, RunReads, run_data}
+use Rattle.onll_text.proofs.Determined.{state_determined, state_meaningful, says_only}
+use Rattle.onll_task.specs.RunSaid.{resumed_lines, RunData, RunReads, run_data}
+use Rattle.onll_task.proofs.RecoverSteps.{recovered_in_words}
+use Rattle.onll_task.proofs.Determined.{NoResumedNext, no_resumed, resumed_meaningful, resumed_determined, threads_determined, threads_meaningful, flagged_determined, flagged_meaningful, logs_determined, logs_meaningful}
 use Rattle.onll_runner.specs.RunReport.{faults_at, fault_lines, end_lines, run_lines, run_report}
 use Rattle.onll_runner.proofs.ReportSteps.{fault_in_words}
 

@@ -11,7 +11,7 @@ use Rattle.onll_pmem.specs.Laws.{SameLaw}
 use Rattle.onll_pmem.specs.Pmem.{DeviceView}
 use Rattle.onll_log.specs.ImageFile.{longest_image}
 use Rattle.onll_log.specs.Log.{LogState}
-use Rattle.onll_outside.specs.Views.{StoreView, SameFaults, counted}
+use Rattle.onll_outside.specs.Views.{StoreView, SameFaults, counted, HandsEach, fault_of, fences_in}
 use Rattle.onll_log.specs.Grammar.{Content}
 use Rattle.onll_run.specs.Left.{LogLeft, begun_logs}
 use Rattle.onll_run.specs.Ended.{log_left}
@@ -28,7 +28,6 @@ use Rattle.onll_task.specs.Running.{RunPlan, RunLeft, PlanReads, HoldsLogs, Hold
 use Rattle.onll_task.specs.Writing.{AllButStay}
 use Rattle.onll_open.specs.Files.{SameBut}
 use Rattle.onll_open.specs.Keeping.{AreKept, AreKeptTo, KeepFails}
-use Rattle.onll_open.specs.Devices.{HandsEach, fault_of, fences_in}
 use Rattle.onll_open.proofs.HeaderFaults.{risen_all}
 use Rattle.onll_outside.specs.Views.{FaultsOf}
 use Rattle.onll_outside.specs.declared.OutsideFault.{OutsideFault}
@@ -143,19 +142,6 @@ module _ {k : ObjectKind} (plan : RunPlan k) (left : RunLeft k) (store after : S
   -- it is kept in part
   pub ended_unkept : {A : Type 0} (s : Stop) → IsStoredTo plan left store after s → SameBut (log_files plan) store after → RunHasEnded plan left store after {A = A} (Err s)
   ended_unkept s stored others = record { kept = tt; whole = tt; report = tt; reads = tt; stop = inr (inl stored); others = others }
-
--- memory could not be had
-pub ended_none : {k : ObjectKind} {A : Type 0} (plan : RunPlan k) (left : RunLeft k) (store : StoreView) (r : Result (Vec ℕ A) Stop) → IsErrAnd r (λ stop. stop ≡ NoMemory) → RunHasEnded plan left store store r
-ended_none plan left store r h =
-    let p = err_from_is_err_and r h in
-    subst (RunHasEnded plan left store store) (sym p.1) (record {
-      kept = tt;
-      whole = tt;
-      report = tt;
-      reads = tt;
-      stop = inr (inr (p.2, record { tells = refl; file = λ name. refl }));
-      others = record { tells = refl; file = λ other differs. refl };
-    })
 
 -- ---- as many devices as threads
 module _ {State Op Query Reply Device A : Type 0} (means : Device → DeviceView) (befores : List Content) (ends : List (List (CallEnd State Op Query Reply))) (olds : List Device) (logs : List (LogState Device)) (threads : List A)

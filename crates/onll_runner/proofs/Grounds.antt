@@ -66,9 +66,6 @@ module _ (k : ObjectKind) {V : Type 0} (items : V → List (Call k.State k.Op k.
   pub images_many : length images ≡ length scripts
   images_many = h.as_many ∙ same_many
 
-  pub counts_many : length counts ≡ length scripts
-  counts_many = h.counted ∙ same_many
-
   -- ---- the lines of devices
   small_lines : (lines : List ℕ) → lines ≡ lines_over (length calls) r.logs counts calls → AllByRecursion (λ n. 64 * n ≤ longest_image) lines
   small_lines lines is = subst (AllByRecursion (λ n. 64 * n ≤ longest_image)) (sym is)

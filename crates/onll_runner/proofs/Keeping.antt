@@ -8,7 +8,7 @@ use Rattle.onll_pmem.specs.Laws.{SameLaw}
 use Rattle.onll_pmem.specs.Pmem.{DeviceView, Told, ToldSettled}
 use Rattle.onll_log.specs.Log.{LogState}
 use Rattle.onll_model.specs.declared.call.CallEnd.{CallEnd}
-use Rattle.onll_outside.specs.Views.{StoreView, HoldsImageOf, KeepsDevice, MayKeep, counted, image_bytes, one_fault}
+use Rattle.onll_outside.specs.Views.{StoreView, HoldsImageOf, KeepsDevice, MayKeep, counted, image_bytes, one_fault, fault_of, fences_in}
 use Rattle.onll_run.specs.Outcomes.{failed_in, fault_in}
 use Rattle.onll_log.specs.Grammar.{Content}
 use Rattle.onll_run.specs.Left.{LogLeft, begun_logs, fenced_in}
@@ -16,9 +16,8 @@ use Rattle.onll_run.specs.Ended.{log_left}
 use Rattle.onll_run.specs.Making.{device_of}
 use Rattle.onll_run.specs.Ran as ran
 use Rattle.onll_open.specs.Names.{log_name, log_names}
-use Rattle.onll_task.specs.Running.{FileHoldsLog, HoldsLogs, AllStand, HoldTo, broken_threads, fences_of}
-use Rattle.onll_open.specs.Keeping.{AreKept, AreKeptTo, AreAsBefore}
-use Rattle.onll_open.specs.Devices.{fault_of, fences_in}
+use Rattle.onll_task.specs.Running.{FileHoldsLog, HoldsLogs, HoldOrStand, HoldTo, broken_threads, fences_of}
+use Rattle.onll_open.specs.Keeping.{AreKept, AreKeptTo, MayKeepEach}
 use Rattle.onll_runner.specs.RunEnds.{IsAsBefore}
 
 -- ---- files
@@ -39,11 +38,6 @@ kept_befores means [] (es ∷ ends) olds logs all = absurd all
 kept_befores means (before ∷ befores) [] olds logs all = absurd all
 kept_befores means (before ∷ befores) (es ∷ ends) [] logs all = absurd all
 kept_befores means (before ∷ befores) (es ∷ ends) (d ∷ olds) [] all = absurd all
-
--- files that are as they were stand so
-later_stand : (name : List ℕ) (t : ℕ) (befores : List Content) (old new : StoreView) → AreAsBefore name t (length befores) old new → AllStand (IsAsBefore old new) (log_names name t (length befores)) befores
-later_stand name t [] old new h = tt
-later_stand name t (before ∷ befores) old new h = ((λ on. h.0), later_stand name (suc t) befores old new h.1)
 
 module _ (same : SameLaw) where
   -- the file of a device that was kept holds its log
@@ -73,14 +67,28 @@ module _ (same : SameLaw) where
       by false e = inl (λ on. absurd (true≢false (sym on ∙ sym tells ∙ e)))
 
   module _ {State Op Query Reply Device : Type 0} (means : Device → DeviceView) where
+    -- so do those of devices that were given up
+    each_held : (old new : StoreView) (name : List ℕ) (t : ℕ) (befores : List Content) (ends : List (List (CallEnd State Op Query Reply))) (olds : List Device) (logs : List (LogState Device)) → new.tells ≡ old.tells
+        → (new.tells ≡ true → (d : Device) → is_some (means d).told ≡ true) → ran.AreKeptLogs means befores ends olds logs → MayKeepEach name t (map means (map device_of logs)) old new
+        → HoldOrStand (IsAsBefore old new) new (log_names name t (length befores)) befores (map (log_left means) logs) ends
+    each_held old new name t [] [] [] [] same_tells tells all may = tt
+    each_held old new name t (before ∷ befores) (es ∷ ends) (d ∷ olds) (log ∷ logs) same_tells tells all may = (
+      held_own old new (log_name name t) before (log_left means log) (failed_in es) (means log.device) same_tells (λ on. tells on log.device) refl all.0.fenced may.0,
+      each_held old new name (suc t) befores ends olds logs same_tells tells all.1 may.1,
+    )
+    each_held old new name t [] [] [] (log ∷ logs) same_tells tells all may = absurd all
+    each_held old new name t [] [] (d ∷ olds) logs same_tells tells all may = absurd all
+    each_held old new name t [] (es ∷ ends) olds logs same_tells tells all may = absurd all
+    each_held old new name t (before ∷ befores) [] olds logs same_tells tells all may = absurd all
+    each_held old new name t (before ∷ befores) (es ∷ ends) [] logs same_tells tells all may = absurd all
+    each_held old new name t (before ∷ befores) (es ∷ ends) (d ∷ olds) [] same_tells tells all may = absurd all
+
     -- devices were kept up to a thread's
     pub held_to : (old new : StoreView) (name : List ℕ) (t : ℕ) (befores : List Content) (ends : List (List (CallEnd State Op Query Reply))) (olds : List Device) (logs : List (LogState Device)) (thread : ℕ) → new.tells ≡ old.tells
         → (new.tells ≡ true → (d : Device) → is_some (means d).told ≡ true) → ran.AreKeptLogs means befores ends olds logs → AreKeptTo name t (map means (map device_of logs)) thread old new
         → HoldTo (IsAsBefore old new) new (log_names name t (length befores)) befores (map (log_left means) logs) ends thread
-    held_to old new name t (before ∷ befores) (es ∷ ends) (d ∷ olds) (log ∷ logs) zero same_tells tells all kept = (
-      held_own old new (log_name name t) before (log_left means log) (failed_in es) (means log.device) same_tells (λ on. tells on log.device) refl all.0.fenced kept.0,
-      later_stand name (suc t) befores old new (subst (λ n. AreAsBefore name (suc t) n old new) (kept_befores means befores ends olds logs all.1) kept.1),
-    )
+    held_to old new name t (before ∷ befores) (es ∷ ends) (d ∷ olds) (log ∷ logs) zero same_tells tells all kept =
+        each_held old new name t (before ∷ befores) (es ∷ ends) (d ∷ olds) (log ∷ logs) same_tells tells all kept
     held_to old new name t (before ∷ befores) (es ∷ ends) (d ∷ olds) (log ∷ logs) (suc thread) same_tells tells all kept = (
       kept_log new (log_name name t) (log_left means log) (failed_in es) (means log.device) (λ on. tells on log.device) refl all.0.fenced kept.0,
       held_to old new name (suc t) befores ends olds logs thread same_tells tells all.1 kept.1,

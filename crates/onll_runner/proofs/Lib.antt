@@ -6,8 +6,5 @@ pub mod Determined
 pub mod Ending
 pub mod FaultLines
 pub mod Keeping
-pub mod LegalRows
 pub mod ReportSteps
-pub mod RunRecovers
 pub mod RunSteps
-pub mod WholeLines

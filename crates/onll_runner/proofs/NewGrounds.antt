@@ -19,14 +19,14 @@ use Rattle.onll_log.specs.Tested.{used_in}
 use Rattle.onll_merge.specs.declared.counts.LogCounts.{LogCounts}
 use Rattle.onll_merge.specs.Merge.{merge}
 use Rattle.onll_merge.specs.Recovered.{Recovered, log_counts}
-use Rattle.onll_core.specs.Based.{HaveRoom}
-use Rattle.onll_core.specs.Created.{created_heads}
-use Rattle.onll_core.specs.Found.{IsFound}
-use Rattle.onll_core.specs.Resume.{base_in}
-use Rattle.onll_core.proofs.Based.{base_is}
+use Rattle.onll_start.specs.Based.{HaveRoom}
+use Rattle.onll_start.specs.Heads.{created_heads}
+use Rattle.onll_start.specs.Found.{IsFound}
+use Rattle.onll_start.specs.Start.{base_in}
+use Rattle.onll_start.proofs.Based.{base_is}
 use Rattle.onll_outside.specs.Views.{StoreView, BeginsWith, image_bytes}
 use Rattle.onll_run.specs.Left.{LogLeft, ScriptPlan, no_base}
-use Rattle.onll_run.specs.Making.{AreHeads}
+use Rattle.onll_log.specs.Head.{AreHeads}
 use Rattle.onll_run.specs.Ran.{HaveNumbers, anew, going_on}
 use Rattle.onll_run.proofs.Anew.{new_base, new_merge}
 use Rattle.onll_open.specs.Devices.{front_by, fronts_by, no_counts}
@@ -39,7 +39,7 @@ use Rattle.onll_task.specs.Images.{AllBeginWith}
 use Rattle.onll_task.specs.Job.{Job}
 use Rattle.onll_task.specs.Running.{RunPlan, RunLeft, AreSized}
 use Rattle.onll_runner.specs.Ground.{AreFitting, IsGround, lines_over}
-use Rattle.onll_runner.specs.ResumeJob.{AreRead}
+use Rattle.onll_runner.specs.ResumeJob.{AreKeptImages}
 use Rattle.onll_runner.specs.RunEnds.{lines_left}
 use Rattle.onll_runner.specs.RunJob.{calls_task, run_plan}
 use Rattle.onll_runner.proofs.Lines.{sizes_new}
@@ -155,7 +155,7 @@ module _ {State Op Query Reply : Type 0} where
   numbers_left threads nodes t (log ∷ logs) (s ∷ scripts) h = (h.0, numbers_left threads nodes (t + 1) logs scripts h.2)
 
   pub found_ground : (b : Behaviour State Op Query Reply) (logs : List ℕ) (heads : List LogHead) (r : Recovered) (images : List (List (List ℕ))) (counts : List ℕ) (scripts : List (List (Call State Op Query Reply))) (store : StoreView)
-      → length heads ≡ length scripts → AreHeads (length scripts) 0 heads → AreRead logs (length scripts) images counts store → IsFound (base_in b heads scripts images) r → IsGround b logs heads r images counts scripts store
+      → length heads ≡ length scripts → AreHeads (length scripts) 0 heads → AreKeptImages logs (length scripts) images counts store → IsFound (base_in b heads scripts images) r → IsGround b logs heads r images counts scripts store
   found_ground b logs heads r images counts scripts store many heads_are read found =
       let based = base_is b heads scripts images found.all read.many found.is in
       let counts_are : r.logs ≡ map log_counts found.all.logs = ap (λ (x : Recovered). x.logs) found.told in

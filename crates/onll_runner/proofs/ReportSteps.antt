@@ -27,8 +27,7 @@ use Rattle.onll_text.specs.Bytes.{with_lines}
 use Rattle.onll_text.specs.Lines.{call_lines, trace_line, node_line, log_line, state_lines, LogData, thread_lines, flagged_lines, counted_lines, recovered_line, fence_line}
 use Rattle.onll_text.specs.Reports.{EndsRead, NodeReads, StateReads, LogReads, EachReads}
 use Rattle.onll_text.proofs.Appending.{with_lines-one, with_lines-append}
-use Rattle.onll_recovery.specs.ReplayJob.{resumed_lines}
-use Rattle.onll_task.specs.RunSaid.{RunReads, log_data, run_data}
+use Rattle.onll_task.specs.RunSaid.{resumed_lines, RunReads, log_data, run_data}
 use Rattle.onll_runner.specs.RunReport.{faults_at, fault_lines, run_report}
 
 -- ---- lists

@@ -18,8 +18,8 @@ use Rattle.onll_log.specs.Grammar.{Content}
 use Rattle.onll_log.specs.ImageFile.{longest_image}
 use Rattle.onll_log.specs.Log.{LogState}
 use Rattle.onll_merge.specs.Recovered.{log_counts}
-use Rattle.onll_core.specs.Created.{created_heads}
-use Rattle.onll_outside.specs.Views.{StoreView, SameFiles, SameFaults, Rose, AreZeros, counted}
+use Rattle.onll_start.specs.Heads.{created_heads}
+use Rattle.onll_outside.specs.Views.{StoreView, SameFiles, SameFaults, Rose, AreZeros, counted, fault_of, HandsEach, fences_in}
 use Rattle.onll_outside.specs.declared.store.FaultKind.{FaultKind}
 use Rattle.onll_outside.specs.declared.store.FaultKind.TheVariants as kinds
 use Rattle.onll_run.specs.Left.{LogLeft, HasRun, begun_logs}
@@ -28,7 +28,7 @@ use Rattle.onll_run.specs.Making as making
 use Rattle.onll_run.specs.Ran.{AreKeptLogs, going_on}
 use Rattle.onll_open.specs.declared.fault.DeviceFault.{DeviceFault}
 use Rattle.onll_open.specs.declared.fault.DeviceFault.TheVariants as devices
-use Rattle.onll_open.specs.Devices.{HandsEach, HeadIs, IsDeviceOf, NoneCounted, fault_of, fences_in}
+use Rattle.onll_open.specs.Devices.{HeadIs, IsDeviceOf, NoneCounted}
 use Rattle.onll_open.specs.Files.{DeviceFaults, LogCallFailed, SameBut, SameCounts}
 use Rattle.onll_open.specs.Heads.{heads_of}
 use Rattle.onll_open.proofs.Handing.{same_after}
@@ -42,10 +42,11 @@ use Rattle.onll_task.specs.declared.answer.Stop.{Stop}
 use Rattle.onll_task.specs.declared.answer.Stop.TheVariants.{Says, NoMemory}
 use Rattle.onll_task.specs.Job.{Job, JobEnds}
 use Rattle.onll_task.specs.Doing.{Fulfils}
-use Rattle.onll_task.specs.Running.{RunPlan, RunLeft, plan_resumed, RunStops, IsCutShort, HasKept, AreSized, IsBegun, IsCallFor, HeaderFault, DeviceFault as DeviceFaulted, FileStands, StandsByHead, AllStand, FilesStand, HoldTo, KeptTo, device_call, broken_threads, fences_of, log_files}
+use Rattle.onll_task.specs.Running.{RunPlan, RunLeft, plan_resumed, RunStops, IsCutShort, HasKept, AreSized, IsBegun, IsCallFor, HeaderFault, DeviceFault as DeviceFaulted, FileStands, StandsByHead, AllStand, FilesStand, HoldOrStand, HoldTo, KeptTo, device_call, broken_threads, fences_of, log_files}
 use Rattle.onll_task.specs.Standing.{StandsForRuns}
 use Rattle.onll_task.specs.Stop.{StopSays}
 use Rattle.onll_task.proofs.Stages.{stay_same}
+use Rattle.onll_task.proofs.Onwards.{stand_begun}
 use Rattle.onll_task.proofs.Runs.{run_does, broken_does, stopped_does}
 use Rattle.onll_runner.specs.Devices.{SaysLog, SaysDevice, ThreadFails}
 use Rattle.onll_runner.specs.RunReport.{plan_report}
@@ -71,13 +72,6 @@ file_since old mid new tells name log h same = by log.head h
     by (Some head) w =
         (w.0, w.1, w.2, λ on. let v = w.3 on in record { was = v.was; rest = v.rest; before = v.before; now = same (tells ∙ on) ∙ v.now; wiped = v.wiped })
 
-all_since : (old mid new : StoreView) → mid.tells ≡ old.tells → (names : List (List ℕ)) (logs : List Content) → AllStand (FileStands old mid) names logs → AllStand (IsAsBefore mid new) names logs
-    → AllStand (FileStands old new) names logs
-all_since old mid new tells [] [] h same = tt
-all_since old mid new tells [] (log ∷ logs) h same = absurd h
-all_since old mid new tells (name ∷ names) [] h same = absurd h
-all_since old mid new tells (name ∷ names) (log ∷ logs) h same = (file_since old mid new tells name log h.0 same.0, all_since old mid new tells names logs h.1 same.1)
-
 all_same : (old mid new : StoreView) → mid.tells ≡ old.tells → (names : List (List ℕ)) (logs : List Content) → AllStand (FileStands old mid) names logs → SameFiles mid new
     → AllStand (FileStands old new) names logs
 all_same old mid new tells [] [] h same = tt
@@ -85,10 +79,22 @@ all_same old mid new tells [] (log ∷ logs) h same = absurd h
 all_same old mid new tells (name ∷ names) [] h same = absurd h
 all_same old mid new tells (name ∷ names) (log ∷ logs) h same = (file_since old mid new tells name log h.0 (λ on. same.file name), all_same old mid new tells names logs h.1 same)
 
+each_since : {State Op Query Reply : Type 0} (old mid new : StoreView) → mid.tells ≡ old.tells → (names : List (List ℕ)) (befores : List Content) (logs : List LogLeft) (ends : List (List (CallEnd State Op Query Reply)))
+    → AllStand (FileStands old mid) names befores → HoldOrStand (IsAsBefore mid new) new names befores logs ends → HoldOrStand (FileStands old new) new names befores logs ends
+each_since old mid new tells [] [] [] [] h kept = tt
+each_since old mid new tells (name ∷ names) (before ∷ befores) (log ∷ logs) (es ∷ ends) h kept =
+    (⊎_elim (λ same. inl (file_since old mid new tells name before h.0 same)) (λ held. inr held) kept.0, each_since old mid new tells names befores logs ends h.1 kept.1)
+each_since old mid new tells [] [] [] (es ∷ ends) h kept = absurd kept
+each_since old mid new tells [] [] (log ∷ logs) ends h kept = absurd kept
+each_since old mid new tells [] (before ∷ befores) logs ends h kept = absurd kept
+each_since old mid new tells (name ∷ names) [] logs ends h kept = absurd kept
+each_since old mid new tells (name ∷ names) (before ∷ befores) [] ends h kept = absurd kept
+each_since old mid new tells (name ∷ names) (before ∷ befores) (log ∷ logs) [] h kept = absurd kept
+
 hold_since : {State Op Query Reply : Type 0} (old mid new : StoreView) → mid.tells ≡ old.tells → (names : List (List ℕ)) (befores : List Content) (logs : List LogLeft) (ends : List (List (CallEnd State Op Query Reply))) (thread : ℕ)
     → AllStand (FileStands old mid) names befores → HoldTo (IsAsBefore mid new) new names befores logs ends thread → HoldTo (FileStands old new) new names befores logs ends thread
 hold_since old mid new tells (name ∷ names) (before ∷ befores) (log ∷ logs) (es ∷ ends) zero h kept =
-    (⊎_elim (λ same. inl (file_since old mid new tells name before h.0 same)) (λ held. inr held) kept.0, all_since old mid new tells names befores h.1 kept.1)
+    each_since old mid new tells (name ∷ names) (before ∷ befores) (log ∷ logs) (es ∷ ends) h kept
 hold_since old mid new tells (name ∷ names) (before ∷ befores) (log ∷ logs) (es ∷ ends) (suc thread) h kept = (kept.0, hold_since old mid new tells names befores logs ends thread h.1 kept.1)
 hold_since old mid new tells [] befores logs ends thread h kept = absurd kept
 hold_since old mid new tells (name ∷ names) [] logs ends thread h kept = absurd kept
@@ -188,7 +194,7 @@ module _ {k : ObjectKind} (threads : RunPlan k → (RunLeft k → Job) → Job) 
       lost : IsLost plan left mid new s → Fulfils {A = A} (log_files plan) old new (calls_task k threads plan) (Err s)
       lost l = subst (λ x. Fulfils {A = A} (log_files plan) old new (calls_task k threads plan) (Err x)) (sym l.0)
           (stopped_does threads stands plan (λ l_. said_task k plan l_ (broken_threads l_.ends)) old new NoMemory others
-          (inr (inl (record { files = all_same old mid new files.tells (log_files plan) plan.run.base.logs stand l.1; others = but_stay others }))) tt)
+          (inr (inl (record { files = stand_begun plan plan.run.heads old new (all_same old mid new files.tells (log_files plan) plan.run.base.logs stand l.1); others = but_stay others }))) tt)
 
       by : RunIsBroken plan left mid new s ⊎ IsStoredTo plan left mid new s ⊎ IsLost plan left mid new s → Fulfils {A = A} (log_files plan) old new (calls_task k threads plan) (Err s)
       by (inl b) = broken_does threads stands plan (λ l. said_task k plan l (broken_threads l.ends)) old new left s (plan_report plan left) run b.reads
@@ -209,9 +215,9 @@ module _ {k : ObjectKind} (threads : RunPlan k → (RunLeft k → Job) → Job) 
   pub unmade_does : {A : Type 0} (old new : StoreView) (s : Stop) → StopSays s (ThreadFails plan.logs plan.run.base.logs (length plan.run.scripts) old new) → SameBut (log_files plan) old new
       → FilesStand plan old new → NoneCounted old new → Fulfils {A = A} (log_files plan) old new (calls_task k threads plan) (Err s)
   unmade_does old new (Says ending text) h others stand none = stopped_does threads stands plan (λ l. said_task k plan l (broken_threads l.ends)) old new (Says ending text) others
-      (inr (inl (record { files = stand; others = but_stay others }))) (unmade old new ending text.items others stand none h)
+      (inr (inl (record { files = stand_begun plan plan.run.heads old new stand; others = but_stay others }))) (unmade old new ending text.items others stand none h)
   unmade_does old new NoMemory h others stand none = stopped_does threads stands plan (λ l. said_task k plan l (broken_threads l.ends)) old new NoMemory others
-      (inr (inl (record { files = stand; others = but_stay others }))) tt
+      (inr (inl (record { files = stand_begun plan plan.run.heads old new stand; others = but_stay others }))) tt
 
   header_fault : (old mid new : StoreView) (text : List ℕ) → SameCounts old mid → SameBut (log_files plan) old new → FilesStand plan old new → GaveUp plan mid new text
       → HeaderFault plan old new text
@@ -223,14 +229,14 @@ module _ {k : ObjectKind} (threads : RunPlan k → (RunLeft k → Job) → Job) 
     calls = (h.calls.0 ∙ counts.0.0, h.calls.1 ∙ counts.0.1);
     faults = h.faults ∙ ap (λ n. counted n 1) counts.1.0;
     fences = h.fences ∙ ap (λ n. counted n (begun_logs (take (h.thread + 1) plan.run.base.logs))) counts.1.1;
-    files = stand;
+    files = stand_begun plan (take (h.thread + 1) plan.run.heads) old new stand;
     others = but_stay others;
   }
 
   failed_does : {A : Type 0} (old mid new : StoreView) (s : Stop) → SameCounts old mid → SameBut (log_files plan) old mid → FilesStand plan old mid
       → RunHasFailed plan mid new s → Fulfils {A = A} (log_files plan) old new (calls_task k threads plan) (Err s)
   failed_does {A} old mid new s counts files stand h =
-      stopped_does threads stands plan (λ l. said_task k plan l (broken_threads l.ends)) old new s others (inr (inl (record { files = after; others = but_stay others }))) (says s h.says)
+      stopped_does threads stands plan (λ l. said_task k plan l (broken_threads l.ends)) old new s others (inr (inl (record { files = stand_begun plan plan.run.heads old new after; others = but_stay others }))) (says s h.says)
     where
       others : SameBut (log_files plan) old new
       others = same_after (log_files plan) old mid new files h.files
@@ -366,9 +372,6 @@ pub made_heads : {State Op Query Reply V : Type 0} (items : V → List (Call Sta
     → heads ≡ heads_of code_ init count → code_ ≡ code → heads ≡ created_heads code init (map items scripts)
 made_heads items scripts init count code_ code heads all is same =
     is ∙ ap (λ c. heads_from count c init 0 count) same ∙ ap (λ n. heads_from n code init 0 n) (all ∙ sym (length-map scripts items))
-
-pub done_many : {State Op Query Reply V D : Type 0} (items : V → List (Call State Op Query Reply)) (scripts : List V) (script : D → List (Call State Op Query Reply)) (done : List D) → map script done ≡ map items scripts → length done ≡ length scripts
-done_many items scripts script done e = sym (length-map done script) ∙ ap length e ∙ length-map scripts items
 
 -- ---- over any devices
 -- what a run left has ended so, and what was run is as it was handed in

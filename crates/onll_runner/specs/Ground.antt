@@ -14,7 +14,7 @@ use Rattle.onll_merge.specs.declared.counts.LogCounts.{LogCounts}
 use Rattle.onll_merge.specs.Merge.{merge}
 use Rattle.onll_merge.specs.Recovered.{Recovered, log_counts}
 use Rattle.onll_outside.specs.Views.{StoreView}
-use Rattle.onll_run.specs.Making.{AreHeads}
+use Rattle.onll_log.specs.Head.{AreHeads}
 use Rattle.onll_run.specs.Ran.{HaveNumbers}
 use Rattle.onll_open.specs.Devices.{fronts_by}
 use Rattle.onll_open.specs.Files.{FilesBegin}

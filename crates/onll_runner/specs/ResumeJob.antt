@@ -7,9 +7,9 @@ use Rattle.onll_log.specs.declared.head.LogHead.{LogHead}
 use Rattle.onll_log.specs.Grammar.{content_of}
 use Rattle.onll_log.specs.ImageFile.{longest_image, image_lines}
 use Rattle.onll_log.specs.Tested.{used_in}
-use Rattle.onll_core.specs.declared.fault.ResumeFault.{ResumeFault}
-use Rattle.onll_core.specs.Created.{created_heads}
-use Rattle.onll_core.specs.Resume.{Found, base_in}
+use Rattle.onll_start.specs.declared.fault.ResumeFault.{ResumeFault}
+use Rattle.onll_start.specs.Heads.{created_heads}
+use Rattle.onll_start.specs.Start.{Found, base_in}
 use Rattle.onll_outside.specs.Views.{StoreView}
 use Rattle.onll_run.specs.Ran.{going_on}
 use Rattle.onll_text.specs.Kinds.{ObjectKind}
@@ -18,8 +18,8 @@ use Rattle.onll_task.specs.Job.{Job}
 use Rattle.onll_task.specs.Doing.{Task, after_stage, say_task}
 use Rattle.onll_open.specs.Names.{log_name}
 use Rattle.onll_task.specs.Images.{images_stage, AllBeginWith}
-use Rattle.onll_recovery.specs.AgainJob.{resume_ending, resume_text}
-use Rattle.onll_recovery.specs.ReplayJob.{scripts_stage}
+use Rattle.onll_task.specs.NotResumed.{resume_ending, resume_text}
+use Rattle.onll_task.specs.Scripts.{scripts_stage}
 use Rattle.onll_runner.specs.RunJob.{calls_task}
 
 -- ---- what is run
@@ -43,7 +43,7 @@ AreLong logs t (count ∷ counts) store = (store.tells ≡ true → (bytes : Lis
 
 -- What is kept of the images of so many logs: of each no more lines than decide what it holds, with which its file begins, and how
 -- many lines it has, which are no more than are read.
-pub record AreRead (logs : List ℕ) (threads : ℕ) (images : List (List (List ℕ))) (counts : List ℕ) (store : StoreView) : Type 0 where
+pub record AreKeptImages (logs : List ℕ) (threads : ℕ) (images : List (List (List ℕ))) (counts : List ℕ) (store : StoreView) : Type 0 where
   pub many : length images ≡ threads
   pub counted : length counts ≡ threads
   pub used : AllByRecursion (λ image. length image ≤ used_in (content_of image)) images

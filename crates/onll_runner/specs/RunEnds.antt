@@ -41,8 +41,8 @@ module _ {k : ObjectKind} (plan : RunPlan k) (left : RunLeft k) (store after : S
     pub fit : AllByRecursion (λ (log : LogLeft). FitFile log.read) left.logs
     pub others : AllButStay (log_files plan) store after
 
-  -- It is kept up to this thread's log, whose device could not be kept: the store's counts rose by all devices, and each file that was
-  -- not made one of a log is as it was.
+  -- It is kept up to this thread's log, whose device could not be kept, and each file from that one on holds its log or is as it was. The
+  -- store's counts rose by all devices.
   pub record IsStoredTo (stop : Stop) : Type 0 where
     pub thread : ℕ
     pub within : thread < length plan.run.scripts

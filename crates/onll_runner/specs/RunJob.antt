@@ -2,7 +2,7 @@
 
 use Rattle.std.specs.Prelude.{ℕ, zero, suc, false, List}
 use Rattle.onll_model.specs.declared.call.Call.{Call}
-use Rattle.onll_core.specs.Created.{created_heads}
+use Rattle.onll_start.specs.Heads.{created_heads}
 use Rattle.onll_run.specs.Ran.{anew}
 use Rattle.onll_text.specs.Kinds.{ObjectKind}
 use Rattle.onll_text.specs.Reports.{SaysOnly}
@@ -12,7 +12,7 @@ use Rattle.onll_task.specs.Running.{RunPlan, RunLeft, plan_data, broken_threads}
 use Rattle.onll_task.specs.Job.{Job}
 use Rattle.onll_task.specs.Doing.{Task, after_stage, report_task, say_task}
 use Rattle.onll_task.specs.Standing.{threads_stage}
-use Rattle.onll_recovery.specs.ReplayJob.{scripts_stage}
+use Rattle.onll_task.specs.Scripts.{scripts_stage}
 use Rattle.onll_runner.specs.RunReport.{run_lines, plan_report}
 
 -- these scripts on an object of this kind, in the state that these bytes say, over new logs of this name

@@ -1,24 +1,18 @@
 -- The report of `run` and `resume`: what became of each call, the trace, the logs, and the state after the trace.
 
-use Rattle.std.specs.Prelude.{ℕ, ◌≡◌, ◌+◌, List, [], ◌∷◌, ◌++◌, Option, Some, None, IsSome, length, map}
-use Rattle.std.specs.List.{AllByRecursion, flat_map}
+use Rattle.std.specs.Prelude.{ℕ, ◌+◌, List, [], ◌∷◌, ◌++◌, Option, Some, None, length}
+use Rattle.std.specs.List.{flat_map}
 use Rattle.onll_words.specs.Texts.{line_text}
-use Rattle.onll_model.specs.declared.node.Node.{Node}
 use Rattle.onll_model.specs.declared.call.Call.{Call}
 use Rattle.onll_model.specs.declared.call.CallEnd.{CallEnd}
 use Rattle.onll_model.specs.Object.{Behaviour}
-use Rattle.onll_pmem.specs.Pmem.{DeviceView}
-use Rattle.onll_log.specs.declared.head.LogHead.{LogHead}
-use Rattle.onll_log.specs.Log.{LogState}
 use Rattle.onll_run.specs.Outcomes.{failed_in}
-use Rattle.onll_run.specs.Left.{Base, AfterRun, HasRun}
-use Rattle.onll_run.specs.Ended.{log_left}
+use Rattle.onll_run.specs.Left.{AfterRun}
 use Rattle.onll_text.specs.Kinds.{ObjectKind}
 use Rattle.onll_text.specs.Wording.{Wording}
 use Rattle.onll_text.specs.Lines.{trace_line, state_lines, thread_lines, flagged_lines, counted_lines, recovered_line, fence_line}
-use Rattle.onll_task.specs.RunSaid.{RunData, run_data}
+use Rattle.onll_task.specs.RunSaid.{RunData, run_data, resumed_lines}
 use Rattle.onll_task.specs.Running.{RunPlan, RunLeft, plan_resumed}
-use Rattle.onll_recovery.specs.ReplayJob.{resumed_lines}
 
 -- ---- its lines
 -- the line of a thread's fence that failed, if one did
@@ -49,22 +43,6 @@ run_lines b w scripts said = resumed_lines said.resumed
 abbrev pub run_report : {State Op Query Reply : Type 0} → Behaviour State Op Query Reply → Wording State Op Query Reply → Option ℕ → State
     → List (List (Call State Op Query Reply)) → AfterRun State Op Query Reply → List ℕ
 run_report b w resumed state scripts left = flat_map line_text (run_lines b w scripts (run_data b resumed state left))
-
--- a run over some base, whose rows are operations, left this
-pub record RanOver {State Op Query Reply : Type 0} (b : Behaviour State Op Query Reply) (state : State) (heads : List LogHead)
-    (scripts : List (List (Call State Op Query Reply))) (left : AfterRun State Op Query Reply) : Type 0 where
-  pub base : Base
-  pub operations : AllByRecursion (λ (n : Node). IsSome (b.op_at n.row)) base.nodes
-  pub run : HasRun b (record { state = state; scripts = scripts; heads = heads; base = base }) left
-
--- a run over some base, whose rows are operations, left these logs and a trace of these nodes
-pub record LogsOfRun {State Op Query Reply Device : Type 0} (b : Behaviour State Op Query Reply) (means : Device → DeviceView)
-    (state : State) (heads : List LogHead) (nodes : List Node) (logs : List (LogState Device)) : Type 0 where
-  pub scripts : List (List (Call State Op Query Reply))
-  pub left : AfterRun State Op Query Reply
-  pub over : RanOver b state heads scripts left
-  pub nodes_are : left.nodes ≡ nodes
-  pub logs_are : left.logs ≡ map (log_left means) logs
 
 -- the report of a plan's run that left this
 abbrev pub plan_report : {k : ObjectKind} → RunPlan k → RunLeft k → List ℕ

@@ -7,6 +7,5 @@ mod resume;
 mod run;
 mod stops;
 
-pub use report::recover_logs;
 pub use resume::resume_on;
 pub use run::run_on;

@@ -23,10 +23,9 @@ ghost use Rattle.onll_runner.specs.RunJob.{calls_task};
 
 use crate::report::run_report;
 use crate::stops::{not_kept, not_opened};
-use onll_core::count_updates;
 use onll_log::{Decoded, ThreadLog};
 use onll_merge::LogCounts;
-use onll_model::{Call, Node};
+use onll_model::{Call, Node, count_updates};
 use onll_open::{FoundLogs, decode_logs, give_up_all, keep_devices, open_devices};
 use onll_outside::{Gate, Store};
 use onll_pmem::{Pmem, image_laws};

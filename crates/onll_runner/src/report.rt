@@ -1,14 +1,8 @@
 //! The report of a run: how many nodes it went on from, what became of each call, the trace, the logs, failed fences, and the last state.
 
-ghost use Rattle.std.specs.Prelude.{◌≡◌, ◌≤◌, ◌<◌, ◌^◌, ◌++◌, ◌∷◌, true, length, map, IfOk, IfSome, OnOk, All, IsSome, Some, List};
+ghost use Rattle.std.specs.Prelude.{◌≡◌, ◌≤◌, ◌<◌, ◌^◌, ◌++◌, ◌∷◌, true, length, map, IfOk, IfSome, OnOk, All, IsSome, Some};
 ghost use Rattle.std.specs.List.{AllByRecursion};
-ghost use Rattle.onll_words.specs.Texts.{line_text};
-ghost use Rattle.onll_model.specs.declared.node.Node.{Node as SomeNode};
-ghost use Rattle.onll_model.specs.Recovered.{operations_front};
 ghost use Rattle.onll_model.specs.Trace.{state_after};
-ghost use Rattle.onll_pmem.specs.Pmem.{words_of};
-ghost use Rattle.onll_log.specs.Grammar.{content_of};
-ghost use Rattle.onll_merge.specs.declared.fault.StateFault.TheVariants.{NoMemory as OutOfMemory};
 ghost use Rattle.onll_merge.specs.Recovered.{log_counts};
 ghost use Rattle.onll_run.specs.Outcomes.{failed_in};
 ghost use Rattle.onll_run.specs.Left.{AllOver, content_in};
@@ -17,20 +11,20 @@ ghost use Rattle.onll_run.specs.Ran.{left_in, script_in, ends_in, node_in, flag_
 ghost use Rattle.onll_text.specs.Bytes.{begins_line, with_lines};
 ghost use Rattle.onll_text.specs.Lines.{call_lines, trace_line, state_lines, thread_lines, flagged_lines, counted_lines, recovered_line};
 ghost use Rattle.onll_text.specs.Reports.{EndsRead, NodeReads, StateReads, LogReads, EachReads};
-ghost use Rattle.onll_recovery.specs.ReplayJob.{resumed_lines};
+ghost use Rattle.onll_task.specs.RunSaid.{resumed_lines, RunReads, log_data, run_data};
 ghost use Rattle.onll_outside.specs.LineFiles.{IsWholeLine};
-ghost use Rattle.onll_task.specs.RunSaid.{RunReads, log_data, run_data};
-ghost use Rattle.onll_runner.specs.RunReport.{faults_at, fault_lines, run_report, RanOver, LogsOfRun};
+ghost use Rattle.onll_runner.specs.RunReport.{faults_at, fault_lines, run_report};
+ghost use Rattle.onll_task.specs.RunLogs.{RanOver};
 
-use onll_log::{LogHead, TestedImage, ThreadLog};
-use onll_merge::{LogCounts, Recovery, StateFault, recover_state};
+use onll_log::{LogHead, ThreadLog};
+use onll_merge::{LogCounts, Recovery};
 use onll_model::{Call, CallEnd, Object};
 use onll_pmem::Pmem;
-use onll_recovery::{put_count, put_resumed};
 use onll_run::{DoneScript, RunOutcome};
+use onll_task::{put_count, put_resumed, recover_logs};
 use onll_text::{Piece, Report, Texted};
 use onll_trace::Ended;
-use onll_words::{Line, NoMemory};
+use onll_words::NoMemory;
 use std::alloc::Global;
 
 /// Appends the line of each call of a thread.
@@ -142,80 +136,6 @@ fn put_faults<O: Object>(threads: &[DoneScript<O>], out: &mut Report) -> Result<
         put_fault(thread as u64, failed_place(&done.ends), out)?;
     }
     Ok(())
-}
-
-/// A line has eight words of 64 bits.
-fn whole_line(line: Line)
-    ensures { IsWholeLine line.w }
-{}
-
-/// Each line has eight words of 64 bits.
-fn whole_lines(lines: &[Line])
-    ensures { All (λ line. IsWholeLine line.w) lines.now }
-{
-    for line in lines {
-        whole_line(*line);
-    }
-}
-
-/// The lines that a log uses. They hold it as its device does, which has only zeros after them.
-fn image_of<P: Pmem>(alloc: Global, log: &ThreadLog<P>) -> Result<TestedImage<'_>, NoMemory>
-    ensures content { IfOk result (λ image. content_of image ≡ Some (content_in (log_left P.means log.now))) }
-    ensures whole { OnOk result (AllByRecursion IsWholeLine (P.means log.now.device).read) }
-{
-    let _ = log.device();
-    let image = log.image(alloc)?;
-    whole_lines(image.as_slice());
-    Ok(image)
-}
-
-/// The lines that each log uses.
-fn images_of<P: Pmem>(
-    alloc: Global,
-    logs: &[ThreadLog<P>],
-) -> Result<Vec<TestedImage<'_>>, NoMemory>
-    ensures contents { IfOk result (λ images. map content_of images.items
-        ≡ map (λ log. Some (content_in (log_left P.means log))) logs.now) }
-    ensures count { IfOk result (λ images. length images.items ≡ length logs.now) }
-    ensures whole { OnOk result (All (λ log. AllByRecursion IsWholeLine (P.means log.device).read) logs.now) }
-{
-    let mut images = Vec::new(alloc);
-    for log in logs {
-        images.push(image_of(alloc, log)?)?;
-    }
-    Ok(images)
-}
-
-/// A refusal of recovery where it can only be want of memory.
-fn wants_memory(fault: StateFault) -> NoMemory
-    requires { fault ≡ OutOfMemory }
-{
-    match fault {
-        StateFault::NoMemory => NoMemory,
-        _ => unreachable!(),
-    }
-}
-
-/// Recovers the object from the lines of a run's devices as read. They give the trace, and the object is after it. The rows of the
-/// base, from which the run went on, are operations.
-pub fn recover_logs<O: Object, P: Pmem>(
-    alloc: Global,
-    object: &mut O,
-    heads: &[LogHead],
-    logs: &[ThreadLog<P>],
-) -> Result<Recovery, NoMemory>
-    requires { (nodes : List SomeNode) × LogsOfRun O.means P.means object.old heads.now nodes logs.now }
-    ensures logs { IfOk result (λ r. r.logs.items ≡ map log_counts (map content_in (map (log_left P.means) logs.now))) }
-    ensures nodes { IfOk result (λ r. (nodes : List SomeNode)
-        → LogsOfRun O.means P.means object.old heads.now nodes logs.now → r.nodes.items ≡ nodes) }
-    ensures state { IfOk result (λ r. object.new ≡ state_after O.means object.old r.nodes.items) }
-    ensures whole { OnOk result (All (λ log. AllByRecursion IsWholeLine (P.means log.device).read) logs.now) }
-{
-    let images = images_of(alloc, logs)?;
-    match recover_state(alloc, object, heads, &images) {
-        Ok(recovery) => Ok(recovery),
-        Err(fault) => Err(wants_memory(fault)),
-    }
 }
 
 /// The same of a run whose trace was listed.

@@ -3,22 +3,22 @@
 ghost use Rattle.std.specs.Prelude.{◌≡◌, ◌≤◌, length, map, string_bytes, All};
 ghost use Rattle.onll_model.specs.Limits.{most_threads, most_updates};
 ghost use Rattle.onll_model.specs.Calls.{updates_in};
-ghost use Rattle.onll_core.specs.Created.{created_heads};
-ghost use Rattle.onll_core.specs.Resume.{base_in};
+ghost use Rattle.onll_start.specs.Heads.{created_heads};
+ghost use Rattle.onll_start.specs.Start.{base_in};
 ghost use Rattle.onll_open.specs.Names.{log_names};
 ghost use Rattle.onll_text.specs.Kinds.{kind_by};
 ghost use Rattle.onll_task.specs.Doing.{Fulfils};
 ghost use Rattle.onll_task.specs.Standing.{StandsForRuns};
-ghost use Rattle.onll_runner.specs.ResumeJob.{AreRead, based_task, reopened_task, resume_task};
+ghost use Rattle.onll_runner.specs.ResumeJob.{AreKeptImages, based_task, reopened_task, resume_task};
 
 use crate::over_logs::{Ground, run_over};
-use onll_core::{ResumeFault, find_start};
+use onll_log::new_heads;
 use onll_model::Call;
-use onll_open::{FoundLogs, new_heads};
+use onll_open::FoundLogs;
 use onll_outside::{Gate, Store};
-use onll_recovery::{not_resumed, script_files};
 use onll_run::Surroundings;
-use onll_task::{KeptImages, Stop, read_images};
+use onll_start::{ResumeFault, find_start};
+use onll_task::{KeptImages, Stop, not_resumed, read_images, script_files};
 use onll_text::Texted;
 use std::sync::Wait;
 use std::thread::Threads;
@@ -45,7 +45,7 @@ fn based_on<R: Threads + Wait + Sync, O: Texted + Drop + Send + Sync, S: Store, 
 ) -> Result<Vec<u8>, Stop>
     requires few { (1 ≤ length scripts.items) × (length scripts.items ≤ most_threads) }
     requires updates { All (λ script. updates_in script.items ≤ most_updates) scripts.items }
-    requires images { AreRead from.now.logs.now (length scripts.items) kept.images.items kept.counts.items (S.seen store.old) }
+    requires images { AreKeptImages from.now.logs.now (length scripts.items) kept.images.items kept.counts.items (S.seen store.old) }
     ensures { let k = kind_by O.means O.wording O.CODE in
         let calls = map (λ script. script.items) scripts.items in
         let base = base_in O.means (created_heads O.CODE from.now.init.now calls) calls kept.images.items in

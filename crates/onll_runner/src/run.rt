@@ -10,12 +10,12 @@ ghost use Rattle.onll_task.specs.Standing.{StandsForRuns};
 ghost use Rattle.onll_runner.specs.RunJob.{run_plan, calls_task, run_task};
 
 use crate::over_logs::{Ground, run_over};
+use onll_log::new_heads;
 use onll_model::Call;
-use onll_open::{new_found, new_heads};
+use onll_open::new_found;
 use onll_outside::{Gate, Store};
-use onll_recovery::script_files;
 use onll_run::Surroundings;
-use onll_task::Stop;
+use onll_task::{Stop, script_files};
 use onll_text::Texted;
 use std::alloc::{AllocError, Global};
 use std::sync::Wait;

@@ -5,12 +5,12 @@ use Rattle.std.proofs.lemmas.List.{take_all}
 use Rattle.onll_pmem.specs.Device.{zero_lines}
 use Rattle.onll_outside.specs.Views.{StoreView, image_bytes, with_zeros}
 use Rattle.onll_outside.specs.LineFiles.{FrontHasLines, HasLines, IsWholeLine}
-use Rattle.onll_outside.proofs.WholeLines.{whole_to_end}
+use Rattle.onll_outside.proofs.WholeLines.{whole_to_end, length-image_bytes}
 use Rattle.onll_log.specs.ImageFile.{longest_image, whole_lines}
 use Rattle.onll_open.specs.Files.{FilesHold, HoldsLogImage, is_made}
 use Rattle.onll_open.specs.Names.{log_name}
 use Rattle.onll_open.specs.Rooms.{most_lines}
-use Rattle.onll_serve.proofs.FileLines.{length-image_bytes, whole_back}
+use Rattle.onll_serve.proofs.FileLines.{whole_back}
 
 -- ---- a file holds one image
 lines_said : (bytes : List ℕ) (front : List (List ℕ)) (count : ℕ) → AllByRecursion IsWholeLine front → HasLines bytes front count

@@ -19,7 +19,7 @@ use Rattle.onll_open.specs.declared.fault.OpenFault.{OpenFault}
 use Rattle.onll_open.specs.Files.{SameBut, SameCounts}
 use Rattle.onll_open.specs.Keeping.{AreKept, AreWhole, CannotClose, CloseLocks, devices_in}
 use Rattle.onll_open.specs.Names.{held_names, log_names}
-use Rattle.onll_open.specs.Opening.{CannotOpen, GivesRoom, HasOpened, IsShortLog, NothingLost, OpenFaults}
+use Rattle.onll_open.specs.Opening.{CannotOpen, GivesRoom, HasOpened, IsShortLog, NothingLost, OpenFaults, written_at}
 use Rattle.onll_threads.specs.Ended.{HaveEnded, before_of}
 use Rattle.onll_serve.specs.declared.fault.ServeFault.TheVariants.{NotOpened}
 use Rattle.onll_serve.specs.declared.service.Served.{Served}
@@ -63,7 +63,7 @@ module _ {State Op Query Reply Device Work Answer : Type 0} (b : Behaviour State
       (opened new : StoreView) (onll : OnllView State) (passes : List (PassView State Device)) (count before : ℕ)
       (s : Served State Device Work Answer Op Query Reply) → count ≡ length works
       → HasOpened b store logs (head count) means state count None onll passes → before ≡ length onll.trace.plan.base
-      → NothingLost b store logs (head count) count None opened → SameCounts store opened → s.before ≡ before
+      → NothingLost b store logs (head count) count None (head count) opened → SameCounts store opened → s.before ≡ before
       → WorksWereDone b means promise onll passes works logs opened new s
       → HasServed b means promise store logs (head (length works)) state works new s
   served store logs head state works opened new onll passes count before s n o before_is lost counts same w = record {
@@ -77,7 +77,7 @@ module _ {State Op Query Reply Device Work Answer : Type 0} (b : Behaviour State
     heads_are = ap (map head_held) o.on.begun.logs_are ∙ (o.on.heads_are ∙ ap head n);
     short = subst (AllByRecursion (IsShortLog means)) (sym o.on.begun.logs_are) o.on.short;
     opened = opened;
-    kept = subst (λ (k : ℕ). NothingLost b store logs (head k) k None opened) n lost;
+    kept = subst (λ (k : ℕ). NothingLost b store logs (head k) k None (head k) opened) n lost;
     counts = counts;
     worked = w;
   }
@@ -86,12 +86,12 @@ module _ {State Op Query Reply Device Work Answer : Type 0} (b : Behaviour State
 module _ {State Op Query Reply : Type 0} (b : Behaviour State Op Query Reply) (logs : List ℕ) (head : ℕ → List LogHead) where
   pub cannot_open : (count works : ℕ) (old new : StoreView) (fault : OpenFault) → count ≡ works
       → CannotOpen b old logs (head count) count None fault → OpenFaults {T = Unit {0}} logs count old new (Err fault)
-      → NothingLost b old logs (head count) count None new
+      → NothingLost b old logs (head count) count None (written_at (head count) fault) new
       → CannotServe b logs (head works) works old new (NotOpened fault)
   cannot_open count works old new fault e refused faults lost = (
     subst (λ (k : ℕ). CannotOpen b old logs (head k) k None fault) e refused,
     subst (λ (k : ℕ). OpenFaults {T = Unit {0}} logs k old new (Err fault)) e faults,
-    subst (λ (k : ℕ). NothingLost b old logs (head k) k None new) e lost,
+    subst (λ (k : ℕ). NothingLost b old logs (head k) k None (written_at (head k) fault) new) e lost,
   )
 
 pub given_back : {State Device Op Query Reply : Type 0} (logs : List ℕ) (old mid : StoreView) (before after : List (List ℕ))

@@ -22,7 +22,7 @@ use Rattle.onll_open.specs.declared.keeping.CloseFault.TheVariants.{NoMemory, No
 use Rattle.onll_open.specs.Files.{SameCounts}
 use Rattle.onll_open.specs.Keeping.{AreKept, AreWhole, KeepFails, devices_in}
 use Rattle.onll_open.specs.Locking.{AreFree, OpenLocks}
-use Rattle.onll_open.specs.Opening.{CannotOpen, GivesRoom, IsShortLog, NothingLost, OpenFaults}
+use Rattle.onll_open.specs.Opening.{CannotOpen, GivesRoom, IsShortLog, NothingLost, OpenFaults, written_at}
 use Rattle.onll_threads.specs.Ended.{HaveEnded}
 use Rattle.onll_serve.specs.declared.fault.NotServed.{NotServed}
 use Rattle.onll_serve.specs.declared.fault.ServeFault.{ServeFault}
@@ -93,7 +93,7 @@ module _ {State Op Query Reply Device Work Answer : Type 0} (b : Behaviour State
     pub heads_are : map head_held (map log_of befores) ≡ heads
     pub short : AllByRecursion (IsShortLog means) (map log_of befores)
     pub opened : StoreView
-    pub kept : NothingLost b store logs heads (length works) None opened
+    pub kept : NothingLost b store logs heads (length works) None heads opened
     pub counts : SameCounts store opened
     pub worked : WorksWereDone onll befores works logs opened new served
 
@@ -105,7 +105,7 @@ module _ {State Op Query Reply : Type 0} (b : Behaviour State Op Query Reply) (l
   CannotServe works old new (faults.NoThread thread) = (1 ≤ thread) × (thread < works) × (new ≡ old)
   CannotServe works old new (faults.NotOpened fault) =
       CannotOpen b old logs heads works None fault × OpenFaults {T = Unit {0}} logs works old new (Err fault)
-      × NothingLost b old logs heads works None new
+      × NothingLost b old logs heads works None (written_at heads fault) new
   CannotServe works old new faults.NoMemory = new ≡ old
 
 -- the logs are free once an object over them was closed

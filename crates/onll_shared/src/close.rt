@@ -1,6 +1,6 @@
 //! The end of a shared object.
 
-ghost use Rattle.std.specs.Prelude.{◌≡◌, ◌++◌, ◌+◌, ◌<◌, ◌≤◌, List, [], length, map, reverse, IfOk, IfErr, vec_capacity};
+ghost use Rattle.std.specs.Prelude.{◌≡◌, ◌+◌, ◌<◌, ◌≤◌, List, [], length, map, reverse, IfOk, IfErr, vec_capacity};
 ghost use Rattle.std.specs.List.{AllByRecursion};
 ghost use Rattle.onll_trace.specs.Closing.{AreAll};
 ghost use Rattle.onll_trace.specs.declared.trace.Ended.{Ended as SomeEnded};

@@ -1,6 +1,6 @@
 //! A shared object at its beginning.
 
-ghost use Rattle.std.specs.Prelude.{◌≡◌, ◌≤◌, ◌<◌, ◌*◌, ℕ, [], length, map, replicate, IfOk, None};
+ghost use Rattle.std.specs.Prelude.{◌≡◌, ◌≤◌, ◌<◌, ◌*◌, [], length, map, replicate, IfOk, None};
 ghost use Rattle.onll_model.specs.Limits.{most_threads, most_updates};
 ghost use Rattle.std.specs.List.{AllByRecursion};
 ghost use Rattle.onll_model.specs.Trace.{state_after};
@@ -19,21 +19,22 @@ use onll_trace::{Spot, Trace};
 use onll_words::NoMemory;
 use std::alloc::{AllocError, Global};
 
-// A pass that begins at a place with this replica.
+// A pass of the trace's spot and a log, which begins at the base with this replica.
 fn make_pass<O: Object + Drop, P: Pmem + Drop>(
     alloc: Global,
+    trace: &Trace,
     replica: &O,
     spot: Spot,
     log: ThreadLog<P>,
-    at: u64,
     room: u64,
-    nodes: u64,
 ) -> Result<Pass<O, P>, NoMemory>
-    requires seen { at ≡ spot.me.part.seen }
-    requires nodes { nodes ≡ spot.plan.nodes * spot.plan.threads }
-    ensures { IfOk result (λ pass.
+    requires plan { spot.plan ≡ trace.now.plan }
+    requires seen { spot.me.part.seen ≡ base_place trace.now.plan }
+    ensures { let at = base_place trace.now.plan in IfOk result (λ pass.
         pass ≡ record { spot = spot; log = log; replica = replica.now; at = at; room = room; broken = None }) }
 {
+    let at = trace.base();
+    let nodes = trace.nodes() * trace.threads();
     Ok(Pass {
         spot,
         log,
@@ -62,8 +63,6 @@ fn make_passes<O: Object + Drop, P: Pmem + Drop>(
     ensures { IfOk result (λ passes. AreMade P.means replica.now
         (base_place trace.now.plan) spots.items logs.items rooms.now passes.items) }
 {
-    let nodes = trace.nodes() * trace.threads();
-    let base = trace.base();
     let mut passes = Vec::with_capacity(alloc, rooms.len())?;
     while let Some(spot) = spots.pop() {
         let Some(log) = logs.pop() else {
@@ -72,7 +71,7 @@ fn make_passes<O: Object + Drop, P: Pmem + Drop>(
         spot.facts();
         log_facts(&log);
         let room = rooms[spots.len()];
-        let pass = make_pass(alloc, replica, spot, log, base, room, nodes)?;
+        let pass = make_pass(alloc, trace, replica, spot, log, room)?;
         passes.push(pass)?;
     }
     passes.reverse();

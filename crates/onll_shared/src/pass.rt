@@ -1,6 +1,6 @@
 //! What one thread keeps for its calls: its spot on the trace, its log and its replica.
 
-ghost use Rattle.std.specs.Prelude.{◌≡◌, ◌+◌, ◌≤◌, ◌<◌, ◌^◌, ℕ, length};
+ghost use Rattle.std.specs.Prelude.{◌≡◌, ◌+◌, ◌≤◌, ◌<◌, ◌^◌, length};
 ghost use Rattle.onll_log.specs.Log.{HoldsLog};
 ghost use Rattle.onll_trace.specs.Spots.{IsOf, base_of};
 ghost use Rattle.onll_shared.specs.Walks.{Met};

@@ -1,6 +1,6 @@
 //! The stages of an update.
 
-ghost use Rattle.std.specs.Prelude.{◌≡◌, ◌+◌, ◌≤◌, ◌<◌, ℕ, length};
+ghost use Rattle.std.specs.Prelude.{◌+◌, ◌<◌};
 ghost use Rattle.onll_trace.specs.Spots.{IsOf, MayDraft};
 ghost use Rattle.onll_shared.specs.Updates.{LinkTried, MayLog, LogTried};
 
@@ -31,6 +31,13 @@ pub(crate) fn link(trace: &Trace, spot: &mut Spot, row: OpRow) -> Result<Post, T
     }
 }
 
+/// A node that was linked, and the post that it is right above.
+#[derive(Clone, Copy)]
+pub(crate) struct Placed {
+    pub(crate) node: Node,
+    pub(crate) front: Post,
+}
+
 #[tactic(auto, using(crate::proofs::Updating::window_rules))]
 /// Walks down from the own node, logs the window with one fence, and sets the own flag.
 pub(crate) fn log_window<P: Pmem, G: Gate>(
@@ -38,22 +45,21 @@ pub(crate) fn log_window<P: Pmem, G: Gate>(
     spot: &mut Spot,
     log: &mut ThreadLog<P>,
     window: &mut ArrayVec<Node, 16>,
-    front: Post,
-    own: Node,
+    own: Placed,
     gate: &G,
 ) -> Result<(), FenceFailed>
     requires of { IsOf trace.now spot.old }
-    requires may { MayLog P.means spot.old log.old front own }
+    requires may { MayLog P.means spot.old log.old own.front own.node }
     ensures of { IsOf trace.now spot.new }
-    ensures tried { LogTried P.means spot.old spot.new log.old log.new (front.place + 1) result }
+    ensures tried { LogTried P.means spot.old spot.new log.old log.new (own.front.place + 1) result }
 {
     gate.at(spot, Point::Ordered);
     window.clear();
-    window.push(own);
-    walk(trace, spot, window, front);
+    window.push(own.node);
+    walk(trace, spot, window, own.front);
     gate.at(spot, Point::Walked);
     window.as_mut_slice().reverse();
-    let logged = log.append(front.place + 1, window.as_slice());
+    let logged = log.append(own.front.place + 1, window.as_slice());
     log_facts(log);
     logged?;
     trace.settle(spot);

@@ -1,9 +1,9 @@
 -- A stream as it is made, step by step.
 
-use Rattle.std.proofs.Common.{ℕ, suc, ◌+◌, ◌-◌, ◌<◌, ◌≡◌, List, [], ◌++◌, length, length-append, map, refl, sym, ap, ◌∙◌, arith, append_assoc, append-nil}
+use Rattle.std.proofs.Common.{ℕ, suc, ◌+◌, ◌-◌, ◌<◌, ◌≡◌, List, [], ◌++◌, length, length-append, map, sym, ap, ◌∙◌, arith, append_assoc}
 use Rattle.std.specs.List.{flat_map}
 use Rattle.std.proofs.lemmas.Grind.{flat_map-append}
-use Rattle.onll_task.specs.Images.{image_bytes}
+use Rattle.onll_outside.specs.Views.{image_bytes}
 use Rattle.onll_shipping.specs.declared.turns.Stream.{Stream}
 use Rattle.onll_shipping.specs.Turns.{HasMore, first_entry, after_entry, put_in_turns}
 
@@ -12,9 +12,6 @@ use Rattle.onll_shipping.specs.Turns.{HasMore, first_entry, after_entry, put_in_
 pub record Puts (start now : Stream) (left all : List (List (List ℕ))) : Type 0 where
   pub bytes : now.bytes.items ++ flat_map image_bytes left ≡ start.bytes.items ++ flat_map image_bytes all
   pub count : now.entries + length left ≡ start.entries + length all
-
-pub puts_first : (start : Stream) (all : List (List (List ℕ))) → Puts start start all all
-puts_first start all = record { bytes = refl; count = refl }
 
 pub puts_more : (start now new : Stream) (some left before all : List (List (List ℕ))) → before ≡ some ++ left → Puts start now before all → HasMore now new some → Puts start new left all
 puts_more start now new some left before all split so more =
@@ -25,14 +22,6 @@ puts_more start now new some left before all split so more =
           ∙ (append_assoc now.bytes.items (flat_map image_bytes some) b
           ∙ (ap (λ (l : List ℕ). now.bytes.items ++ l) (sym (flat_map-append image_bytes some left) ∙ ap (flat_map image_bytes) (sym split)) ∙ so.bytes));
       count = omega (arith, n, c, s, k);
-    }
-
-pub puts_all : (start now : Stream) (left all : List (List (List ℕ))) → left ≡ [] → Puts start now left all → HasMore start now all
-puts_all start now left all none so =
-    let n = ap (λ (l : List (List (List ℕ))). length l) none in let s = so.count in
-    record {
-      bytes = sym (append-nil now.bytes.items) ∙ (ap (λ (l : List (List (List ℕ))). now.bytes.items ++ flat_map image_bytes l) (sym none) ∙ so.bytes);
-      count = omega (arith, n, s);
     }
 
 -- one turn before the others

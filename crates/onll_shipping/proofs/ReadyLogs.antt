@@ -15,10 +15,10 @@ use Rattle.onll_log.specs.Grammar.{Content, content_of, used_with}
 use Rattle.onll_log.specs.Tested.{used_in}
 use Rattle.onll_log.specs.Torn.{AreLines}
 use Rattle.onll_log.proofs.Written.{take-used}
-use Rattle.onll_core.specs.Resume.{is_old}
+use Rattle.onll_start.specs.Start.{is_old}
 use Rattle.onll_standby.specs.Held.{HeldEntry}
 use Rattle.onll_standby.specs.Shipped.{head_lines, lines_of_entries}
-use Rattle.onll_task.specs.Images.{image_bytes}
+use Rattle.onll_outside.specs.Views.{image_bytes}
 use Rattle.onll_shipping.specs.declared.ship_fault.Flaw.{Flaw}
 use Rattle.onll_shipping.specs.declared.ship_fault.Flaw.TheVariants as flaws
 use Rattle.onll_shipping.specs.ShipJob.{HeadedLog, headed_logs, is_no_head, has_flaw, least_log, fault_by, logs_unless, contents_of, ready, heads_in, entries_in, most_entries, turns_from, shipped_entries, shipped_bytes}

@@ -33,13 +33,14 @@ use Rattle.onll_merge.specs.Recovered.{Recovered, recovered_with, content_before
 use Rattle.onll_merge.proofs.Backs.{merge-back}
 use Rattle.onll_merge.proofs.Resumed.{can_go_on}
 use Rattle.onll_outside.specs.LineFiles.{IsWholeLine}
-use Rattle.onll_areas.proofs.LinesBack.{length-image_bytes, whole_back}
+use Rattle.onll_areas.proofs.LinesBack.{whole_back}
 use Rattle.onll_standby.specs.Held.{HeldEntry, log_held}
 use Rattle.onll_standby.specs.Stream.{AreStreamHeads, Course, course, lines_course}
 use Rattle.onll_standby.specs.Shipped.{IsOfThreads, IsLogNode, AreFronts, AreAllOf, lines_of_entry, lines_of_entries, head_lines, stream_lines}
 use Rattle.onll_standby.specs.Laws.{FollowsTrace, FollowsMerge}
 use Rattle.onll_standby.proofs.Followed.{follows_trace}
 use Rattle.onll_standby.proofs.Recovered.{follows_merge}
+use Rattle.onll_outside.proofs.WholeLines.{length-image_bytes}
 use Rattle.onll_task.specs.FileLines.{FitFile}
 use Rattle.onll_shipping.specs.FollowJob.{longest_stream}
 use Rattle.onll_shipping.specs.Laws.{FollowsRecovered}

@@ -4,11 +4,12 @@ use Rattle.std.specs.List.{flat_map}
 use Rattle.std.proofs.lemmas.Fmt.{decimal_injective}
 use Rattle.onll_words.specs.Texts.{line_text, AreMeaningful}
 use Rattle.onll_words.proofs.Decimals.{IsWord-decimal}
+use Rattle.onll_words.proofs.Joined.{text_determined, line_same}
 use Rattle.onll_text.specs.Bytes.{with_lines}
 use Rattle.onll_text.specs.Lines.{state_lines}
 use Rattle.onll_text.specs.Reports.{SaysOnly}
 use Rattle.onll_text.specs.Wording.{Wording}
-use Rattle.onll_text.proofs.Determined.{text_determined, line_same, state_determined, state_meaningful, says_only}
+use Rattle.onll_text.proofs.Determined.{state_determined, state_meaningful, says_only}
 use Rattle.onll_shipping.specs.FollowJob.{FollowData, FollowReads, follow_data_lines}
 
 same_number : (word : List ℕ) (m n : ℕ) → m < 2 ^ 64 → n < 2 ^ 64 → word ∷ decimal m ∷ [] ≡ word ∷ decimal n ∷ [] → m ≡ n

@@ -12,7 +12,7 @@ use Rattle.onll_log.specs.Encoding.{entry_line, entry_lines, entries_lines, node
 use Rattle.onll_standby.specs.Held.{HeldEntry, log_held}
 use Rattle.onll_standby.specs.Shipped.{lines_of_entry, lines_of_entries}
 use Rattle.onll_standby.proofs.Entries.{log_held-append}
-use Rattle.onll_task.specs.Images.{image_bytes}
+use Rattle.onll_outside.specs.Views.{image_bytes}
 use Rattle.onll_shipping.specs.ShipJob.{HeadedLog, entry_then, turn_from, turns_from, entries_in}
 use Rattle.onll_shipping.specs.Turns.{first_entry, after_entry, put_in_turns}
 use Rattle.onll_shipping.proofs.InTurns.{if_there, held_turn, drop_none, take_none, one_up}

@@ -9,7 +9,7 @@ use Rattle.onll_log.specs.Grammar.{Content}
 use Rattle.onll_log.specs.Tested.{used_in}
 use Rattle.onll_outside.specs.Views.{StoreView}
 use Rattle.onll_text.specs.Reports.{SaysOnly}
-use Rattle.onll_text.proofs.Determined.{text_determined, line_same, says_only}
+use Rattle.onll_text.proofs.Determined.{says_only}
 use Rattle.onll_task.specs.declared.ending.Ending.TheVariants.{BadLog}
 use Rattle.onll_task.specs.declared.answer.Stop.{Stop}
 use Rattle.onll_task.specs.Stop.{StopSays}
@@ -17,6 +17,7 @@ use Rattle.onll_task.specs.Images.{AllDecide}
 use Rattle.onll_task.specs.Doing.{Task, Fulfils, DoesStage, write_stage}
 use Rattle.onll_task.proofs.Stages.{wider, wrote_does, stop_does, report_does, says_does, none_does}
 use Rattle.std.specs.Result.{IsErrAnd}
+use Rattle.onll_words.proofs.Joined.{text_determined, line_same}
 use Rattle.onll_task.specs.declared.answer.Stop.TheVariants.{NoMemory}
 use Rattle.onll_shipping.specs.declared.ship_fault.ShipFault.{ShipFault}
 use Rattle.onll_shipping.specs.ShipJob.{HeadedLog, ShipData, ShipReads, ship_data, ship_data_lines, ship_fault, ship_fault_line, logs_unless, headed_logs, contents_of, ready, shipped_bytes, shipped_entries, ship_report_task, ship_logs_task}

@@ -6,13 +6,14 @@ use Rattle.onll_words.specs.Texts.{line_text}
 use Rattle.onll_model.specs.Segment.{Segment}
 use Rattle.onll_log.specs.declared.head.LogHead.{LogHead}
 use Rattle.onll_log.specs.Grammar.{Content, content_of}
-use Rattle.onll_core.specs.Found.{is_old_log}
+use Rattle.onll_start.specs.Found.{is_old_log}
 use Rattle.onll_standby.specs.Held.{HeldEntry}
 use Rattle.onll_standby.specs.Shipped.{stream_lines}
+use Rattle.onll_outside.specs.Views.{image_bytes}
 use Rattle.onll_text.specs.Reports.{SaysOnly}
 use Rattle.onll_task.specs.declared.ending.Ending.TheVariants.{BadLog}
 use Rattle.onll_task.specs.Doing.{Task, after_stage, write_stage, report_task, say_task}
-use Rattle.onll_task.specs.Images.{image_bytes, images_stage}
+use Rattle.onll_task.specs.Images.{images_stage}
 use Rattle.onll_shipping.specs.declared.ship_fault.Flaw.{Flaw}
 use Rattle.onll_shipping.specs.declared.ship_fault.Flaw.TheVariants as flaws
 use Rattle.onll_shipping.specs.declared.ship_fault.ShipFault.{ShipFault}

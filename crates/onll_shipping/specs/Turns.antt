@@ -6,7 +6,7 @@ use Rattle.onll_model.specs.Segment.{Segment}
 use Rattle.onll_log.specs.Grammar.{Content, content_of}
 use Rattle.onll_log.specs.Head.{word}
 use Rattle.onll_log.specs.Tested.{used_in}
-use Rattle.onll_task.specs.Images.{image_bytes}
+use Rattle.onll_outside.specs.Views.{image_bytes}
 use Rattle.onll_shipping.specs.declared.turns.Stream.{Stream}
 
 -- ---- images

@@ -14,8 +14,7 @@ ghost use Rattle.onll_text.specs.Kinds.{kind_by};
 ghost use Rattle.onll_shipping.specs.FollowJob.{FollowData, FollowReads, follow_data_lines, followed_task, follow_task, longest_stream, stream_stage};
 
 use crate::bad_stream::bad_stream;
-use crate::heads::run_heads;
-use onll_log::LogHead;
+use onll_log::{LogHead, new_heads};
 use onll_outside::{OutsideFault, Store};
 use onll_standby::{FeedFault, Standby};
 use onll_task::Stop;
@@ -29,7 +28,15 @@ const LONGEST_STREAM: usize = 71_304_192;
 /// How many bytes of a stream are fed at once at most.
 pub const LONGEST_PIECE: u64 = 1_048_576;
 
-/// The bytes of a stream, or what is said in their place.
+/// A stream of the logs of so many threads, which is fed in pieces of `piece` bytes.
+#[derive(Clone, Copy, Debug)]
+pub struct StreamFile<'a> {
+    pub name: &'a str,
+    pub threads: u64,
+    pub piece: usize,
+}
+
+/// The bytes of a stream's file, as many as a stream has at most. It stops where the file can't be read, and names it.
 fn stream_file<S: Store>(alloc: Global, name: &str, store: &mut S) -> Result<Vec<u8>, Stop>
     ensures begins { let stage = stream_stage name.now in
         DoesStage [] (S.seen store.old) (S.seen store.new) stage (λ bytes. bytes.items) result }
@@ -129,26 +136,23 @@ fn follow_bytes<O: Texted + Drop>(
     }
 }
 
-/// Follows a stream over an object, whose initial state these bytes say, as the logs of so many threads: it is fed in pieces of `piece`
-/// bytes.
+/// Follows a stream over an object, whose initial state these bytes say. The report is the same for pieces of any length.
 pub fn follow_on<O: Texted + Drop, S: Store>(
     alloc: Global,
     object: O,
     init: &[u8],
-    threads: u64,
-    stream: &str,
-    piece: usize,
+    stream: &StreamFile<'_>,
     store: &mut S,
 ) -> Result<Vec<u8>, Stop>
-    requires threads { (1 ≤ threads) × (threads ≤ most_threads) }
-    requires piece { 1 ≤ piece }
-    ensures { let task = follow_task (kind_by O.means O.wording O.CODE) init.now stream.now threads object in
+    requires threads { (1 ≤ stream.now.threads) × (stream.now.threads ≤ most_threads) }
+    requires piece { 1 ≤ stream.now.piece }
+    ensures { let task = follow_task (kind_by O.means O.wording O.CODE) init.now stream.now.name.now stream.now.threads object in
         Fulfils [] (S.seen store.old) (S.seen store.new) task result }
 {
-    let bytes = match stream_file(alloc, stream, store) {
+    let bytes = match stream_file(alloc, stream.name, store) {
         Ok(bytes) => bytes,
         Err(stop) => return Err(stop),
     };
-    let heads = run_heads(alloc, O::CODE, init, threads)?;
-    follow_bytes(alloc, object, heads, &bytes, piece)
+    let heads = new_heads(alloc, O::CODE, init, stream.threads)?;
+    follow_bytes(alloc, object, heads, &bytes, stream.piece)
 }

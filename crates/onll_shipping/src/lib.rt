@@ -3,12 +3,11 @@
 
 mod bad_stream;
 mod follow;
-mod heads;
 mod laws;
 mod ship_fault;
 mod shipment;
 mod turns;
 
-pub use follow::{LONGEST_PIECE, follow_on};
+pub use follow::{LONGEST_PIECE, StreamFile, follow_on};
 pub use laws::shipped_law;
 pub use shipment::ship;

@@ -1,6 +1,6 @@
 //! Why logs are not shipped.
 
-ghost use Rattle.std.specs.Prelude.{◌≡◌, [], ◌∷◌, codes, decimal};
+ghost use Rattle.std.specs.Prelude.{◌≡◌};
 ghost use Rattle.onll_log.specs.Grammar.{content_of};
 ghost use Rattle.onll_task.specs.Stop.{StopSays};
 ghost use Rattle.onll_shipping.specs.ShipJob.{has_flaw, least_log, contents_of, ship_fault, ship_fault_line};

@@ -1,6 +1,6 @@
 //! The command `ship`: the stream of the logs of one run is written.
 
-ghost use Rattle.std.specs.Prelude.{[], ◌∷◌, ◌≡◌, ◌<◌, ◌≤◌, ◌^◌, None, List, length, IfOk, OnOk};
+ghost use Rattle.std.specs.Prelude.{[], ◌∷◌, ◌≡◌, ◌<◌, ◌≤◌, None, IfOk, OnOk};
 ghost use Rattle.std.specs.List.{AllByRecursion, flat_map};
 ghost use Rattle.onll_words.specs.Texts.{line_text};
 ghost use Rattle.onll_model.specs.Limits.{most_threads};
@@ -53,7 +53,7 @@ fn ship_ready<S: Store>(
     }
 }
 
-/// Writes the stream of these images, or gives what is said in its place.
+/// Writes the stream of these images. Where one is refused it stops with the line of that, and nothing is written.
 fn ship_images<S: Store>(
     alloc: Global,
     images: &[TestedImage<'_>],

@@ -1,12 +1,12 @@
 //! A stream as it is made of the lines of logs: their header lines, and then their entries in turns.
 
-ghost use Rattle.std.specs.Prelude.{◌≡◌, ◌+◌, ◌*◌, ◌<◌, ◌≤◌, ◌++◌, List, ℕ, Ok, length, map, take, drop, IfOk, OnOk};
+ghost use Rattle.std.specs.Prelude.{◌≡◌, ◌+◌, ◌*◌, ◌<◌, ◌++◌, List, ℕ, Ok, length, map, take, drop, IfOk, OnOk};
 ghost use Rattle.std.specs.List.{AllByRecursion, flat_map};
 ghost use Rattle.onll_pmem.specs.Device.{line_at};
 ghost use Rattle.onll_pmem.specs.Pmem.{words_of};
 ghost use Rattle.onll_log.specs.Grammar.{content_of};
 ghost use Rattle.onll_log.specs.Torn.{AreLines};
-ghost use Rattle.onll_task.specs.Images.{image_bytes};
+ghost use Rattle.onll_outside.specs.Views.{image_bytes};
 ghost use Rattle.onll_shipping.specs.ShipJob.{HeadedLog, contents_of, most_entries, ready, shipped_bytes, shipped_entries};
 ghost use Rattle.onll_shipping.specs.Turns.{IsUsedUp, IsCountable, HasMore, entries_held, if_some_line, first_entry, after_entry, put_in_turns};
 

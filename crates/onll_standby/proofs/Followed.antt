@@ -19,7 +19,7 @@ use Rattle.onll_standby.specs.Held.{HeldEntry, segments_held, log_held, greatest
 use Rattle.onll_standby.specs.Stream.{AreStreamHeads, byte_at, waits, entries_course, after_heads, lines_course}
 use Rattle.onll_standby.specs.Shipped.{IsOfThreads, AreFronts, IsLogNode, IsFrontOf, lines_of_entry, lines_of_entries, head_lines, stream_lines}
 use Rattle.onll_standby.specs.Laws.{FollowsTrace}
-use Rattle.onll_standby.proofs.Counting.{short_trace}
+use Rattle.onll_model.proofs.Counting.{short_trace}
 use Rattle.onll_standby.proofs.OnTrace.{no_clash, nodes_from-front, numbered_take, take_length, all_followed}
 use Rattle.onll_standby.proofs.Entries.{log_held-append, log_held-own, all_held, rises_after, head_at, no_foreign_line, skipped, entry_held}
 

@@ -1,6 +1,5 @@
 pub mod Cut
 pub mod Advancing
-pub mod Counting
 pub mod Cutting
 pub mod Stepping
 pub mod Taking

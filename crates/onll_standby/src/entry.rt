@@ -1,6 +1,6 @@
 //! A whole entry of a stream.
 
-ghost use Rattle.std.specs.Prelude.{◌≡◌, ℕ, suc, ◌+◌, ◌-◌, ◌*◌, ◌<◌, ◌≤◌, ◌^◌, ◌==◌, ◌&&◌, nat_le, List, [], ◌∷◌, length, get_or, true};
+ghost use Rattle.std.specs.Prelude.{◌≡◌, ℕ, ◌+◌, ◌-◌, ◌*◌, ◌<◌, ◌≤◌, ◌^◌, ◌==◌, ◌&&◌, nat_le, List, ◌∷◌, length};
 ghost use Rattle.std.specs.List.{slice_get};
 ghost use Rattle.onll_model.specs.Limits.{most_threads, most_updates};
 ghost use Rattle.onll_log.specs.declared.head.LogHead.{LogHead};
@@ -8,8 +8,7 @@ ghost use Rattle.onll_pmem.specs.Pmem.{words_of};
 ghost use Rattle.onll_log.specs.Head.{word, head_line};
 ghost use Rattle.onll_log.specs.Grammar.{same_words};
 ghost use Rattle.onll_standby.specs.Held.{HeldEntry, greatest_place};
-ghost use Rattle.onll_standby.specs.declared.holdings.LogTail.{LogTail};
-ghost use Rattle.onll_standby.specs.Stream.{AreStreamHeads, is_header, opens, head_named, byte_at, entries_course};
+ghost use Rattle.onll_standby.specs.Stream.{AreStreamHeads, is_header, byte_at, entries_course};
 ghost use Rattle.onll_standby.specs.Holdings.{KeepsEntries};
 ghost use Rattle.onll_standby.specs.Entry.{EntryBegins, TookEntry};
 

@@ -35,7 +35,7 @@ impl<O: Object> Follower<O> {
     ghost use Rattle.onll_standby.specs.Holdings.{KeepsEntries};
     ghost use Rattle.onll_standby.specs.Places.{held_at};
     ghost use Rattle.onll_standby.specs.Entry.{TookEntry};
-    ghost use Rattle.onll_standby.specs.Follower.{IsFollower, FollowsLines, StopsAtLine, LineTaken, LineUncounted, IsWholeEntry};
+    ghost use Rattle.onll_standby.specs.Follower.{IsFollower, FollowsLines, LineTaken, LineUncounted, IsWholeEntry};
 
     /// Before the first line.
     pub fn new(object: O, heads: Vec<LogHead>, places: Places) -> Follower<O>

@@ -1,6 +1,6 @@
 //! What is held of the entries of a stream: their nodes by place, how far the object follows them, and the end of each log.
 
-ghost use Rattle.std.specs.Prelude.{◌≡◌, ℕ, ◌+◌, ◌-◌, ◌<◌, ◌≤◌, ◌^◌, ◌++◌, ◌∷◌, List, [], length, get_or, Some, None, MatchResult};
+ghost use Rattle.std.specs.Prelude.{◌≡◌, ℕ, ◌+◌, ◌-◌, ◌<◌, ◌≤◌, ◌^◌, List, [], length, get_or, Some, None};
 ghost use Rattle.std.specs.List.{All};
 ghost use Rattle.onll_model.specs.Limits.{most_threads};
 
@@ -28,7 +28,7 @@ pub struct Holdings<O: Object> {
 
 impl<O: Object> Holdings<O> {
     ghost use Rattle.onll_standby.specs.declared.holdings.LogTail.{LogTail};
-    ghost use Rattle.onll_standby.specs.Held.{HeldEntry, greatest_place, entry_fault, node_fault};
+    ghost use Rattle.onll_standby.specs.Held.{HeldEntry, greatest_place, entry_fault};
     ghost use Rattle.onll_standby.specs.Holdings.{AreLogTails, AreHeldNodes, KeepsEntries, HasAdmitted};
     ghost use Rattle.onll_standby.specs.Places.{held_at, IsOfRun, most_places};
 

@@ -1,8 +1,7 @@
 //! An entry of which some lines have come.
 
-ghost use Rattle.std.specs.Prelude.{◌≡◌, ℕ, suc, ◌+◌, ◌-◌, ◌<◌, ◌≤◌, List, [], ◌∷◌, ◌++◌, length, map, take, drop, true};
+ghost use Rattle.std.specs.Prelude.{◌≡◌, ℕ, ◌+◌, ◌-◌, ◌<◌, ◌≤◌, List, [], ◌∷◌, ◌++◌, length, map, take, true};
 ghost use Rattle.onll_pmem.specs.Pmem.{words_of};
-ghost use Rattle.onll_log.specs.Head.{word};
 ghost use Rattle.onll_log.specs.Grammar.{all_named, node_of_line};
 ghost use Rattle.std.specs.List.{All};
 ghost use Rattle.onll_standby.specs.Places.{most_lines, IsOfRun};

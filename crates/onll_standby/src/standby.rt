@@ -1,6 +1,6 @@
 //! A standby, which follows a stream by its bytes.
 
-ghost use Rattle.std.specs.Prelude.{◌≡◌, ℕ, ◌+◌, ◌-◌, ◌*◌, ◌<◌, ◌≤◌, ◌^◌, ◌++◌, List, [], length, take, drop, None, Err, OnOk, IfOk};
+ghost use Rattle.std.specs.Prelude.{◌≡◌, ℕ, ◌+◌, ◌-◌, ◌<◌, ◌≤◌, ◌^◌, ◌++◌, List, [], length, take, drop, None, Err, OnOk, IfOk};
 ghost use Rattle.onll_log.specs.declared.head.LogHead.{LogHead};
 ghost use Rattle.onll_model.specs.Trace.{state_after};
 ghost use Rattle.onll_standby.specs.declared.fault.FeedFault.{FeedFault};

@@ -1,6 +1,5 @@
 -- A stock is as many items as are left.
-use Rattle.std.proofs.Common.{ℕ, List, [], ◌∷◌, ◌≡◌, ◌+◌, ◌-◌, ◌^◌, ◌++◌, ◌==◌, Option, Some, if◌then◌else◌, nat_lt}
-use Rattle.std.proofs.Common.{get_or, codes, decimal, refl}
+use Rattle.std.proofs.Common.{ℕ, List, [], ◌∷◌, ◌≡◌, ◌+◌, ◌-◌, ◌^◌, ◌++◌, ◌==◌, Option, Some, if◌then◌else◌, nat_lt, get_or, codes, decimal, refl}
 use Rattle.onll_log.specs.declared.head.LogHead.{LogHead}
 use Rattle.onll_open.specs.Heads.{heads_of}
 use Rattle.onll_rows.specs.Sketch.{Coding, Sketch, row_words}

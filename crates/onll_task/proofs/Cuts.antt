@@ -15,12 +15,13 @@ use Rattle.onll_text.specs.Init.{init_of, init_of_lines}
 use Rattle.onll_text.specs.Schedule.{schedule_of}
 use Rattle.onll_text.proofs.Whole.{init_of-take, script_of-take, schedule_of-take}
 use Rattle.onll_words.specs.Texts.{meaningful_lines}
+use Rattle.onll_areas.proofs.LinesBack.{whole_back}
 use Rattle.onll_text.specs.declared.any_object.AnyObject.{AnyObject}
 use Rattle.onll_text.specs.declared.reason.Reason.TheVariants.{TooLong}
 use Rattle.onll_text.specs.Refusal.{Refusal, refused}
 use Rattle.onll_task.specs.FileLines.{FitFile}
 use Rattle.onll_task.specs.Reading.{IsCutText, ReadsWhole, HoldsImage}
-use Rattle.onll_task.proofs.FileLines.{whole_back, image_lines-image_bytes}
+use Rattle.onll_task.proofs.FileLines.{image_lines-image_bytes}
 
 -- what a store that tells its files gives
 told : (s : StoreView) (name text : List ℕ) (found : Option (List ℕ)) → s.file name ≡ found → IsFrontOfFile (longest_text + 1) found text → IsCutText s name text

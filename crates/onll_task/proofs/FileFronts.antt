@@ -5,10 +5,10 @@ use Rattle.std.proofs.lemmas.Grind.{flat_map-append}
 use Rattle.std.proofs.lemmas.List.{take-append-drop}
 use Rattle.onll_words.specs.Lines.{bytes_of_words}
 use Rattle.onll_pmem.specs.Device.{zero_lines}
-use Rattle.onll_outside.specs.Views.{StoreView, SameFiles, BeginsWith, with_zeros}
+use Rattle.onll_outside.specs.Views.{StoreView, SameFiles, BeginsWith, with_zeros, image_bytes}
 use Rattle.onll_outside.specs.LineFiles.{FrontHasLines, GivesLines}
 use Rattle.onll_open.specs.Names.{log_name}
-use Rattle.onll_task.specs.Images.{image_bytes, AllBeginWith}
+use Rattle.onll_task.specs.Images.{AllBeginWith}
 use Rattle.onll_open.specs.Files.{SameBut}
 
 -- ---- bytes

@@ -1,18 +1,14 @@
 -- Lines are read back from the bytes of their file, as are those that a crash may leave of a log's device.
 
-use Rattle.std.proofs.Common.{ℕ, zero, suc, ◌≡◌, ◌+◌, ◌-◌, ◌*◌, ◌/◌, ◌^◌, ◌<◌, ◌≤◌, ◌⊎◌, inl, inr, List, [], ◌∷◌, ◌++◌, length, length-append, map, take, drop, slice_index, Option, Some, None, refl, sym, ap, ◌∙◌, subst, append_assoc, append-nil, arith}
+use Rattle.std.proofs.Common.{ℕ, zero, suc, ◌≡◌, ◌+◌, ◌-◌, ◌*◌, ◌≤◌, List, [], ◌∷◌, ◌++◌, length, length-append, take, drop, Option, Some, None, refl, sym, ap, ◌∙◌, subst, append_assoc, append-nil, arith}
 use Rattle.std.specs.List.{AllByRecursion}
-use Rattle.std.specs.Int.{w64, to_le_bytes}
-use Rattle.std.specs.Simd.{first_chunks}
-use Rattle.std.proofs.lemmas.List.{take_all, take_at, drop_at, length-replicate}
-use Rattle.onll_words.specs.Lines.{bytes_of_words, words_of_bytes}
-use Rattle.onll_words.proofs.LineBytes.{words_of_bytes-bytes_of_words}
+use Rattle.std.proofs.lemmas.List.{take_all, length-replicate}
 use Rattle.onll_model.specs.Segment.{Segment}
 use Rattle.onll_model.proofs.Lists.{all_left, all_append}
-use Rattle.onll_pmem.specs.Device.{zero_lines, MixedWords, Mixed}
+use Rattle.onll_pmem.specs.Device.{zero_lines, Mixed}
 use Rattle.onll_outside.specs.Views.{image_bytes}
 use Rattle.onll_outside.specs.LineFiles.{IsWholeLine}
-use Rattle.onll_outside.proofs.WholeLines.{zeros_whole}
+use Rattle.onll_outside.proofs.WholeLines.{zeros_whole, length-image_bytes, mixed_line}
 use Rattle.onll_log.specs.declared.head.LogHead.{LogHead}
 use Rattle.onll_log.specs.Encoding.{entry_lines, entries_lines, log_lines}
 use Rattle.onll_log.specs.Head.{head_line}
@@ -22,59 +18,9 @@ use Rattle.onll_log.specs.Log.{free_of, but_last}
 use Rattle.onll_log.specs.Torn.{AreLines}
 use Rattle.onll_log.proofs.Encoded.{length-log_lines}
 use Rattle.onll_log.proofs.Written.{IsWritten-Holds}
+use Rattle.onll_areas.proofs.LinesBack.{whole_back}
 use Rattle.onll_run.specs.Left.{LogLeft, content_in, fenced_in}
 use Rattle.onll_task.specs.FileLines.{FitFile}
-
--- ---- one line
-abbrev Words : List ℕ → Type 0
-Words words = AllByRecursion (λ w. w < 2 ^ 64) words
-
-words_below : (words : List ℕ) → Words words → (i : ℕ) → slice_index words i < 2 ^ 64
-words_below [] h i = omega arith
-words_below (w ∷ ws) h zero = h.0
-words_below (w ∷ ws) h (suc i) = words_below ws h.1 i
-
-line_back : (line : List ℕ) → IsWholeLine line → words_of_bytes (bytes_of_words line) ≡ line
-line_back line h = words_of_bytes-bytes_of_words line h.eight (words_below line h.words)
-
-length-bytes_of_words : (words : List ℕ) → length (bytes_of_words words) ≡ 8 * length words
-length-bytes_of_words [] = refl
-length-bytes_of_words (w ∷ ws) =
-    let here : length (to_le_bytes w64 w) ≡ 8 = refl in
-    let rest = length-bytes_of_words ws in
-    let all = length-append (to_le_bytes w64 w) (bytes_of_words ws) in
-    omega (arith, here, rest, all)
-
-line_bytes_many : (line : List ℕ) → IsWholeLine line → length (bytes_of_words line) ≡ 64
-line_bytes_many line h = let many = length-bytes_of_words line in let eight = h.eight in omega (arith, many, eight)
-
--- ---- the lines of a file
-chunks_back : (lines : List (List ℕ)) (rest : List ℕ) → AllByRecursion IsWholeLine lines → map words_of_bytes (first_chunks 64 (length lines) (image_bytes lines ++ rest)) ≡ lines
-chunks_back [] rest h = refl
-chunks_back (line ∷ lines) rest h =
-    let long = line_bytes_many line h.0 in
-    let after = image_bytes lines ++ rest in
-    ap (λ bs. map words_of_bytes (first_chunks 64 (suc (length lines)) bs)) (append_assoc (bytes_of_words line) (image_bytes lines) rest)
-    ∙ ap (λ bs. words_of_bytes bs ∷ map words_of_bytes (first_chunks 64 (length lines) (drop 64 (bytes_of_words line ++ after)))) (take_at (bytes_of_words line) after 64 long)
-    ∙ ap (λ bs. words_of_bytes (bytes_of_words line) ∷ map words_of_bytes (first_chunks 64 (length lines) bs)) (drop_at (bytes_of_words line) after 64 long)
-    ∙ ap (λ (l : List ℕ). l ∷ map words_of_bytes (first_chunks 64 (length lines) after)) (line_back line h.0)
-    ∙ ap (λ (ls : List (List ℕ)). line ∷ ls) (chunks_back lines rest h.1)
-
-length-image_bytes : (lines : List (List ℕ)) → AllByRecursion IsWholeLine lines → length (image_bytes lines) ≡ 64 * length lines
-length-image_bytes [] h = refl
-length-image_bytes (line ∷ lines) h =
-    let here = line_bytes_many line h.0 in
-    let rest = length-image_bytes lines h.1 in
-    let all = length-append (bytes_of_words line) (image_bytes lines) in
-    omega (arith, here, rest, all)
-
--- the whole lines of bytes that begin with those of lines are those lines, where less than a line follows
-pub whole_back : (lines : List (List ℕ)) (rest : List ℕ) → AllByRecursion IsWholeLine lines → length rest < 64 → whole_lines (image_bytes lines ++ rest) ≡ lines
-whole_back lines rest each short =
-    let long = length-image_bytes lines each in
-    let all = length-append (image_bytes lines) rest in
-    let count : length (image_bytes lines ++ rest) / 64 ≡ length lines = omega (arith, long, all, short) in
-    ap (λ n. map words_of_bytes (first_chunks 64 n (image_bytes lines ++ rest))) count ∙ chunks_back lines rest each
 
 -- the lines of the bytes of lines are those lines
 pub image_lines-image_bytes : (lines : List (List ℕ)) → FitFile lines → image_lines (image_bytes lines) ≡ lines
@@ -82,24 +28,6 @@ image_lines-image_bytes lines h =
     let long = length-image_bytes lines h.each in
     let few = h.few in
     ap whole_lines (take_all longest_image (image_bytes lines) (omega (arith, long, few)) ∙ sym (append-nil (image_bytes lines))) ∙ whole_back lines [] h.each (omega arith)
-
--- ---- mixes
-mixed_word : (x y z : ℕ) → (z ≡ x) ⊎ (z ≡ y) → x < 2 ^ 64 → y < 2 ^ 64 → z < 2 ^ 64
-mixed_word x y z (inl e) h g = omega (arith, e, h)
-mixed_word x y z (inr e) h g = omega (arith, e, g)
-
-mixed_words : (xs ys zs : List ℕ) → MixedWords xs ys zs → Words xs → Words ys → Words zs × (length zs ≡ length xs)
-mixed_words [] [] [] m h g = (tt, refl)
-mixed_words [] [] (z ∷ zs) m h g = absurd m
-mixed_words [] (y ∷ ys) zs m h g = absurd m
-mixed_words (x ∷ xs) [] zs m h g = absurd m
-mixed_words (x ∷ xs) (y ∷ ys) [] m h g = absurd m
-mixed_words (x ∷ xs) (y ∷ ys) (z ∷ zs) m h g =
-    let rest = mixed_words xs ys zs m.1 h.1 g.1 in
-    ((mixed_word x y z m.0 h.0 g.0, rest.0), ap suc rest.1)
-
-mixed_line : (x y z : List ℕ) → MixedWords x y z → IsWholeLine x → IsWholeLine y → IsWholeLine z
-mixed_line x y z m h g = let words = mixed_words x y z m h.words g.words in record { eight = words.1 ∙ h.eight; words = words.0 }
 
 mixed_lines : (xs ys zs : List (List ℕ)) → Mixed xs ys zs → AllByRecursion IsWholeLine xs → AllByRecursion IsWholeLine ys
     → AllByRecursion IsWholeLine zs × (length zs ≡ length xs)

@@ -4,14 +4,14 @@ use Rattle.std.proofs.Common.{ℕ, zero, suc, true, false, List, [], ◌∷◌, 
 use Rattle.std.proofs.lemmas.List.{drop_more}
 use Rattle.std.specs.List.{AllByRecursion}
 use Rattle.onll_log.specs.ImageFile.{image_lines}
-use Rattle.onll_outside.specs.Views.{StoreView, SameFiles, SameOthers, SameFaults, Rose, FileHolds, MayWipe, counted}
+use Rattle.onll_outside.specs.Views.{StoreView, SameFiles, SameOthers, SameFaults, Rose, FileHolds, MayWipe, counted, image_bytes}
 use Rattle.onll_areas.specs.Keeping.{OthersStay, StaysOrZeros, MayKeepLines, HasKeptLines, DeviceNotMade, DeviceNotKept, FenceNotMade}
 use Rattle.onll_text.specs.Refusal.{Refusal}
 use Rattle.onll_task.specs.declared.ending.Ending.{Ending}
 use Rattle.onll_task.specs.declared.ending.Ending.TheVariants.{Done, Usage, Refused, BadLog, ReadFault, WriteFault, Faulty, Judged}
 use Rattle.onll_task.specs.Reading.{Reads, ReadsWhole, HoldsImage, Stops}
 use Rattle.onll_open.specs.Names.{log_name, log_names}
-use Rattle.onll_task.specs.Images.{image_bytes, writing_images}
+use Rattle.onll_task.specs.Images.{writing_images}
 use Rattle.onll_text.specs.Kinds.{ObjectKind}
 use Rattle.onll_log.specs.declared.head.LogHead.{LogHead}
 use Rattle.onll_log.specs.Grammar.{Content}
@@ -19,7 +19,7 @@ use Rattle.onll_model.specs.declared.call.Call.{Call}
 use Rattle.onll_model.specs.declared.call.CallEnd.{CallEnd}
 use Rattle.onll_model.specs.Calls.{updates_in}
 use Rattle.onll_run.specs.Left.{LogLeft, begun_logs}
-use Rattle.onll_task.specs.Running.{RunPlan, RunLeft, HasKept, LeavesKept, HasSize, HaveSizes, IsNoLonger, FileStands, StandsByHead, AllStand, FilesStand, HoldTo, KeptTo, PlanNotMade, NotKept, IsCutShort, RunStops, broken_threads, fences_of, log_files}
+use Rattle.onll_task.specs.Running.{RunPlan, RunLeft, HasKept, LeavesKept, HasSize, HaveSizes, IsNoLonger, FileStands, StandsByHead, AllStand, AllBegun, FilesBegun, FilesStand, StandsBegun, HoldOrStand, HoldTo, KeptTo, PlanNotMade, NotKept, IsCutShort, RunStops, broken_threads, fences_of, log_files}
 use Rattle.onll_open.specs.Devices.{NoneCounted}
 use Rattle.onll_task.specs.Writing.{FilesStay, AllButStay, HasWritten, CannotWrite, WriteFailed, written}
 use Rattle.onll_open.specs.Files.{SameCounts, SameBut}
@@ -122,10 +122,63 @@ all_stand_by follows (name ∷ names) (log ∷ logs) h = (follows name log h.0, 
 pub stand_from : {k : ObjectKind} (plan : RunPlan k) (store mid after : StoreView) → FilesStay store mid → FilesStand plan mid after → FilesStand plan store after
 stand_from plan store mid after files h = all_stand_by (file_stands_from store mid after files) (log_files plan) plan.run.base.logs h
 
+-- ---- files over which headers may have been written
+begun_stand : (store after : StoreView) (names : List (List ℕ)) (logs : List Content) (written : List LogHead) → AllStand (FileStands store after) names logs → AllBegun store after names logs written
+begun_stand store after names logs [] h = h
+begun_stand store after [] [] (head ∷ heads) h = tt
+begun_stand store after [] (log ∷ logs) (head ∷ heads) h = absurd h
+begun_stand store after (name ∷ names) [] (head ∷ heads) h = absurd h
+begun_stand store after (name ∷ names) (log ∷ logs) (head ∷ heads) h = (inl h.0, begun_stand store after names logs heads h.1)
+
+-- they stand so too where none was
+pub stand_begun : {k : ObjectKind} (plan : RunPlan k) (written : List LogHead) (store after : StoreView) → FilesStand plan store after → FilesBegun plan written store after
+stand_begun plan written store after h = begun_stand store after (log_files plan) plan.run.base.logs written h
+
+file_begun_from : (store mid after : StoreView) → FilesStay store mid → (name : List ℕ) (log : Content) (head : LogHead) → StandsBegun mid after name log head → StandsBegun store after name log head
+file_begun_from store mid after files name log head h =
+    ⊎_elim (λ s. inl (file_stands_from store mid after files name log s)) (λ w. inr (w.0, λ on. w.1 (files.tells ∙ on))) h
+
+all_begun_from : (store mid after : StoreView) → FilesStay store mid → (names : List (List ℕ)) (logs : List Content) (written : List LogHead) → AllBegun mid after names logs written → AllBegun store after names logs written
+all_begun_from store mid after files names logs [] h = all_stand_by (file_stands_from store mid after files) names logs h
+all_begun_from store mid after files [] [] (head ∷ heads) h = tt
+all_begun_from store mid after files [] (log ∷ logs) (head ∷ heads) h = absurd h
+all_begun_from store mid after files (name ∷ names) [] (head ∷ heads) h = absurd h
+all_begun_from store mid after files (name ∷ names) (log ∷ logs) (head ∷ heads) h =
+    (file_begun_from store mid after files name log head h.0, all_begun_from store mid after files names logs heads h.1)
+
+begun_from : {k : ObjectKind} (plan : RunPlan k) (written : List LogHead) (store mid after : StoreView) → FilesStay store mid → FilesBegun plan written mid after → FilesBegun plan written store after
+begun_from plan written store mid after files h = all_begun_from store mid after files (log_files plan) plan.run.base.logs written h
+
+-- where more may have been written
+all_begun_more : (store after : StoreView) (names : List (List ℕ)) (logs : List Content) (written : List LogHead) (n : ℕ) → AllBegun store after names logs (take n written) → AllBegun store after names logs written
+all_begun_more store after names logs [] n h = begun_stand store after names logs [] (none n h)
+  where
+    none : (n : ℕ) → AllBegun store after names logs (take n []) → AllStand (FileStands store after) names logs
+    none zero i = i
+    none (suc n) i = i
+all_begun_more store after names logs (head ∷ heads) zero h = begun_stand store after names logs (head ∷ heads) h
+all_begun_more store after [] [] (head ∷ heads) (suc n) h = tt
+all_begun_more store after [] (log ∷ logs) (head ∷ heads) (suc n) h = absurd h
+all_begun_more store after (name ∷ names) [] (head ∷ heads) (suc n) h = absurd h
+all_begun_more store after (name ∷ names) (log ∷ logs) (head ∷ heads) (suc n) h = (h.0, all_begun_more store after names logs heads n h.1)
+
+-- ---- files over which devices were kept up to a thread's
+hold_or_stand_by : {S T : List ℕ → Content → Type 0} {State Op Query Reply : Type 0} (after : StoreView) → ((name : List ℕ) (log : Content) → S name log → T name log) → (names : List (List ℕ)) (befores : List Content) (logs : List LogLeft)
+    (ends : List (List (CallEnd State Op Query Reply))) → HoldOrStand S after names befores logs ends → HoldOrStand T after names befores logs ends
+hold_or_stand_by after follows [] [] [] [] h = tt
+hold_or_stand_by after follows (name ∷ names) (before ∷ befores) (log ∷ logs) (es ∷ ends) h =
+    (⊎_elim (λ s. inl (follows name before s)) (λ held. inr held) h.0, hold_or_stand_by after follows names befores logs ends h.1)
+hold_or_stand_by after follows [] [] [] (es ∷ ends) h = absurd h
+hold_or_stand_by after follows [] [] (log ∷ logs) ends h = absurd h
+hold_or_stand_by after follows [] (before ∷ befores) logs ends h = absurd h
+hold_or_stand_by after follows (name ∷ names) [] logs ends h = absurd h
+hold_or_stand_by after follows (name ∷ names) (before ∷ befores) [] ends h = absurd h
+hold_or_stand_by after follows (name ∷ names) (before ∷ befores) (log ∷ logs) [] h = absurd h
+
 hold_to_by : {S T : List ℕ → Content → Type 0} {State Op Query Reply : Type 0} (after : StoreView) → ((name : List ℕ) (log : Content) → S name log → T name log) → (names : List (List ℕ)) (befores : List Content) (logs : List LogLeft)
     (ends : List (List (CallEnd State Op Query Reply))) (t : ℕ) → HoldTo S after names befores logs ends t → HoldTo T after names befores logs ends t
 hold_to_by after follows (name ∷ names) (before ∷ befores) (log ∷ logs) (es ∷ ends) zero h =
-    (⊎_elim (λ s. inl (follows name before s)) (λ held. inr held) h.0, all_stand_by follows names befores h.1)
+    hold_or_stand_by after follows (name ∷ names) (before ∷ befores) (log ∷ logs) (es ∷ ends) h
 hold_to_by after follows (name ∷ names) (before ∷ befores) (log ∷ logs) (es ∷ ends) (suc t) h = (h.0, hold_to_by after follows names befores logs ends t h.1)
 hold_to_by after follows [] befores logs ends t h = absurd h
 hold_to_by after follows (name ∷ names) [] logs ends t h = absurd h
@@ -174,7 +227,7 @@ run_stops_from plan store mid after Faulty text files counts h = record {
   calls = faults_more store mid after counts.0 h.calls;
   faults = h.faults ∙ ap (λ n. counted n 1) counts.1.0;
   fences = h.fences ∙ ap (λ n. counted n (begun_logs (take (h.thread + 1) plan.run.base.logs))) counts.1.1;
-  files = stand_from plan store mid after files h.files;
+  files = begun_from plan (take (h.thread + 1) plan.run.heads) store mid after files h.files;
   others = but_more (log_files plan) store mid after files h.others;
 }
 run_stops_from plan store mid after Judged text files counts h = absurd h
@@ -267,7 +320,7 @@ stay_cut store after (Threads kind plan next) h = inl (inl h)
 short_from : {k : ObjectKind} (plan : RunPlan k) (store mid after : StoreView) → FilesStay store mid → SameCounts store mid → IsCutShort plan mid after → IsCutShort plan store after
 short_from plan store mid after files counts (inl h) = inl (stay_more store mid after files h)
 short_from plan store mid after files counts (inr (inl h)) =
-    inr (inl (record { files = stand_from plan store mid after files h.files; others = but_more (log_files plan) store mid after files h.others }))
+    inr (inl (record { files = begun_from plan plan.run.heads store mid after files h.files; others = but_more (log_files plan) store mid after files h.others }))
 short_from plan store mid after files counts (inr (inr h)) = inr (inr (record {
   left = h.left;
   run = h.run;
@@ -305,7 +358,7 @@ cannot_write_failed store after name Judged text h = absurd h
 
 device_fault_cut : {k : ObjectKind} (plan : RunPlan k) (store after : StoreView) (thread : ℕ) → AllButStay (log_files plan) store after → PlanNotMade plan store after thread ⊎ NotKept plan store after thread
     → IsCutShort plan store after
-device_fault_cut plan store after thread others (inl h) = inr (inl (record { files = h.files; others = others }))
+device_fault_cut plan store after thread others (inl h) = inr (inl (record { files = stand_begun plan plan.run.heads store after h.files; others = others }))
 device_fault_cut plan store after thread others (inr h) = inr (inr (record { left = h.left; run = h.run; thread = thread; kept = h.kept; others = others }))
 
 run_stops_cut : {k : ObjectKind} (plan : RunPlan k) (store after : StoreView) (ending : Ending) (text : List ℕ) → RunStops plan store after ending text → IsCutShort plan store after
@@ -315,7 +368,8 @@ run_stops_cut plan store after Refused text h = absurd h
 run_stops_cut plan store after BadLog text h = absurd h
 run_stops_cut plan store after ReadFault text h = absurd h
 run_stops_cut plan store after WriteFault text h = device_fault_cut plan store after h.thread h.others h.cause
-run_stops_cut plan store after Faulty text h = inr (inl (record { files = h.files; others = h.others }))
+run_stops_cut plan store after Faulty text h =
+    inr (inl (record { files = all_begun_more store after (log_files plan) plan.run.base.logs plan.run.heads (h.thread + 1) h.files; others = h.others }))
 run_stops_cut plan store after Judged text h = absurd h
 
 -- the named file is as it was or of zeros, or what is kept may hold the lines

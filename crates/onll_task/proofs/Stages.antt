@@ -1,10 +1,10 @@
 -- How the functions of a command do a task, one stage after the other.
 
-use Rattle.std.proofs.Common.{Vec, ℕ, suc, ◌+◌, ◌<◌, ◌≤◌, List, [], ◌∷◌, ◌++◌, ◌≡◌, length, drop, get_or, Result, Ok, Err, inl, refl, sym, ap, ◌∙◌, subst, append_assoc, append-nil}
+use Rattle.std.proofs.Common.{Vec, ℕ, suc, ◌+◌, ◌<◌, ◌≤◌, List, [], ◌∷◌, ◌++◌, ◌≡◌, length, map, drop, get_or, Result, Ok, Err, inl, refl, sym, ap, ◌∙◌, subst, append_assoc, append-nil}
 use Rattle.std.specs.Result.{IsErrAnd}
 use Rattle.std.proofs.lemmas.List.{drop_more, drop_all}
 use Rattle.std.proofs.lemmas.Result.{err_from_is_err_and}
-use Rattle.onll_outside.specs.Views.{StoreView, SameFiles, SameOthers}
+use Rattle.onll_outside.specs.Views.{StoreView, SameFiles, SameOthers, image_bytes}
 use Rattle.onll_text.specs.Refusal.{Refusal}
 use Rattle.onll_task.specs.declared.ending.Ending.{Ending}
 use Rattle.onll_task.specs.declared.ending.Ending.TheVariants.{Done, Usage, Refused, BadLog, ReadFault, WriteFault, Faulty, Judged}
@@ -14,7 +14,7 @@ use Rattle.onll_task.specs.Doing.{Task, Stage, after_stage, report_task, say_tas
 use Rattle.onll_task.specs.Job.{Job, Say, Read, Write, JobEnds, JobGoesOn, reading, reading_whole}
 use Rattle.onll_task.specs.Reading.{Reads, ReadsWhole, HoldsImage, CannotRead, Stops}
 use Rattle.onll_open.specs.Names.{log_name, log_names}
-use Rattle.onll_task.specs.Images.{image_bytes, writing_images, writing_stage}
+use Rattle.onll_task.specs.Images.{writing_images, writing_stage}
 use Rattle.onll_task.specs.Stop.{StopSays}
 use Rattle.onll_task.specs.Writing.{FilesStay, CannotWrite, WriteStops}
 use Rattle.onll_open.specs.Files.{SameBut, SameCounts}
@@ -257,6 +257,10 @@ cut_begins {V} {r} store mid logs images i so h =
     subst (DoesStage names store mid stage (λ (v : V). tt)) (sym p.1) (record { goes = tt; gives = tt; stops = stops; files = so.others })
 
 -- ---- one stage after the other
+-- a name of a list before those after it
+pub name_next : {X : Type 0} (f : X → List ℕ) (names : List X) (i : ℕ) (name : X) → i < length names → name ≡ get_or names i name → map f (drop i names) ≡ f name ∷ map f (drop (i + 1) names)
+name_next f names i name h same = ap (map f) (drop_more names i name h) ∙ ap (λ x. f x ∷ map f (drop (i + 1) names)) (sym same)
+
 -- Stages were done and gave these values: what does all of them goes on to those that are left, and has the values before theirs.
 pub record ReadSo {A X : Type 0} (stage : A → Stage X) (all left : List A) (store mid : StoreView) (values : List X) : Type 0 where
   pub on : (next : List X → Job) → (rest_next : List X → Job) × ((rest : List X) → rest_next rest ≡ next (values ++ rest)) × JobGoesOn store mid (each_job stage all next) (each_job stage left rest_next)

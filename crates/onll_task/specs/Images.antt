@@ -1,15 +1,13 @@
 -- The images of the logs of one run: one file for each thread.
 
-use Rattle.std.specs.List.{flat_map}
 use Rattle.std.specs.Prelude.{ℕ, suc, ◌≡◌, ◌≤◌, List, [], ◌∷◌, length, map, IsSome}
 use Rattle.std.specs.declared.vec.Vec.{Vec}
 use Rattle.std.specs.declared.alloc.Global.{Global}
 use Rattle.onll_words.specs.declared.line.Line.{Line}
-use Rattle.onll_words.specs.Lines.{bytes_of_words}
 use Rattle.onll_pmem.specs.Pmem.{words_of}
 use Rattle.onll_log.specs.Grammar.{content_of, format_in}
 use Rattle.onll_log.specs.Tested.{used_in}
-use Rattle.onll_outside.specs.Views.{StoreView, BeginsWith}
+use Rattle.onll_outside.specs.Views.{StoreView, BeginsWith, image_bytes}
 use Rattle.onll_open.specs.Names.{log_name, log_names}
 use Rattle.onll_task.specs.Job.{Job, Write}
 use Rattle.onll_task.specs.Doing.{Stage, lines_stage, each_stage}
@@ -17,10 +15,6 @@ use Rattle.onll_task.specs.Doing.{Stage, lines_stage, each_stage}
 -- the lines of images, as words
 abbrev pub images_in : List (Vec Line Global) → List (List (List ℕ))
 images_in images = map (λ image. words_of image.items) images
-
--- the bytes of an image's file
-abbrev pub image_bytes : List (List ℕ) → List ℕ
-image_bytes lines = flat_map bytes_of_words lines
 
 -- ---- what stays of an image
 -- these lines hold as a log what the image holds, are read by its format, and are no more than decide it

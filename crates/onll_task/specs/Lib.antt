@@ -1,12 +1,17 @@
 pub mod Doing
+pub mod Faults
 pub mod FileLines
 pub mod Images
 pub mod Job
 pub mod Keeps
+pub mod NotResumed
 pub mod Printed
 pub mod Reading
+pub mod RecoverySaid
+pub mod RunLogs
 pub mod RunSaid
 pub mod Running
+pub mod Scripts
 pub mod Standing
 pub mod Stop
 pub mod Writing

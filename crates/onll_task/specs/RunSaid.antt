@@ -1,6 +1,6 @@
 -- What is said of a run: what became of each call, the trace, the logs, and the state after the trace.
 
-use Rattle.std.specs.Prelude.{ℕ, ◌≡◌, ◌<◌, ◌≤◌, ◌^◌, Bool, true, false, List, Option, Some, None, length, map}
+use Rattle.std.specs.Prelude.{ℕ, ◌≡◌, ◌<◌, ◌≤◌, ◌^◌, Bool, true, false, List, Option, Some, None, length, map, [], ◌∷◌, codes, decimal}
 use Rattle.std.specs.List.{All}
 use Rattle.std.specs.Option.{IfSome}
 use Rattle.onll_model.specs.declared.node.Node.{Node}
@@ -57,3 +57,8 @@ run_data b resumed state left = record {
 abbrev pub resumed_by : Bool → ℕ → Option ℕ
 resumed_by false nodes = None
 resumed_by true nodes = Some nodes
+
+-- the line of how many nodes are gone on from; none where a run begins anew
+abbrev pub resumed_lines : Option ℕ → List (List (List ℕ))
+resumed_lines None = []
+resumed_lines (Some nodes) = (codes "resumed" ∷ decimal nodes ∷ []) ∷ []

@@ -21,6 +21,7 @@ use Rattle.onll_task.specs.declared.ending.Ending.{Ending}
 use Rattle.onll_task.specs.declared.ending.Ending.TheVariants.{WriteFault, Faulty}
 use Rattle.onll_open.specs.Devices.{NoneCounted}
 use Rattle.onll_task.specs.FileLines.{FitFile}
+use Rattle.onll_open.specs.Files.{HoldsHeader}
 use Rattle.onll_open.specs.Names.{log_name, log_names}
 use Rattle.onll_text.specs.Lines.{fence_line}
 use Rattle.onll_task.specs.Printed.{write_fault_text}
@@ -143,12 +144,40 @@ AllStand Stands names logs = ⊥
 abbrev pub FilesStand : {k : ObjectKind} → RunPlan k → StoreView → StoreView → Type 0
 FilesStand plan store after = AllStand (FileStands store after) (log_files plan) plan.run.base.logs
 
+-- ---- files over which headers were written
+-- So stands a file over which no device was kept, where the header of its log may have been written: it stands as where none was, or, its
+-- log having had no head, holds what a device may leave on which the header of this head was written.
+abbrev pub StandsBegun : StoreView → StoreView → List ℕ → Content → LogHead → Type 0
+StandsBegun store after name log head = FileStands store after name log
+    ⊎ ((log.head ≡ None) × (store.tells ≡ true → HoldsHeader after name head))
+
+-- so stands each of these files; behind the logs of these heads no header was written
+abbrev pub AllBegun : StoreView → StoreView → List (List ℕ) → List Content → (written : List LogHead) → Type 0
+AllBegun store after names logs [] = AllStand (FileStands store after) names logs
+AllBegun store after [] [] (head ∷ heads) = Unit {0}
+AllBegun store after (name ∷ names) (log ∷ logs) (head ∷ heads) =
+    StandsBegun store after name log head × AllBegun store after names logs heads
+AllBegun store after names logs (head ∷ heads) = ⊥
+
+-- the files of all logs stand so, where the headers of the logs of these heads may have been written
+abbrev pub FilesBegun : {k : ObjectKind} → RunPlan k → (written : List LogHead) → StoreView → StoreView → Type 0
+FilesBegun plan written store after = AllBegun store after (log_files plan) plan.run.base.logs written
+
 -- ---- files over which devices were kept up to a thread's
--- The file of each thread before this one holds its log. Its own does too or stands so, and those of the threads after it stand so.
+-- each of these files holds its log or stands so
+abbrev pub HoldOrStand : {State Op Query Reply : Type 0} → (List ℕ → Content → Type 0) → StoreView → List (List ℕ) → List Content
+    → List LogLeft → List (List (CallEnd State Op Query Reply)) → Type 0
+HoldOrStand Stands after [] [] [] [] = Unit {0}
+HoldOrStand Stands after (name ∷ names) (before ∷ befores) (log ∷ logs) (ends ∷ more) =
+    (Stands name before ⊎ FileHoldsLog after name log (failed_in ends)) × HoldOrStand Stands after names befores logs more
+HoldOrStand Stands after names befores logs ends = ⊥
+
+-- The file of each thread before this one holds its log. Its own does too or stands so, and so does each of the threads after it: their
+-- devices were given up, and one over a file of the system has written it at each fence.
 abbrev pub HoldTo : {State Op Query Reply : Type 0} → (List ℕ → Content → Type 0) → StoreView → List (List ℕ) → List Content
     → List LogLeft → List (List (CallEnd State Op Query Reply)) → (thread : ℕ) → Type 0
 HoldTo Stands after (name ∷ names) (before ∷ befores) (log ∷ logs) (ends ∷ more) zero =
-    (Stands name before ⊎ FileHoldsLog after name log (failed_in ends)) × AllStand Stands names befores
+    HoldOrStand Stands after (name ∷ names) (before ∷ befores) (log ∷ logs) (ends ∷ more)
 HoldTo Stands after (name ∷ names) (before ∷ befores) (log ∷ logs) (ends ∷ more) (suc t) =
     FileHoldsLog after name log (failed_in ends) × HoldTo Stands after names befores logs more t
 HoldTo Stands after names befores logs ends t = ⊥
@@ -167,7 +196,7 @@ IsBegun (suc t) (before ∷ logs) = IsBegun t logs
 IsBegun t [] = ⊥
 
 -- The fence of a thread's header failed, which is that of a log that is begun anew. This line alone is said, nothing is kept, and every
--- device is given up: of the logs up to that thread's, its own among them, the headers of those that were begun were fenced.
+-- device is given up: of the logs up to that thread's, its own among them, the headers of those that were begun were written and fenced.
 pub record HeaderFault {k : ObjectKind} (plan : RunPlan k) (store after : StoreView) (text : List ℕ) : Type 0 where
   pub thread : ℕ
   pub within : thread < length plan.run.scripts
@@ -176,7 +205,7 @@ pub record HeaderFault {k : ObjectKind} (plan : RunPlan k) (store after : StoreV
   pub calls : SameFaults store after
   pub faults : after.device_faults ≡ counted store.device_faults 1
   pub fences : after.device_fences ≡ counted store.device_fences (begun_logs (take (thread + 1) plan.run.base.logs))
-  pub files : FilesStand plan store after
+  pub files : FilesBegun plan (take (thread + 1) plan.run.heads) store after
   pub others : AllButStay (log_files plan) store after
 
 -- the call that makes a log's device, by its head: it is made anew where there is none, and reopened where there is one
@@ -235,9 +264,9 @@ abbrev pub RunGoes : {k : ObjectKind} → RunPlan k → (store after : StoreView
     → (RunLeft k → StoreView → Type 0) → Type 0
 RunGoes plan store after ending text Next = RunStops plan store after ending text ⊎ LeavesKept plan store Next
 
--- No device was kept, and no file changed but those of the logs.
+-- No device was kept, and no file changed but those of the logs. Headers may have been written.
 pub record NoneKept {k : ObjectKind} (plan : RunPlan k) (store after : StoreView) : Type 0 where
-  pub files : FilesStand plan store after
+  pub files : FilesBegun plan plan.run.heads store after
   pub others : AllButStay (log_files plan) store after
 
 -- What a run left is kept up to the log of some thread, and no file changed but those of the logs.

@@ -14,8 +14,8 @@ use onll_outside::OutsideFault;
 use onll_text::Piece;
 use std::alloc::Global;
 
-/// What comes of a device that was to be kept as the file `name`: nothing more where it was; else what is said in its place, which is the
-/// line `said` where a fence failed.
+/// What comes of a device that was to be kept as the file `name`: nothing more where it was. It stops with the line `said` where a fence
+/// failed, and names the file where the store failed.
 pub fn kept_or(
     alloc: Global,
     name: &str,

@@ -1,12 +1,12 @@
 //! The images of the logs of one run: a file for each thread.
 
 ghost use Rattle.std.specs.Prelude.{◌≡◌, ◌≤◌, ◌*◌, [], length, All, string_bytes, IfOk, IfErr, OnOk};
-ghost use Rattle.onll_outside.specs.Views.{SameOthers, BeginsWith, with_zeros};
+ghost use Rattle.onll_outside.specs.Views.{SameOthers, BeginsWith, with_zeros, image_bytes};
 ghost use Rattle.onll_pmem.specs.Pmem.{words_of};
 ghost use Rattle.std.specs.Cow.{cow_slice_items};
 ghost use Rattle.onll_log.specs.ImageFile.{longest_image};
 ghost use Rattle.onll_open.specs.Names.{log_name, log_names};
-ghost use Rattle.onll_task.specs.Images.{Decides, KeepsOf, KeepOf, AllBeginWith, images_in, image_bytes, images_stage};
+ghost use Rattle.onll_task.specs.Images.{Decides, KeepsOf, KeepOf, AllBeginWith, images_in, images_stage};
 ghost use Rattle.onll_task.specs.Writing.{HasWritten, CannotWrite, WriteStops};
 ghost use Rattle.onll_task.specs.Stop.{StopSays};
 ghost use Rattle.onll_task.specs.Doing.{BeginsBy, lines_stage};
@@ -20,7 +20,7 @@ use onll_words::Line;
 use std::alloc::{AllocError, Global};
 use std::borrow::CowSlice;
 
-/// What is kept of the image of a thread's log, or what is said in its place.
+/// What is kept of the image of a thread's log. It stops only where the file can't be read, and names it.
 fn read_image<S: Store>(
     alloc: Global,
     logs: &str,
@@ -46,8 +46,8 @@ pub struct KeptImages {
     pub counts: Vec<u64>,
 }
 
-/// What is kept of the images of the logs of so many threads, or what is said in their place. Each file begins with the lines that are
-/// kept of it, and no more of an image stays when the next is read.
+/// What is kept of the images of the logs of so many threads, in their order. Each file begins with the lines that are kept of it, and no
+/// more of an image stays when the next is read. It stops at the first file that can't be read.
 pub fn read_images<S: Store>(
     alloc: Global,
     logs: &str,
@@ -106,7 +106,7 @@ fn with_one<'a>(
     Ok(CowSlice::Owned(lines))
 }
 
-/// Writes these lines, and then lines of zeros, `count` in all, as the image of a thread's log, or gives what is said in its place.
+/// Writes these lines, and then lines of zeros, `count` in all, as the image of a thread's log. It stops where the file can't be written.
 fn write_thread<S: Store>(
     alloc: Global,
     logs: &str,
@@ -128,7 +128,7 @@ fn write_thread<S: Store>(
 }
 
 /// Writes these lines, and then lines of zeros, `count` in all, as the image of a thread's log, and gives the lines that decide what the
-/// image holds; or gives what is said in its place.
+/// image holds. It stops where the file can't be written, and names it.
 pub fn write_image<'a, S: Store>(
     alloc: Global,
     logs: &str,

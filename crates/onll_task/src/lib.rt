@@ -5,14 +5,20 @@
 mod answer;
 mod devices;
 mod ending;
+mod faults;
 mod images;
+mod nodes;
+mod recovered;
 mod texts;
 
 pub use answer::Stop;
 pub use devices::kept_or;
 pub use ending::{Ending, Exit};
+pub use faults::{bad_logs, not_resumed};
 pub use images::{KeptImages, into_lines, read_images, write_image};
+pub use nodes::{put_count, put_logs, put_nodes, put_resumed};
+pub use recovered::{recover_logs, recover_tested};
 pub use texts::{
     InitText, image_file, init_file, read_bytes, read_lines, schedule_file, script_file,
-    write_bytes,
+    script_files, write_bytes,
 };

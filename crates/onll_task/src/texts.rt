@@ -1,8 +1,8 @@
 //! Files read as texts, each by its grammar, and images as lines; and bytes and lines written as files.
 
-ghost use Rattle.std.specs.Prelude.{◌≡◌, [], ◌∷◌, ◌≤◌, ◌*◌, length, IfOk, IfErr, OnOk};
+ghost use Rattle.std.specs.Prelude.{◌≡◌, [], ◌∷◌, ◌≤◌, ◌*◌, length, map, string_bytes, IfOk, IfErr, OnOk, All};
 ghost use Rattle.onll_model.specs.Limits.{most_updates};
-ghost use Rattle.onll_outside.specs.Views.{Gives, SameFiles, SameOthers, BeginsWith, with_zeros};
+ghost use Rattle.onll_outside.specs.Views.{Gives, SameFiles, SameOthers, BeginsWith, with_zeros, image_bytes};
 ghost use Rattle.onll_outside.specs.LineFiles.{IsFileFront, GivesLines};
 ghost use Rattle.onll_model.specs.Calls.{updates_in};
 ghost use Rattle.onll_pmem.specs.Pmem.{words_of};
@@ -14,7 +14,8 @@ ghost use Rattle.onll_task.specs.Writing.{HasWritten, CannotWrite, WriteStops};
 ghost use Rattle.onll_open.specs.Files.{SameCounts};
 ghost use Rattle.onll_text.specs.Schedule.{schedule_of, IsPlayable};
 ghost use Rattle.onll_task.specs.Doing.{DoesStage, BeginsBy, text_stage, whole_stage, lines_stage, write_stage};
-ghost use Rattle.onll_task.specs.Images.{Decides, KeepsOf, image_bytes};
+ghost use Rattle.onll_task.specs.Images.{Decides, KeepsOf};
+ghost use Rattle.onll_task.specs.Scripts.{scripts_stage};
 ghost use Rattle.onll_log.specs.ImageFile.{longest_image};
 
 use crate::answer::Stop;
@@ -28,7 +29,7 @@ use onll_words::Line;
 use std::alloc::Global;
 use std::borrow::CowSlice;
 
-/// The first bytes of a file, or what is said in their place.
+/// The first bytes of a file, `limit` at most. It stops where the file can't be read, and names it.
 pub fn read_bytes<S: Store>(
     alloc: Global,
     name: &str,
@@ -47,7 +48,7 @@ pub fn read_bytes<S: Store>(
     }
 }
 
-/// The whole lines of the first `limit` bytes of a file, or what is said in their place.
+/// The whole lines of the first `limit` bytes of a file. It stops where the file can't be read, and names it.
 pub fn read_lines<S: Store>(
     alloc: Global,
     name: &str,
@@ -68,7 +69,7 @@ pub fn read_lines<S: Store>(
     }
 }
 
-/// The text of a file, with one byte at most that is too many; or what is said in its place.
+/// The text of a file, with one byte at most that is too many, which its reader then refuses. It stops where the file can't be read.
 fn read_text<S: Store>(alloc: Global, name: &str, store: &mut S) -> Result<Vec<u8>, Stop>
     ensures text { IfOk result (λ text. IsCutText (S.seen store.old) name.now text.items) }
     ensures stop { IfErr result (λ stop. StopSays stop (CannotRead (S.seen store.old) (S.seen store.new) name.now)) }
@@ -85,7 +86,8 @@ pub struct InitText {
     pub object: AnyObject,
 }
 
-/// The object that a file holds as an initial state, and the file's bytes; or what is said in its place.
+/// The object that a file holds as an initial state, and the file's bytes. It stops where the file can't be read, and with the line and
+/// the reason where its text is refused.
 pub fn init_file<S: Store>(alloc: Global, name: &str, store: &mut S) -> Result<InitText, Stop>
     ensures { let stage = whole_stage name.now init_of in
         DoesStage [] (S.seen store.old) (S.seen store.new) stage (λ read. (read.text.items, read.object)) result }
@@ -101,7 +103,8 @@ pub fn init_file<S: Store>(alloc: Global, name: &str, store: &mut S) -> Result<I
     }
 }
 
-/// The calls that a file holds as a script, or what is said in their place.
+/// The calls that a file holds as a script. It stops where the file can't be read, and with the line and the reason where its text is
+/// refused.
 pub fn script_file<O: Texted, S: Store>(
     alloc: Global,
     name: &str,
@@ -122,6 +125,27 @@ pub fn script_file<O: Texted, S: Store>(
     }
 }
 
+/// The calls of each script, in their order. It stops at the first file that can't be read, or whose text is refused.
+pub fn script_files<O: Texted, S: Store>(
+    alloc: Global,
+    names: &[String],
+    store: &mut S,
+) -> Result<Vec<Vec<Call<O>>>, Stop>
+    ensures begins { let stage = scripts_stage O.wording (map string_bytes names.now) in
+        DoesStage [] (S.seen store.old) (S.seen store.new) stage (λ scripts. map (λ script. script.items) scripts.items) result }
+    ensures count { IfOk result (λ scripts. length scripts.items ≡ length names.now) }
+    ensures updates { IfOk result (λ scripts. All (λ script. updates_in script.items ≤ most_updates) scripts.items) }
+{
+    let mut scripts = Vec::new(alloc);
+    for name in names {
+        match script_file::<O, S>(alloc, name, store) {
+            Ok(script) => scripts.push(script)?,
+            Err(stop) => return Err(stop),
+        }
+    }
+    Ok(scripts)
+}
+
 /// What is kept of an image that was read.
 #[derive(Drop)]
 pub struct KeptImage {
@@ -131,7 +155,8 @@ pub struct KeptImage {
     pub count: u64,
 }
 
-/// What is kept of what a file holds as the image of a log, or what is said in its place. The file begins with the lines that are kept.
+/// What is kept of what a file holds as the image of a log, with which the file begins. Whether that is a log is not asked: it stops only
+/// where the file can't be read.
 pub fn kept_image<S: Store>(alloc: Global, name: &str, store: &mut S) -> Result<KeptImage, Stop>
     ensures begins { let stage = lines_stage name.now in
         BeginsBy [] (S.seen store.old) (S.seen store.new) stage (λ kept image. KeepsOf kept.image kept.count image) result }
@@ -147,7 +172,8 @@ pub fn kept_image<S: Store>(alloc: Global, name: &str, store: &mut S) -> Result<
     Ok(KeptImage { image, count })
 }
 
-/// The lines that decide what a file holds as the image of a log, or what is said in their place.
+/// The lines that decide what a file holds as the image of a log. Whether they are one is not asked: it stops only where the file can't
+/// be read.
 pub fn image_file<S: Store>(
     alloc: Global,
     name: &str,
@@ -162,7 +188,8 @@ pub fn image_file<S: Store>(
     }
 }
 
-/// The schedule that a file holds for so many threads, or what is said in its place.
+/// The schedule that a file holds for so many threads. It stops where the file can't be read, and with the line and the reason where its
+/// text is refused.
 pub fn schedule_file<S: Store>(
     alloc: Global,
     name: &str,
@@ -184,7 +211,7 @@ pub fn schedule_file<S: Store>(
     }
 }
 
-/// Makes these bytes the file of a name, or gives what is said in place of that.
+/// Makes these bytes the file of a name. It stops where that can't be written, and names it.
 pub fn write_bytes<S: Store>(
     alloc: Global,
     name: &str,
@@ -201,7 +228,7 @@ pub fn write_bytes<S: Store>(
     }
 }
 
-/// Makes these lines, and then lines of zeros, `count` in all, the file of a name, or gives what is said in its place.
+/// Makes these lines, and then lines of zeros, `count` in all, the file of a name. It stops where that can't be written, and names it.
 pub fn write_lines<S: Store>(
     alloc: Global,
     name: &str,

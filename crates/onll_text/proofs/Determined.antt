@@ -1,13 +1,13 @@
-use Rattle.std.proofs.Common.{ℕ, Bool, false, true, ◌≡◌, ◌+◌, ◌<◌, ◌≤◌, ◌^◌, List, [], ◌∷◌, ◌++◌, Option, Some, None, Result, Ok, codes, decimal, length, map, drop, refl, sym, ap, ◌∙◌, arith, length-append}
+use Rattle.std.proofs.Common.{ℕ, Bool, false, true, ◌≡◌, ◌+◌, ◌<◌, ◌≤◌, ◌^◌, List, [], ◌∷◌, ◌++◌, Option, Some, None, Result, Ok, codes, decimal, length, drop, refl, sym, ap, ◌∙◌, arith, length-append}
 use Rattle.std.specs.List.{All, flat_map}
 use Rattle.std.specs.Result.{is_ok}
 use Rattle.std.proofs.lemmas.Fmt.{decimal_injective}
 use Rattle.std.proofs.lemmas.Option.{same_Some}
 use Rattle.std.proofs.lemmas.List.{append_cancel_left}
 use Rattle.std.proofs.lemmas.List.Elements.{All-head, All-tail}
-use Rattle.onll_words.specs.Texts.{Numbered, meaningful_lines, numbered, words_of, joined, line_text, AreMeaningful}
+use Rattle.onll_words.specs.Texts.{line_text, AreMeaningful}
 use Rattle.onll_words.proofs.Decimals.{IsWord-decimal}
-use Rattle.onll_words.proofs.Joined.{words_of-joined, meaningful_lines-flat_map}
+use Rattle.onll_words.proofs.Joined.{text_determined, AreMeaningful-append, line_same, line_none}
 use Rattle.onll_model.specs.declared.node.Node.{Node}
 use Rattle.onll_model.specs.declared.call.Call.{Call}
 use Rattle.onll_model.specs.declared.call.Call.TheVariants.{Update}
@@ -19,30 +19,6 @@ use Rattle.onll_text.specs.Wording.{Wording}
 use Rattle.onll_text.specs.Lines.{at_words, call_words, end_words, call_line, call_lines, trace_line, flag_words, row_words, node_line, node_lines, state_lines}
 use Rattle.onll_text.specs.Reports.{EndReads, NodeReads, StateReads, NoCallNext, NoNodeNext, FoldData, fold_data_lines, FoldDeterminedLaw, SaysOnly}
 use Rattle.onll_text.proofs.LineWords.{call_line_in_words, node_line_in_words}
-
--- ---- texts
-words_of-numbered : (n : ℕ) (lines : List (List (List ℕ))) → AreMeaningful lines → map (λ (l : Numbered). words_of l.line) (numbered n (map joined lines)) ≡ lines
-words_of-numbered n [] h = refl
-words_of-numbered n (ws ∷ lines) h =
-    ap (λ v. v ∷ map (λ (l : Numbered). words_of l.line) (numbered (n + 1) (map joined lines))) (words_of-joined ws h.0)
-    ∙ ap (λ ls. ws ∷ ls) (words_of-numbered (n + 1) lines h.2)
-
-pub text_determined : (lines others : List (List (List ℕ))) → AreMeaningful lines → AreMeaningful others → flat_map line_text lines ≡ flat_map line_text others → lines ≡ others
-text_determined lines others g h e =
-    sym (words_of-numbered 1 lines g)
-    ∙ ap (map (λ (l : Numbered). words_of l.line)) (sym (meaningful_lines-flat_map lines g) ∙ ap meaningful_lines e ∙ meaningful_lines-flat_map others h)
-    ∙ words_of-numbered 1 others h
-
-pub AreMeaningful-append : (lines more : List (List (List ℕ))) → AreMeaningful lines → AreMeaningful more → AreMeaningful (lines ++ more)
-AreMeaningful-append [] more g h = h
-AreMeaningful-append (ws ∷ lines) more g h = (g.0, g.1, AreMeaningful-append lines more g.2 h)
-
--- a line and those after it
-pub line_same : {A : Type 0} (x y : A) (xs ys : List A) → x ∷ xs ≡ y ∷ ys → (x ≡ y) × (xs ≡ ys)
-line_same x y xs ys e = (cc, cc)
-
-pub line_none : {A : Type 0} (x : A) (xs : List A) → x ∷ xs ≡ [] → ⊥
-line_none x xs e = cc
 
 -- ---- what became of a call
 same_number : (m n : ℕ) → m < 2 ^ 64 → n < 2 ^ 64 → decimal m ∷ [] ≡ decimal n ∷ [] → m ≡ n

@@ -1,5 +1,5 @@
 -- The text of an era reads as the state that is printed after its first line.
-use Rattle.std.proofs.Common.{ℕ, zero, suc, ◌≡◌, ◌+◌, ◌<◌, ◌≤◌, Bool, true, false, List, [], ◌∷◌, ◌++◌, length, map, filter, refl, sym, ap, ◌∙◌, subst, arith, append_assoc, length-append, decimal, ◌%◌, ◌^◌, Ok, Err, Result, cond, get_or}
+use Rattle.std.proofs.Common.{ℕ, zero, suc, ◌≡◌, ◌+◌, ◌<◌, ◌≤◌, Bool, true, false, List, [], ◌∷◌, ◌++◌, length, filter, refl, ap, ◌∙◌, subst, arith, append_assoc, length-append, decimal, ◌%◌, ◌^◌, Ok, Err, Result, cond, get_or}
 use Rattle.std.specs.Prelude.{not, codes}
 use Rattle.std.specs.List.{slice_split, All, list_all, flat_map}
 use Rattle.std.proofs.lemmas.List.Splits.{slice_split_at, length-slice_split}

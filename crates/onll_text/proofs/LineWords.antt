@@ -13,7 +13,7 @@ use Rattle.onll_text.specs.Pieces.{piece_word}
 use Rattle.onll_text.specs.Wording.{Wording}
 use Rattle.onll_text.specs.declared.report.Piece.{Piece}
 use Rattle.onll_text.specs.Lines.{at_words, call_words, end_words, call_line, flag_words, row_words, node_line, fence_words, log_line}
-use Rattle.onll_text.proofs.Appending.{with_words-append, with_words-line, with_lines-append, begins_line-line}
+use Rattle.onll_text.proofs.Appending.{with_words-append, with_words-line, begins_line-line}
 
 pub AreWords-append : (vs ws : List (List ℕ)) → AreWords vs → AreWords ws → AreWords (vs ++ ws)
 AreWords-append [] ws h k = k

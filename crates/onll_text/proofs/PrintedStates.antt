@@ -5,6 +5,8 @@ use Rattle.std.specs.List.{list_all}
 use Rattle.std.proofs.lemmas.Slice.Eq.{bytes_eq-Decides}
 use Rattle.std.proofs.lemmas.Bool.Decides.{nat_tests}
 use Rattle.onll_words.proofs.WordBytes.{Bytes}
+use Rattle.onll_text.specs.declared.any_object.AnyObject.{AnyObject}
+use Rattle.onll_text.specs.declared.any_object.AnyObject.TheVariants as objects
 use Rattle.onll_text.specs.declared.any_object.Kind.{Kind}
 use Rattle.onll_text.specs.declared.any_object.Kind.TheVariants as kinds
 use Rattle.onll_text.specs.Wording.{longest_state, Wording}
@@ -12,6 +14,7 @@ use Rattle.onll_text.specs.Init.{init_of}
 use Rattle.onll_text.specs.Kinds.{kind_at, object_at, on_kind}
 use Rattle.onll_text.specs.Reports.{StateReads}
 use Rattle.onll_text.specs.PrintsBack.{state_text, is_state_text, is_byte, prints_back}
+use Rattle.onll_text.proofs.EachKind.{kind_and_state}
 use Rattle.onll_text.specs.BankWording.{bank_back}
 use Rattle.onll_text.specs.MapWording.{map_back}
 use Rattle.onll_text.specs.QueueWording.{queue_back}
@@ -95,3 +98,10 @@ on_kind_at say kinds.Bank s = refl
 on_kind_at say kinds.Map s = refl
 on_kind_at say kinds.Queue s = refl
 on_kind_at say kinds.Lease s = refl
+
+-- an object is that of its kind and its state
+pub same_object : (object : AnyObject) → object_at (kind_and_state object).0 (kind_and_state object).1 ≡ object
+same_object (objects.Bank s) = refl
+same_object (objects.Map s) = refl
+same_object (objects.Queue s) = refl
+same_object (objects.Lease s) = refl

@@ -1,8 +1,8 @@
 -- How a bank is written, as one record.
 
-use Rattle.std.specs.Prelude.{ℕ, List, [], ◌∷◌, ◌+◌, refl, Option, Some, None, Result, Ok, Err, ◌≡◌, ◌≤◌, length}
+use Rattle.std.specs.Prelude.{ℕ, List, [], ◌∷◌, ◌+◌, refl, Option, Some, None, Result, Ok, ◌≡◌, ◌≤◌, length}
 use Rattle.std.specs.List.{flat_map}
-use Rattle.std.proofs.Common.{ap}
+use Rattle.std.proofs.Common.{arith}
 use Rattle.std.proofs.lemmas.Result.{IfOk-at_ok}
 use Rattle.onll_words.specs.Texts.{AreWords, AreMeaningful, line_text}
 use Rattle.onll_model.specs.declared.call.Call.TheVariants.{Update, Ask}
@@ -54,11 +54,7 @@ bank_read _ = None
 
 -- the object that was read
 pub bank_back : (v : Result AnyObject Refusal) (s : List ℕ) → bank_read v ≡ Some s → v ≡ Ok (objects.Bank s)
-bank_back (Ok (objects.Bank x)) s e = let same : x ≡ s = (cc) in ap (λ y. Ok (objects.Bank y)) same
-bank_back (Ok (objects.Map x)) s e = absurd (cc)
-bank_back (Ok (objects.Queue x)) s e = absurd (cc)
-bank_back (Ok (objects.Lease x)) s e = absurd (cc)
-bank_back (Err r) s e = absurd (cc)
+bank_back v s e = grind arith
 
 -- what is printed of a state that reads as it is short
 pub bank_state_short : (s : List ℕ)

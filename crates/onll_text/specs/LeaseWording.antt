@@ -1,8 +1,8 @@
 -- How a lease table is written, as one record.
 
-use Rattle.std.specs.Prelude.{ℕ, Bool, true, false, List, [], ◌∷◌, ◌++◌, ◌+◌, ◌==◌, if◌then◌else◌, refl, Option, Some, None, Result, Ok, Err, ◌≡◌, ◌≤◌, length}
+use Rattle.std.specs.Prelude.{ℕ, Bool, true, false, List, [], ◌∷◌, ◌++◌, ◌+◌, ◌==◌, if◌then◌else◌, refl, Option, Some, None, Result, Ok, ◌≡◌, ◌≤◌, length}
 use Rattle.std.specs.List.{flat_map}
-use Rattle.std.proofs.Common.{ap}
+use Rattle.std.proofs.Common.{arith}
 use Rattle.std.proofs.lemmas.Result.{IfOk-at_ok}
 use Rattle.onll_words.specs.Texts.{AreWords, AreMeaningful, line_text}
 use Rattle.onll_model.specs.declared.call.Call.TheVariants.{Update, Ask}
@@ -86,11 +86,7 @@ lease_read _ = None
 
 -- the object that was read
 pub lease_back : (v : Result AnyObject Refusal) (s : List LeaseEntry) → lease_read v ≡ Some s → v ≡ Ok (objects.Lease s)
-lease_back (Ok (objects.Bank x)) s e = absurd (cc)
-lease_back (Ok (objects.Map x)) s e = absurd (cc)
-lease_back (Ok (objects.Queue x)) s e = absurd (cc)
-lease_back (Ok (objects.Lease x)) s e = let same : x ≡ s = (cc) in ap (λ y. Ok (objects.Lease y)) same
-lease_back (Err r) s e = absurd (cc)
+lease_back v s e = grind arith
 
 -- what is printed of a state that reads as it is short
 pub lease_state_short : (s : List LeaseEntry)

@@ -1,8 +1,8 @@
 -- How a map is written, as one record.
 
-use Rattle.std.specs.Prelude.{[], ◌∷◌, refl, Option, Some, None, Result, Ok, Err, ℕ, List, ◌≡◌, ◌≤◌, length}
+use Rattle.std.specs.Prelude.{[], ◌∷◌, refl, Option, Some, None, Result, Ok, ℕ, List, ◌≡◌, ◌≤◌, length}
 use Rattle.std.specs.List.{flat_map}
-use Rattle.std.proofs.Common.{ap}
+use Rattle.std.proofs.Common.{arith}
 use Rattle.std.proofs.lemmas.Result.{IfOk-at_ok}
 use Rattle.onll_words.specs.Texts.{AreWords, AreMeaningful, line_text}
 use Rattle.onll_model.specs.declared.call.Call.TheVariants.{Update, Ask}
@@ -58,11 +58,7 @@ map_read _ = None
 
 -- the object that was read
 pub map_back : (v : Result AnyObject Refusal) (s : Entries) → map_read v ≡ Some s → v ≡ Ok (objects.Map s)
-map_back (Ok (objects.Bank x)) s e = absurd (cc)
-map_back (Ok (objects.Map x)) s e = let same : x ≡ s = (cc) in ap (λ y. Ok (objects.Map y)) same
-map_back (Ok (objects.Queue x)) s e = absurd (cc)
-map_back (Ok (objects.Lease x)) s e = absurd (cc)
-map_back (Err r) s e = absurd (cc)
+map_back v s e = grind arith
 
 -- what is printed of a state that reads as it is short
 pub map_state_short : (s : Entries)

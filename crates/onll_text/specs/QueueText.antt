@@ -18,7 +18,6 @@ use Rattle.onll_text.specs.Refusal.{Refusal, ◌>>=◌, only_if}
 use Rattle.onll_text.specs.Words.{no_word, one_number}
 use Rattle.onll_words.specs.Texts.{Numbered}
 use Rattle.onll_text.specs.Making.{after_lines}
-use Rattle.onll_queue.specs.Queue.{items_in}
 
 abbrev pub QueueCall : Type 0
 QueueCall = Call Items QueueOp QueueQuery QueueReply

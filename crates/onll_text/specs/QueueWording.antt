@@ -1,8 +1,8 @@
 -- How a queue is written, as one record.
 
-use Rattle.std.specs.Prelude.{ℕ, List, [], ◌∷◌, refl, Option, Some, None, Result, Ok, Err, ◌≡◌, ◌≤◌, length}
+use Rattle.std.specs.Prelude.{ℕ, List, [], ◌∷◌, refl, Option, Some, None, Result, Ok, ◌≡◌, ◌≤◌, length}
 use Rattle.std.specs.List.{flat_map}
-use Rattle.std.proofs.Common.{ap}
+use Rattle.std.proofs.Common.{arith}
 use Rattle.std.proofs.lemmas.Result.{IfOk-at_ok}
 use Rattle.onll_words.specs.Texts.{AreWords, AreMeaningful, line_text}
 use Rattle.onll_model.specs.declared.call.Call.TheVariants.{Update, Ask}
@@ -53,11 +53,7 @@ queue_read _ = None
 
 -- the object that was read
 pub queue_back : (v : Result AnyObject Refusal) (s : Items) → queue_read v ≡ Some s → v ≡ Ok (objects.Queue s)
-queue_back (Ok (objects.Bank x)) s e = absurd (cc)
-queue_back (Ok (objects.Map x)) s e = absurd (cc)
-queue_back (Ok (objects.Queue x)) s e = let same : x ≡ s = (cc) in ap (λ y. Ok (objects.Queue y)) same
-queue_back (Ok (objects.Lease x)) s e = absurd (cc)
-queue_back (Err r) s e = absurd (cc)
+queue_back v s e = grind arith
 
 -- what is printed of a state that reads as it is short
 pub queue_state_short : (s : Items)

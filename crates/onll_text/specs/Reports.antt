@@ -3,7 +3,7 @@
 
 use Rattle.std.specs.Prelude.{ℕ, ◌≡◌, ◌≢◌, ◌<◌, ◌≤◌, ◌^◌, List, [], ◌∷◌, ◌++◌, Some, Ok, codes, decimal, length}
 use Rattle.std.specs.List.{All, flat_map}
-use Rattle.onll_words.specs.Texts.{line_text, AreMeaningful}
+use Rattle.onll_words.specs.Texts.{line_text}
 use Rattle.onll_model.specs.declared.node.Node.{Node}
 use Rattle.onll_model.specs.declared.call.Call.{Call}
 use Rattle.onll_model.specs.declared.call.Call.TheVariants.{Update}
@@ -67,11 +67,6 @@ NoCallNext thread (ws ∷ lines) = (rest : List (List ℕ)) → ws ≢ codes "ca
 abbrev pub NoNodeNext : List (List (List ℕ)) → Type 0
 NoNodeNext [] = Unit {0}
 NoNodeNext (ws ∷ lines) = (rest : List (List ℕ)) → ws ≢ codes "node" ∷ rest
-
--- equal texts have equal lines
-abbrev pub TextDeterminedLaw : Type 0
-TextDeterminedLaw = (lines others : List (List (List ℕ))) → AreMeaningful lines → AreMeaningful others
-    → flat_map line_text lines ≡ flat_map line_text others → lines ≡ others
 
 -- the lines of a thread's calls determine what became of each, whatever other lines follow them
 abbrev pub CallsDeterminedLaw : {State Op Query Reply : Type 0} → Wording State Op Query Reply → Type 0

@@ -110,31 +110,36 @@ impl Texted for Bank {
         }
     }
 
+    #[tactic(auto, using(crate::proofs::Keeping::keeping))]
     fn put_op(op: BankOp, out: &mut Report) -> Result<(), NoMemory> {
         match op {
-            BankOp::Deposit { a, x } => out.words(&[
-                Piece::Text(b"deposit"),
-                Piece::Number(a),
-                Piece::Number(x),
-            ]),
-            BankOp::Withdraw { a, x } => out.words(&[
-                Piece::Text(b"withdraw"),
-                Piece::Number(a),
-                Piece::Number(x),
-            ]),
-            BankOp::Transfer { a, b, x } => out.words(&[
-                Piece::Text(b"transfer"),
-                Piece::Number(a),
-                Piece::Number(b),
-                Piece::Number(x),
-            ]),
+            BankOp::Deposit { a, x } => {
+                out.word(b"deposit")?;
+                out.number(a)?;
+                out.number(x)
+            }
+            BankOp::Withdraw { a, x } => {
+                out.word(b"withdraw")?;
+                out.number(a)?;
+                out.number(x)
+            }
+            BankOp::Transfer { a, b, x } => {
+                out.word(b"transfer")?;
+                out.number(a)?;
+                out.number(b)?;
+                out.number(x)
+            }
         }
     }
 
+    #[tactic(auto, using(crate::proofs::Keeping::keeping))]
     fn put_query(query: BankQuery, out: &mut Report) -> Result<(), NoMemory> {
         match query {
-            BankQuery::Balance { a } => out.words(&[Piece::Text(b"balance"), Piece::Number(a)]),
-            BankQuery::Total => out.words(&[Piece::Text(b"total")]),
+            BankQuery::Balance { a } => {
+                out.word(b"balance")?;
+                out.number(a)
+            }
+            BankQuery::Total => out.word(b"total"),
         }
     }
 

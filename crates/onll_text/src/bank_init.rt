@@ -3,7 +3,6 @@
 ghost use Rattle.std.specs.Prelude.{◌≡◌, ◌≤◌, MatchResult, IfOk, OnErr, Ok, Err};
 ghost use Rattle.onll_model.specs.Limits.{most_elements};
 ghost use Rattle.onll_text.specs.Refusal.{Fails};
-ghost use Rattle.onll_words.specs.Texts.{words_of};
 ghost use Rattle.onll_text.specs.BankText.{no_accounts, with_account, with_account_line, bank_of_lines};
 
 use crate::init::{Initial, add_lines};

@@ -1,6 +1,6 @@
 //! The texts of a lease table, which is its own initial state in the making.
 
-ghost use Rattle.std.specs.Prelude.{◌≡◌, ◌++◌, ◌<◌, length, true, OnOk, OnErr, MatchResult, Ok, Err, ◌≤◌};
+ghost use Rattle.std.specs.Prelude.{◌≡◌, ◌++◌, ◌<◌, true, OnOk, OnErr, MatchResult, Ok, Err, ◌≤◌};
 ghost use Rattle.onll_model.specs.Limits.{most_elements};
 ghost use Rattle.onll_text.specs.Refusal.{Fails};
 ghost use Rattle.onll_words.specs.Texts.{words_of, line_text};

@@ -1,6 +1,6 @@
 //! The lines of a report: calls, traces, nodes, logs and states. What they say of values that a program has reads back.
 
-ghost use Rattle.std.specs.Prelude.{◌≡◌, ◌<◌, ◌^◌, ℕ, ◌++◌, ◌∷◌, [], true, IsSome, OnOk};
+ghost use Rattle.std.specs.Prelude.{◌≡◌, ◌<◌, ◌^◌, ◌++◌, true, IsSome, OnOk};
 ghost use Rattle.onll_words.specs.Texts.{line_text};
 ghost use Rattle.onll_text.specs.Bytes.{begins_line, with_words, with_lines, IsFront};
 ghost use Rattle.onll_text.specs.Lines.{call_words, at_words, end_words, call_line, trace_line, node_line, flag_words, fence_words, log_line, state_lines};
@@ -23,12 +23,14 @@ fn put_call<O: Texted>(call: &Call<O>, out: &mut Report) -> Result<(), NoMemory>
     }
 }
 
+#[tactic(auto, using(crate::proofs::Keeping::keeping))]
 fn put_place(place: u64, out: &mut Report) -> Result<(), NoMemory>
     ensures ok { OnOk result (out.new ≡ with_words out.old (at_words place)) }
     ensures keeps { IsFront out.old out.new }
     ensures within { IsFront out.new (with_words out.old (at_words place)) }
 {
-    out.words(&[Piece::Text(b"at"), Piece::Number(place)])
+    out.word(b"at")?;
+    out.number(place)
 }
 
 #[tactic(auto, using(crate::proofs::LineWords::appending))]

@@ -72,6 +72,7 @@ impl Report {
     }
 
     /// Whether nothing stands in the last line yet.
+    #[inline(always)]
     fn begins_line(&self) -> bool
         ensures { result ≡ begins_line self.now }
     {
@@ -83,6 +84,7 @@ impl Report {
 
     /// A text as it is.
     #[tactic(auto, using(crate::proofs::Keeping::keeping))]
+    #[inline(always)]
     fn put(&mut self, text: &[u8]) -> Result<(), NoMemory>
         ensures ok { OnOk result (self.new ≡ self.old ++ text.now) }
         ensures keeps { IsFront self.old self.new }
@@ -106,24 +108,30 @@ impl Report {
     }
 
     /// A word, after one space unless it begins a line.
+    #[inline(always)]
     pub fn word(&mut self, text: &[u8]) -> Result<(), NoMemory>
         ensures ok { OnOk result (self.new ≡ with_word self.old text.now) }
         ensures keeps { IsFront self.old self.new }
         ensures within { IsFront self.new (with_word self.old text.now) }
     {
+        self.bytes.reserve(text.len() + 1)?;
         if self.begins_line() {
             return self.put(text);
         }
-        self.put_byte(b' ')?;
+        self.bytes.push_reserved(b' ');
         self.put(text)
     }
 
     /// A number in the shortest decimal form, as a word.
+    #[tactic(auto, using(std::proofs::lemmas::Fmt::decimal_digit))]
     pub fn number(&mut self, n: u64) -> Result<(), NoMemory>
         ensures ok { OnOk result (self.new ≡ with_word self.old (decimal n)) }
         ensures keeps { IsFront self.old self.new }
         ensures within { IsFront self.new (with_word self.old (decimal n)) }
     {
+        if n < 10 {
+            return self.word(&[b'0' + n as u8]);
+        }
         let mut buffer = Buffer::new();
         self.word(buffer.format(n).as_bytes())
     }
@@ -148,6 +156,7 @@ impl Report {
         self.put_byte(b'\n')
     }
 
+    #[inline(always)]
     fn piece(&mut self, piece: &Piece<'_>) -> Result<(), NoMemory>
         ensures ok { OnOk result (self.new ≡ with_word self.old (piece_word piece.now)) }
         ensures keeps { IsFront self.old self.new }
@@ -161,6 +170,7 @@ impl Report {
     }
 
     /// Words, in order.
+    #[inline]
     pub fn words(&mut self, pieces: &[Piece<'_>]) -> Result<(), NoMemory>
         ensures ok { OnOk result (self.new ≡ with_words self.old (map piece_word pieces.now)) }
         ensures keeps { IsFront self.old self.new }

@@ -1,7 +1,8 @@
 //! What a report says is determined by its bytes, for every object.
 
 ghost use Rattle.std.specs.Prelude.{◌<◌, ◌^◌, IsSome};
-ghost use Rattle.onll_text.specs.Reports.{EndReads, NodeReads, TextDeterminedLaw, CallsDeterminedLaw, NodesDeterminedLaw, StateDeterminedLaw, FoldDeterminedLaw};
+ghost use Rattle.onll_words.specs.Texts.{TextDeterminedLaw};
+ghost use Rattle.onll_text.specs.Reports.{EndReads, NodeReads, CallsDeterminedLaw, NodesDeterminedLaw, StateDeterminedLaw, FoldDeterminedLaw};
 
 use crate::texted::Texted;
 use onll_model::{CallEnd, Node};

@@ -1,7 +1,6 @@
 //! What a thread does at its seat.
 
-ghost use Rattle.std.specs.Prelude.{[]};
-ghost use Rattle.std.specs.Prelude.{List};
+ghost use Rattle.std.specs.Prelude.{[], List};
 ghost use Rattle.onll_model.specs.declared.call.Call.{Call as SomeCall};
 ghost use Rattle.onll_model.specs.declared.call.CallEnd.{CallEnd as SomeEnd};
 ghost use Rattle.onll_threads.specs.Seats.{Did, KeepsPromise};

@@ -1,9 +1,9 @@
-use Rattle.std.proofs.Common.{ℕ, Bool, true, false, List, [], ◌∷◌, ◌++◌, ◌≡◌, ◌+◌, map, cond, not, filter, get_or, refl, ap, ◌∙◌, append_assoc, arith, ◌||◌, ◌&&◌}
+use Rattle.std.proofs.Common.{ℕ, Bool, true, false, List, [], ◌∷◌, ◌++◌, ◌≡◌, ◌+◌, map, cond, not, filter, get_or, refl, ap, ◌∙◌, append_assoc, arith, ◌||◌, ◌&&◌, sym}
 use Rattle.std.specs.List.{slice_split, All, list_all, flat_map}
 use Rattle.std.proofs.lemmas.List.Splits.{slice_split_at, slice_split_none, length-slice_split}
 use Rattle.std.proofs.lemmas.List.Sums.{AllPass-from_list_all, list_all-from_AllPass}
 use Rattle.std.proofs.lemmas.List.Folds.{list_all-append}
-use Rattle.onll_words.specs.Texts.{is_blank, is_line_end, is_empty, is_word_byte, words_of, lines_of, meaningful_lines, numbered, is_meaningful, says_something, joined, line_text, without_empty_rest, IsWord, AreWords, AreTextLines, AreMeaningful}
+use Rattle.onll_words.specs.Texts.{is_blank, is_line_end, is_empty, is_word_byte, words_of, lines_of, meaningful_lines, numbered, is_meaningful, says_something, joined, line_text, without_empty_rest, IsWord, AreWords, AreTextLines, AreMeaningful, Numbered}
 use Rattle.onll_words.proofs.Cuts.{kept_before}
 
 neither : (a b : Bool) → not (a || b) ≡ true → (a ≡ false) × (b ≡ false)
@@ -80,3 +80,26 @@ pub meaningful_lines-flat_map : (lines : List (List (List ℕ))) → AreMeaningf
 meaningful_lines-flat_map lines h =
     ap (λ ls. filter is_meaningful (numbered 1 ls)) (ap lines_of (flat_map-line_text lines) ∙ lines_of-flat_map (map joined lines) (AreLines-joined lines h))
     ∙ filter-numbered 1 lines h
+
+words_of-numbered : (n : ℕ) (lines : List (List (List ℕ))) → AreMeaningful lines → map (λ (l : Numbered). words_of l.line) (numbered n (map joined lines)) ≡ lines
+words_of-numbered n [] h = refl
+words_of-numbered n (ws ∷ lines) h =
+    ap (λ v. v ∷ map (λ (l : Numbered). words_of l.line) (numbered (n + 1) (map joined lines))) (words_of-joined ws h.0)
+    ∙ ap (λ ls. ws ∷ ls) (words_of-numbered (n + 1) lines h.2)
+
+pub text_determined : (lines others : List (List (List ℕ))) → AreMeaningful lines → AreMeaningful others → flat_map line_text lines ≡ flat_map line_text others → lines ≡ others
+text_determined lines others g h e =
+    sym (words_of-numbered 1 lines g)
+    ∙ ap (map (λ (l : Numbered). words_of l.line)) (sym (meaningful_lines-flat_map lines g) ∙ ap meaningful_lines e ∙ meaningful_lines-flat_map others h)
+    ∙ words_of-numbered 1 others h
+
+pub AreMeaningful-append : (lines more : List (List (List ℕ))) → AreMeaningful lines → AreMeaningful more → AreMeaningful (lines ++ more)
+AreMeaningful-append [] more g h = h
+AreMeaningful-append (ws ∷ lines) more g h = (g.0, g.1, AreMeaningful-append lines more g.2 h)
+
+-- a line and those after it
+pub line_same : {A : Type 0} (x y : A) (xs ys : List A) → x ∷ xs ≡ y ∷ ys → (x ≡ y) × (xs ≡ ys)
+line_same x y xs ys e = (cc, cc)
+
+pub line_none : {A : Type 0} (x : A) (xs : List A) → x ∷ xs ≡ [] → ⊥
+line_none x xs e = cc

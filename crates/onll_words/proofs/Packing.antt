@@ -155,9 +155,6 @@ same_short s t e = let left = short_of-bytes s in let right = short_of-bytes t i
 pub same_short_tested : (s t : ShortText) → true ≡ bytes_eq s.bytes t.bytes → s ≡ t
 same_short_tested s t e = same_short s t (same_text s.bytes t.bytes e)
 
-pub same_packed : (s t : ShortText) → packed s.bytes ≡ packed t.bytes → s ≡ t
-same_packed s t e = let left = unpacked-packed s in let right = unpacked-packed t in let both = ap unpacked e in cc
-
 -- what a value made of a packing is
 pub packed_inside : (bytes words : List ℕ) → IsShort bytes → words ≡ packed bytes → IsShort (bytes_in words) × (packed (bytes_in words) ≡ words)
 packed_inside bytes words h e =
@@ -177,10 +174,6 @@ packed_view_bytes bytes words h e =
 short_if-false : (b : Bool) (bytes : List ℕ) (e : is_short bytes ≡ b) → b ≡ false → short_if b bytes e ≡ None
 short_if-false true bytes e h = cc
 short_if-false false bytes e h = refl
-
--- what is no short text
-pub short_of-other : (bytes : List ℕ) → is_short bytes ≡ false → short_of bytes ≡ None
-short_of-other bytes h = short_if-false (is_short bytes) bytes refl h
 
 either_none : (b : Bool) (o : Option ShortText) → o ≡ None → cond b o None ≡ None
 either_none true o h = h

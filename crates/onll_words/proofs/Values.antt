@@ -20,10 +20,6 @@ run_is_digits (x ∷ xs) = step (is_digit x) x xs (run_len xs) refl (run_is_digi
 pub run_of_front : (xs : List ℕ) (n : ℕ) → n ≡ run_len xs → run_len (take n xs) ≡ length (take n xs)
 run_of_front xs n e = rw e (run_is_digits xs)
 
-pub run_le : (xs : List ℕ) → run_len xs ≤ length xs
-run_le [] = omega arith
-run_le (x ∷ xs) = grind (arith, common_steps, run_le xs)
-
 -- where all are digits, the first is
 pub run_digit : (x : ℕ) (xs : List ℕ) → run_len (x ∷ xs) ≡ length xs + 1 → (48 ≤ x) × (x ≤ 57)
 run_digit x xs h = grind (arith, common_steps)

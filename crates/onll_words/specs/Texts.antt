@@ -1,5 +1,5 @@
 use Rattle.std.specs.Prelude.{ℕ, Bool, true, false, List, [], ◌∷◌, ◌++◌, ◌≡◌, ◌+◌, not, if◌then◌else◌, length, filter, slice_index, ◌||◌, ◌==◌}
-use Rattle.std.specs.List.{slice_split, list_all}
+use Rattle.std.specs.List.{slice_split, list_all, flat_map}
 
 -- A text is split at the byte 0x0A into lines, numbered from 1, and a line at blanks into words.
 
@@ -82,3 +82,8 @@ AreTextLines (l ∷ ls) = (list_all (λ b. not (is_line_end b)) l ≡ true) × A
 abbrev pub AreMeaningful : List (List (List ℕ)) → Type 0
 AreMeaningful [] = Unit {0}
 AreMeaningful (ws ∷ lines) = AreWords ws × (says_something ws ≡ true) × AreMeaningful lines
+
+-- equal texts have equal lines
+abbrev pub TextDeterminedLaw : Type 0
+TextDeterminedLaw = (lines others : List (List (List ℕ))) → AreMeaningful lines → AreMeaningful others
+    → flat_map line_text lines ≡ flat_map line_text others → lines ≡ others

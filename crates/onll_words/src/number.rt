@@ -1,6 +1,6 @@
 //! Decimal numbers in texts.
 
-ghost use Rattle.std.specs.Prelude.{◌≡◌, ℕ, ◌+◌, ◌*◌, ◌≤◌, ◌^◌, length, IfSome, MatchOption};
+ghost use Rattle.std.specs.Prelude.{◌≡◌, ◌+◌, ◌*◌, ◌≤◌, ◌^◌, length, IfSome, MatchOption};
 ghost use Rattle.onll_words.specs.Numbers.{run_len, value_after, number_of, number_from};
 
 /// The greatest number of digits of a number.

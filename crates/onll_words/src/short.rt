@@ -1,6 +1,6 @@
 //! Short texts, packed in three words.
 
-ghost use Rattle.std.specs.Prelude.{◌≡◌, ◌<◌, ◌≤◌, ◌≢◌, length, take, slice_index, MatchOption, true, false};
+ghost use Rattle.std.specs.Prelude.{◌≡◌, ◌<◌, ◌≤◌, ◌≢◌, length, take, slice_index, MatchOption, false};
 ghost use Rattle.std.specs.List.{list_all};
 ghost use Rattle.onll_words.specs.Short.{ShortText, is_text_byte, is_short, short_of, padded, packed, unpacked};
 ghost use Rattle.onll_words.specs.Bytes.{high_bytes};

@@ -1,6 +1,6 @@
 //! Lines of a text, and words of a line.
 
-ghost use Rattle.std.specs.Prelude.{◌≡◌, ℕ, ◌+◌, ◌<◌, ◌≤◌, ◌^◌, ◌∷◌, [], List, length, drop, not, IfSome, IfNone, MatchOption, true, false, position, slice_index, filter};
+ghost use Rattle.std.specs.Prelude.{◌≡◌, ◌+◌, ◌<◌, ◌≤◌, ◌^◌, ◌∷◌, [], List, length, drop, not, IfSome, IfNone, MatchOption, true, false, position, slice_index, filter};
 ghost use Rattle.onll_words.specs.Texts.{is_blank, is_line_end, words_of, lines_of, meaningful_lines, says_something};
 
 use std::marker::Model;

@@ -6,7 +6,7 @@ use Rattle.onll_model.specs.Calls.{updates_in}
 use Rattle.onll_model.proofs.Lists.{same_some}
 use Rattle.onll_pmem.specs.Device.{DeviceState, new_device}
 use Rattle.onll_log.specs.declared.head.LogHead.{LogHead}
-use Rattle.onll_run.specs.Making.{AreHeads}
+use Rattle.onll_log.specs.Head.{AreHeads}
 use Rattle.onll_run.specs.Left.{no_base}
 use Rattle.onll_run.specs.Ran.{IsRoomyFor, AreRoomy, HasBase, CanRun}
 use Rattle.onll_run.proofs.Anew.{new_base, new_roomy}

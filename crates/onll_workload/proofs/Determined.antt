@@ -5,10 +5,11 @@ use Rattle.std.specs.List.{flat_map}
 use Rattle.std.proofs.lemmas.Fmt.{decimal_injective}
 use Rattle.onll_words.specs.Texts.{IsWord, AreWords, line_text, AreMeaningful}
 use Rattle.onll_words.proofs.Decimals.{IsWord-decimal}
+use Rattle.onll_words.proofs.Joined.{text_determined, line_same}
 use Rattle.onll_text.specs.Bytes.{begins_line, with_lines}
 use Rattle.onll_text.specs.Reports.{SaysOnly}
 use Rattle.onll_text.proofs.Appending.{begins_line-line}
-use Rattle.onll_text.proofs.Determined.{text_determined, line_same, says_only}
+use Rattle.onll_text.proofs.Determined.{says_only}
 use Rattle.onll_workload.specs.declared.summary.Summary.{Summary}
 use Rattle.onll_workload.specs.Made.{made_line, counted_line, summary_lines, SummaryReads}
 

@@ -1,5 +1,4 @@
 mod Placed
-mod Rows
 mod Scripts
 mod Runs
 mod Banks

@@ -6,11 +6,6 @@ use Rattle.onll_workload.specs.declared.workload.Workload.{Workload}
 use Rattle.onll_text.specs.BankText.{BankCall}
 use Rattle.onll_workload.specs.Workload.{transfer_from, after_transfer, reads_after, calls_from, script_of, scripts_from, scripts_of}
 
--- ---- the calls of one script
-pub calls_start : (updates x : ℕ) (calls : List BankCall) → calls ≡ [] → calls ++ calls_from (updates - 0) 0 x ≡ calls_from updates 0 x
-calls_start updates x calls e =
-    ap (λ (l : List BankCall). l ++ calls_from (updates - 0) 0 x) e ∙ (let same : updates - 0 ≡ updates = omega arith in ap (λ n. calls_from n 0 x) same)
-
 pub calls_end : (updates made x : ℕ) (calls all : List BankCall) → updates ≤ made → calls ++ calls_from (updates - made) made x ≡ all → calls ≡ all
 calls_end updates made x calls all over e =
     let none : updates - made ≡ 0 = omega arith in

@@ -23,7 +23,7 @@ use Rattle.onll_workload.specs.declared.workload.Workload.{Workload}
 use Rattle.onll_workload.specs.Faultless.{faultless_view}
 use Rattle.onll_workload.specs.Workload.{scripts_of, first_bank, accounts, balance}
 use Rattle.onll_workload.proofs.Placed.{NoneFailed, own_all_are, placed_all, fences_placed, nodes_placed}
-use Rattle.onll_workload.proofs.Rows.{legal_rows}
+use Rattle.onll_model.proofs.LegalRows.{legal_rows}
 use Rattle.onll_workload.proofs.Scripts.{KeepsTotal, updates_of_scripts, rows_of_scripts}
 
 -- ---- no fence failed
@@ -67,7 +67,7 @@ pub has_made : (w : Workload) (heads : List LogHead) (left : AfterRun (List ℕ)
 has_made w heads left run whole =
     let placed = placed_all bank first_bank 0 left.nodes 0 (scripts_of w) left.ends run.legal.outcomes run.over whole in
     let updates = updates_of_scripts w w.threads 0 in
-    let rows = legal_rows bank KeepsTotal first_bank (scripts_of w) left.nodes left.ends (rows_of_scripts w w.threads 0) run.legal in
+    let rows = legal_rows bank KeepsTotal first_bank [] (scripts_of w) left.nodes left.ends (rows_of_scripts w w.threads 0) tt run.legal in
     record {
       fences = fences_placed bank heads (no_base (length heads)).logs (scripts_of w) left.ends left.logs run.logs ∙ placed ∙ updates;
       nodes = sym (own_all_are (length (scripts_of w)) left.nodes run.legal.threads) ∙ sym (nodes_placed bank first_bank left.nodes 0 (scripts_of w) left.ends run.legal.outcomes) ∙ placed ∙ updates;

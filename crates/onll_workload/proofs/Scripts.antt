@@ -14,7 +14,7 @@ use Rattle.onll_bank.proofs.Totals.{transfer_law}
 use Rattle.onll_workload.specs.declared.workload.Workload.{Workload}
 use Rattle.onll_text.specs.BankText.{BankCall}
 use Rattle.onll_workload.specs.Workload.{high_bits, drawn, after_transfer, calls_from, script_of, first_number, scripts_from}
-use Rattle.onll_workload.proofs.Rows.{HaveRows}
+use Rattle.onll_model.proofs.LegalRows.{HaveRows}
 
 -- ---- how many calls
 abbrev pub read_if : Bool → List BankCall

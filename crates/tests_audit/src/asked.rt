@@ -84,7 +84,9 @@ pub(crate) fn expect_said<R: Threads + Wait + Sync>(
 ) -> Result<(), Fail> {
     let mut store = store_of(alloc, ran, report, &[])?;
     let audit = Program::new(words_for(ran.scripts.len()), &[]);
-    audit.expect_over(rt, alloc, &mut store, says, status_of(says), says)
+    audit
+        .run_over(rt, alloc, &mut store)?
+        .expect(says, status_of(says), says)
 }
 
 /// Audits the report of a run with one line changed, for each row.

@@ -1,4 +1,4 @@
-use Rattle.std.proofs.Common.{ℕ, Bool, true, false, List, [], ◌∷◌, ◌≡◌, ◌==◌, ◌&&◌, Option, Some, None, cond, length, refl, ap}
+use Rattle.std.proofs.Common.{ℕ, Bool, true, false, List, [], ◌∷◌, ◌≡◌, ◌==◌, ◌&&◌, Option, Some, None, cond, refl, ap}
 use Rattle.onll_words.specs.declared.line.OpRow.{OpRow}
 use Rattle.onll_words.proofs.RowWords.{one_argument}
 use Rattle.onll_model.specs.Object.{Behaviour}

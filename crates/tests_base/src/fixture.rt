@@ -1,5 +1,5 @@
 //! Traces of two threads, opened and closed.
-ghost use Rattle.std.specs.Prelude.{◌≡◌, ◌≤◌, ◌+◌, [], IfSome};
+ghost use Rattle.std.specs.Prelude.{◌≡◌, ◌≤◌, [], IfSome};
 ghost use Rattle.onll_trace.specs.Spots.{HasRoom};
 ghost use Rattle.tests_base.specs.Orders.{AreBoth, IsResting};
 

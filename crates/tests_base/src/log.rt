@@ -1,7 +1,6 @@
 //! Tests of digests, images, entries and logs.
 
-ghost use Rattle.std.specs.Prelude.{◌≡◌, ◌≤◌, length};
-ghost use Rattle.onll_log.specs.Head.{FitsHead};
+ghost use Rattle.std.specs.Prelude.{◌≡◌, ◌≤◌};
 
 use onll_log::{DecodeFault, Entry, LogHead, MakeCause, ThreadLog, decode, entry_head, format_of};
 use onll_model::{Node, node_line};

@@ -1,6 +1,6 @@
 //! Tests of the devices and of their images.
 
-ghost use Rattle.std.specs.Prelude.{◌≡◌, ℕ, ◌+◌, ◌-◌, ◌^◌, ◌≤◌, ◌<◌, length};
+ghost use Rattle.std.specs.Prelude.{◌≡◌, ◌+◌, ◌-◌, ◌^◌, ◌<◌, length};
 
 use onll_pmem::{FenceFailed, MemPmem, Pmem};
 use onll_words::Line;

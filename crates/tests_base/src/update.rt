@@ -1,5 +1,5 @@
 //! A thread's steps on a trace, from a draft to its flag.
-ghost use Rattle.std.specs.Prelude.{◌≡◌, ◌≤◌, ◌<◌, [], length};
+ghost use Rattle.std.specs.Prelude.{◌≡◌, ◌≤◌, ◌<◌, []};
 ghost use mathlib.Core.List.{IsPrefix};
 ghost use Rattle.onll_trace.specs.Spots.{IsOf, HasRoom};
 ghost use Rattle.tests_base.specs.Orders.{IsResting, HasFront, HasExchanged, IsWalking, IsLogging};

@@ -150,33 +150,6 @@ impl<'a> Program<'a> {
         self.run_over(rt, alloc, &mut store)
     }
 
-    /// Runs the program over this store, and fails unless the status and the whole text are these.
-    pub fn expect_over<R: Threads + Wait + Sync>(
-        &self,
-        rt: &R,
-        alloc: Global,
-        store: &mut MemStore,
-        case: &str,
-        status: u8,
-        text: &str,
-    ) -> Result<(), Fail> {
-        self.run_over(rt, alloc, store)?.expect(case, status, text)
-    }
-
-    /// Runs the program over this store, and fails unless the status is this and the output has this line.
-    pub fn expect_line_over<R: Threads + Wait + Sync>(
-        &self,
-        rt: &R,
-        alloc: Global,
-        store: &mut MemStore,
-        case: &str,
-        status: u8,
-        line: &str,
-    ) -> Result<(), Fail> {
-        self.run_over(rt, alloc, store)?
-            .expect_line(case, status, line)
-    }
-
     /// Audits what this run printed, over the run's own files, and fails unless it is legal.
     pub fn expect_legal<R: Threads + Wait + Sync>(
         &self,

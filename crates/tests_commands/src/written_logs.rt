@@ -119,7 +119,9 @@ fn replayed<R: Abort + Threads + Wait + Sync>(
 ) -> Result<Vec<u8>, Fail> {
     let program = Program::new(&["replay", "i", "c", "out", "s"], files);
     let mut store = program.store(alloc)?;
-    program.expect_over(rt, alloc, &mut store, "a replay", 0, output)?;
+    program
+        .run_over(rt, alloc, &mut store)?
+        .expect("a replay", 0, output)?;
     let image = Vec::from_slice(alloc, store.file("out.0").unwrap_or(b""))?;
     Ok(image)
 }

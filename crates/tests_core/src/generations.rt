@@ -4,9 +4,10 @@ ghost use Rattle.std.specs.Prelude.{◌≤◌};
 
 use crate::scripts::deposits;
 use onll_bank::Bank;
-use onll_core::{Core, ResumeFault};
+use onll_core::Core;
 use onll_log::LogHead;
 use onll_merge::{ImagesFault, RecoverFault};
+use onll_start::ResumeFault;
 use onll_words::Line;
 use std::alloc::Global;
 use std::process::Abort;

@@ -1,6 +1,6 @@
 //! Tests of a bank under one lock.
 
-ghost use Rattle.std.specs.Prelude.{◌≡◌, ℕ, ◌+◌, ◌<◌, ◌≤◌, false, [], length, IfOk};
+ghost use Rattle.std.specs.Prelude.{◌≡◌, ◌<◌, ◌≤◌, false, [], length, IfOk};
 ghost use Rattle.onll_model.specs.Calls.{updates_in};
 ghost use Rattle.onll_locked.specs.DoNext.{IsThreadLog};
 ghost use Rattle.std.proofs.Props.{props};

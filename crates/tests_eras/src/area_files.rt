@@ -117,7 +117,9 @@ pub(crate) fn expect_calls<R: Threads + Wait + Sync>(
     calls: &[Said<'_>],
 ) -> Result<(), Fail> {
     for (words, status, output) in calls {
-        Program::new(words, &[]).expect_over(rt, alloc, store, case, *status, output)?;
+        Program::new(words, &[])
+            .run_over(rt, alloc, store)?
+            .expect(case, *status, output)?;
     }
     Ok(())
 }

@@ -154,7 +154,9 @@ fn expect_over<R: Threads + Wait + Sync>(
         failing_calls: &[],
         failing_puts,
     };
-    program.expect_over(rt, alloc, store, "puts that fail", status, output)
+    program
+        .run_over(rt, alloc, store)?
+        .expect("puts that fail", status, output)
 }
 
 fn expect_restore<R: Threads + Wait + Sync>(

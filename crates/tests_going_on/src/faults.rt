@@ -185,7 +185,9 @@ fn expect_call<R: Abort + Threads + Wait + Sync>(
     };
     let mut store = program.store(alloc)?;
     put_logs(alloc, &mut store, TORN, EMPTY)?;
-    program.expect_over(rt, alloc, &mut store, case.output, case.status, case.output)?;
+    program
+        .run_over(rt, alloc, &mut store)?
+        .expect(case.output, case.status, case.output)?;
     expect_logs(rt, alloc, &store, case.first, case.second, case.output)
 }
 
@@ -212,9 +214,13 @@ fn a_header_whose_fence_fails(rt: HostRuntime) -> Result<(), Fail> {
     let mut store = program.store_with(alloc, &[HEADER])?;
     put_logs(alloc, &mut store, TORN, EMPTY)?;
     let line = "fault thread 1 place 0\n";
-    program.expect_over(&rt, alloc, &mut store, line, 7, line)?;
+    program
+        .run_over(&rt, alloc, &mut store)?
+        .expect(line, 7, line)?;
     expect_logs(&rt, alloc, &store, WIPED, EMPTY, line)?;
-    program.expect_over(&rt, alloc, &mut store, "the same again", 0, REPORT)?;
+    program
+        .run_over(&rt, alloc, &mut store)?
+        .expect("the same again", 0, REPORT)?;
     expect_logs(&rt, alloc, &store, KEPT, BEGUN, "the same again")
 }
 
@@ -236,6 +242,8 @@ fn a_header_before_a_log_that_goes_on(rt: HostRuntime) -> Result<(), Fail> {
     let mut store = program.store_with(alloc, &[FIRST_HEADER])?;
     put_logs(alloc, &mut store, EMPTY, GONE_ON)?;
     let line = "fault thread 0 place 0\n";
-    program.expect_over(&rt, alloc, &mut store, line, 7, line)?;
+    program
+        .run_over(&rt, alloc, &mut store)?
+        .expect(line, 7, line)?;
     expect_logs(&rt, alloc, &store, EMPTY, GONE_ON, line)
 }

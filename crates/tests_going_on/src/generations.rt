@@ -27,23 +27,13 @@ const BALANCES: &[&str] = &[
 fn one_thread(rt: HostRuntime) -> Result<(), Fail> {
     let alloc = rt.alloc();
     let mut store = store_with(alloc, &[])?;
-    Program::new(REPLAY, &[]).expect_over(
-        &rt,
-        alloc,
-        &mut store,
-        "the first generation",
-        0,
-        RETURNED,
-    )?;
+    Program::new(REPLAY, &[])
+        .run_over(&rt, alloc, &mut store)?
+        .expect("the first generation", 0, RETURNED)?;
     for line in BALANCES {
-        Program::new(RESUME, &[]).expect_line_over(
-            &rt,
-            alloc,
-            &mut store,
-            "one generation more",
-            0,
-            line,
-        )?;
+        Program::new(RESUME, &[])
+            .run_over(&rt, alloc, &mut store)?
+            .expect_line("one generation more", 0, line)?;
     }
     Ok(())
 }
@@ -114,14 +104,9 @@ fn two_threads(rt: HostRuntime) -> Result<(), Fail> {
     let mut store = Program::new(&[], TWO_FILES).store(alloc)?;
     expect_generations(&rt, alloc, &mut store, TWO)?;
     expect_generations(&rt, alloc, &mut store, LATER_TWO)?;
-    Program::new(&["recover", "b2", "out", "2"], &[]).expect_line_over(
-        &rt,
-        alloc,
-        &mut store,
-        "all of them",
-        0,
-        "recovered 40",
-    )
+    Program::new(&["recover", "b2", "out", "2"], &[])
+        .run_over(&rt, alloc, &mut store)?
+        .expect_line("all of them", 0, "recovered 40")
 }
 
 /// How many updates a script has, how going on with it ends, and a line that is printed. All are beside one update that is recovered.
@@ -135,25 +120,15 @@ const LONG: &[(usize, u8, &str)] = &[
 fn as_many_updates_as_there_can_be(rt: HostRuntime) -> Result<(), Fail> {
     let alloc = rt.alloc();
     let mut store = store_with(alloc, &[])?;
-    Program::new(&["run", "b1", "out", "s0"], &[]).expect_line_over(
-        &rt,
-        alloc,
-        &mut store,
-        "one update",
-        0,
-        "trace 1",
-    )?;
+    Program::new(&["run", "b1", "out", "s0"], &[])
+        .run_over(&rt, alloc, &mut store)?
+        .expect_line("one update", 0, "trace 1")?;
     for (updates, status, line) in LONG {
         let script = repeated(alloc, b"deposit 0 0\n", *updates)?;
         store.write(alloc, "s", &script)?;
-        Program::new(RESUME, &[]).expect_line_over(
-            &rt,
-            alloc,
-            &mut store,
-            "a long script",
-            *status,
-            line,
-        )?;
+        Program::new(RESUME, &[])
+            .run_over(&rt, alloc, &mut store)?
+            .expect_line("a long script", *status, line)?;
     }
     Ok(())
 }

@@ -271,7 +271,9 @@ fn told<R: Abort + Threads + Wait + Sync>(
 ) -> Result<(), Fail> {
     let mut store = store_with(alloc, story.fences)?;
     for (words, status, output) in story.calls {
-        Program::new(words, &[]).expect_over(rt, alloc, &mut store, story.name, *status, output)?;
+        Program::new(words, &[])
+            .run_over(rt, alloc, &mut store)?
+            .expect(story.name, *status, output)?;
     }
     Ok(())
 }

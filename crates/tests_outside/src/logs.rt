@@ -1,6 +1,6 @@
 //! A log over a real file, beside one over a device in memory that took the same calls.
 
-ghost use Rattle.std.specs.Prelude.{◌≡◌, ℕ, ◌^◌, ◌<◌, ◌≤◌, length, IfOk, IfSome};
+ghost use Rattle.std.specs.Prelude.{◌^◌, ◌<◌, ◌≤◌};
 ghost use Rattle.onll_pmem.specs.Pmem.{words_of, ToldSettled};
 ghost use Rattle.onll_outside.specs.Views.{BeginsWith, image_bytes};
 

@@ -44,14 +44,9 @@ fn two_generations(rt: HostRuntime) -> Result<(), Fail> {
     let alloc = rt.alloc();
     let mut store = Program::new(&[], FILES).store(alloc)?;
     for (words, status, line) in CALLS {
-        Program::new(words, &[]).expect_line_over(
-            &rt,
-            alloc,
-            &mut store,
-            "two generations",
-            *status,
-            line,
-        )?;
+        Program::new(words, &[])
+            .run_over(&rt, alloc, &mut store)?
+            .expect_line("two generations", *status, line)?;
     }
     Ok(())
 }

@@ -96,7 +96,9 @@ fn expect_end<R: Abort + Threads + Wait + Sync>(
 ) -> Result<(), Fail> {
     let name = program.words.first().copied().unwrap_or("");
     let mut store = program.store(alloc)?;
-    program.expect_over(rt, alloc, &mut store, name, status, output)?;
+    program
+        .run_over(rt, alloc, &mut store)?
+        .expect(name, status, output)?;
     assert!(rt;
         is_blank(&store, "out.0") == blank,
         "the log's file: {name}"

@@ -672,7 +672,9 @@ fn the_put_of_a_recovery_fails(rt: HostRuntime) -> Result<(), Fail> {
     };
     for case in PUTS {
         let mut store = store_of(alloc, case.init, case.images)?;
-        program.expect_over(&rt, alloc, &mut store, case.name, case.status, case.output)?;
+        program
+            .run_over(&rt, alloc, &mut store)?
+            .expect(case.name, case.status, case.output)?;
     }
     Ok(())
 }

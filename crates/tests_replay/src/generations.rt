@@ -221,7 +221,9 @@ fn told<R: Abort + Threads + Wait + Sync>(
 ) -> Result<(), Fail> {
     let mut store = Program::new(&[], story.files).store(alloc)?;
     for (words, status, output) in story.calls {
-        Program::new(words, &[]).expect_over(rt, alloc, &mut store, story.name, *status, output)?;
+        Program::new(words, &[])
+            .run_over(rt, alloc, &mut store)?
+            .expect(story.name, *status, output)?;
     }
     Ok(())
 }
@@ -242,7 +244,9 @@ fn once_more<R: Abort + Threads + Wait + Sync>(
     store: &mut MemStore,
     line: &str,
 ) -> Result<(), Fail> {
-    Program::new(AGAIN, &[]).expect_line_over(rt, alloc, store, "one generation more", 0, line)
+    Program::new(AGAIN, &[])
+        .run_over(rt, alloc, store)?
+        .expect_line("one generation more", 0, line)
 }
 
 /// The balance after each of ten generations.
@@ -264,7 +268,9 @@ fn ten_generations(rt: HostRuntime) -> Result<(), Fail> {
     let alloc = rt.alloc();
     let mut store = Program::new(&[], FILES).store(alloc)?;
     let replay = Program::new(REPLAY, &[]);
-    replay.expect_over(&rt, alloc, &mut store, "the first generation", 0, RETURNED)?;
+    replay
+        .run_over(&rt, alloc, &mut store)?
+        .expect("the first generation", 0, RETURNED)?;
     for line in BALANCES {
         once_more(&rt, alloc, &mut store, line)?;
     }
@@ -279,23 +285,13 @@ fn too_many_updates(rt: HostRuntime) -> Result<(), Fail> {
     let replay = Program::new(REPLAY, &[]);
     let _ = replay.run_over(&rt, alloc, &mut store)?;
     store.write(alloc, "s", &repeated(alloc, b"deposit 0 1\n", 4096)?)?;
-    Program::new(AGAIN, &[]).expect_over(
-        &rt,
-        alloc,
-        &mut store,
-        "4,097 updates",
-        3,
-        "refused s 0 too many\n",
-    )?;
+    Program::new(AGAIN, &[])
+        .run_over(&rt, alloc, &mut store)?
+        .expect("4,097 updates", 3, "refused s 0 too many\n")?;
     store.write(alloc, "s", &repeated(alloc, b"deposit 0 1\n", 4095)?)?;
-    Program::new(AGAIN, &[]).expect_line_over(
-        &rt,
-        alloc,
-        &mut store,
-        "4,096 updates",
-        0,
-        "resumed 1",
-    )
+    Program::new(AGAIN, &[])
+        .run_over(&rt, alloc, &mut store)?
+        .expect_line("4,096 updates", 0, "resumed 1")
 }
 
 /// The lines of the images of two threads, and what is said where none goes on from them.
@@ -328,14 +324,9 @@ fn from_lines<R: Abort + Threads + Wait + Sync>(
     let mut store = Program::new(&[], OLD_FILES).store(alloc)?;
     store.write(alloc, "out.0", &log("out.0", first).bytes(alloc)?)?;
     store.write(alloc, "out.1", &log("out.1", second).bytes(alloc)?)?;
-    Program::new(&["again", "i", "c", "out", "s", "s"], &[]).expect_over(
-        rt,
-        alloc,
-        &mut store,
-        "an old log",
-        4,
-        line,
-    )
+    Program::new(&["again", "i", "c", "out", "s", "s"], &[])
+        .run_over(rt, alloc, &mut store)?
+        .expect("an old log", 4, line)
 }
 
 #[test]

@@ -66,7 +66,9 @@ fn calls_that_fail(rt: HostRuntime) -> Result<(), Fail> {
             failing_puts: &[],
         };
         let mut store = program.store(alloc)?;
-        program.expect_over(&rt, alloc, &mut store, "a call fails", *status, output)?;
+        program
+            .run_over(&rt, alloc, &mut store)?
+            .expect("a call fails", *status, output)?;
         expect_images(&rt, alloc, &store, *images)?;
     }
     Ok(())
@@ -82,7 +84,9 @@ fn the_put_of_a_replay_fails(rt: HostRuntime) -> Result<(), Fail> {
         failing_puts: &[1],
     };
     let mut store = program.store(alloc)?;
-    program.expect_over(&rt, alloc, &mut store, "the put of a report fails", 6, "")?;
+    program
+        .run_over(&rt, alloc, &mut store)?
+        .expect("the put of a report fails", 6, "")?;
     expect_images(&rt, alloc, &store, 2)?;
     Ok(())
 }
@@ -202,14 +206,9 @@ fn sixteen_logs_are_recovered(rt: HostRuntime) -> Result<(), Fail> {
     let mut store = replay.store(rt.alloc())?;
     let _ = replay.run_over(&rt, rt.alloc(), &mut store)?;
     let recovery = Program::new(&["recover", "i", "out", "16"], &[]);
-    recovery.expect_over(
-        &rt,
-        rt.alloc(),
-        &mut store,
-        "sixteen logs",
-        0,
-        SIXTEEN_RECOVERED,
-    )
+    recovery
+        .run_over(&rt, rt.alloc(), &mut store)?
+        .expect("sixteen logs", 0, SIXTEEN_RECOVERED)
 }
 
 /// Two threads, each of which logs its own update.

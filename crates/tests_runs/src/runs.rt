@@ -37,11 +37,12 @@ fn what_was_run_is_recovered(rt: HostRuntime) -> Result<(), Fail> {
     let alloc = rt.alloc();
     let run = Program::new(ONE, FILES);
     let mut store = run.store(alloc)?;
-    run.expect_over(&rt, alloc, &mut store, "one thread", 0, REPORT)?;
+    run.run_over(&rt, alloc, &mut store)?
+        .expect("one thread", 0, REPORT)?;
     run.expect_legal(&rt, alloc, REPORT)?;
-    Program::new(&["recover", "i", "out", "1"], &[]).expect_over(
-        &rt, alloc, &mut store, "its log", 0, RECOVERED,
-    )
+    Program::new(&["recover", "i", "out", "1"], &[])
+        .run_over(&rt, alloc, &mut store)?
+        .expect("its log", 0, RECOVERED)
 }
 
 /// What a run of two threads prints, the second of which has no call.

@@ -177,7 +177,9 @@ fn what_a_failed_fence_leaves(rt: HostRuntime) -> Result<(), Fail> {
     let _run = program.run_over(&rt, alloc, &mut store)?;
     expect_head(&rt, &store, 320);
     for (words, output) in LEFT {
-        Program::new(words, &[]).expect_over(&rt, alloc, &mut store, "what was kept", 0, output)?;
+        Program::new(words, &[])
+            .run_over(&rt, alloc, &mut store)?
+            .expect("what was kept", 0, output)?;
     }
     Ok(())
 }

@@ -6,7 +6,7 @@ use std::process::Abort;
 use std::sync::Wait;
 use std::test::Fail;
 use std::thread::Threads;
-use tests_calls::{Program, WatchGate};
+use tests_calls::{Outcome, Program, WatchGate};
 
 const FILES: &[(&str, &[u8])] = &[
     ("b2", b"bank 2\n"),
@@ -26,21 +26,17 @@ const SECOND_BEGINS: Hold = Hold {
 };
 
 /// Runs the program over this store, with threads that are held so. No hold runs out of turns.
-fn expect_held<R: Abort + Threads + Wait + Sync>(
+fn run_held<R: Abort + Threads + Wait + Sync>(
     rt: &R,
     alloc: Global,
     words: &[&str],
     store: &mut MemStore,
     holds: &[Hold],
-    status: u8,
-    output: &str,
-) -> Result<(), Fail> {
+) -> Result<Outcome, Fail> {
     let gate = WatchGate::new(alloc, holds)?;
-    Program::new(words, &[])
-        .run_at(rt, alloc, store, &gate)?
-        .expect("a held run", status, output)?;
+    let outcome = Program::new(words, &[]).run_at(rt, alloc, store, &gate)?;
     assert!(rt; !gate.expired(), "a hold ran out of turns");
-    Ok(())
+    Ok(outcome)
 }
 
 /// Thread 0's update is ordered, and held until thread 1's update has come behind it, made both durable, and was answered.
@@ -71,7 +67,7 @@ const HELPED_REPORT: &str = "call 0 1 deposit 0 5 -> ok at 1\n\
 fn threads_overlap(rt: HostRuntime) -> Result<(), Fail> {
     let alloc = rt.alloc();
     let mut store = Program::new(TWO, FILES).store(alloc)?;
-    expect_held(&rt, alloc, TWO, &mut store, HELPED, 0, HELPED_REPORT)?;
+    run_held(&rt, alloc, TWO, &mut store, HELPED)?.expect("a held run", 0, HELPED_REPORT)?;
     Program::new(TWO, FILES).expect_legal(&rt, alloc, HELPED_REPORT)
 }
 
@@ -110,7 +106,7 @@ fn a_read_that_has_to_look(rt: HostRuntime) -> Result<(), Fail> {
     let alloc = rt.alloc();
     let words = &["run", "b2", "out", "s0", "reads"];
     let mut store = Program::new(words, FILES).store(alloc)?;
-    expect_held(&rt, alloc, words, &mut store, LOOKING, 0, LOOKING_REPORT)?;
+    run_held(&rt, alloc, words, &mut store, LOOKING)?.expect("a held run", 0, LOOKING_REPORT)?;
     Program::new(words, FILES).expect_legal(&rt, alloc, LOOKING_REPORT)
 }
 
@@ -157,14 +153,9 @@ fn a_window_keeps_what_a_failed_fence_lost(rt: HostRuntime) -> Result<(), Fail> 
         fence: 2,
     };
     let mut store = Program::new(TWO, FILES).store_with(alloc, &[fence])?;
-    expect_held(&rt, alloc, TWO, &mut store, WALKED, 7, BROKEN_REPORT)?;
+    run_held(&rt, alloc, TWO, &mut store, WALKED)?.expect("a held run", 7, BROKEN_REPORT)?;
     Program::new(TWO, FILES).expect_legal(&rt, alloc, BROKEN_REPORT)?;
-    Program::new(&["recover", "b2", "out", "2"], &[]).expect_over(
-        &rt,
-        alloc,
-        &mut store,
-        "what was kept",
-        0,
-        BROKEN_RECOVERED,
-    )
+    Program::new(&["recover", "b2", "out", "2"], &[])
+        .run_over(&rt, alloc, &mut store)?
+        .expect("what was kept", 0, BROKEN_RECOVERED)
 }

@@ -1,5 +1,5 @@
 -- What runs of short scripts on a bank need.
-use Rattle.std.proofs.Common.{◌≡◌, ℕ, zero, suc, ◌+◌, ◌*◌, ◌<◌, ◌≤◌, List, [], ◌∷◌, ◌++◌, length, map, refl, sym, ap, ◌∙◌, subst, arith}
+use Rattle.std.proofs.Common.{◌≡◌, ℕ, suc, ◌+◌, ◌*◌, ◌≤◌, List, [], ◌∷◌, ◌++◌, length, refl, sym, ap, subst, arith}
 use Rattle.std.specs.List.{AllByRecursion}
 use Rattle.std.proofs.lemmas.Nat.{mul-le}
 use Rattle.onll_model.specs.Limits.{most_updates}
@@ -11,7 +11,7 @@ use Rattle.onll_pmem.specs.Device.{new_device, zero_lines}
 use Rattle.onll_pmem.specs.Memory.{MemoryState, memory_view}
 use Rattle.onll_log.specs.declared.head.LogHead.{LogHead}
 use Rattle.onll_outside.specs.Views.{IsFresh}
-use Rattle.onll_run.specs.Making.{IsThreadHead, AreHeads}
+use Rattle.onll_log.specs.Head.{IsThreadHead, AreHeads}
 use Rattle.onll_run.specs.Left.{no_base}
 use Rattle.onll_run.specs.Ran.{AreRoomy, CanRun}
 use Rattle.onll_run.proofs.Anew.{new_base, new_roomy}

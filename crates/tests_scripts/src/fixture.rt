@@ -5,7 +5,7 @@ ghost use Rattle.std.specs.List.{AllByRecursion};
 ghost use Rattle.onll_pmem.specs.Device.{zero_lines};
 ghost use Rattle.onll_pmem.specs.Memory.{memory_view};
 ghost use Rattle.onll_outside.specs.Views.{IsFresh};
-ghost use Rattle.onll_run.specs.Making.{AreHeads};
+ghost use Rattle.onll_log.specs.Head.{AreHeads};
 
 use onll_bank::Bank;
 use onll_log::LogHead;

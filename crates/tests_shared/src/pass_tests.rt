@@ -1,5 +1,4 @@
 //! A note that a pass learns of another, a hold that runs out of turns, a full log, and a pass that goes on.
-ghost use Rattle.std.specs.Prelude.{◌≡◌, IfOk};
 ghost use Rattle.onll_bank.specs.Object.{bank};
 ghost use Rattle.onll_pmem.specs.Memory.{memory_view};
 ghost use Rattle.onll_shared.specs.Passes.{IsTied};

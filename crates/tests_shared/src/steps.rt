@@ -1,5 +1,4 @@
 //! Calls of a bank on a pass: what each answers, and which points of a gate it reaches.
-ghost use Rattle.std.specs.Prelude.{◌≡◌};
 ghost use Rattle.onll_bank.specs.Object.{bank};
 ghost use Rattle.onll_pmem.specs.Memory.{memory_view};
 ghost use Rattle.onll_shared.specs.Passes.{IsTied};

@@ -1,5 +1,4 @@
 //! Threads that try updates once each, and the points of a gate that a try reaches where another thread comes first.
-ghost use Rattle.std.specs.Prelude.{◌≡◌};
 ghost use Rattle.onll_bank.specs.Object.{bank};
 ghost use Rattle.onll_pmem.specs.Memory.{memory_view};
 ghost use Rattle.onll_shared.specs.Passes.{IsTied};

@@ -5,7 +5,7 @@ use Rattle.onll_model.proofs.Lists.{at_snoc, all_left, all_right, inside}
 use Rattle.onll_pmem.specs.Pmem.{DeviceView}
 use Rattle.onll_log.specs.Log.{LogState}
 use Rattle.onll_shared.specs.Passes.{OnllView, PassView, IsTied}
-use Rattle.onll_shared.specs.Starts.{AreLogs, IsWholeLogOf, HasBegun}
+use Rattle.onll_shared.specs.Starts.{AreLogs, IsWholeLogOf}
 
 -- one log more
 pub made_more : {Device : Type 0} (count n : ℕ) (logs new : List (LogState Device)) (log : LogState Device) → ((t : ℕ) (l : LogState Device) → slice_get logs t ≡ Some l → IsWholeLogOf count t l) → length logs ≡ n → IsWholeLogOf count n log → new ≡ logs ++ log ∷ []

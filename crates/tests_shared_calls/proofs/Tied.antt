@@ -1,9 +1,8 @@
-use Rattle.std.proofs.Common.{◌≡◌, ℕ, zero, suc, ◌+◌, ◌<◌, ◌≤◌, List, [], ◌∷◌, ◌++◌, length, map, refl, sym, ap, ◌∙◌, subst, arith}
+use Rattle.std.proofs.Common.{◌≡◌, ℕ, zero, suc, ◌+◌, ◌<◌, List, [], ◌∷◌, ◌++◌, length, map, refl, sym, ap, ◌∙◌, subst, arith}
 use Rattle.std.specs.List.{AllByRecursion, Contains, slice_index_or}
 use Rattle.onll_model.specs.Object.{Behaviour}
 use Rattle.onll_pmem.specs.Pmem.{DeviceView}
 use Rattle.onll_trace.specs.Spots.{SpotView, IsOf}
-use Rattle.onll_trace.specs.Closing.{AreAll}
 use Rattle.onll_shared.specs.Passes.{OnllView, PassView, IsTied, spot_of}
 use Rattle.tests_shared_calls.specs.Tied.{AreTied}
 

@@ -40,7 +40,8 @@ fn expect_stream<R: Threads + Wait + Sync>(
     let (first, second, stream, shipped, followed) = shipment;
     let mut store = logs(alloc, first, second, &[])?;
     let ship = Program::new(&["ship", "out", "2", "st"], &[]);
-    ship.expect_over(rt, alloc, &mut store, "ship", 0, shipped)?;
+    ship.run_over(rt, alloc, &mut store)?
+        .expect("ship", 0, shipped)?;
     let Ok(written) = store.read(alloc, "st", 1000) else {
         return Err("no stream".into());
     };
@@ -48,7 +49,9 @@ fn expect_stream<R: Threads + Wait + Sync>(
         return Err("another stream".into());
     }
     let follow = Program::new(&["follow", "b2", "2", "st", "100"], &[]);
-    follow.expect_over(rt, alloc, &mut store, "follow", 0, followed)
+    follow
+        .run_over(rt, alloc, &mut store)?
+        .expect("follow", 0, followed)
 }
 
 #[test]

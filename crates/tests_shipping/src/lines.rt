@@ -99,7 +99,9 @@ pub(crate) fn expect_rows<R: Threads + Wait + Sync>(
         let mut store = stream_store(alloc, lines, *count)?;
         let status = if says.starts_with("stream ") { 4 } else { 0 };
         let follow = Program::new(&["follow", "b2", "2", "st", "7"], &[]);
-        follow.expect_over(rt, alloc, &mut store, says, status, says)?;
+        follow
+            .run_over(rt, alloc, &mut store)?
+            .expect(says, status, says)?;
     }
     Ok(())
 }

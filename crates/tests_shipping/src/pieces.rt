@@ -45,7 +45,9 @@ fn follow_each<R: Threads + Wait + Sync>(
     for piece in 1..321u64 {
         let piece = buffer.format(piece);
         let words = ["follow", "b2", "2", "st", piece];
-        Program::new(&words, &[]).expect_over(rt, alloc, store, piece, 0, FOLLOWED)?;
+        Program::new(&words, &[])
+            .run_over(rt, alloc, store)?
+            .expect(piece, 0, FOLLOWED)?;
     }
     Ok(())
 }
@@ -60,14 +62,8 @@ fn each_piece(rt: HostRuntime) -> Result<(), Fail> {
         &[],
     )?;
     let ship = Program::new(&["ship", "out", "2", "st"], &[]);
-    ship.expect_over(
-        &rt,
-        alloc,
-        &mut store,
-        "ship",
-        0,
-        "shipped entries 1 bytes 320\n",
-    )?;
+    ship.run_over(&rt, alloc, &mut store)?
+        .expect("ship", 0, "shipped entries 1 bytes 320\n")?;
     follow_each(&rt, alloc, &mut store)
 }
 

@@ -25,7 +25,7 @@ fn expect_refusals<R: Threads + Wait + Sync>(rt: &R, alloc: Global) -> Result<()
     for (first, second, line) in REFUSALS {
         let mut store = logs(alloc, first, second, &[])?;
         let ship = Program::new(&["ship", "out", "2", "st"], &[]);
-        ship.expect_over(rt, alloc, &mut store, line, 4, line)?;
+        ship.run_over(rt, alloc, &mut store)?.expect(line, 4, line)?;
     }
     Ok(())
 }
@@ -45,7 +45,8 @@ fn expect_ship<R: Threads + Wait + Sync>(
 ) -> Result<(), Fail> {
     let mut store = logs(alloc, "H 0\n", "H 1\n", failing_calls)?;
     let ship = Program::new(&["ship", "out", "2", "st"], &[]);
-    ship.expect_over(rt, alloc, &mut store, line, status, line)
+    ship.run_over(rt, alloc, &mut store)?
+        .expect(line, status, line)
 }
 
 /// Of the store's calls the first and the second read, and the third writes.
@@ -98,11 +99,16 @@ fn over_an_image(rt: HostRuntime) -> Result<(), Fail> {
     let mut store = logs(alloc, first, second, &[])?;
     let ship = Program::new(&["ship", "out", "2", "out.1"], &[]);
     let says = "shipped entries 2 bytes 384\n";
-    ship.expect_over(&rt, alloc, &mut store, "ship", 0, says)?;
+    ship.run_over(&rt, alloc, &mut store)?
+        .expect("ship", 0, says)?;
     let follow = Program::new(&["follow", "b2", "2", "out.1", "7"], &[]);
     let followed = "taken 384\nheld 2\nfollowed 2\nstate\nbank 2\naccount 0 5\naccount 1 7\n";
-    follow.expect_over(&rt, alloc, &mut store, "follow", 0, followed)?;
+    follow
+        .run_over(&rt, alloc, &mut store)?
+        .expect("follow", 0, followed)?;
     let recover = Program::new(&["recover", "b2", "out", "2"], &[]);
     let lost = "log 1 not of this run\n";
-    recover.expect_over(&rt, alloc, &mut store, "recover", 4, lost)
+    recover
+        .run_over(&rt, alloc, &mut store)?
+        .expect("recover", 4, lost)
 }

@@ -3,42 +3,22 @@
 ghost use Rattle.std.specs.Prelude.{◌≡◌, ◌≤◌, ◌⊎◌, true, length, map, replicate, Ok, Err, IfOk, MatchResult};
 ghost use Rattle.std.specs.List.{All};
 ghost use Rattle.std.specs.Vec.{vec_capacity};
-ghost use Rattle.onll_model.specs.Limits.{most_threads, most_updates, greatest_code};
+ghost use Rattle.onll_model.specs.Limits.{most_threads, most_updates};
 ghost use Rattle.onll_model.specs.Calls.{updates_in};
 ghost use Rattle.onll_pmem.specs.Pmem.{words_of};
-ghost use Rattle.onll_log.specs.Head.{heads_from};
+ghost use Rattle.onll_start.specs.declared.fault.ResumeFault.TheVariants.{NoMemory as OutOfMemory};
 ghost use Rattle.onll_core.specs.Resume.{resumed};
 ghost use Rattle.onll_core.specs.Found.{found_threads, HaveLogRoom, locals_from};
-ghost use Rattle.onll_core.specs.declared.fault.ResumeFault.TheVariants.{NoMemory as OutOfMemory};
 
 use super::{Core, NAMES};
-use crate::fault::ResumeFault;
-use crate::found::{check_room, count_nodes, find, told_lines};
 use crate::local::Local;
 use crate::worker::{Worker, with_room};
-use onll_log::LogHead;
+use onll_log::{LogHead, new_heads};
 use onll_merge::LogCounts;
 use onll_model::{Call, Node, Object};
+use onll_start::{ResumeFault, check_room, count_nodes, find, told_lines};
 use onll_words::{Line, NoMemory};
 use std::alloc::Global;
-
-/// The heads of the logs of this many threads.
-fn first_heads(
-    alloc: Global,
-    threads: usize,
-    object: u64,
-    init: &[u8],
-) -> Result<Vec<LogHead>, NoMemory>
-    requires object { (1 ≤ object) × (object ≤ greatest_code) }
-    requires few { threads ≤ most_threads }
-    ensures { IfOk result (λ heads. heads.items ≡ heads_from threads object init.now 0 threads) }
-{
-    let mut heads = Vec::with_capacity(alloc, threads)?;
-    for thread in 0..threads {
-        heads.push(LogHead::new(thread as u64, threads as u64, object, init))?;
-    }
-    Ok(heads)
-}
 
 /// The threads of these scripts, each of which goes on in its log.
 fn found_workers<O: Object>(
@@ -121,7 +101,7 @@ impl<O: Object + Drop> Core<O> {
     {
         told_lines(images);
         let threads = scripts.len();
-        let heads = first_heads(alloc, threads, O::CODE, init)?;
+        let heads = new_heads(alloc, O::CODE, init, threads as u64)?;
         let mut after = object.copy(alloc)?;
         let found = find(alloc, &mut after, &heads, images)?;
         if let Err(fault) = check_room(&found.nodes, &found.logs, &scripts) {

@@ -1,8 +1,7 @@
 use Rattle.std.proofs.Common.{◌∙◌, ◌+◌, ◌-◌, arith, sym, ap, List, ℕ}
 use Rattle.onll_audit.specs.Form.{call_groups}
 use Rattle.onll_audit.specs.Values.{as_left, as_lines, as_groups}
-use Rattle.onll_audit.proofs.Running.{onto_groups}
-use Rattle.onll_audit.proofs.Running.{groups_more, groups_pushed}
+use Rattle.onll_audit.proofs.Running.{onto_groups, groups_more, groups_pushed}
 use Rattle.onll_audit.proofs.read.read_groups.Goals as goal
 
 pub loop-thread-preserved : goal.loop-thread-preserved

@@ -1,4 +1,5 @@
-use Rattle.onll_core.proofs.Based.{base_is, same_base, same_refusal}
+use Rattle.onll_start.proofs.Based.{base_is}
+use Rattle.onll_core.proofs.Based.{same_base, same_refusal}
 use Rattle.onll_core.proofs.crash_laws.base_law.Goals as goal
 
 pub returns-clause-base : goal.returns-clause-base

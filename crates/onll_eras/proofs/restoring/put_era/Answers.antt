@@ -1,5 +1,5 @@
 use Rattle.std.proofs.lemmas.Result.{on_ok_weaker}
-use Rattle.onll_recovery.proofs.FoldSteps.{begins_after}
+use Rattle.onll_task.proofs.LineSteps.{begins_after}
 use Rattle.onll_eras.specs.EraReports.{era_line}
 use Rattle.onll_eras.proofs.EraSays.{era_in_words}
 use Rattle.onll_eras.proofs.restoring.put_era.Goals as goal

@@ -3,8 +3,8 @@ use Rattle.std.proofs.lemmas.Result.{on_ok_weaker}
 use Rattle.onll_text.specs.Bytes.{begins_line}
 use Rattle.onll_text.specs.Lines.{node_lines}
 use Rattle.onll_text.proofs.Appending.{begins_line-lines}
-use Rattle.onll_recovery.proofs.RecoverSteps.{all_operations}
 use Rattle.onll_eras.proofs.restoring.put_found.Goals as goal
+use Rattle.onll_model.proofs.FoldLegal.{all_operations}
 
 pub put_nodes-requires-clause-operations : goal.put_nodes-requires-clause-operations
 put_nodes-requires-clause-operations g c κs within = rw c.deref-2.ensures.value (all_operations g.O.Object.means c.args.recovery.now.nodes.items c.requires.rows)

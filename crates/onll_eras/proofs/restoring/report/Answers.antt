@@ -1,4 +1,4 @@
-use Rattle.onll_recovery.proofs.FoldSteps.{begins_after}
+use Rattle.onll_task.proofs.LineSteps.{begins_after}
 use Rattle.onll_eras.specs.EraReports.{place_line}
 use Rattle.onll_eras.proofs.EraSays.{place_in_words}
 use Rattle.onll_eras.proofs.restoring.report.Goals as goal

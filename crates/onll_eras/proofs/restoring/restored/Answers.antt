@@ -5,7 +5,7 @@ use Rattle.std.proofs.lemmas.Bool.{lt-ltb}
 use Rattle.onll_words.specs.Texts.{line_text}
 use Rattle.onll_merge.specs.Recovered.{recovered_in}
 use Rattle.onll_text.specs.Reports.{SaysOnly}
-use Rattle.onll_recovery.specs.RecoverJob.{data_with}
+use Rattle.onll_task.specs.RecoverySaid.{data_with}
 use Rattle.onll_task.specs.declared.ending.Ending.TheVariants.{BadLog}
 use Rattle.onll_task.specs.Doing.{Fulfils, report_task, say_task}
 use Rattle.onll_task.proofs.Stages.{report_does}

@@ -4,7 +4,7 @@ use Rattle.onll_merge.specs.Recovered.{Recovered, expected_heads, state_recovere
 use Rattle.onll_text.specs.Kinds.{kind_by}
 use Rattle.onll_task.specs.Doing.{Fulfils}
 use Rattle.onll_task.proofs.Stages.{read_does, unread_does, by_given, by_begins, by_stops}
-use Rattle.onll_recovery.proofs.Standing.{state_stands}
+use Rattle.onll_task.proofs.Standing.{state_stands}
 use Rattle.onll_eras.specs.EraCall.{call_next, call_work, era_found}
 use Rattle.onll_eras.proofs.walk.over_one.Goals as goal
 

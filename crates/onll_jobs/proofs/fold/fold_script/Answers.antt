@@ -6,7 +6,7 @@ use Rattle.onll_text.specs.Bytes.{begins_line}
 use Rattle.onll_text.specs.Lines.{trace_line, node_lines}
 use Rattle.onll_text.specs.Reports.{NodeReads, StateReads}
 use Rattle.onll_text.proofs.Appending.{begins_line-line, begins_line-lines}
-use Rattle.onll_recovery.proofs.FoldSteps.{fold_operations}
+use Rattle.onll_jobs.proofs.FoldSteps.{fold_operations}
 use Rattle.onll_jobs.proofs.fold.fold_script.Goals as goal
 
 pub put_nodes-requires-clause-operations : goal.put_nodes-requires-clause-operations

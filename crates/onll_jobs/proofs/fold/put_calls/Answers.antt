@@ -6,7 +6,8 @@ use Rattle.onll_model.specs.Fold.{fold_trace, fold_ends, fold_state}
 use Rattle.onll_text.specs.Bytes.{with_lines}
 use Rattle.onll_text.specs.Lines.{call_line, call_lines}
 use Rattle.onll_text.specs.Reports.{EndReads}
-use Rattle.onll_recovery.proofs.FoldSteps.{begins_after, call_done, length-fold_ends}
+use Rattle.onll_jobs.proofs.FoldSteps.{call_done, length-fold_ends}
+use Rattle.onll_task.proofs.LineSteps.{begins_after}
 use Rattle.onll_jobs.proofs.fold.put_calls.Goals as goal
 
 pub loop-call-preserved : goal.loop-call-preserved

@@ -2,7 +2,7 @@ use Rattle.std.proofs.Common.{[], ◌∷◌, codes, decimal}
 use Rattle.std.proofs.lemmas.Result.{on_ok_weaker}
 use Rattle.onll_model.specs.Segment.{Segment}
 use Rattle.onll_log.specs.Cursor.{entries_left, first_nodes}
-use Rattle.onll_recovery.proofs.FoldSteps.{begins_after}
+use Rattle.onll_task.proofs.LineSteps.{begins_after}
 use Rattle.onll_jobs.proofs.ShowWords.{entry_in_words, entry_parts}
 use Rattle.onll_jobs.proofs.show.put_entry.Goals as goal
 

@@ -1,7 +1,7 @@
 use Rattle.std.proofs.Common.{◌∙◌}
 use Rattle.std.proofs.lemmas.Result.{on_ok_weaker}
 use Rattle.onll_log.specs.Grammar.{used_by}
-use Rattle.onll_recovery.proofs.FoldSteps.{begins_after}
+use Rattle.onll_task.proofs.LineSteps.{begins_after}
 use Rattle.onll_jobs.specs.ShowJob.{head_line}
 use Rattle.onll_jobs.proofs.ShowWords.{log_parts, log_reads}
 use Rattle.onll_jobs.proofs.show.put_log.Goals as goal

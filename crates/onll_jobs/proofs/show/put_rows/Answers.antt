@@ -8,7 +8,7 @@ use Rattle.onll_log.specs.Cursor.{entries_left, first_nodes}
 use Rattle.onll_merge.proofs.Standings.{get_is}
 use Rattle.onll_text.specs.Bytes.{with_lines}
 use Rattle.onll_jobs.specs.ShowJob.{row_line, row_lines, RowReads}
-use Rattle.onll_recovery.proofs.FoldSteps.{begins_after}
+use Rattle.onll_task.proofs.LineSteps.{begins_after}
 use Rattle.onll_jobs.proofs.ShowWords.{row_lines_more}
 use Rattle.onll_jobs.proofs.show.put_rows.Goals as goal
 

@@ -1,5 +1,5 @@
 use Rattle.std.proofs.Common.{map, ap, ◌∙◌, subst}
-use Rattle.onll_open.specs.Devices.{HandsEach}
+use Rattle.onll_outside.specs.Views.{HandsEach}
 use Rattle.onll_run.specs.Making.{device_of}
 use Rattle.onll_open.specs.Keeping.{AreKept, AreWhole, KeepFails}
 use Rattle.onll_open.proofs.Kept.{devices_are}

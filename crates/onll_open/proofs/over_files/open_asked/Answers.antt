@@ -4,6 +4,7 @@ use Rattle.std.proofs.lemmas.Result.{err_from_is_err_and}
 use Rattle.onll_open.specs.Heads.{heads_of}
 use Rattle.onll_open.proofs.Handing.{counts_more}
 use Rattle.onll_open.proofs.Locked.{held_others, lock_alone, lock_cannot, logs_locked, not_opened, open_faults}
+use Rattle.onll_open.specs.Opening.{written_at}
 use Rattle.onll_open.proofs.Onwards.{cannot_there, lost_last, lost_there, opened_there}
 use Rattle.onll_open.proofs.over_files.open_asked.Goals as goal
 
@@ -110,7 +111,7 @@ returns-in-Ok-clause-kept g c =
     let heads = heads_of g.O.Object.CODE (g.O.Described.description c.args.object) threads in
     let done = g.S.Store.seen c.open_held.new.store in
     let same = logs_locked logs old mid c.in_ok-name.ensures.others in
-    lost_there b old mid logs same heads threads asked done c.in-Ok.ensures.kept
+    lost_there b old mid logs same heads threads asked heads done c.in-Ok.ensures.kept
 
 pub returns-in-Ok-clause-others : goal.returns-in-Ok-clause-others
 returns-in-Ok-clause-others g c =
@@ -166,4 +167,5 @@ returns-clause-kept g c =
     let done = g.S.Store.seen c.open_held.new.store in
     let same = logs_locked logs old mid c.in_ok-name.ensures.others in
     let last = g.S.Store.seen c.unlock_logs.new.store in
-    lost_there b old mid logs same heads threads asked last (lost_last b old mid logs same heads threads asked done last c.unlock_logs.ensures.same c.in-Err.ensures.kept)
+    let written = written_at heads c.in-Err.fault in
+    lost_there b old mid logs same heads threads asked written last (lost_last b old mid logs same heads threads asked written done last c.unlock_logs.ensures.same c.in-Err.ensures.kept)

@@ -7,10 +7,10 @@ use Rattle.onll_open.specs.Devices.{fronts_by}
 use Rattle.onll_open.specs.Files.{SameBut}
 use Rattle.onll_open.specs.Names.{log_names}
 use Rattle.onll_open.specs.Rooms.{first_full}
-use Rattle.onll_open.specs.Opening.{NotOpenedOver, CannotOpen, GoesOn, HasFound, HasOpened, HeldFaults}
+use Rattle.onll_open.specs.Opening.{NotOpenedOver, CannotOpen, GoesOn, HasFound, HasOpened, HeldFaults, written_by}
 use Rattle.onll_open.proofs.GivenLogs.{gives_found}
 use Rattle.onll_open.proofs.Locked.{logs_of_files}
-use Rattle.onll_open.proofs.Onwards.{cannot_of, faults_of, found_here, go_on_cannot, held_faults, others_there, room_cannot, room_faults, keep_there}
+use Rattle.onll_open.proofs.Onwards.{cannot_of, faults_of, found_here, go_on_cannot, held_faults, others_there, room_cannot, room_faults, keep_there, leave_kept}
 use Rattle.onll_open.proofs.over_files.open_held.Goals as goal
 
 pub returns-in_err-found-clause-refused : goal.returns-in_err-found-clause-refused
@@ -199,7 +199,8 @@ returns-clause-kept g c =
     let has = subst (λ hs. HasFound b old logs hs threads kept.images.items found) c.in_ok-found.ensures.heads c.in_ok-found.ensures.found in
     let gives = gives_found b old logs heads threads kept.images.items found has in
     let new = g.S.Store.seen c.open_found.new.store in
-    inr (kept.images.items, found, has, c.in_ok-rooms.ensures.given, keep_there logs 0 (fronts_by found.logs kept.images.items) old mid new same c.open_found.ensures.kept)
+    let fronts = fronts_by found.logs kept.images.items in
+    inr (kept.images.items, found, has, c.in_ok-rooms.ensures.given, leave_kept logs 0 (written_by heads c.open_found.result) fronts old new (keep_there logs 0 fronts old mid new same c.open_found.ensures.kept))
 
 pub returns-clause-others : goal.returns-clause-others
 returns-clause-others g c =

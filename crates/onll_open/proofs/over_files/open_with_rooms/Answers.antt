@@ -1,6 +1,6 @@
 use Rattle.std.proofs.Common.{◌≡◌, Some, length, rules, subst}
 use Rattle.onll_open.specs.Heads.{heads_of}
-use Rattle.onll_open.specs.Opening.{NothingLost}
+use Rattle.onll_open.specs.Opening.{NothingLost, written_by}
 use Rattle.onll_open.proofs.over_files.open_with_rooms.Goals as goal
 
 pub returns-clause-kept : goal.returns-clause-kept
@@ -11,4 +11,4 @@ returns-clause-kept g c =
     let threads = length c.args.rooms.now in
     let heads = heads_of g.O.Object.CODE (g.O.Described.description c.args.object) threads in
     let is : c.in_ok-asked.asked.items ≡ c.args.rooms.now = search rules in
-    subst (λ rs. NothingLost b old logs heads threads (Some rs) (g.S.Store.seen c.open_asked.new.store)) is c.open_asked.ensures.kept
+    subst (λ rs. NothingLost b old logs heads threads (Some rs) (written_by heads c.open_asked.result) (g.S.Store.seen c.open_asked.new.store)) is c.open_asked.ensures.kept

@@ -11,7 +11,7 @@ returns-in-Ok g c =
     let k = kind_by g.O.Object.means g.O.Texted.wording g.O.Object.CODE in
     let scripts = map (λ script. script.items) c.args.scripts.items in
     let count : c.len.result ≡ length c.args.scripts.items = search rules in
-    read_does (λ (plan : Schedule). goes_on_task k c.args.init.now c.args.object c.args.logs.now (map string_bytes c.args.names.now) scripts plan)
+    read_does (λ (plan : Schedule). goes_on_task k c.args.texts.now.init.now c.args.object c.args.texts.now.logs.now (map string_bytes c.args.texts.now.scripts.now) scripts plan)
     (rw (count ∙ sym (length-map c.args.scripts.items (λ script. script.items))) at c.in-Ok.ensures.begins) c.read_on.ensures
 
 pub returns-in-Err : goal.returns-in-Err
@@ -19,5 +19,5 @@ returns-in-Err g c =
     let k = kind_by g.O.Object.means g.O.Texted.wording g.O.Object.CODE in
     let scripts = map (λ script. script.items) c.args.scripts.items in
     let count : c.len.result ≡ length c.args.scripts.items = search rules in
-    unread_does _ (λ (plan : Schedule). goes_on_task k c.args.init.now c.args.object c.args.logs.now (map string_bytes c.args.names.now) scripts plan)
+    unread_does _ (λ (plan : Schedule). goes_on_task k c.args.texts.now.init.now c.args.object c.args.texts.now.logs.now (map string_bytes c.args.texts.now.scripts.now) scripts plan)
     (rw (count ∙ sym (length-map c.args.scripts.items (λ script. script.items))) at c.in-Err.ensures.begins)

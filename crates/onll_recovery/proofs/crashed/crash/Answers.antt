@@ -2,7 +2,7 @@ use Rattle.std.proofs.Common.{map, length, ap, ◌∙◌}
 use Rattle.onll_core.specs.Outcomes.{script_of}
 use Rattle.onll_core.specs.Crash.{images_of}
 use Rattle.onll_recovery.proofs.Replays.{images_count, crash_does, crash_stops}
-use Rattle.onll_recovery.proofs.Standing.{stand_many}
+use Rattle.onll_task.proofs.Standing.{stand_many}
 use Rattle.onll_recovery.proofs.crashed.crash.Goals as goal
 
 pub crash_answer-requires-clause-images : goal.crash_answer-requires-clause-images

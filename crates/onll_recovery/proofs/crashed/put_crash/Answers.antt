@@ -1,6 +1,6 @@
 use Rattle.std.proofs.lemmas.Result.{on_ok_weaker}
 use Rattle.onll_recovery.specs.ReplayJob.{crash_line}
-use Rattle.onll_recovery.proofs.FoldSteps.{begins_after}
+use Rattle.onll_task.proofs.LineSteps.{begins_after}
 use Rattle.onll_recovery.proofs.ReplaySteps.{crash_in_words}
 use Rattle.onll_recovery.proofs.crashed.put_crash.Goals as goal
 

@@ -6,7 +6,7 @@ use Rattle.std.specs.Option.{IfSome}
 use Rattle.onll_core.specs.Fences.{fences_of}
 use Rattle.onll_merge.specs.declared.counts.LogCounts.{LogCounts}
 use Rattle.onll_text.specs.Lines.{log_line}
-use Rattle.onll_recovery.proofs.FoldSteps.{begins_after}
+use Rattle.onll_task.proofs.LineSteps.{begins_after}
 use Rattle.onll_text.specs.Reports.{LogReads}
 use Rattle.onll_recovery.specs.ReplayJob.{counts_of}
 use Rattle.onll_recovery.proofs.PrintedReads.{logs_more}

@@ -6,7 +6,7 @@ use Rattle.std.specs.Option.{IsSome}
 use Rattle.onll_model.specs.declared.node.Node.{Node}
 use Rattle.onll_text.specs.Lines.{node_line}
 use Rattle.onll_text.specs.Reports.{NodeReads}
-use Rattle.onll_recovery.proofs.FoldSteps.{begins_after}
+use Rattle.onll_task.proofs.LineSteps.{begins_after}
 use Rattle.onll_recovery.proofs.ReplaySteps.{flagged_more}
 use Rattle.onll_recovery.proofs.crashed.put_flagged.Goals as goal
 

@@ -1,6 +1,6 @@
 use Rattle.std.proofs.Common.{length}
 use Rattle.onll_text.specs.Lines.{trace_line}
-use Rattle.onll_recovery.proofs.FoldSteps.{begins_after}
+use Rattle.onll_task.proofs.LineSteps.{begins_after}
 use Rattle.onll_recovery.proofs.crashed.put_run.Goals as goal
 
 pub put_flagged-requires-clause-begins : goal.put_flagged-requires-clause-begins

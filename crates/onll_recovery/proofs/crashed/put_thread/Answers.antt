@@ -2,9 +2,9 @@ use Rattle.std.proofs.Common.{◌+◌, ◌++◌, drop, map, arith, sym, ◌∙�
 use Rattle.std.proofs.lemmas.List.{drop_all}
 use Rattle.onll_core.specs.Outcomes.{returned_end, current_ends}
 use Rattle.onll_text.specs.Lines.{call_line}
-use Rattle.onll_recovery.proofs.FoldSteps.{begins_after}
-use Rattle.onll_recovery.proofs.ReplaySteps.{call_more, calls_done, script_done}
-use Rattle.onll_recovery.proofs.PrintedReads.{end_reads, no_end, ends_done}
+use Rattle.onll_task.proofs.LineSteps.{begins_after, call_more, script_done}
+use Rattle.onll_recovery.proofs.ReplaySteps.{calls_done}
+use Rattle.onll_task.proofs.PrintedReads.{end_reads, no_end, ends_done}
 use Rattle.onll_recovery.proofs.crashed.put_thread.Goals as goal
 
 pub returns-in_default-clause-lines : goal.returns-in_default-clause-lines

@@ -4,7 +4,7 @@ use Rattle.onll_task.specs.Images.{AllDecide}
 use Rattle.onll_task.proofs.Onwards.{none_wrote, wrote_next}
 use Rattle.onll_task.proofs.Stages.{cut_begins, unwritten_begins, wrote_begins}
 use Rattle.onll_recovery.proofs.Replays.{images_count}
-use Rattle.onll_recovery.proofs.Standing.{stand_next, all_stand}
+use Rattle.onll_task.proofs.Standing.{stand_next, all_stand}
 use Rattle.onll_recovery.proofs.crashed.write_all.Goals as goal
 
 pub loop-thread-init : goal.loop-thread-init

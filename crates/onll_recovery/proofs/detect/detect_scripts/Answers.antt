@@ -4,7 +4,7 @@ use Rattle.onll_text.specs.Kinds.{kind_by}
 use Rattle.onll_task.specs.Doing.{Fulfils}
 use Rattle.onll_task.proofs.Stages.{read_does, stop_does, by_given, by_begins, by_stops}
 use Rattle.onll_recovery.specs.DetectJob.{outcomes_task, detected_task}
-use Rattle.onll_recovery.proofs.Standing.{state_stands}
+use Rattle.onll_task.proofs.Standing.{state_stands}
 use Rattle.onll_recovery.proofs.detect.detect_scripts.Goals as goal
 
 pub returns-in-Ok : goal.returns-in-Ok

@@ -6,9 +6,9 @@ use Rattle.onll_recovery.proofs.replay.replay_on.Goals as goal
 
 pub returns-in-Ok : goal.returns-in-Ok
 returns-in-Ok g c =
-    read_does (schedule_task (kind_by g.O.Object.means g.O.Texted.wording g.O.Object.CODE) c.args.init.now c.args.object c.args.schedule.now c.args.logs.now) c.in-Ok.ensures.begins
+    read_does (schedule_task (kind_by g.O.Object.means g.O.Texted.wording g.O.Object.CODE) c.args.texts.now.init.now c.args.object c.args.texts.now.schedule.now c.args.texts.now.logs.now) c.in-Ok.ensures.begins
     (rw (sym c.in-Ok.ensures.count) c.replay_scripts.ensures)
 
 pub returns-in-Err : goal.returns-in-Err
 returns-in-Err g c =
-    unread_does _ (schedule_task (kind_by g.O.Object.means g.O.Texted.wording g.O.Object.CODE) c.args.init.now c.args.object c.args.schedule.now c.args.logs.now) c.in-Err.ensures.begins
+    unread_does _ (schedule_task (kind_by g.O.Object.means g.O.Texted.wording g.O.Object.CODE) c.args.texts.now.init.now c.args.object c.args.texts.now.schedule.now c.args.texts.now.logs.now) c.in-Err.ensures.begins

@@ -1,9 +1,8 @@
 use Rattle.std.proofs.Common.{◌+◌, drop, arith, ◌∙◌}
 use Rattle.std.proofs.lemmas.List.{drop_all}
 use Rattle.onll_text.specs.Lines.{call_line}
-use Rattle.onll_recovery.proofs.FoldSteps.{begins_after}
-use Rattle.onll_recovery.proofs.ReplaySteps.{call_more, script_done}
-use Rattle.onll_recovery.proofs.PrintedReads.{end_reads, ends_done}
+use Rattle.onll_task.proofs.LineSteps.{begins_after, call_more, script_done}
+use Rattle.onll_task.proofs.PrintedReads.{end_reads, ends_done}
 use Rattle.onll_runner.proofs.ReportSteps.{here_at}
 use Rattle.onll_runner.proofs.report.put_ends.Goals as goal
 

@@ -1,6 +1,6 @@
 use Rattle.std.proofs.lemmas.Result.{on_ok_weaker}
 use Rattle.onll_text.specs.Lines.{fence_line}
-use Rattle.onll_recovery.proofs.FoldSteps.{begins_after}
+use Rattle.onll_task.proofs.LineSteps.{begins_after}
 use Rattle.onll_runner.proofs.ReportSteps.{fault_in_words}
 use Rattle.onll_runner.proofs.report.put_fault.Goals as goal
 

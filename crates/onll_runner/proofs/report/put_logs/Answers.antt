@@ -5,7 +5,7 @@ use Rattle.std.proofs.lemmas.List.Elements.{All-nil}
 use Rattle.onll_merge.specs.declared.counts.LogCounts.{LogCounts}
 use Rattle.onll_text.specs.Lines.{log_line}
 use Rattle.onll_text.specs.Reports.{LogReads}
-use Rattle.onll_recovery.proofs.FoldSteps.{begins_after}
+use Rattle.onll_task.proofs.LineSteps.{begins_after}
 use Rattle.onll_runner.proofs.ReportSteps.{told, counts_at, log_more, log_reads}
 use Rattle.onll_runner.proofs.report.put_logs.Goals as goal
 

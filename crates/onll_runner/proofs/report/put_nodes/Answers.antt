@@ -1,7 +1,7 @@
 use Rattle.std.proofs.Common.{◌+◌, false, [], Some, get_or, arith, ◌∙◌}
 use Rattle.onll_trace.specs.declared.trace.Ended.{Ended}
 use Rattle.onll_text.specs.Lines.{node_line}
-use Rattle.onll_recovery.proofs.FoldSteps.{begins_after}
+use Rattle.onll_task.proofs.LineSteps.{begins_after}
 use Rattle.onll_runner.proofs.ReportSteps.{node_more, node_reads, operations_more}
 use Rattle.onll_runner.proofs.report.put_nodes.Goals as goal
 

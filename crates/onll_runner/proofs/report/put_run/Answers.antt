@@ -6,7 +6,7 @@ use Rattle.onll_model.specs.declared.node.Node.{Node}
 use Rattle.onll_trace.specs.declared.trace.Ended.{Ended}
 use Rattle.onll_run.specs.Ran.{script_in, node_in}
 use Rattle.onll_text.specs.Lines.{trace_line}
-use Rattle.onll_recovery.proofs.FoldSteps.{begins_after}
+use Rattle.onll_task.proofs.LineSteps.{begins_after}
 use Rattle.onll_runner.proofs.report.put_run.Goals as goal
 
 pub put_nodes-requires-clause-begins : goal.put_nodes-requires-clause-begins

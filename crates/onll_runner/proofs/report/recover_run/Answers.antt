@@ -3,7 +3,7 @@ use Rattle.std.proofs.lemmas.Result.{IfOk-weaker}
 use Rattle.onll_model.specs.Trace.{state_after}
 use Rattle.onll_run.specs.Ended.{log_left}
 use Rattle.onll_run.specs.Ran.{left_in, node_in, script_in}
-use Rattle.onll_runner.proofs.RunRecovers.{logs_of_run, ok_with}
+use Rattle.onll_task.proofs.RunRecovers.{logs_of_run, ok_with}
 use Rattle.onll_runner.proofs.report.recover_run.Goals as goal
 
 pub recover_logs-requires-after_bounds : goal.recover_logs-requires-after_bounds

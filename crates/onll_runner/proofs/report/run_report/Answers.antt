@@ -1,6 +1,6 @@
 use Rattle.std.proofs.Common.{map}
 use Rattle.onll_run.specs.Ran.{script_in, left_in}
-use Rattle.onll_runner.proofs.RunRecovers.{over_operations}
+use Rattle.onll_task.proofs.RunRecovers.{over_operations}
 use Rattle.onll_runner.proofs.report.run_report.Goals as goal
 
 pub put_run-requires-clause-operations : goal.put_run-requires-clause-operations

@@ -2,11 +2,11 @@ use Rattle.std.proofs.Common.{rules, ℕ, List, ◌≡◌, Err, length, map, str
 use Rattle.std.proofs.lemmas.List.{length-map, map-id}
 use Rattle.onll_log.specs.declared.head.LogHead.{LogHead}
 use Rattle.onll_merge.specs.Recovered.{recovered_in}
-use Rattle.onll_core.specs.Resume.{base_in}
-use Rattle.onll_run.specs.Making.{AreHeads}
+use Rattle.onll_log.specs.Head.{AreHeads}
+use Rattle.onll_start.specs.Start.{base_in}
 use Rattle.onll_open.specs.Names.{log_names}
 use Rattle.onll_text.specs.Kinds.{kind_by}
-use Rattle.onll_runner.specs.ResumeJob.{AreRead}
+use Rattle.onll_runner.specs.ResumeJob.{AreKeptImages}
 use Rattle.onll_runner.proofs.RunSteps.{made_heads}
 use Rattle.onll_runner.proofs.Based.{found_does, refused_does, sized_again}
 use Rattle.onll_runner.proofs.NewGrounds.{found_ground}
@@ -27,7 +27,7 @@ run_over-requires-clause-ground g c κs within =
     let found = rw (c.deref.ensures.value, c.deref-3.ensures.value, c.deref-2.ensures.value, map-id c.args.kept.images.items) at c.in-Ok.ensures.base in
     found_ground k.means c.args.from.now.logs.now c.in_ok-heads.heads.items (recovered_in c.in-Ok.recovery) c.args.kept.images.items c.args.kept.counts.items calls (g.S.Store.seen c.args.store.now)
     (c.in_ok-heads.ensures.count ∙ count ∙ same) (subst (λ n. AreHeads n 0 c.in_ok-heads.heads.items) (count ∙ same) c.in_ok-heads.ensures.fit)
-    (subst (λ n. AreRead c.args.from.now.logs.now n c.args.kept.images.items c.args.kept.counts.items (g.S.Store.seen c.args.store.now)) same c.requires.images) found
+    (subst (λ n. AreKeptImages c.args.from.now.logs.now n c.args.kept.images.items c.args.kept.counts.items (g.S.Store.seen c.args.store.now)) same c.requires.images) found
 
 pub returns-in-Ok : goal.returns-in-Ok
 returns-in-Ok g c = λ threads stands.
@@ -44,7 +44,7 @@ returns-in-Ok g c = λ threads stands.
     found_does {k = k} threads c.args.from.now.init.now c.args.from.now.logs.now (map string_bytes c.args.from.now.names.now) c.args.object (log_names c.args.from.now.logs.now 0 (length scripts)) heads calls images created
     store (g.S.Store.seen c.run_over.new.store) c.run_over.result found.all found.is
     (sized_again k (λ script. script.items) c.args.from.now.logs.now heads scripts images c.args.kept.counts.items store (recovered_in c.in-Ok.recovery) found c.args.object threads
-    (subst (λ n. AreRead c.args.from.now.logs.now n images c.args.kept.counts.items store) same c.requires.images) (g.S.Store.seen c.run_over.new.store) c.run_over.result (c.run_over.ensures threads stands))
+    (subst (λ n. AreKeptImages c.args.from.now.logs.now n images c.args.kept.counts.items store) same c.requires.images) (g.S.Store.seen c.run_over.new.store) c.run_over.result (c.run_over.ensures threads stands))
 
 pub returns : goal.returns
 returns g c = λ threads stands.

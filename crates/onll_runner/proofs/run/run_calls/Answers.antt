@@ -3,7 +3,7 @@ use Rattle.std.proofs.lemmas.List.{length-map}
 use Rattle.onll_model.specs.Limits.{most_threads}
 use Rattle.onll_pmem.specs.Device.{zero_lines}
 use Rattle.onll_merge.specs.Recovered.{recovered_in}
-use Rattle.onll_run.specs.Making.{AreHeads}
+use Rattle.onll_log.specs.Head.{AreHeads}
 use Rattle.onll_open.specs.Devices.{no_counts}
 use Rattle.onll_text.specs.Kinds.{kind_by}
 use Rattle.onll_runner.proofs.RunSteps.{all_updates, made_heads}

@@ -1,7 +1,7 @@
 use Rattle.std.proofs.Common.{map, ◌∙◌}
 use Rattle.std.proofs.lemmas.List.{map-id}
 use Rattle.onll_shared.specs.Found.{content_held, head_held}
-use Rattle.onll_shared.proofs.Merging.{merged_nodes, merged_fault, each_merged}
+use Rattle.onll_merge.proofs.Images.{merged_nodes, merged_fault, each_merged}
 use Rattle.onll_shared.proofs.found.merge_logs.Goals as goal
 
 pub returns-in-Ok-merge_images : goal.returns-in-Ok-merge_images

@@ -1,6 +1,5 @@
-use Rattle.std.proofs.Common.{[], ◌∷◌, decimal}
+use Rattle.std.proofs.Common.{[], ◌∷◌, decimal, ap, ◌∙◌}
 use Rattle.std.proofs.lemmas.Result.{on_ok_weaker}
-use Rattle.std.proofs.Common.{ap, ◌∙◌}
 use Rattle.onll_words.proofs.Decimals.{IsWord-decimal}
 use Rattle.onll_text.specs.Bytes.{begins_line}
 use Rattle.onll_text.proofs.Appending.{begins_line-line}

@@ -1,7 +1,7 @@
 use Rattle.std.proofs.Common.{◌≡◌, ◌++◌, drop, map, take}
 use Rattle.std.specs.List.{AllByRecursion, flat_map}
 use Rattle.onll_log.specs.Torn.{AreLines}
-use Rattle.onll_task.specs.Images.{image_bytes}
+use Rattle.onll_outside.specs.Views.{image_bytes}
 use Rattle.onll_shipping.proofs.turns.put_heads.Given as goal
 
 -- the images that are left make the lines that all make

@@ -1,6 +1,6 @@
 use Rattle.std.proofs.Common.{◌≡◌, ◌+◌, ◌*◌, ◌++◌, drop, length}
 use Rattle.onll_pmem.specs.Pmem.{words_of}
-use Rattle.onll_task.specs.Images.{image_bytes}
+use Rattle.onll_outside.specs.Views.{image_bytes}
 use Rattle.onll_shipping.proofs.turns.put_lines.Given as goal
 
 -- the lines that are left make the bytes that all make

@@ -1,6 +1,6 @@
 use Rattle.std.proofs.Common.{List, ℕ, ◌+◌, ◌≡◌, ◌++◌, length, map, take, drop, ap, ◌∙◌, arith}
 use Rattle.std.specs.List.{flat_map}
-use Rattle.onll_task.specs.Images.{image_bytes}
+use Rattle.onll_outside.specs.Views.{image_bytes}
 use Rattle.onll_shipping.specs.Turns.{put_in_turns}
 use Rattle.onll_shipping.proofs.ReadyLogs.{made_bytes, made_entries}
 use Rattle.onll_shipping.proofs.turns.stream_of.Goals as goal

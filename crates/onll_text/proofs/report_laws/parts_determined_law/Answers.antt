@@ -1,4 +1,5 @@
-use Rattle.onll_text.proofs.Determined.{text_determined, calls_determined, nodes_determined}
+use Rattle.onll_words.proofs.Joined.{text_determined}
+use Rattle.onll_text.proofs.Determined.{calls_determined, nodes_determined}
 use Rattle.onll_text.proofs.report_laws.parts_determined_law.Goals as goal
 
 pub returns-clause-texts : goal.returns-clause-texts

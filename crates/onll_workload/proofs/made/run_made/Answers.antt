@@ -2,7 +2,7 @@ use Rattle.std.proofs.Common.{List, sym, ap, ◌∙◌, subst, length, map}
 use Rattle.onll_log.specs.declared.head.LogHead.{LogHead}
 use Rattle.onll_bank.specs.Object.{bank}
 use Rattle.onll_run.specs.Left.{HasRun, no_base}
-use Rattle.onll_run.specs.Making.{AreHeads}
+use Rattle.onll_log.specs.Head.{AreHeads}
 use Rattle.onll_run.specs.Ran.{anew, left_by}
 use Rattle.onll_workload.specs.Faultless.{faultless_view}
 use Rattle.onll_workload.proofs.Begun.{can_run}

@@ -5,7 +5,7 @@ use Rattle.onll_bank.specs.Object.{bank}
 use Rattle.onll_run.specs.Left.{no_base}
 use Rattle.onll_run.specs.Ended.{log_left}
 use Rattle.onll_run.specs.Ran.{left_by, node_in, script_in}
-use Rattle.onll_runner.proofs.RunRecovers.{logs_of_run}
+use Rattle.onll_task.proofs.RunRecovers.{logs_of_run}
 use Rattle.onll_workload.specs.Faultless.{faultless_view}
 use Rattle.onll_workload.proofs.made.summarize.Goals as goal
 

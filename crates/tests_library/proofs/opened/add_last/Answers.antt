@@ -1,4 +1,4 @@
-use Rattle.std.proofs.Common.{◌≡◌, List, [], ◌∷◌, ◌++◌, map, subst, sym}
+use Rattle.std.proofs.Common.{map, subst, sym}
 use Rattle.std.specs.List.{AllByRecursion}
 use Rattle.onll_trace.specs.Closing.{AreAll}
 use Rattle.onll_shared.specs.Passes.{IsTied, spot_of}

@@ -1,5 +1,5 @@
 use denote.Param.Send.{sendable}
-use Rattle.std.proofs.Common.{rules, ◌≡◌, sym, ap, ◌∙◌}
+use Rattle.std.proofs.Common.{rules, sym, ap, ◌∙◌}
 use Rattle.onll_shared.specs.Passes.{PassView}
 use Rattle.tests_shared_calls.proofs.Tied.{tied_at, all_again}
 use Rattle.tests_shared_calls.proofs.threads.work_all.Goals as goal

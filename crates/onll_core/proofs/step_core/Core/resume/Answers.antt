@@ -4,18 +4,18 @@ use Rattle.std.specs.Vec.{vec_capacity}
 use Rattle.onll_model.specs.Trace.{state_after}
 use Rattle.onll_pmem.specs.Pmem.{words_of}
 use Rattle.onll_merge.specs.Recovered.{recovered_in}
-use Rattle.onll_core.specs.Created.{created_heads}
+use Rattle.onll_start.specs.Heads.{created_heads}
 use Rattle.onll_log.specs.Head.{heads_from}
-use Rattle.onll_core.specs.Resume.{found_in, too_many}
-use Rattle.onll_core.specs.Found.{IsFound}
-use Rattle.onll_core.proofs.Created.{length-heads_from}
+use Rattle.onll_start.specs.Start.{found_in, too_many}
+use Rattle.onll_start.specs.Found.{IsFound}
+use Rattle.onll_start.proofs.Heads.{length-heads_from}
 use Rattle.onll_core.proofs.Firsts.{within_limits}
 use Rattle.onll_core.proofs.FoundCores.{logs_many, refused, made_roomy, made_keeps, made_is}
 use Rattle.onll_core.proofs.step_core.Core.resume.Goals as goal
 
 pub find-requires-after_bounds : goal.find-requires-after_bounds
 find-requires-after_bounds g c κs within =
-    ap length c.deref.ensures.value ∙ (ap length c.in_ok-heads.ensures ∙ (length-heads_from c.len-threads.result c.CODE.result c.args.init.now 0 c.len-threads.result ∙ (c.len-threads.ensures ∙ (c.args.scripts.ok.0 ∙ sym c.requires.images))))
+    ap length c.deref.ensures.value ∙ (ap length c.in_ok-heads.ensures.heads ∙ (length-heads_from c.len-threads.result c.CODE.result c.args.init.now 0 c.len-threads.result ∙ (c.len-threads.ensures ∙ (c.args.scripts.ok.0 ∙ sym c.requires.images))))
 
 pub check_room-requires-clause-logs : goal.check_room-requires-clause-logs
 check_room-requires-clause-logs g c κs bounds =
@@ -23,7 +23,7 @@ check_room-requires-clause-logs g c κs bounds =
     let I = map (λ image. words_of image.items) c.args.images.now in
     let many : length S ≡ length c.args.scripts.items = length-map c.args.scripts.items (λ script. script.items) in
     let threads : c.len-threads.result ≡ length c.args.scripts.items = c.len-threads.ensures ∙ c.args.scripts.ok.0 in
-    let heads : c.in_ok-heads.heads.items ≡ created_heads g.O.Object.CODE c.args.init.now S = (rw c.CODE.ensures at c.in_ok-heads.ensures) ∙ ap (λ (n : ℕ). heads_from n g.O.Object.CODE c.args.init.now 0 n) (threads ∙ sym many) in
+    let heads : c.in_ok-heads.heads.items ≡ created_heads g.O.Object.CODE c.args.init.now S = (rw c.CODE.ensures at c.in_ok-heads.ensures.heads) ∙ ap (λ (n : ℕ). heads_from n g.O.Object.CODE c.args.init.now 0 n) (threads ∙ sym many) in
     let within = within_limits (λ script. script.items) g.O.Object.CODE c.args.scripts.items g.met.O.Object.code_in_range c.requires.few c.requires.updates in
     let as_many : length I ≡ length S = length-map c.args.images.now (λ image. words_of image.items) ∙ (c.requires.images ∙ sym many) in
     let found : IsFound (found_in g.O.Object.means c.in_ok-heads.heads.items I) (recovered_in c.in_ok-found.found) = rw c.deref.ensures.value at c.in_ok-found.ensures.found in
@@ -35,7 +35,7 @@ returns-in-Err g c =
     let I = map (λ image. words_of image.items) c.args.images.now in
     let many : length S ≡ length c.args.scripts.items = length-map c.args.scripts.items (λ script. script.items) in
     let threads : c.len-threads.result ≡ length c.args.scripts.items = c.len-threads.ensures ∙ c.args.scripts.ok.0 in
-    let heads : c.in_ok-heads.heads.items ≡ created_heads g.O.Object.CODE c.args.init.now S = (rw c.CODE.ensures at c.in_ok-heads.ensures) ∙ ap (λ (n : ℕ). heads_from n g.O.Object.CODE c.args.init.now 0 n) (threads ∙ sym many) in
+    let heads : c.in_ok-heads.heads.items ≡ created_heads g.O.Object.CODE c.args.init.now S = (rw c.CODE.ensures at c.in_ok-heads.ensures.heads) ∙ ap (λ (n : ℕ). heads_from n g.O.Object.CODE c.args.init.now 0 n) (threads ∙ sym many) in
     let within = within_limits (λ script. script.items) g.O.Object.CODE c.args.scripts.items g.met.O.Object.code_in_range c.requires.few c.requires.updates in
     let as_many : length I ≡ length S = length-map c.args.images.now (λ image. words_of image.items) ∙ (c.requires.images ∙ sym many) in
     let found : IsFound (found_in g.O.Object.means c.in_ok-heads.heads.items I) (recovered_in c.in_ok-found.found) = rw c.deref.ensures.value at c.in_ok-found.ensures.found in
@@ -47,7 +47,7 @@ found_workers-requires-after_bounds g c κs bounds =
     let I = map (λ image. words_of image.items) c.args.images.now in
     let many : length S ≡ length c.args.scripts.items = length-map c.args.scripts.items (λ script. script.items) in
     let threads : c.len-threads.result ≡ length c.args.scripts.items = c.len-threads.ensures ∙ c.args.scripts.ok.0 in
-    let heads : c.in_ok-heads.heads.items ≡ created_heads g.O.Object.CODE c.args.init.now S = (rw c.CODE.ensures at c.in_ok-heads.ensures) ∙ ap (λ (n : ℕ). heads_from n g.O.Object.CODE c.args.init.now 0 n) (threads ∙ sym many) in
+    let heads : c.in_ok-heads.heads.items ≡ created_heads g.O.Object.CODE c.args.init.now S = (rw c.CODE.ensures at c.in_ok-heads.ensures.heads) ∙ ap (λ (n : ℕ). heads_from n g.O.Object.CODE c.args.init.now 0 n) (threads ∙ sym many) in
     let within = within_limits (λ script. script.items) g.O.Object.CODE c.args.scripts.items g.met.O.Object.code_in_range c.requires.few c.requires.updates in
     let as_many : length I ≡ length S = length-map c.args.images.now (λ image. words_of image.items) ∙ (c.requires.images ∙ sym many) in
     let found : IsFound (found_in g.O.Object.means c.in_ok-heads.heads.items I) (recovered_in c.in_ok-found.found) = rw c.deref.ensures.value at c.in_ok-found.ensures.found in
@@ -60,7 +60,7 @@ invariant_of-result g c =
     let I = map (λ image. words_of image.items) c.args.images.now in
     let many : length S ≡ length c.args.scripts.items = length-map c.args.scripts.items (λ script. script.items) in
     let threads : c.len-threads.result ≡ length c.args.scripts.items = c.len-threads.ensures ∙ c.args.scripts.ok.0 in
-    let heads : c.in_ok-heads.heads.items ≡ created_heads g.O.Object.CODE c.args.init.now S = (rw c.CODE.ensures at c.in_ok-heads.ensures) ∙ ap (λ (n : ℕ). heads_from n g.O.Object.CODE c.args.init.now 0 n) (threads ∙ sym many) in
+    let heads : c.in_ok-heads.heads.items ≡ created_heads g.O.Object.CODE c.args.init.now S = (rw c.CODE.ensures at c.in_ok-heads.ensures.heads) ∙ ap (λ (n : ℕ). heads_from n g.O.Object.CODE c.args.init.now 0 n) (threads ∙ sym many) in
     let within = within_limits (λ script. script.items) g.O.Object.CODE c.args.scripts.items g.met.O.Object.code_in_range c.requires.few c.requires.updates in
     let as_many : length I ≡ length S = length-map c.args.images.now (λ image. words_of image.items) ∙ (c.requires.images ∙ sym many) in
     let found : IsFound (found_in g.O.Object.means c.in_ok-heads.heads.items I) (recovered_in c.in_ok-found.found) = rw c.deref.ensures.value at c.in_ok-found.ensures.found in
@@ -79,7 +79,7 @@ returns g c =
     let I = map (λ image. words_of image.items) c.args.images.now in
     let many : length S ≡ length c.args.scripts.items = length-map c.args.scripts.items (λ script. script.items) in
     let threads : c.len-threads.result ≡ length c.args.scripts.items = c.len-threads.ensures ∙ c.args.scripts.ok.0 in
-    let heads : c.in_ok-heads.heads.items ≡ created_heads g.O.Object.CODE c.args.init.now S = (rw c.CODE.ensures at c.in_ok-heads.ensures) ∙ ap (λ (n : ℕ). heads_from n g.O.Object.CODE c.args.init.now 0 n) (threads ∙ sym many) in
+    let heads : c.in_ok-heads.heads.items ≡ created_heads g.O.Object.CODE c.args.init.now S = (rw c.CODE.ensures at c.in_ok-heads.ensures.heads) ∙ ap (λ (n : ℕ). heads_from n g.O.Object.CODE c.args.init.now 0 n) (threads ∙ sym many) in
     let within = within_limits (λ script. script.items) g.O.Object.CODE c.args.scripts.items g.met.O.Object.code_in_range c.requires.few c.requires.updates in
     let as_many : length I ≡ length S = length-map c.args.images.now (λ image. words_of image.items) ∙ (c.requires.images ∙ sym many) in
     let found : IsFound (found_in g.O.Object.means c.in_ok-heads.heads.items I) (recovered_in c.in_ok-found.found) = rw c.deref.ensures.value at c.in_ok-found.ensures.found in

@@ -2,7 +2,7 @@ use Rattle.std.proofs.Common.{◌≡◌, Some, ap, sym, take, ◌∙◌}
 use Rattle.std.proofs.lemmas.Option.{same_Some}
 use Rattle.std.specs.Cow.{cow_slice_items}
 use Rattle.onll_pmem.specs.Pmem.{words_of}
-use Rattle.onll_log.specs.Grammar.{Content, content_of}
+use Rattle.onll_log.specs.Grammar.{content_of}
 use Rattle.onll_log.specs.Encoding.{log_lines}
 use Rattle.onll_log.specs.Log.{entries_read}
 use Rattle.onll_log.specs.Survey.{survey_of}

@@ -1,6 +1,6 @@
-use Rattle.std.proofs.Common.{◌∙◌, List, Some, length, ap, sym, arith}
+use Rattle.std.proofs.Common.{◌∙◌, List, Some, ap, sym, arith}
 use Rattle.std.proofs.lemmas.List.{length-map}
-use Rattle.onll_model.specs.Segment.{Segment, last_place}
+use Rattle.onll_model.specs.Segment.{last_place}
 use Rattle.onll_log.specs.declared.decoded.Entry.{Entry}
 use Rattle.onll_log.specs.declared.survey.LogSurvey.{LogSurvey}
 use Rattle.onll_log.specs.Decoded.{segments_in, segment_in}

@@ -1,5 +1,0 @@
-use Rattle.onll_recovery.proofs.RecoverSteps.{empty_in_words}
-use Rattle.onll_recovery.proofs.recover.put_log.Goals as goal
-
-pub line-requires-clause-words : goal.line-requires-clause-words
-line-requires-clause-words c = empty_in_words c.args.thread

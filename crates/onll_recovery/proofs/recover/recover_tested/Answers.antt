@@ -1,5 +1,0 @@
-use Rattle.std.proofs.lemmas.List.{map-id}
-use Rattle.onll_recovery.proofs.recover.recover_tested.Goals as goal
-
-pub returns-clause-recovered : goal.returns-clause-recovered
-returns-clause-recovered g c = rw (map-id c.args.images.now) at c.recover_state.ensures.recovered

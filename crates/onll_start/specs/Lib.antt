@@ -1,0 +1,4 @@
+pub mod Heads
+pub mod Start
+pub mod Found
+pub mod Based

@@ -1,12 +1,22 @@
-use Rattle.std.proofs.Common.{ℕ, zero, suc, Bool, true, false, List, [], ◌∷◌, ◌≡◌, ◌+◌, ◌-◌, ◌<◌, length, take, drop, get_or, Some, None, refl, ap, sym, ◌∙◌, arith, subst, cond, nat_lt, position, ◌≤◌}
-use Rattle.std.specs.List.{slice_split, join_with_byte, position_or_len}
+use Rattle.std.proofs.Common.{ℕ, zero, suc, Bool, true, false, List, [], ◌∷◌, ◌≡◌, ◌+◌, ◌-◌, ◌<◌, length, take, drop, get_or, Some, None, refl, ap, sym, ◌∙◌, arith, subst, cond, nat_lt, nat_eq, position, ◌≤◌}
+use Rattle.std.specs.List.{slice_split, starts_with, join_with_byte, position_or_len}
+use Rattle.std.proofs.lemmas.List.{length-take}
 use Rattle.std.proofs.lemmas.List.Splits.{join_with_byte-slice_split, length-slice_split, slice_split_first, slice_split_none}
 use Rattle.std.proofs.lemmas.List.Sums.{fails_before_first}
 use Rattle.std.proofs.lemmas.List.Quantifiers.{position-Some}
 use borrow.Author.Tests.{ltb-false}
 use Rattle.onll_words.specs.Texts.{is_line_end}
+use Rattle.onll_text.proofs.SameBytes.{other_length}
 use Rattle.onll_audit.specs.Fields.{is_space, cut_last, some_if, last_field}
 use Rattle.onll_audit.specs.Form.{next_part}
+
+-- ---- the front
+-- a text that is too short begins with no front
+pub too_short : (text front : List ℕ) → length text < length front → starts_with nat_eq text front ≡ false
+too_short text front lt =
+    other_length front (take (length front) text) (λ e. absurd (omega (arith, e, length-take (length front) text)))
+
+pub ruleset beginning = (too_short)
 
 -- ---- the last space
 last_at : (n : ℕ) (text : List ℕ) → n < length text → get_or text n 0 ≡ 32 → last_field (drop (suc n) text) ≡ None

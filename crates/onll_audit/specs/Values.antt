@@ -1,6 +1,6 @@
 -- What the values of the code stand for.
 
-use Rattle.std.specs.Prelude.{ℕ, List, ◌≡◌, Option, Some, None, Result, Err, map}
+use Rattle.std.specs.Prelude.{ℕ, List, ◌≡◌, Option, Some, None, Result, Ok, Err, map}
 use denote.Ref.{Bor}
 use Rattle.std.specs.List.{slice_split}
 use Rattle.std.specs.declared.vec.Vec.{Vec}
@@ -35,3 +35,8 @@ as_form form = record { calls = as_groups form.calls.items; nodes = form.nodes.i
 abbrev pub as_wrong : Option Wrong → Option (ℕ × Why)
 as_wrong None = None
 as_wrong (Some wrong) = Some (wrong.line, wrong.why)
+
+-- the wrong line, where judging ended at one
+abbrev pub as_judged : {A : Type 0} → Result A Wrong → Option (ℕ × Why)
+as_judged (Ok x) = None
+as_judged (Err wrong) = Some (wrong.line, wrong.why)

@@ -6,33 +6,36 @@ ghost use Rattle.std.specs.Str.{bytes_eq};
 ghost use Rattle.onll_words.specs.Texts.{line_text};
 ghost use Rattle.onll_model.specs.Trace.{state_after};
 ghost use Rattle.onll_audit.specs.declared.verdict.Verdict.TheVariants.{Legal};
-ghost use Rattle.onll_audit.specs.Values.{as_groups, as_form, as_wrong, IsFault};
-ghost use Rattle.onll_audit.specs.Verdict.{total_lines, calls_wrong, wrong_in, verdict_of};
+ghost use Rattle.onll_audit.specs.Values.{as_groups, as_form, as_judged, as_wrong, IsFault};
+ghost use Rattle.onll_audit.specs.Verdict.{total_lines, calls_wrong, all_rows, wrong_in, verdict_of};
 ghost use Rattle.onll_audit.specs.Legality.{IsLegalReport};
 
 use crate::fields::is_text;
 use crate::judge::{Wrong, thread_wrong};
 use crate::read::{ReportForm, read_form};
 use crate::replica::{Evidence, apply_all};
-use crate::trace::{all_rows, group_at, nodes_wrong, script_at, thread_places};
+use crate::trace::{group_at, nodes_wrong, script_at, thread_places};
 use crate::verdict::{AuditFault, Verdict, Why};
 use onll_model::Call;
 use onll_text::{Report, Texted};
-use onll_words::NoMemory;
+use onll_words::{NoMemory, OpRow};
 use std::alloc::Global;
 
-/// The least wrong line of calls.
-#[tactic(auto, using(crate::proofs::Calling::calling))]
+/// The rows of each thread's updates with a place, or the least wrong line of calls.
+#[tactic(auto, using(crate::proofs::Calling::calling, crate::proofs::Rows::all_saying))]
 fn calls_wrong<O: Texted + Drop>(
     alloc: Global,
     first: &O,
     scripts: &[Vec<Call<O>>],
     form: &ReportForm<'_>,
-) -> Result<Option<Wrong>, NoMemory>
+) -> Result<Result<Vec<Vec<OpRow>>, Wrong>, NoMemory>
     requires { total_lines (as_groups form.now.calls.items) + 1 < 2 ^ 64 }
-    ensures { IfOk result (λ wrong. as_wrong wrong ≡ calls_wrong O.means O.wording first.now form.now.nodes.items 0 1
+    ensures wrong { IfOk result (λ judged. as_judged judged ≡ calls_wrong O.means O.wording first.now form.now.nodes.items 0 1
         (map (λ s. s.items) scripts.now) (as_groups form.now.calls.items)) }
+    ensures rows { IfOk result (λ judged. IfOk judged (λ rows. map (λ own. own.items) rows.items
+        ≡ all_rows O.means O.wording 0 (map (λ s. s.items) scripts.now) (as_groups form.now.calls.items))) }
 {
+    let mut rows = Vec::new(alloc);
     let mut number = 1u64;
     for i in 0..scripts.len().min(form.calls.len()) {
         let thread = i as u64;
@@ -44,13 +47,13 @@ fn calls_wrong<O: Texted + Drop>(
             thread,
             places: &places,
         };
-        let wrong = thread_wrong(alloc, &evidence, number, script_at(scripts, i), lines)?;
-        if let Some(wrong) = wrong {
-            return Ok(Some(wrong));
+        match thread_wrong(alloc, &evidence, number, script_at(scripts, i), lines)? {
+            Ok(own) => rows.push(own)?,
+            Err(wrong) => return Ok(Err(wrong)),
         }
         number += lines.len() as u64;
     }
-    Ok(None)
+    Ok(Ok(rows))
 }
 
 /// How many lines there are in all groups.
@@ -105,10 +108,10 @@ fn wrong_line<O: Texted + Drop>(
     ensures { IfOk result (λ wrong. as_wrong wrong
         ≡ wrong_in O.means O.wording object (map (λ s. s.items) scripts.now) (as_form form.entry)) }
 {
-    if let Some(wrong) = calls_wrong(alloc, &object, scripts, &form)? {
-        return Ok(Some(wrong));
-    }
-    let rows = all_rows(alloc, scripts, &form.calls)?;
+    let rows = match calls_wrong(alloc, &object, scripts, &form)? {
+        Ok(rows) => rows,
+        Err(wrong) => return Ok(Some(wrong)),
+    };
     let number = count_lines(&form.calls) + 2;
     if let Some(wrong) = nodes_wrong(alloc, number, &rows, &form.nodes)? {
         return Ok(Some(wrong));

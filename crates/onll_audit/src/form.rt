@@ -7,13 +7,12 @@ ghost use Rattle.onll_text.specs.Bytes.{with_words};
 ghost use Rattle.onll_text.specs.Lines.{call_words};
 ghost use Rattle.onll_audit.specs.Form.{is_call, is_arrow, has_arrow, after_number, is_call_line, op_said, node_front, trace_said, past_flag, node_said, log_said, recovered_said, fault_said};
 
-use crate::fields::{after_word, is_text, next_field, number_field, number_word, tail};
+use crate::fields::{after_word, begins, is_text, next_field, number_field, number_word, tail};
 use crate::said::said_of;
 use itoa::Buffer;
 use onll_model::{Call, Node};
 use onll_text::{Report, Texted};
 use onll_words::NoMemory;
-use std::alloc::Global;
 
 /// Appends the words of a call.
 pub(crate) fn put_call<O: Texted>(call: &Call<O>, out: &mut Report) -> Result<(), NoMemory>
@@ -25,39 +24,38 @@ pub(crate) fn put_call<O: Texted>(call: &Call<O>, out: &mut Report) -> Result<()
     }
 }
 
-/// A call as it is printed.
+/// A call as it is printed, and nothing else in the room.
 #[tactic(auto, using(crate::proofs::Printing::calls))]
-fn call_text<O: Texted>(alloc: Global, call: &Call<O>) -> Result<Report, NoMemory>
-    ensures { IfOk result (λ text. text ≡ joined (call_words O.wording call.now)) }
+fn print_call<O: Texted>(room: &mut Report, call: &Call<O>) -> Result<(), NoMemory>
+    ensures { OnOk result (room.new ≡ joined (call_words O.wording call.now)) }
 {
-    let mut out = Report::new(alloc);
-    put_call(call, &mut out)?;
-    Ok(out)
+    room.clear();
+    put_call(call, room)
 }
 
 /// Whether the text is a call of the object, as it is printed.
-fn is_call<O: Texted>(alloc: Global, text: &[u8]) -> Result<bool, NoMemory>
+fn is_call<O: Texted>(room: &mut Report, text: &[u8]) -> Result<bool, NoMemory>
     ensures { IfOk result (λ yes. yes ≡ is_call O.wording text.now) }
 {
     match O::read_call(text) {
         Ok(call) => {
-            let printed = call_text(alloc, &call)?;
-            Ok(is_text(printed.bytes(), text))
+            print_call(room, &call)?;
+            Ok(is_text(room.bytes(), text))
         }
         Err(_) => Ok(false),
     }
 }
 
 /// Whether the arrow after a call stands there, and after it what became of the call.
-fn is_arrow<O: Texted>(alloc: Global, text: &[u8], i: usize) -> Result<bool, NoMemory>
+fn is_arrow<O: Texted>(room: &mut Report, text: &[u8], i: usize) -> Result<bool, NoMemory>
     requires { i ≤ length text.now }
     ensures { IfOk result (λ yes. yes ≡ is_arrow O.wording text.now i) }
 {
     let rest = tail(text, i);
-    if !rest.starts_with(b" -> ") {
+    if !begins(rest, b" -> ") {
         return Ok(false);
     }
-    Ok(is_call::<O>(alloc, &text[..i])? && said_of(tail(text, i + 4)).is_some())
+    Ok(is_call::<O>(room, &text[..i])? && said_of(tail(text, i + 4)).is_some())
 }
 
 /// The greatest place of an arrow: a call is printed in at most so many bytes.
@@ -65,11 +63,11 @@ const LAST_ARROW: usize = 128;
 
 /// Whether it does anywhere. No arrow beyond the longest call stands after one.
 #[tactic(auto, using(crate::proofs::Printing::arrows))]
-fn has_arrow<O: Texted>(alloc: Global, text: &[u8]) -> Result<bool, NoMemory>
+fn has_arrow<O: Texted>(room: &mut Report, text: &[u8]) -> Result<bool, NoMemory>
     ensures { IfOk result (λ yes. yes ≡ has_arrow O.wording text.now (length text.now)) }
 {
     for i in 0..text.len().min(LAST_ARROW + 1) {
-        if is_arrow::<O>(alloc, text, i)? {
+        if is_arrow::<O>(room, text, i)? {
             return Ok(true);
         }
     }
@@ -89,28 +87,28 @@ fn after_number(thread: u64, line: &[u8]) -> Option<&[u8]>
 
 /// Whether it is the line of a call of this thread.
 pub(crate) fn is_call_line<O: Texted>(
-    alloc: Global,
+    room: &mut Report,
     thread: u64,
     line: &[u8],
 ) -> Result<bool, NoMemory>
     ensures { IfOk result (λ yes. yes ≡ is_call_line O.wording thread line.now) }
 {
     match after_number(thread, line) {
-        Some(text) => has_arrow::<O>(alloc, text),
+        Some(text) => has_arrow::<O>(room, text),
         None => Ok(false),
     }
 }
 
 /// The operation of an update, as it is printed.
 #[tactic(auto, using(crate::proofs::Printing::printing))]
-fn op_said<O: Texted>(alloc: Global, text: &[u8]) -> Result<Option<O::Op>, NoMemory>
+fn op_said<O: Texted>(room: &mut Report, text: &[u8]) -> Result<Option<O::Op>, NoMemory>
     ensures { IfOk result (λ op. op ≡ op_said O.wording text.now) }
 {
     match O::read_call(text) {
         Ok(Call::Update(op)) => {
-            let mut out = Report::new(alloc);
-            O::put_op(op, &mut out)?;
-            if is_text(out.bytes(), text) {
+            room.clear();
+            O::put_op(op, room)?;
+            if is_text(room.bytes(), text) {
                 Ok(Some(op))
             } else {
                 Ok(None)
@@ -166,7 +164,7 @@ fn node_front(place: u64, line: &[u8]) -> Option<NodeFront<'_>>
 
 /// The node of a line at this place.
 pub(crate) fn node_said<O: Texted>(
-    alloc: Global,
+    room: &mut Report,
     place: u64,
     line: &[u8],
 ) -> Result<Option<Node>, NoMemory>
@@ -175,7 +173,7 @@ pub(crate) fn node_said<O: Texted>(
     let Some(front) = node_front(place, line) else {
         return Ok(None);
     };
-    match op_said::<O>(alloc, front.text)? {
+    match op_said::<O>(room, front.text)? {
         Some(op) => Ok(Some(Node {
             thread: front.thread,
             number: front.number,

@@ -6,7 +6,7 @@ ghost use Rattle.onll_audit.specs.Values.{as_left};
 
 use crate::form::is_call_line;
 use crate::lines::LinesLeft;
-use onll_text::Texted;
+use onll_text::{Report, Texted};
 use onll_words::NoMemory;
 use std::alloc::Global;
 
@@ -21,6 +21,7 @@ pub(crate) struct Group<'a> {
 #[tactic(auto, using(crate::proofs::Running::running))]
 pub(crate) fn read_group<'a, O: Texted>(
     alloc: Global,
+    room: &mut Report,
     thread: u64,
     lines: LinesLeft<'a>,
 ) -> Result<Group<'a>, NoMemory>
@@ -33,7 +34,7 @@ pub(crate) fn read_group<'a, O: Texted>(
     let mut left = lines;
     let mut group = Vec::new(alloc);
     while let Some(next) = left.next() {
-        if !is_call_line::<O>(alloc, thread, next.line)? {
+        if !is_call_line::<O>(room, thread, next.line)? {
             break;
         }
         group.push(next.line)?;

@@ -1,12 +1,11 @@
 //! Whether the lines of a thread's calls are right.
 
 ghost use Rattle.std.specs.Prelude.{◌≡◌, ◌<◌, ◌≤◌, ◌+◌, ◌^◌, ◌++◌, ◌∷◌, None, Some, length, take, drop, map, IfOk, OnOk, MatchOption};
-ghost use Rattle.std.specs.Option.{option_map};
 ghost use Rattle.onll_words.specs.Texts.{joined};
 ghost use Rattle.onll_model.specs.Trace.{state_after};
 ghost use Rattle.onll_text.specs.Lines.{at_words};
-ghost use Rattle.onll_audit.specs.Values.{as_wrong};
-ghost use Rattle.onll_audit.specs.Verdict.{no_past, call_front, end_of_call, end_after, reply_right, judge, thread_wrong};
+ghost use Rattle.onll_audit.specs.Values.{as_judged};
+ghost use Rattle.onll_audit.specs.Verdict.{no_past, call_front, end_after, reply_right, judge, thread_wrong, row_said, rows_said};
 
 use crate::fields::{after_text, is_text};
 use crate::form::put_call;
@@ -16,27 +15,26 @@ use crate::said::{Said, said_of};
 use crate::verdict::Why;
 use onll_model::Call;
 use onll_text::{Piece, Report, Texted};
-use onll_words::NoMemory;
+use onll_words::{NoMemory, OpRow};
 use std::alloc::Global;
 
 /// What the line of a call begins with, up to its arrow.
-fn call_front<O: Texted>(
-    alloc: Global,
+fn print_front<O: Texted>(
+    room: &mut Report,
     thread: u64,
     number: u64,
     call: &Call<O>,
-) -> Result<Report, NoMemory>
-    ensures { IfOk result (λ text. text ≡ call_front O.wording thread number call.now) }
+) -> Result<(), NoMemory>
+    ensures { OnOk result (room.new ≡ call_front O.wording thread number call.now) }
 {
-    let mut out = Report::new(alloc);
-    out.words(&[
+    room.clear();
+    room.words(&[
         Piece::Text(b"call"),
         Piece::Number(thread),
         Piece::Number(number),
     ])?;
-    put_call(call, &mut out)?;
-    out.word(b"->")?;
-    Ok(out)
+    put_call(call, room)?;
+    room.word(b"->")
 }
 
 /// The text after the arrow of a call's line, and the outcome that it says.
@@ -56,32 +54,14 @@ fn end_after<'a>(line: &'a [u8], front: &[u8]) -> Option<EndText<'a>>
     Some(EndText { text, said })
 }
 
-/// The outcome that the line of a call says, where it is that call's.
-pub(crate) fn end_of_call<O: Texted>(
-    alloc: Global,
-    thread: u64,
-    number: u64,
-    call: &Call<O>,
-    line: &[u8],
-) -> Result<Option<Said>, NoMemory>
-    ensures { IfOk result (λ said. said ≡ option_map (λ r. r.1) (end_of_call O.wording thread number call.now line.now)) }
-{
-    let front = call_front(alloc, thread, number, call)?;
-    match end_after(line, front.bytes()) {
-        Some(end) => Ok(Some(end.said)),
-        None => Ok(None),
-    }
-}
-
 /// A reply and its place, as they are printed.
 #[tactic(auto, using(crate::proofs::Printing::replies))]
-fn reply_text<O: Texted>(alloc: Global, reply: O::Reply, place: u64) -> Result<Report, NoMemory>
-    ensures { IfOk result (λ text. text ≡ joined (O.wording.reply_words reply ++ at_words place)) }
+fn print_reply<O: Texted>(room: &mut Report, reply: O::Reply, place: u64) -> Result<(), NoMemory>
+    ensures { OnOk result (room.new ≡ joined (O.wording.reply_words reply ++ at_words place)) }
 {
-    let mut out = Report::new(alloc);
-    O::put_reply(reply, &mut out)?;
-    out.words(&[Piece::Text(b"at"), Piece::Number(place)])?;
-    Ok(out)
+    room.clear();
+    O::put_reply(reply, room)?;
+    room.words(&[Piece::Text(b"at"), Piece::Number(place)])
 }
 
 /// Whether the text after the arrow is that of the object's reply, where the call is answered.
@@ -103,8 +83,8 @@ fn check_reply<O: Texted + Drop>(
     match end.said {
         Said::Answered { place } => {
             let reply = replica.ask(alloc, evidence, call, place)?;
-            let text = reply_text::<O>(alloc, reply, place)?;
-            Ok(is_text(text.bytes(), end.text))
+            print_reply::<O>(&mut replica.room, reply, place)?;
+            Ok(is_text(replica.room.bytes(), end.text))
         }
         _ => Ok(true),
     }
@@ -128,8 +108,8 @@ fn judge<O: Texted + Drop>(
     ensures object { OnOk result (replica.new.object
         ≡ state_after O.means evidence.now.first.now (take replica.new.at evidence.now.nodes.now)) }
 {
-    let front = call_front(alloc, evidence.thread, past.calls + 1, call)?;
-    let Some(end) = end_after(line, front.bytes()) else {
+    print_front(&mut replica.room, evidence.thread, past.calls + 1, call)?;
+    let Some(end) = end_after(line, replica.room.bytes()) else {
         return Ok(Err(Why::Script));
     };
     if !outcome_right(past, call, end.said) {
@@ -161,36 +141,57 @@ pub(crate) fn line_at<'a>(lines: &[&'a [u8]], i: usize) -> &'a [u8]
     lines[i]
 }
 
-/// The least wrong line of a thread, whose first line is line `number` of the report.
+/// Appends the row of an update with a place, by what its line says of it.
+fn push_row<O: Texted>(call: &Call<O>, said: Said, rows: &mut Vec<OpRow>) -> Result<(), NoMemory>
+    ensures { OnOk result (rows.new.items ≡ rows.old.items ++ row_said O.means call.now (Some said)) }
+{
+    if let Call::Update(op) = call {
+        match said {
+            Said::Answered { .. } => rows.push(O::op_row(*op))?,
+            Said::FenceFailed { .. } => rows.push(O::op_row(*op))?,
+            Said::Broken { .. } => {}
+        }
+    }
+    Ok(())
+}
+
+/// The rows of a thread's updates with a place, or its least wrong line. Its first line is line `number` of the report.
 pub(crate) fn thread_wrong<O: Texted + Drop>(
     alloc: Global,
     evidence: &Evidence<'_, O>,
     number: u64,
     script: &[Call<O>],
     lines: &[&[u8]],
-) -> Result<Option<Wrong>, NoMemory>
+) -> Result<Result<Vec<OpRow>, Wrong>, NoMemory>
     requires { number + length lines.now < 2 ^ 64 }
-    ensures { let e = evidence.now in IfOk result (λ wrong. as_wrong wrong
+    ensures wrong { let e = evidence.now in IfOk result (λ judged. as_judged judged
         ≡ thread_wrong O.means O.wording e.first.now e.nodes.now e.thread e.places.now number no_past script.now
         (map (λ l. l.now) lines.now)) }
+    ensures rows { IfOk result (λ judged. IfOk judged (λ rows. rows.items
+        ≡ rows_said O.means O.wording evidence.now.thread 0 script.now (map (λ l. l.now) lines.now))) }
 {
+    let mut rows = Vec::new(alloc);
     let mut past = Past::none();
     let mut replica = Replica {
         object: evidence.first.copy(alloc)?,
         at: 0,
+        room: Report::new(alloc),
     };
     for i in 0..lines.len() {
         let line = number + i as u64;
         if i >= script.len() {
             let why = Why::Script;
-            return Ok(Some(Wrong { line, why }));
+            return Ok(Err(Wrong { line, why }));
         }
         let call = &script[i];
         let text = line_at(lines, i);
         match judge(alloc, evidence, &mut replica, past, call, text)? {
-            Ok(said) => past = past.with(call, said),
-            Err(why) => return Ok(Some(Wrong { line, why })),
+            Ok(said) => {
+                push_row(call, said, &mut rows)?;
+                past = past.with(call, said);
+            }
+            Err(why) => return Ok(Err(Wrong { line, why })),
         }
     }
-    Ok(None)
+    Ok(Ok(rows))
 }

@@ -10,7 +10,7 @@ use crate::groups::read_group;
 use crate::lines::LinesLeft;
 use crate::verdict::AuditFault;
 use onll_model::Node;
-use onll_text::Texted;
+use onll_text::{Report, Texted};
 use onll_words::NoMemory;
 use std::alloc::Global;
 
@@ -82,7 +82,7 @@ struct NodeRead<'a> {
 /// The node of the next line, at this place.
 #[tactic(auto, using(crate::proofs::Running::single))]
 fn read_node<'a, O: Texted>(
-    alloc: Global,
+    room: &mut Report,
     place: u64,
     left: LinesLeft<'a>,
 ) -> Result<NodeRead<'a>, AuditFault>
@@ -94,7 +94,7 @@ fn read_node<'a, O: Texted>(
     let Some(next) = left.next() else {
         return Err(AuditFault::Refused { line: left.number });
     };
-    match node_said::<O>(alloc, place, next.line)? {
+    match node_said::<O>(room, place, next.line)? {
         Some(node) => Ok(NodeRead {
             node,
             after: next.after,
@@ -107,6 +107,7 @@ fn read_node<'a, O: Texted>(
 #[tactic(auto, using(crate::proofs::Running::nodes_running))]
 fn read_nodes<'a, O: Texted>(
     alloc: Global,
+    room: &mut Report,
     count: u64,
     lines: LinesLeft<'a>,
 ) -> Result<NodesRead<'a>, AuditFault>
@@ -118,7 +119,7 @@ fn read_nodes<'a, O: Texted>(
     let mut left = lines;
     let mut nodes = Vec::new(alloc);
     for place in 0..count {
-        match read_node::<O>(alloc, place + 1, left) {
+        match read_node::<O>(room, place + 1, left) {
             Ok(read) => {
                 nodes.push(read.node)?;
                 left = read.after;
@@ -197,6 +198,7 @@ pub(crate) struct ReportForm<'a> {
 #[tactic(auto, using(crate::proofs::Splitting::joining))]
 fn read_rest<'a, O: Texted>(
     alloc: Global,
+    room: &mut Report,
     threads: u64,
     calls: Vec<Vec<&'a [u8]>>,
     lines: LinesLeft<'a>,
@@ -208,7 +210,7 @@ fn read_rest<'a, O: Texted>(
     let Some(count) = read_trace(lines) else {
         return Err(AuditFault::Refused { line: lines.number });
     };
-    let nodes = match read_nodes::<O>(alloc, count.count, count.after) {
+    let nodes = match read_nodes::<O>(alloc, room, count.count, count.after) {
         Ok(nodes) => nodes,
         Err(fault) => return Err(fault),
     };
@@ -244,6 +246,7 @@ struct Groups<'a> {
 #[tactic(auto, using(crate::proofs::Running::groups_running))]
 fn read_groups<'a, O: Texted>(
     alloc: Global,
+    room: &mut Report,
     threads: u64,
     lines: LinesLeft<'a>,
 ) -> Result<Groups<'a>, NoMemory>
@@ -254,7 +257,7 @@ fn read_groups<'a, O: Texted>(
     let mut left = lines;
     let mut calls = Vec::new(alloc);
     for thread in 0..threads {
-        let group = read_group::<O>(alloc, thread, left)?;
+        let group = read_group::<O>(alloc, room, thread, left)?;
         calls.push(group.lines)?;
         left = group.after;
     }
@@ -270,6 +273,7 @@ pub(crate) fn read_form<'a, O: Texted>(
     ensures { let read = report_form O.means O.wording threads text.now in
         MatchResult result (λ f. read ≡ Ok (as_form f)) (λ fault. IsFault fault read) }
 {
-    let groups = read_groups::<O>(alloc, threads, LinesLeft::of(text))?;
-    read_rest::<O>(alloc, threads, groups.calls, groups.after)
+    let mut room = Report::new(alloc);
+    let groups = read_groups::<O>(alloc, &mut room, threads, LinesLeft::of(text))?;
+    read_rest::<O>(alloc, &mut room, threads, groups.calls, groups.after)
 }

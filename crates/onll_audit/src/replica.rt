@@ -6,7 +6,7 @@ ghost use Rattle.onll_model.specs.Trace.{state_after};
 ghost use Rattle.onll_audit.specs.Verdict.{IsNextRow, reply_at};
 
 use onll_model::{Call, Node};
-use onll_text::Texted;
+use onll_text::{Report, Texted};
 use onll_words::{NoMemory, OpRow};
 use std::alloc::Global;
 
@@ -27,6 +27,8 @@ pub(crate) struct Replica<O> {
     pub object: O,
     /// How many nodes these are.
     pub at: usize,
+    /// Room for a text that is compared with a line.
+    pub room: Report,
 }
 
 /// Applies nodes in order.

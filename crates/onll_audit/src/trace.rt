@@ -1,13 +1,11 @@
 //! Whether the nodes of a report are its calls' updates.
 
-ghost use Rattle.std.specs.Prelude.{◌≡◌, ◌<◌, ◌+◌, ◌==◌, ◌++◌, ◌^◌, ◌∷◌, [], true, length, map, drop, get_or, slice_get, IfOk, OnOk};
-ghost use Rattle.std.specs.Option.{option_map};
+ghost use Rattle.std.specs.Prelude.{◌≡◌, ◌<◌, ◌+◌, ◌==◌, ◌^◌, ◌∷◌, [], true, length, map, drop, get_or, slice_get, IfOk};
 ghost use Rattle.onll_audit.specs.Values.{as_groups, as_wrong};
-ghost use Rattle.onll_audit.specs.Verdict.{thread_places, end_of_call, row_said, rows_said, all_rows, same_row, nth_row, node_after, nodes_wrong};
+ghost use Rattle.onll_audit.specs.Verdict.{thread_places, same_row, nth_row, node_after, nodes_wrong};
 
-use crate::judge::{Wrong, end_of_call, line_at};
+use crate::judge::Wrong;
 use crate::replica::same_row;
-use crate::said::Said;
 use crate::verdict::Why;
 use onll_model::{Call, Node};
 use onll_text::Texted;
@@ -33,47 +31,6 @@ pub(crate) fn thread_places(
     Ok(places)
 }
 
-/// Appends the row of an update with a place, by the line of its call.
-fn push_row<O: Texted>(
-    alloc: Global,
-    thread: u64,
-    number: u64,
-    call: &Call<O>,
-    line: &[u8],
-    rows: &mut Vec<OpRow>,
-) -> Result<(), NoMemory>
-    ensures { OnOk result (rows.new.items
-        ≡ rows.old.items ++ row_said O.means call.now (option_map (λ r. r.1) (end_of_call O.wording thread number call.now line.now))) }
-{
-    let said = end_of_call(alloc, thread, number, call, line)?;
-    if let Call::Update(op) = call {
-        match said {
-            Some(Said::Answered { .. }) => rows.push(O::op_row(*op))?,
-            Some(Said::FenceFailed { .. }) => rows.push(O::op_row(*op))?,
-            _ => {}
-        }
-    }
-    Ok(())
-}
-
-/// The rows of a thread's updates with a place, by its lines.
-#[tactic(auto, using(crate::proofs::Rows::saying))]
-fn rows_said<O: Texted>(
-    alloc: Global,
-    thread: u64,
-    script: &[Call<O>],
-    lines: &[&[u8]],
-) -> Result<Vec<OpRow>, NoMemory>
-    ensures { IfOk result (λ rows. rows.items ≡ rows_said O.means O.wording thread 0 script.now (map (λ l. l.now) lines.now)) }
-{
-    let mut rows = Vec::new(alloc);
-    for i in 0..script.len().min(lines.len()) {
-        let line = line_at(lines, i);
-        push_row(alloc, thread, i as u64 + 1, &script[i], line, &mut rows)?;
-    }
-    Ok(rows)
-}
-
 /// The calls of a script.
 pub(crate) fn script_at<O: Texted>(scripts: &[Vec<Call<O>>], i: usize) -> &[Call<O>]
     requires { i < length scripts.now }
@@ -88,25 +45,6 @@ pub(crate) fn group_at<'b, 'a>(groups: &'b [Vec<&'a [u8]>], i: usize) -> &'b [&'
     ensures { drop i (as_groups groups.now) ≡ map (λ l. l.now) result.now ∷ drop (i + 1) (as_groups groups.now) }
 {
     &groups[i]
-}
-
-/// The rows of each thread's updates with a place.
-#[tactic(auto, using(crate::proofs::Rows::all_saying))]
-pub(crate) fn all_rows<O: Texted>(
-    alloc: Global,
-    scripts: &[Vec<Call<O>>],
-    groups: &[Vec<&[u8]>],
-) -> Result<Vec<Vec<OpRow>>, NoMemory>
-    ensures { IfOk result (λ rows. map (λ own. own.items) rows.items
-        ≡ all_rows O.means O.wording 0 (map (λ s. s.items) scripts.now) (as_groups groups.now)) }
-{
-    let mut rows = Vec::new(alloc);
-    for i in 0..scripts.len().min(groups.len()) {
-        let script = script_at(scripts, i);
-        let lines = group_at(groups, i);
-        rows.push(rows_said(alloc, i as u64, script, lines)?)?;
-    }
-    Ok(rows)
 }
 
 /// Whether the number is the one after so many.

@@ -11,9 +11,9 @@ use Rattle.onll_merge.specs.Recovered.{Recovered, expected_heads, state_recovere
 use Rattle.onll_model.specs.Trace.{state_after}
 use Rattle.onll_outside.specs.Views.{StoreView}
 use Rattle.onll_text.specs.declared.any_object.AnyObject.{AnyObject}
-use Rattle.onll_text.specs.Init.{init_of}
+use Rattle.onll_text.specs.Init.{kind_and_state, init_of}
 use Rattle.onll_text.specs.Kinds.{ObjectKind, kind_at, on_object}
-use Rattle.onll_text.proofs.EachKind.{kind_and_state, by_kind}
+use Rattle.onll_text.proofs.EachKind.{by_kind}
 use Rattle.onll_task.specs.declared.answer.Stop.{Stop}
 use Rattle.onll_task.specs.Doing.{Task, Stage, after_stage, Fulfils, DoesStage, BeginsBy}
 use Rattle.onll_task.specs.Images.{images_stage}

@@ -3,9 +3,9 @@
 use Rattle.std.proofs.Common.{sym, subst}
 use Rattle.onll_text.specs.declared.any_object.AnyObject.{AnyObject}
 use Rattle.onll_text.specs.declared.any_object.Kind.{Kind}
-use Rattle.onll_text.specs.Kinds.{ObjectKind, kind_at, object_at, on_object}
-use Rattle.onll_text.proofs.EachKind.{kind_and_state, by_kind}
-use Rattle.onll_text.proofs.PrintedStates.{on_kind_at, same_object}
+use Rattle.onll_text.specs.Init.{object_at, kind_and_state}
+use Rattle.onll_text.specs.Kinds.{ObjectKind, kind_at, on_object}
+use Rattle.onll_text.proofs.EachKind.{by_kind, same_object, on_kind_at}
 use Rattle.onll_task.specs.Job.{Job}
 use Rattle.onll_task.specs.Doing.{Task}
 

@@ -13,8 +13,8 @@ use Rattle.onll_merge.specs.Recovered.{Recovered, expected_heads, state_recovere
 use Rattle.onll_model.specs.Trace.{state_after}
 use Rattle.onll_text.specs.declared.any_object.AnyObject.{AnyObject}
 use Rattle.onll_text.specs.declared.any_object.Kind.{Kind}
-use Rattle.onll_text.specs.Init.{init_of}
-use Rattle.onll_text.specs.Kinds.{kind_at, on_kind}
+use Rattle.onll_text.specs.Init.{on_kind, init_of}
+use Rattle.onll_text.specs.Kinds.{kind_at}
 use Rattle.onll_text.specs.PrintsBack.{prints_back}
 use Rattle.onll_text.specs.Refusal.{Refusal}
 use Rattle.onll_text.specs.Reports.{SaysOnly}
@@ -30,11 +30,11 @@ use Rattle.onll_task.specs.declared.ending.Ending.TheVariants.{Done, Refused, Ba
 use Rattle.onll_task.specs.Doing.{Task, after_stage, report_task, say_task, assured_stage, lines_stage, each_job}
 use Rattle.onll_open.specs.Names.{log_name, log_names}
 use Rattle.onll_task.specs.Images.{images_stage}
-use Rattle.onll_task.specs.Job.{Job, Say, Read, Write, Keep, JobEnds, Never, on_value}
+use Rattle.onll_task.specs.Job.{Job, Say, Read, Write, Keep, JobEnds, on_value}
 use Rattle.onll_task.specs.Keeps.{KeepStops}
 use Rattle.onll_task.specs.Reading.{CannotRead}
 use Rattle.onll_task.proofs.ImageFiles.{reading_images_never}
-use Rattle.onll_task.proofs.Jobs.{IsRare, reading_whole_never}
+use Rattle.onll_task.proofs.Jobs.{Never, IsRare, reading_whole_never}
 use Rattle.onll_eras.specs.EraJob.{EraNext, areas_work, era_task, on_started, started, with_newest, either_task, restored_task, restore_work, checkpoint_task, checkpoint_work, keeping_headers, begun_stage, header_said, area_said, has_next, checkpoint_after, area_of}
 use Rattle.onll_eras.specs.EraReports.{at_end_text, RestoreData, RestoreReads, newest_in, restore_lines, CheckpointData, CheckpointReads, checkpoint_lines}
 use Rattle.onll_eras.specs.EndingLaws.{HasFenceFault, FenceFaultLaw, HasFileFault, FileFaultLaw}
@@ -92,14 +92,14 @@ module _ (ending : Ending) (rare : IsRare ending) where
   pub restore_never : (names : EraNames) (threads : ℕ) → Never ending (restore_work names threads).task.job
   restore_never names threads = newest_never names threads restored_task restored_never
 
-  headers_never : (logs : List ℕ) (code : ℕ) (text : List ℕ) (threads t n : ℕ) (next : Job) → Never ending next
+  headers_never : (ending ≡ Faulty → ⊥) → (logs : List ℕ) (code : ℕ) (text : List ℕ) (threads t n : ℕ) (next : Job) → Never ending next
       → Never ending (keeping_headers logs code text threads t n next)
-  headers_never logs code text threads t zero next never = never
-  headers_never logs code text threads t (suc n) next never = headers_never logs code text threads (suc t) n next never
+  headers_never other logs code text threads t zero next never = never
+  headers_never other logs code text threads t (suc n) next never = (other, headers_never other logs code text threads (suc t) n next never)
 
-  checkpoint_next_never : (ckpt : List ℕ) (threads : ℕ) → NextNever (checkpoint_task ckpt threads)
-  checkpoint_next_never ckpt threads from era kind s (Err fault) = λ e. subst IsRare (sym e) rare
-  checkpoint_next_never ckpt threads from era kind s (Ok r) = let k = kind_at kind in
+  checkpoint_next_never : (ending ≡ Faulty → ⊥) → (ckpt : List ℕ) (threads : ℕ) → NextNever (checkpoint_task ckpt threads)
+  checkpoint_next_never other ckpt threads from era kind s (Err fault) = λ e. subst IsRare (sym e) rare
+  checkpoint_next_never other ckpt threads from era kind s (Ok r) = let k = kind_at kind in
       let state = state_after k.means s r.nodes in
       let lines = k.wording.state_lines state in
       let c = checkpoint_after era (length r.nodes) lines in
@@ -109,12 +109,13 @@ module _ (ending : Ending) (rare : IsRare ending) where
       either_says (λ task. Never ending task.job) (has_next era (length r.nodes))
       (after_stage (assured_stage (prints_back k.wording (flat_map line_text lines))) (λ _. after_stage (begun_stage ckpt k.code threads c) (λ _. last)))
       (say_task BadLog at_end_text)
-      (headers_never (area_name ckpt (area_of c)) k.code c.text threads 0 threads
+      (headers_never other (area_name ckpt (area_of c)) k.code c.text threads 0 threads
       (Write (text_name ckpt (area_of c)) c.text (Keep (area_name ckpt (area_of c)) (checkpoint_image c (lines_for (length c.text))) 2 (area_said (area_of c)) last.job))
-      (λ e. subst IsRare (sym e) rare)) (λ e. subst IsRare (sym e) rare)
+      (other, λ e. subst IsRare (sym e) rare)) (λ e. subst IsRare (sym e) rare)
 
-  pub checkpoint_never : (names : EraNames) (threads : ℕ) → Never ending (checkpoint_work names threads).task.job
-  checkpoint_never names threads = newest_never names threads (checkpoint_task names.ckpt threads) (checkpoint_next_never names.ckpt threads)
+  -- but with the fault of a fence
+  pub checkpoint_never : (ending ≡ Faulty → ⊥) → (names : EraNames) (threads : ℕ) → Never ending (checkpoint_work names threads).task.job
+  checkpoint_never other names threads = newest_never names threads (checkpoint_task names.ckpt threads) (checkpoint_next_never other names.ckpt threads)
 
 -- ---- endings that no file which is read gives
 module _ (store after : StoreView) (ending : Ending) (text : List ℕ)
@@ -171,28 +172,6 @@ module _ (store after : StoreView) (ending : Ending) (text : List ℕ)
           (λ odd. (era_task names h.0 threads first (newest even odd) next).job))) r) ending text → AtNext next
       by (Ok first) d = areas first d
       by (Err refusal) d = absurd (accepted d.0)
-
--- ---- no fence fails of these
-pub areas_not_faulty : (store after : StoreView) (ckpt text : List ℕ) → JobEnds store after (areas_work ckpt).task.job Faulty text → ⊥
-areas_not_faulty store after ckpt text (inl h) = h
-areas_not_faulty store after ckpt text (inr (inl h)) = h
-areas_not_faulty store after ckpt text (inr (inr h)) = let e = h.0 in cc
-
-pub restore_not_faulty : (store after : StoreView) (names : EraNames) (threads : ℕ) (text : List ℕ)
-    → JobEnds store after (restore_work names threads).task.job Faulty text → ⊥
-restore_not_faulty store after names threads text h =
-    let at = newest_reach store after Faulty text (λ name d. d) (λ e. cc e) names threads restored_task h in
-    said at.from at.era at.kind at.s at.r at.ends
-  where
-    said : (from : Option CheckpointState) (era : Era) (kind : Kind) (s : (kind_at kind).State) (r : Result Recovered StateFault)
-        → JobEnds store after (restored_task from era (kind_at kind) s r).job Faulty text → ⊥
-    said from era kind s (Err fault) = λ d. let e = d.0 in cc
-    said from era kind s (Ok r) = let k = kind_at kind in
-        let said : RestoreData k.State = record { from = newest_in from; logs = data_with r (state_after k.means s r.nodes) } in
-        either_says (λ task. JobEnds store after task.job Faulty text → ⊥) (nat_lt (era.place + length r.nodes) (2 ^ 64))
-        (report_task (flat_map line_text (restore_lines k.means k.wording said))
-        (λ text. SaysOnly (restore_lines k.means k.wording) (RestoreReads k.means k.wording) text said))
-        (say_task BadLog at_end_text) (λ d. let e = d.0 in cc) (λ d. let e = d.0 in cc)
 
 -- ---- what a checkpoint says of a fence, and of a file
 counted-again : (n more : ℕ) → more ≤ 1 → counted (counted n 0) more ≡ counted n more

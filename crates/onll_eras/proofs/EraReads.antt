@@ -221,9 +221,6 @@ module _ (store after : StoreView) where
       (read_cut (log_name logs t) told.0.bytes (λ bytes. each_job lines_stage (log_names logs (suc t) (length images)) (λ rest. go (image_lines bytes ∷ rest))) told.0.told h)
 
   module _ {names : EraNames} {threads place : ℕ} {text : List ℕ} (next : EraNext) (r : Restores store names threads place text) where
-    abbrev CutHere : (k : ObjectKind) → k.State → Type 0
-    CutHere k s = JobCut store after (Onward next (newest_by r) (era_in r) k s r.images)
-
     object_cut : (kind : Kind) (s : (kind_at kind).State) → JobCut store after (OnObject next threads (newest_by r) (era_in r) (kind_at kind) s).job
         → FilesStay store after ⊎ JobCut store after (Onward next (newest_by r) (era_in r) (kind_at kind) s r.images)
     object_cut kind s h =

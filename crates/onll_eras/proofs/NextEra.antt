@@ -12,12 +12,13 @@ use Rattle.onll_merge.specs.declared.fault.StateFault.{StateFault}
 use Rattle.onll_merge.specs.Recovered.{Recovered, expected_heads, state_recovered}
 use Rattle.onll_text.specs.declared.any_object.AnyObject.{AnyObject}
 use Rattle.onll_text.specs.declared.any_object.Kind.{Kind}
-use Rattle.onll_text.specs.Kinds.{ObjectKind, kind_at, object_at, on_object}
+use Rattle.onll_text.specs.Init.{object_at}
+use Rattle.onll_text.specs.Kinds.{ObjectKind, calls_of, kind_at, on_object}
 use Rattle.onll_text.specs.PrintsBack.{prints_back, state_text}
 use Rattle.onll_text.specs.Reports.{SaysOnly}
 use Rattle.onll_text.proofs.EachKind.{known}
 use Rattle.onll_text.proofs.EraTexts.{era_text-reads, era_text-short, Bytes-era_text}
-use Rattle.onll_text.proofs.PrintedStates.{PrintsState, prints_state, says_object}
+use Rattle.onll_text.proofs.PrintedStates.{PrintsState, prints_state}
 use Rattle.onll_outside.specs.Views.{StoreView, Rose, counted, image_bytes}
 use Rattle.onll_task.specs.declared.ending.Ending.{Ending}
 use Rattle.onll_task.specs.declared.ending.Ending.TheVariants.{Done, BadLog}
@@ -90,7 +91,7 @@ module _ (kind : Kind) (era : Era) (s : (kind_at kind).State) (r : Recovered) wh
       place_is = refl;
       begun = b;
       object = object_at kind it.state;
-      reads = era_text-reads next.number next.place lines (object_at kind it.state) within.0 within.1 it.short (says_object kind text it.state it.says);
+      reads = era_text-reads next.number next.place lines (object_at kind it.state) within.0 within.1 it.short ((calls_of kind).says text it.state it.says);
       printed = to_object (λ k s. IsPrinted k (kind_at kind).code s text) kind it.state (record { code_is = refl; printed = it.printed });
     }
 

@@ -13,9 +13,9 @@ use Rattle.onll_merge.specs.declared.fault.StateFault.{StateFault}
 use Rattle.onll_merge.specs.Recovered.{Recovered, expected_heads, state_recovered}
 use Rattle.onll_text.specs.declared.any_object.AnyObject.{AnyObject}
 use Rattle.onll_text.specs.declared.any_object.Kind.{Kind}
-use Rattle.onll_text.specs.Init.{init_of}
+use Rattle.onll_text.specs.Init.{object_at, init_of}
 use Rattle.onll_text.specs.PrintsBack.{state_text}
-use Rattle.onll_text.specs.Kinds.{ObjectKind, kind_at, object_at, on_object}
+use Rattle.onll_text.specs.Kinds.{ObjectKind, kind_at, on_object}
 use Rattle.onll_text.specs.Reports.{SaysOnly}
 use Rattle.onll_outside.specs.Views.{StoreView}
 use Rattle.onll_task.specs.RecoverySaid.{data_with}

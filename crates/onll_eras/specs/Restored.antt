@@ -24,7 +24,7 @@ pub record TellsLines (store : StoreView) (name : List ℕ) (lines : List (List 
   pub told : FileIsTold store name bytes
   pub image : lines ≡ image_lines bytes
 
--- so are the files of the logs of an era, from thread t on
+-- so are the files of the logs of threads, from thread t on
 abbrev pub TellLogs : StoreView → List ℕ → ℕ → List (List (List ℕ)) → Type 0
 TellLogs store logs t [] = Unit {0}
 TellLogs store logs t (image ∷ images) = TellsLines store (log_name logs t) image × TellLogs store logs (suc t) images

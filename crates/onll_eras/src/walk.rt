@@ -25,7 +25,7 @@ use onll_merge::{Recovery, StateFault, expected_heads};
 use onll_open::log_name;
 use onll_outside::{OutsideFault, Store};
 use onll_task::{InitText, Stop, bad_logs, init_file, read_images, recover_tested};
-use onll_text::{AnyObject, TextFault, Texted, read_init};
+use onll_text::{AnyObject, TextFault, Texted, read_init, with_object};
 use std::alloc::Global;
 
 /// What is asked of what the era's logs gave, with the object after it.
@@ -103,12 +103,7 @@ fn over_any<S: Store>(
     requires { (1 ≤ call.threads) × (call.threads ≤ most_threads) }
     ensures { on_object (λ k s. DoesFound call.entry era.entry k s (S.seen store.old) (S.seen store.new) result) object }
 {
-    match object {
-        AnyObject::Bank(bank) => over_one(alloc, bank, era, call, store),
-        AnyObject::Map(map) => over_one(alloc, map, era, call, store),
-        AnyObject::Queue(queue) => over_one(alloc, queue, era, call, store),
-        AnyObject::Lease(lease) => over_one(alloc, lease, era, call, store),
-    }
+    with_object!(object, one => over_one(alloc, one, era, call, store))
 }
 
 /// What is asked of the era of a checkpoint, whose object its text says; a text that is refused is said by its area's name.

@@ -50,7 +50,7 @@ use Rattle.onll_task.specs.Scripts.{scripts_stage}
 use Rattle.onll_recovery.proofs.Resumes.{GoesOrMany, goes_or_many, resumed_on, on_recovered}
 use Rattle.onll_jobs.specs.AgainPromises.{TellsValue, TellScripts, TellsPlan, SaysOn, GoesOnLeft, GoesOnRun, RunGoesOn}
 use Rattle.onll_jobs.specs.Command.{form_of, Again}
-use Rattle.onll_jobs.specs.Durable.{TellImages}
+use Rattle.onll_eras.specs.Restored.{TellLogs}
 use Rattle.onll_jobs.specs.Over.{AgainOver, over_task, object_task, over_work}
 use Rattle.onll_jobs.specs.Says.{job_of, ExitSays, NoneRose, SaysThis}
 use Rattle.onll_jobs.specs.Seen.{Seen}
@@ -83,7 +83,7 @@ module _ (ending : Ending) (text : List ℕ) where
   decides_writes store logs i [] next d = d store
   decides_writes store logs i (image ∷ images) next d = decides_writes (written store (log_name logs i) (image_bytes image)) logs (suc i) images next d
 
-told_eight : (store : StoreView) (logs : List ℕ) (i : ℕ) (images : List (List (List ℕ))) → TellImages store logs i images → AllByRecursion AreLines images
+told_eight : (store : StoreView) (logs : List ℕ) (i : ℕ) (images : List (List (List ℕ))) → TellLogs store logs i images → AllByRecursion AreLines images
 told_eight store logs i [] h = tt
 told_eight store logs i (image ∷ images) h = (subst AreLines (sym h.0.image) (image_eight h.0.bytes), told_eight store logs (suc i) images h.1)
 
@@ -106,7 +106,7 @@ module _ (seen : Seen) (x : Exit) (says : ExitSays seen x) (init schedule logs b
 
   module _ (k : ObjectKind) (is : IsKnown k) (s : k.State) (few : length names ≤ 16)
       (say : (ending : Ending) (text : List ℕ) → Decides seen.store (again_task k bytes schedule logs names s).job ending text → SaysThis seen (exit_status x) ending text)
-      (texts : TellsPlan k seen.store schedule names) (images : List (List (List ℕ))) (files : TellImages seen.store logs 0 images) (many : length images ≡ length names) where
+      (texts : TellsPlan k seen.store schedule names) (images : List (List (List ℕ))) (files : TellLogs seen.store logs 0 images) (many : length images ≡ length names) where
     as_many : length images ≡ length texts.scripts
     as_many = many ∙ sym (many_scripts k.wording seen.store names texts.scripts (told_read k.wording seen.store names texts.scripts texts.tell))
 
@@ -172,7 +172,7 @@ module _ (seen : Seen) (x : Exit) (says : ExitSays seen x) (init schedule logs b
   -- from images that give nodes, as logs with the heads of as many threads, the scripts go on
   module _ (k : ObjectKind) (is : IsKnown k) (s : k.State)
       (say : (ending : Ending) (text : List ℕ) → Decides seen.store (again_task k bytes schedule logs names s).job ending text → SaysThis seen (exit_status x) ending text)
-      (texts : TellsPlan k seen.store schedule names) (images : List (List (List ℕ))) (files : TellImages seen.store logs 0 images) (many : length images ≡ length names)
+      (texts : TellsPlan k seen.store schedule names) (images : List (List (List ℕ))) (files : TellLogs seen.store logs 0 images) (many : length images ≡ length names)
       (found : Found) (gives : found_in k.means (heads_from (length names) k.code bytes 0 (length names)) images ≡ Ok found) where
     gives_on : SaysOn k bytes s seen (exit_status x) logs names texts.scripts texts.plan (resumed k.means k.code bytes s images texts.scripts)
     gives_on =

@@ -12,9 +12,10 @@ use Rattle.onll_task.specs.declared.ending.Ending.{Ending}
 use Rattle.onll_task.specs.declared.ending.Ending.TheVariants.{Refused}
 use Rattle.onll_task.specs.declared.answer.Stop.{Stop}
 use Rattle.onll_task.specs.Printed.{refusal_text}
-use Rattle.onll_task.specs.Reading.{Reads, Stops}
+use Rattle.onll_task.specs.Reading.{Reads}
 use Rattle.onll_task.specs.Stop.{StopSays}
 use Rattle.onll_open.specs.Files.{SameCounts}
+use Rattle.onll_task.proofs.Jobs.{Stops}
 use Rattle.onll_task.proofs.Stops.{StopSays-weaker}
 use Rattle.onll_audit.specs.Printed.{longest_report}
 use Rattle.onll_jobs.specs.AuditJob.{or_bad_line, judged_of}

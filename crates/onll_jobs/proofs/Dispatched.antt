@@ -3,8 +3,9 @@
 use Rattle.std.proofs.Common.{Vec, ℕ, List, Result, sym, subst}
 use Rattle.onll_outside.specs.Views.{StoreView}
 use Rattle.onll_text.specs.declared.any_object.AnyObject.{AnyObject}
+use Rattle.onll_text.specs.Init.{kind_and_state}
 use Rattle.onll_text.specs.Kinds.{kind_at, on_object}
-use Rattle.onll_text.proofs.EachKind.{by_kind, kind_and_state}
+use Rattle.onll_text.proofs.EachKind.{by_kind}
 use Rattle.onll_task.specs.declared.answer.Stop.{Stop}
 use Rattle.onll_task.specs.Job.{Threads}
 use Rattle.onll_task.specs.Doing.{Task, Fulfils}

@@ -1,8 +1,8 @@
 -- What an exit says by its status, and how calls never end: only words of no form get the usage text, only a run, anew or
 -- going on, and a checkpoint a fault line, and only an audit a wrong line.
 
-use Rattle.std.proofs.Common.{ℕ, zero, suc, List, ◌≡◌, ◌⊎◌, inl, inr, Option, Some, None, Result, Ok, Err, refl, sym, ap, ◌∙◌, subst, arith, [], ◌∷◌}
-use Rattle.onll_outside.specs.Views.{Puts, StoreView}
+use Rattle.std.proofs.Common.{ℕ, zero, suc, List, ◌≡◌, ◌⊎◌, inl, inr, Option, Some, None, Result, Ok, Err, refl, sym, ap, ◌∙◌, subst, arith}
+use Rattle.onll_outside.specs.Views.{Puts}
 use Rattle.onll_model.specs.declared.call.Call.{Call}
 use Rattle.onll_model.specs.Object.{Behaviour}
 use Rattle.onll_text.specs.Wording.{Wording}
@@ -18,20 +18,20 @@ use Rattle.onll_task.specs.declared.ending.Exit.TheVariants.{Said, SinkFault, No
 use Rattle.onll_jobs.specs.Seen.{Seen}
 use Rattle.onll_jobs.specs.Command.{Form, OverInit, Show, Make, Areas, Restore, Checkpoint, Ship, form_of, usage_text}
 use Rattle.onll_task.specs.Printed.{status_of, exit_status}
-use Rattle.onll_task.specs.Job.{Say, Threads, JobEnds, Never, Decides, Job}
+use Rattle.onll_task.specs.Job.{Say, Threads, JobEnds, Decides}
 use Rattle.onll_log.specs.Grammar.{Content, content_of}
 use Rattle.onll_log.specs.ImageFile.{image_lines}
-use Rattle.onll_jobs.specs.ShowJob.{shown_task, show_work}
+use Rattle.onll_jobs.specs.ShowJob.{shown_task}
 use Rattle.onll_merge.specs.declared.fault.StateFault.{StateFault}
 use Rattle.onll_merge.specs.Recovered.{Recovered, expected_heads, state_recovered}
 use Rattle.onll_recovery.specs.RecoverJob.{recovered_task, images_task}
 use Rattle.onll_jobs.specs.FoldJob.{script_task}
 use Rattle.onll_jobs.specs.Exits.{PutExits}
 use Rattle.onll_jobs.specs.Says.{job_of, AllowsEnding, PutWhole, OutOfMemory, SinkFailed, ExitSays, NothingFailed, NoneRose, SaysThis}
-use Rattle.onll_task.specs.Doing.{Task, lines_stage, each_job}
+use Rattle.onll_task.specs.Doing.{Task}
 use Rattle.onll_jobs.specs.Over.{OverForm, FoldOver, RecoverOver, ReplayOver, AgainOver, ResumeOver, RunOver, DetectOver, FollowOver, AuditOver, over_task, object_task, over_work}
 use Rattle.onll_task.proofs.Onwards.{ends_cut}
-use Rattle.onll_task.proofs.Jobs.{TellsFault, nothing_failed, decided, IsRare, rare_none, never_says, reading_never, reading_whole_never}
+use Rattle.onll_task.proofs.Jobs.{Never, TellsFault, nothing_failed, decided, IsRare, never_says, reading_never, reading_whole_never}
 use Rattle.onll_task.proofs.ImageFiles.{reading_images_never}
 use Rattle.onll_text.proofs.EachKind.{each_kind}
 use Rattle.onll_jobs.proofs.AgainEnds.{again_not_usage, again_not_faulty, again_not_judged}
@@ -40,13 +40,11 @@ use Rattle.onll_jobs.proofs.DetectEnds.{detect_not_usage, detect_not_faulty, det
 use Rattle.onll_jobs.proofs.ReplayEnds.{replay_not_usage, replay_not_faulty, replay_not_judged}
 use Rattle.onll_jobs.proofs.ResumeEnds.{resume_not_usage, resume_not_judged}
 use Rattle.onll_jobs.proofs.RunEnds.{run_not_usage, run_not_judged}
-use Rattle.onll_open.specs.Names.{log_names}
-use Rattle.onll_eras.proofs.EraEndings.{areas_never, restore_never, checkpoint_never, areas_not_faulty, restore_not_faulty}
-use Rattle.onll_shipping.proofs.Endings.{follow_never, follow_not_faulty}
-use Rattle.onll_shipping.proofs.Shipping.{ship_never, ship_not_faulty}
+use Rattle.onll_eras.proofs.EraEndings.{areas_never, restore_never, checkpoint_never}
+use Rattle.onll_shipping.proofs.Endings.{follow_never}
+use Rattle.onll_shipping.proofs.Shipping.{ship_never}
 use Rattle.onll_jobs.specs.AuditPromises.{IsOfAudit}
 use Rattle.onll_jobs.specs.RunPromises.{AreRunWords, IsOfCheckpoint}
-use Rattle.onll_jobs.proofs.SaidEnds.{said_read, whole_ends}
 
 ending_at : ℕ → Ending
 ending_at zero = Done
@@ -109,7 +107,7 @@ no_memory_of w (Said e) h s = absurd (not_nine e h)
 no_memory_of w SinkFault h s = absurd (omega arith)
 no_memory_of w NoMemory h s = s
 
--- ---- endings that words of no form alone give, or an audit
+-- ---- endings that few words give: the usage text, a wrong line, a fault line
 module _ (ending : Ending) (rare : IsRare ending) where
   report_never : {State Op Query Reply : Type 0} (b : Behaviour State Op Query Reply) (w : Wording State Op Query Reply) (s : State) (script : List ℕ) → Never ending (script_task b w s script).job
   report_never {State} {Op} {Query} {Reply} b w s script =
@@ -136,39 +134,78 @@ module _ (ending : Ending) (rare : IsRare ending) where
     never_put form e never =
         never_says ending rare w.store w.store_after (job_of (Some form)) h.text never (subst (λ f. JobEnds w.store w.store_after (job_of f) ending h.text) e h.allowed)
 
-    -- the words of a form that end so are those of an audit
-    rare_form : (form : Form) → form_of w.words ≡ Some form → IsOfAudit w
-    rare_form (OverInit init (FoldOver script)) e =
-        absurd (never_put (OverInit init (FoldOver script)) e (over_never init (FoldOver script) (λ kind bytes s. report_never (kind_at kind).means (kind_at kind).wording s script)))
-    rare_form (Show image) e = absurd (never_put (Show image) e (λ bytes. content_never (content_of (image_lines bytes))))
-    rare_form (OverInit init (RecoverOver logs threads)) e =
-        absurd (never_put (OverInit init (RecoverOver logs threads)) e
-        (over_never init (RecoverOver logs threads)
-        (λ kind bytes s. let k = kind_at kind in
-        reading_images_never ending logs threads 0 (λ images. (images_task k bytes s images).job)
-        (λ images. recovered_never k.means k.wording s (state_recovered k.means (expected_heads k.code bytes images) images)))))
-    rare_form (OverInit init (ReplayOver schedule logs scripts)) e =
-        absurd (rare_none (PutWhole w) (replay_not_usage w init schedule logs scripts e) (replay_not_judged w init schedule logs scripts e) ending rare h)
-    rare_form (OverInit init (AgainOver schedule logs scripts)) e =
-        absurd (rare_none (PutWhole w) (again_not_usage w init schedule logs scripts e) (again_not_judged w init schedule logs scripts e) ending rare h)
-    rare_form (OverInit init (ResumeOver logs scripts)) e =
-        absurd (rare_none (PutWhole w) (resume_not_usage w init logs scripts e) (resume_not_judged w init logs scripts e) ending rare h)
-    rare_form (OverInit init (RunOver logs scripts)) e = absurd (rare_none (PutWhole w) (run_not_usage w init logs scripts e) (run_not_judged w init logs scripts e) ending rare h)
-    rare_form (OverInit init (DetectOver logs scripts)) e =
-        absurd (rare_none (PutWhole w) (detect_not_usage w init logs scripts e) (detect_not_judged w init logs scripts e) ending rare h)
-    rare_form (OverInit init (FollowOver threads stream piece)) e =
-        absurd (never_put (OverInit init (FollowOver threads stream piece)) e
-        (over_never init (FollowOver threads stream piece) (λ kind bytes s. follow_never ending rare (kind_at kind) bytes stream threads s)))
-    rare_form (OverInit init (AuditOver report names)) e = record { init = init; report = report; names = names; form = e }
-    rare_form (Make workload) e = absurd (never_put (Make workload) e (λ d. subst IsRare (sym d) rare))
-    rare_form (Areas ckpt) e = absurd (never_put (Areas ckpt) e (areas_never ending rare ckpt))
-    rare_form (Restore names threads) e = absurd (never_put (Restore names threads) e (restore_never ending rare names threads))
-    rare_form (Checkpoint names threads) e = absurd (never_put (Checkpoint names threads) e (checkpoint_never ending rare names threads))
-    rare_form (Ship logs threads out) e = absurd (never_put (Ship logs threads out) e (ship_never ending rare logs threads out))
+-- how a call with the words of a form ends: never with the usage text; with a wrong line where it is an audit; with a fault line where it
+-- is a run, anew or going on, or a checkpoint
+record EndsSo (w : Seen) : Type 0 where
+  usage : PutWhole w Usage → ⊥
+  judged : PutWhole w Judged → IsOfAudit w
+  faulty : PutWhole w Faulty → AreRunWords w ⊎ IsOfCheckpoint w
+
+module _ (w : Seen) where
+  -- a call whose job ends in none of these ways
+  plain_ends : (form : Form) → form_of w.words ≡ Some form → ((ending : Ending) → IsRare ending → Never ending (job_of (Some form))) → EndsSo w
+  plain_ends form e never = record {
+    usage = λ h. never_put Usage tt w h form e (never Usage tt);
+    judged = λ h. absurd (never_put Judged tt w h form e (never Judged tt));
+    faulty = λ h. absurd (never_put Faulty tt w h form e (never Faulty tt));
+  }
+
+  plain_over : (init : List ℕ) (over : OverForm) → form_of w.words ≡ Some (OverInit init over)
+      → ((ending : Ending) → IsRare ending → (kind : Kind) (bytes : List ℕ) (s : (kind_at kind).State) → Never ending (over_task over (kind_at kind) (Threads kind) bytes s).job) → EndsSo w
+  plain_over init over e never = plain_ends (OverInit init over) e (λ ending rare. over_never ending rare init over (never ending rare))
+
+  form_ends : (form : Form) → form_of w.words ≡ Some form → EndsSo w
+  form_ends (OverInit init (FoldOver script)) e = plain_over init (FoldOver script) e
+      (λ ending rare kind bytes s. report_never ending rare (kind_at kind).means (kind_at kind).wording s script)
+  form_ends (Show image) e = plain_ends (Show image) e (λ ending rare bytes. content_never ending rare (content_of (image_lines bytes)))
+  form_ends (OverInit init (RecoverOver logs threads)) e = plain_over init (RecoverOver logs threads) e
+      (λ ending rare kind bytes s. reading_images_never ending logs threads 0 (λ images. (images_task (kind_at kind) bytes s images).job)
+      (λ images. recovered_never ending rare (kind_at kind).means (kind_at kind).wording s (state_recovered (kind_at kind).means (expected_heads (kind_at kind).code bytes images) images)))
+  form_ends (OverInit init (ReplayOver schedule logs scripts)) e = record {
+    usage = replay_not_usage w init schedule logs scripts e;
+    judged = λ h. absurd (replay_not_judged w init schedule logs scripts e h);
+    faulty = λ h. absurd (replay_not_faulty w init schedule logs scripts e h);
+  }
+  form_ends (OverInit init (AgainOver schedule logs scripts)) e = record {
+    usage = again_not_usage w init schedule logs scripts e;
+    judged = λ h. absurd (again_not_judged w init schedule logs scripts e h);
+    faulty = λ h. absurd (again_not_faulty w init schedule logs scripts e h);
+  }
+  form_ends (OverInit init (ResumeOver logs names)) e = record {
+    usage = resume_not_usage w init logs names e;
+    judged = λ h. absurd (resume_not_judged w init logs names e h);
+    faulty = λ h. inl (record { init = init; logs = logs; names = names; form = inr e });
+  }
+  form_ends (OverInit init (RunOver logs names)) e = record {
+    usage = run_not_usage w init logs names e;
+    judged = λ h. absurd (run_not_judged w init logs names e h);
+    faulty = λ h. inl (record { init = init; logs = logs; names = names; form = inl e });
+  }
+  form_ends (OverInit init (DetectOver logs names)) e = record {
+    usage = detect_not_usage w init logs names e;
+    judged = λ h. absurd (detect_not_judged w init logs names e h);
+    faulty = λ h. absurd (detect_not_faulty w init logs names e h);
+  }
+  form_ends (OverInit init (FollowOver threads stream piece)) e = plain_over init (FollowOver threads stream piece) e
+      (λ ending rare kind bytes s. follow_never ending rare (kind_at kind) bytes stream threads s)
+  form_ends (OverInit init (AuditOver report names)) e = record {
+    usage = audit_not_usage w init report names e;
+    judged = λ h. record { init = init; report = report; names = names; form = e };
+    faulty = λ h. absurd (audit_not_faulty w init report names e h);
+  }
+  form_ends (Make workload) e = plain_ends (Make workload) e (λ ending rare d. subst IsRare (sym d) rare)
+  form_ends (Areas ckpt) e = plain_ends (Areas ckpt) e (λ ending rare. areas_never ending rare ckpt)
+  form_ends (Restore names threads) e = plain_ends (Restore names threads) e (λ ending rare. restore_never ending rare names threads)
+  form_ends (Checkpoint names threads) e = record {
+    usage = λ h. never_put Usage tt w h (Checkpoint names threads) e (checkpoint_never Usage tt (λ d. cc d) names threads);
+    judged = λ h. absurd (never_put Judged tt w h (Checkpoint names threads) e (checkpoint_never Judged tt (λ d. cc d) names threads));
+    faulty = λ h. inr (record { names = names; threads = threads; form = e });
+  }
+  form_ends (Ship logs threads out) e = plain_ends (Ship logs threads out) e (λ ending rare. ship_never ending rare logs threads out)
 
 -- words of a form never get the usage text
 form_not_usage : (w : Seen) (form : Form) → form_of w.words ≡ Some form → PutWhole w Usage → ⊥
-form_not_usage w form e h = let audit = rare_form Usage tt w h form e in audit_not_usage w audit.init audit.report audit.names audit.form h
+form_not_usage w form e h = (form_ends w form e).usage h
 
 usage_put : (w : Seen) (form : Option Form) → form_of w.words ≡ form → PutWhole w Usage → (form ≡ None) × Puts w.sink w.sink_after usage_text
 usage_put w None e h = (refl, subst (Puts w.sink w.sink_after) (subst (λ f. JobEnds w.store w.store_after (job_of f) Usage h.text) e h.allowed).1 h.put)
@@ -180,10 +217,18 @@ usage_of w x h s = usage_put w (form_of w.words) refl (said_of w x Usage (λ e. 
 -- a call that ends with a wrong line is an audit
 judged_put : (w : Seen) (form : Option Form) → form_of w.words ≡ form → PutWhole w Judged → IsOfAudit w
 judged_put w None e h = absurd (let same = (subst (λ f. JobEnds w.store w.store_after (job_of f) Judged h.text) e h.allowed).0 in cc)
-judged_put w (Some form) e h = rare_form Judged tt w h form e
+judged_put w (Some form) e h = (form_ends w form e).judged h
 
 pub judged_audit : (w : Seen) → PutWhole w Judged → IsOfAudit w
 judged_audit w h = judged_put w (form_of w.words) refl h
+
+-- one that ends with a fault line is a run, or a checkpoint
+faulty_put : (w : Seen) (form : Option Form) → form_of w.words ≡ form → PutWhole w Faulty → AreRunWords w ⊎ IsOfCheckpoint w
+faulty_put w None e h = absurd (let same = (subst (λ f. JobEnds w.store w.store_after (job_of f) Faulty h.text) e h.allowed).0 in cc)
+faulty_put w (Some form) e h = (form_ends w form e).faulty h
+
+pub faulty_run : (w : Seen) → PutWhole w Faulty → AreRunWords w ⊎ IsOfCheckpoint w
+faulty_run w h = faulty_put w (form_of w.words) refl h
 
 -- the statuses that say that nothing failed
 abbrev IsSound : ℕ → Type 0
@@ -227,73 +272,3 @@ decided_exactly w (Said e) ending text d none h =
     inl (ap status_of said.0, subst (Puts w.sink w.sink_after) said.1 h.put)
 decided_exactly w SinkFault ending text d none h = absurd (none.sink h.rose)
 decided_exactly w NoMemory ending text d none h = inr refl
-
--- ---- only a run, anew or going on, and a checkpoint end with a fault line
-module _ (store after : StoreView) (text : List ℕ) where
-  content_not_faulty : (content : Option Content) → JobEnds store after (shown_task content).job Faulty text → ⊥
-  content_not_faulty None h = let e = h.0 in cc
-  content_not_faulty (Some content) h = let e = h.0 in cc
-
-  show_not_faulty : (image : List ℕ) → JobEnds store after (show_work image).task.job Faulty text → ⊥
-  show_not_faulty image (inl h) = h.0
-  show_not_faulty image (inr h) = content_not_faulty (content_of (image_lines h.0)) h.1.1
-
-  images_not_faulty : (names : List (List ℕ)) (next : List (List (List ℕ)) → Job) → ((images : List (List (List ℕ))) → JobEnds store after (next images) Faulty text → ⊥)
-      → JobEnds store after (each_job lines_stage names next) Faulty text → ⊥
-  images_not_faulty [] next f h = f [] h
-  images_not_faulty (name ∷ names) next f (inl h) = h.0
-  images_not_faulty (name ∷ names) next f (inr h) = images_not_faulty names (λ images. next (image_lines h.0 ∷ images)) (λ images. f (image_lines h.0 ∷ images)) h.1.1
-
-  module _ {State Op Query Reply : Type 0} (b : Behaviour State Op Query Reply) (w : Wording State Op Query Reply) (s : State) where
-    fold_not_faulty : (script : List ℕ) → JobEnds store after (script_task b w s script).job Faulty text → ⊥
-    fold_not_faulty script h =
-        let read = whole_ends after Faulty text (said_read Faulty tt) store script (script_of w) (λ bytes (calls : List (Call State Op Query Reply)). Say Done (fold_report b w s calls)) h in
-        let e = read.ends.0 in
-        cc
-
-    recovered_not_faulty : (r : Result Recovered StateFault) → JobEnds store after (recovered_task b w s r).job Faulty text → ⊥
-    recovered_not_faulty (Ok r) h = let e = h.0 in cc
-    recovered_not_faulty (Err fault) h = let e = h.0 in cc
-
-  over_not_faulty : (init : List ℕ) (over : OverForm) → ((kind : Kind) (bytes : List ℕ) (s : (kind_at kind).State) → JobEnds store after (over_task over (kind_at kind) (Threads kind) bytes s).job Faulty text → ⊥)
-      → JobEnds store after (over_work init over).task.job Faulty text → ⊥
-  over_not_faulty init over never h =
-      let read = whole_ends after Faulty text (said_read Faulty tt) store init init_of (λ bytes object. (object_task over bytes object).job) h in
-      each_kind {A = Task} (λ kind s. over_task over (kind_at kind) (Threads kind) read.bytes s) (λ task. JobEnds store after task.job Faulty text → ⊥) (λ kind s. never kind read.bytes s) read.value read.ends
-
--- the words of a call that ends so are those of a run, or of a checkpoint
-module _ (seen : Seen) (h : PutWhole seen Faulty) where
-  ends_so : (form : Option Form) → form_of seen.words ≡ form → JobEnds seen.store seen.store_after (job_of form) Faulty h.text
-  ends_so form e = subst (λ f. JobEnds seen.store seen.store_after (job_of f) Faulty h.text) e h.allowed
-
-  of_run : (form : Option Form) → form_of seen.words ≡ form → AreRunWords seen ⊎ IsOfCheckpoint seen
-  of_run None e = absurd (let same = (ends_so None e).0 in cc)
-  of_run (Some (OverInit init (FoldOver script))) e =
-      absurd (over_not_faulty seen.store seen.store_after h.text init (FoldOver script)
-      (λ kind bytes s. fold_not_faulty seen.store seen.store_after h.text (kind_at kind).means (kind_at kind).wording s script) (ends_so (Some (OverInit init (FoldOver script))) e))
-  of_run (Some (Show image)) e = absurd (show_not_faulty seen.store seen.store_after h.text image (ends_so (Some (Show image)) e))
-  of_run (Some (OverInit init (RecoverOver logs threads))) e =
-      absurd (over_not_faulty seen.store seen.store_after h.text init (RecoverOver logs threads)
-      (λ kind bytes s. let k = kind_at kind in
-      images_not_faulty seen.store seen.store_after h.text (log_names logs 0 threads) (λ images. (images_task k bytes s images).job)
-      (λ images. recovered_not_faulty seen.store seen.store_after h.text k.means k.wording s (state_recovered k.means (expected_heads k.code bytes images) images))) (ends_so (Some (OverInit init (RecoverOver logs threads))) e))
-  of_run (Some (OverInit init (ReplayOver schedule logs scripts))) e = absurd (replay_not_faulty seen init schedule logs scripts e h)
-  of_run (Some (OverInit init (AgainOver schedule logs scripts))) e = absurd (again_not_faulty seen init schedule logs scripts e h)
-  of_run (Some (OverInit init (ResumeOver logs names))) e = inl (record { init = init; logs = logs; names = names; form = inr e })
-  of_run (Some (OverInit init (RunOver logs names))) e = inl (record { init = init; logs = logs; names = names; form = inl e })
-  of_run (Some (OverInit init (DetectOver logs names))) e = absurd (detect_not_faulty seen init logs names e h)
-  of_run (Some (OverInit init (FollowOver threads stream piece))) e =
-      absurd (over_not_faulty seen.store seen.store_after h.text init (FollowOver threads stream piece)
-      (λ kind bytes s. follow_not_faulty seen.store seen.store_after (kind_at kind) bytes stream threads s h.text)
-      (ends_so (Some (OverInit init (FollowOver threads stream piece))) e))
-  of_run (Some (OverInit init (AuditOver report names))) e = absurd (audit_not_faulty seen init report names e h)
-  of_run (Some (Make workload)) e = absurd (let same = (ends_so (Some (Make workload)) e).0 in cc)
-  of_run (Some (Areas ckpt)) e = absurd (areas_not_faulty seen.store seen.store_after ckpt h.text (ends_so (Some (Areas ckpt)) e))
-  of_run (Some (Restore names threads)) e =
-      absurd (restore_not_faulty seen.store seen.store_after names threads h.text (ends_so (Some (Restore names threads)) e))
-  of_run (Some (Checkpoint names threads)) e = inr (record { names = names; threads = threads; form = e })
-  of_run (Some (Ship logs threads out)) e =
-      absurd (ship_not_faulty seen.store seen.store_after logs threads out h.text (ends_so (Some (Ship logs threads out)) e))
-
-  pub faulty_run : AreRunWords seen ⊎ IsOfCheckpoint seen
-  faulty_run = of_run (form_of seen.words) refl

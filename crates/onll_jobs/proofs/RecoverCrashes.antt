@@ -21,7 +21,8 @@ use Rattle.onll_task.specs.Printed.{exit_status}
 use Rattle.onll_jobs.specs.Says.{job_of, ExitSays, NoneRose, SaysThis}
 use Rattle.onll_recovery.specs.RecoverJob.{recover_report, recovered_task, images_task, logs_task}
 use Rattle.onll_merge.specs.Recovered.{Recovered, recovered_with, expected_heads, state_recovered}
-use Rattle.onll_jobs.specs.Durable.{TellImages, AreLeftFiles, RecoversLeft, RecoversCrashes}
+use Rattle.onll_eras.specs.Restored.{TellLogs}
+use Rattle.onll_jobs.specs.Durable.{AreLeftFiles, RecoversLeft, RecoversCrashes}
 use Rattle.onll_jobs.specs.Over.{RecoverOver, over_task, object_task, over_work}
 use Rattle.onll_task.specs.Doing.{Task}
 use Rattle.onll_text.proofs.EachKind.{kind_goes}
@@ -31,7 +32,7 @@ use Rattle.onll_jobs.proofs.ExitCauses.{decided_exactly}
 -- What a crash left in told files is recovered.
 
 pub decides_images : (store : StoreView) (logs : List ℕ) (i : ℕ) (images : List (List (List ℕ))) (next : List (List (List ℕ)) → Job) (ending : Ending) (text : List ℕ)
-    → TellImages store logs i images → Decides store (next images) ending text → Decides store (each_job lines_stage (log_names logs i (length images)) next) ending text
+    → TellLogs store logs i images → Decides store (next images) ending text → Decides store (each_job lines_stage (log_names logs i (length images)) next) ending text
 decides_images store logs i [] next ending text told d = d
 decides_images store logs i (image ∷ images) next ending text told d =
     let here = told.0 in (

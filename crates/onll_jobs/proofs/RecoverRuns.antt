@@ -40,7 +40,7 @@ use Rattle.onll_recovery.proofs.Crashes.{format_by, format_tested, HaveFormat2, 
 use Rattle.onll_task.proofs.OperationRows.{recovered_is}
 use Rattle.onll_runner.proofs.FaultLines.{length-fault_lines}
 use Rattle.onll_task.proofs.RunRecovers.{AreTold, run_told, run_operations}
-use Rattle.onll_jobs.specs.Durable.{TellsImage, TellImages}
+use Rattle.onll_eras.specs.Restored.{TellsLines, TellLogs}
 use Rattle.onll_jobs.specs.Over.{RecoverOver, over_task}
 use Rattle.onll_jobs.specs.RunPromises.{fault_count, plan_from, BeginsFrom}
 use Rattle.onll_jobs.specs.RunRecovers.{IsLeftByRun, RecoversRun, RecoversRuns}
@@ -74,10 +74,10 @@ fenced_format log (Some place) head read = ap format_by head
 record OneLeft (store : StoreView) (name : List ℕ) (log : LogLeft) (failed : Option ℕ) : Type 0 where
   image : List (List ℕ)
   mixed : Mixed (fenced_in log failed) log.read image
-  tells : TellsImage store name image
+  tells : TellsLines store name image
   format : format_in image ≡ 2
 
-tells_image : (store : StoreView) (name : List ℕ) (image : List (List ℕ)) → store.tells ≡ true → store.file name ≡ Some (image_bytes image) → FitFile image → TellsImage store name image
+tells_image : (store : StoreView) (name : List ℕ) (image : List (List ℕ)) → store.tells ≡ true → store.file name ≡ Some (image_bytes image) → FitFile image → TellsLines store name image
 tells_image store name image tells file fit =
     record { bytes = image_bytes image; told = record { tells = tells; file = file }; image = sym (image_lines-image_bytes image fit) }
 
@@ -103,7 +103,7 @@ one_left store after name log (Some place) tells told same h fit holds format =
 record FilesLeft {State Op Query Reply : Type 0} (store : StoreView) (logs : List ℕ) (t : ℕ) (left : List LogLeft) (ends : List (List (CallEnd State Op Query Reply))) : Type 0 where
   images : List (List (List ℕ))
   are_left : AreLeftImages left ends images
-  tell : TellImages store logs t images
+  tell : TellLogs store logs t images
   formats : AreFormat2 images
   many : length images ≡ length left
 
@@ -240,7 +240,7 @@ module _ (seen : Seen) (init logs : List ℕ) (threads : ℕ) (k : ObjectKind) (
   -- images of that run's logs, and what they give to as many scripts
   pub record RunImages : Type 0 where
     pub images : List (List (List ℕ))
-    pub files : TellImages seen.store logs 0 images
+    pub files : TellLogs seen.store logs 0 images
     pub many : length images ≡ threads
     pub recovers : ImagesRecover k.means plan.run left.reported.left images
     pub gives : found_in k.means (heads_from threads k.code init 0 threads) images ≡ Ok (record { logs = recovers.logs; nodes = recovers.nodes })

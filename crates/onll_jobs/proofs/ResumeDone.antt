@@ -28,7 +28,7 @@ use Rattle.onll_task.specs.NotResumed.{resume_text}
 use Rattle.onll_recovery.proofs.Resumes.{GoesOrMany, goes_or_many}
 use Rattle.onll_runner.specs.ResumeJob.{based_task, reopened_task, resume_task}
 use Rattle.onll_jobs.specs.AgainPromises.{TellScripts}
-use Rattle.onll_jobs.specs.Durable.{TellImages}
+use Rattle.onll_eras.specs.Restored.{TellLogs}
 use Rattle.onll_jobs.specs.Over.{ResumeOver, over_task}
 use Rattle.onll_jobs.specs.ResumePromises.{SaysFrom, ResumesLeft, ResumesRun, Resumes}
 use Rattle.onll_jobs.specs.Says.{ExitSays, NoneRose, SaysThis}
@@ -48,7 +48,7 @@ did_text seen ending text exits.NoMemory did = inr refl
 
 module _ (seen : Seen) (none : NoneRose seen) (x : Exit) (kind : Kind) (init : List ℕ) (s : (kind_at kind).State) (logs : List ℕ) (names : List (List ℕ))
     (scripts : List (List (Call (kind_at kind).State (kind_at kind).Op (kind_at kind).Query (kind_at kind).Reply))) (tell : TellScripts (kind_at kind).wording seen.store names scripts)
-    (images : List (List (List ℕ))) (files : TellImages seen.store logs 0 images) (many : length images ≡ length names) where
+    (images : List (List (List ℕ))) (files : TellLogs seen.store logs 0 images) (many : length images ≡ length names) where
   abbrev heads : List LogHead
   heads = created_heads (kind_at kind).code init scripts
 

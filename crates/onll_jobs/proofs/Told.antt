@@ -16,7 +16,7 @@ use Rattle.onll_task.specs.Reading.{FileIsTold}
 use Rattle.onll_task.proofs.Jobs.{held_bytes, cannot}
 use Rattle.onll_task.specs.Scripts.{ReadScripts, scripts_stage}
 use Rattle.onll_jobs.specs.AgainPromises.{TellScripts}
-use Rattle.onll_jobs.specs.Durable.{TellImages}
+use Rattle.onll_eras.specs.Restored.{TellLogs}
 use Rattle.onll_jobs.specs.RunPromises.{TellsText}
 
 -- ---- what is told is held
@@ -34,7 +34,7 @@ module _ {State Op Query Reply : Type 0} (w : Wording State Op Query Reply) (sto
       let rest = tell_scripts names h.1 in
       (h.0.value ∷ rest.0, (record { bytes = h.0.bytes; told = h.0.told; accepted = h.0.accepted }, rest.1))
 
-pub told_known : (store : StoreView) (logs : List ℕ) (i : ℕ) (images : List (List (List ℕ))) → TellImages store logs i images → AreKnown lines_stage (log_names logs i (length images)) store images
+pub told_known : (store : StoreView) (logs : List ℕ) (i : ℕ) (images : List (List (List ℕ))) → TellLogs store logs i images → AreKnown lines_stage (log_names logs i (length images)) store images
 told_known store logs i [] h = tt
 told_known store logs i (image ∷ images) h = (record { bytes = h.0.bytes; held = λ tells. h.0.told.file; image = h.0.image }, told_known store logs (suc i) images h.1)
 
@@ -58,7 +58,7 @@ module _ (after : StoreView) (ending : Ending) (text : List ℕ) (store : StoreV
       (told_ends name (script_of w) (λ bytes calls. (scripts_stage w names).job (λ more. next (calls ∷ more))) tell.0.bytes script tell.0.told tell.0.accepted h)
 
   pub images_told : (logs : List ℕ) (i : ℕ) (images : List (List (List ℕ))) (next : List (List (List ℕ)) → Job)
-      → TellImages store logs i images → JobEnds store after (each_job lines_stage (log_names logs i (length images)) next) ending text → JobEnds store after (next images) ending text
+      → TellLogs store logs i images → JobEnds store after (each_job lines_stage (log_names logs i (length images)) next) ending text → JobEnds store after (next images) ending text
   images_told logs i [] next tell h = h
   images_told logs i (image ∷ images) next tell (inl h) = absurd (none (cannot store after (log_name logs i) ending text h.0))
   images_told logs i (image ∷ images) next tell (inr h) =

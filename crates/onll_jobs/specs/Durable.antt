@@ -2,7 +2,6 @@
 
 use Rattle.std.specs.Prelude.{ℕ, suc, ◌≡◌, List, [], ◌∷◌, length, take, Some, None, Ok}
 use Rattle.onll_model.specs.declared.call.Call.{Call}
-use Rattle.onll_log.specs.ImageFile.{image_lines}
 use Rattle.onll_start.specs.Heads.{created_heads}
 use Rattle.onll_start.specs.Start.{found_in}
 use Rattle.onll_core.specs.Core.{CoreState}
@@ -23,6 +22,7 @@ use Rattle.onll_jobs.specs.Command.{Recover, Replay, form_of}
 use Rattle.onll_task.specs.Reading.{FileIsTold, Reads, ReadsWhole}
 use Rattle.onll_task.specs.Writing.{FilesStay, written}
 use Rattle.onll_open.specs.Names.{log_name}
+use Rattle.onll_eras.specs.Restored.{TellLogs}
 use Rattle.onll_merge.specs.Recovered.{recovered_with}
 use Rattle.onll_recovery.specs.RecoverJob.{recover_report}
 use Rattle.onll_recovery.specs.ReplayJob.{played, replay_report}
@@ -72,17 +72,6 @@ ReplayIsDurable seen status = (init schedule logs : List ℕ) (names : List (Lis
     → form_of seen.words ≡ Some (Replay init schedule logs names) → status ≡ 0 → ReplayPut seen init schedule logs names
 
 -- ---- a recovery
--- the named file is told, and holds an image with these lines
-pub record TellsImage (store : StoreView) (name : List ℕ) (lines : List (List ℕ)) : Type 0 where
-  pub bytes : List ℕ
-  pub told : FileIsTold store name bytes
-  pub image : lines ≡ image_lines bytes
-
--- the files of the threads from i on are told, and hold these images
-abbrev pub TellImages : StoreView → List ℕ → ℕ → List (List (List ℕ)) → Type 0
-TellImages store logs i [] = Unit {0}
-TellImages store logs i (image ∷ images) = TellsImage store (log_name logs i) image × TellImages store logs (suc i) images
-
 -- A crash left the files of the logs: a core ran some scripts within the limits, by any steps of its threads, anew or going on from any
 -- images, and so after any number of generations; each file holds any of the images that its device may have.
 pub record AreLeftFiles (k : ObjectKind) (init : List ℕ) (s : k.State) (store : StoreView) (logs : List ℕ) (threads : ℕ) : Type 0 where
@@ -94,7 +83,7 @@ pub record AreLeftFiles (k : ObjectKind) (init : List ℕ) (s : k.State) (store 
   pub steps : List ℕ
   pub images : List (List (List ℕ))
   pub left : AreImages (steps_of k.means first steps).threads images
-  pub files : TellImages store logs 0 images
+  pub files : TellLogs store logs 0 images
 
 -- Its images recover to the front of the core's trace which holds all that it went on from, every returned update and all that returned
 -- reads saw; and that is what they give to as many scripts.

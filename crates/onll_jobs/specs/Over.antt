@@ -4,9 +4,9 @@ use Rattle.std.specs.Prelude.{ℕ, Bool, true, List, [], ◌≤◌, nat_le, ◌&
 use Rattle.std.specs.declared.vec.Vec.{Vec}
 use Rattle.onll_outside.specs.Views.{StoreView}
 use Rattle.onll_model.specs.Limits.{most_threads}
-use Rattle.onll_text.specs.Init.{init_of}
+use Rattle.onll_text.specs.Init.{on_kind, init_of}
 use Rattle.onll_text.specs.declared.any_object.AnyObject.{AnyObject}
-use Rattle.onll_text.specs.Kinds.{ObjectKind, kind_at, on_kind}
+use Rattle.onll_text.specs.Kinds.{ObjectKind, kind_at}
 use Rattle.onll_jobs.specs.declared.objects.Over.{Over}
 use Rattle.onll_jobs.specs.declared.objects.Over.TheVariants as overs
 use Rattle.onll_task.specs.declared.answer.Stop.{Stop}
@@ -95,15 +95,11 @@ object_task over init object = on_kind (λ kind s. over_task over (kind_at kind)
 
 -- the files that may be written
 abbrev pub over_writes : OverForm → List (List ℕ)
-over_writes (FoldOver script) = []
-over_writes (RecoverOver logs threads) = []
 over_writes (ReplayOver schedule logs names) = log_names logs 0 (length names)
 over_writes (AgainOver schedule logs names) = log_names logs 0 (length names)
 over_writes (ResumeOver logs names) = log_names logs 0 (length names)
 over_writes (RunOver logs names) = log_names logs 0 (length names)
-over_writes (DetectOver logs names) = []
-over_writes (FollowOver threads stream piece) = []
-over_writes (AuditOver report names) = []
+over_writes over = []
 
 -- What a function does over a state of a kind, which these bytes say: the task, whatever stands for the runs of that kind in it.
 pub record DoesOver {A : Type 0} (over : OverForm) (k : ObjectKind) (store after : StoreView) (init : List ℕ) (s : k.State)

@@ -22,7 +22,8 @@ use Rattle.onll_task.specs.NotResumed.{resume_ending, resume_text}
 use Rattle.onll_task.specs.Scripts.{ReadScripts}
 use Rattle.onll_jobs.specs.AgainPromises.{TellScripts}
 use Rattle.onll_jobs.specs.Command.{Resume, form_of}
-use Rattle.onll_jobs.specs.Durable.{TellImages, AreLeftFiles, FilesLeaveAll}
+use Rattle.onll_eras.specs.Restored.{TellLogs}
+use Rattle.onll_jobs.specs.Durable.{AreLeftFiles, FilesLeaveAll}
 use Rattle.onll_jobs.specs.RunPromises.{RanWhole, RanBroken, HasNoDevice, HasCut, OfFiles, RunIsCut, RunPut, SaysRan, plan_from}
 use Rattle.onll_jobs.specs.RunRecovers.{IsLeftByRun}
 use Rattle.onll_jobs.specs.Says.{NoneRose, SaysThis, SinkFailed}
@@ -108,7 +109,7 @@ module _ (k : ObjectKind) (init : List ℕ) (s : k.State) (seen : Seen) (status 
   pub record SaysFromRun (scripts : List (List (Call k.State k.Op k.Query k.Reply)))
       (left : IsLeftByRun k init s seen.store logs (length names)) : Type 0 where
     pub images : List (List (List ℕ))
-    pub files : TellImages seen.store logs 0 images
+    pub files : TellLogs seen.store logs 0 images
     pub recovers : ImagesRecover k.means (plan_from left.from k init logs s left.reported.scripts).run left.reported.left images
     pub gives : found_in k.means (heads_from (length names) k.code init 0 (length names)) images
         ≡ Ok (record { logs = recovers.logs; nodes = recovers.nodes })

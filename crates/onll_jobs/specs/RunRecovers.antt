@@ -14,7 +14,7 @@ use Rattle.onll_open.specs.Names.{log_names}
 use Rattle.onll_task.specs.Reading.{FileIsTold}
 use Rattle.onll_recovery.specs.RecoverJob.{recover_report}
 use Rattle.onll_jobs.specs.Command.{Recover, form_of}
-use Rattle.onll_jobs.specs.Durable.{TellImages}
+use Rattle.onll_eras.specs.Restored.{TellLogs}
 use Rattle.onll_jobs.specs.RunPromises.{HasReported, plan_from, fault_count}
 use Rattle.onll_jobs.specs.Says.{NoneRose, SaysThis}
 use Rattle.onll_jobs.specs.Seen.{Seen}
@@ -43,7 +43,7 @@ module _ (k : ObjectKind) (init : List ℕ) (s : k.State) where
   pub record RecoversRun (seen : Seen) (status : ℕ) (logs : List ℕ) (threads : ℕ)
       (left : IsLeftByRun seen.store logs threads) : Type 0 where
     pub images : List (List (List ℕ))
-    pub files : TellImages seen.store logs 0 images
+    pub files : TellLogs seen.store logs 0 images
     pub recovers : ImagesRecover k.means (plan_from left.from k init logs s left.reported.scripts).run left.reported.left images
     pub whole : fault_count left.reported.left.ends ≡ 0
         → (recovers.logs ≡ map content_in left.reported.left.logs) × (recovers.nodes ≡ left.reported.left.nodes)

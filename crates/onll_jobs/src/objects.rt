@@ -13,7 +13,7 @@ use onll_run::Surroundings;
 use onll_runner::{resume_on, run_on};
 use onll_shipping::{LONGEST_PIECE, StreamFile, follow_on};
 use onll_task::{Stop, init_file};
-use onll_text::{AnyObject, Texted};
+use onll_text::{AnyObject, Texted, with_object};
 use std::alloc::Global;
 use std::sync::Wait;
 use std::thread::Threads;
@@ -160,12 +160,7 @@ fn over_any<R: Threads + Wait + Sync, S: Store, G: Gate + Sync>(
     ensures { let form = over_in over.entry in
         on_object (λ k s. DoesOver form k (S.seen store.old) (S.seen store.new) init.now s result) object }
 {
-    match object {
-        AnyObject::Bank(bank) => over_one(around, bank, init, over, store),
-        AnyObject::Map(map) => over_one(around, map, init, over, store),
-        AnyObject::Queue(queue) => over_one(around, queue, init, over, store),
-        AnyObject::Lease(lease) => over_one(around, lease, init, over, store),
-    }
+    with_object!(object, one => over_one(around, one, init, over, store))
 }
 
 /// Does it over the object that a file holds as an initial state.

@@ -1,7 +1,7 @@
 //! The call of the program: its words, the command that they say, and the text that is put.
 
-ghost use Rattle.std.specs.Prelude.{map, string_bytes, Some};
-ghost use Rattle.onll_jobs.specs.Command.{form_of, form_in, IsCommand};
+ghost use Rattle.std.specs.Prelude.{map, string_bytes};
+ghost use Rattle.onll_jobs.specs.Command.{form_of};
 ghost use Rattle.onll_jobs.specs.Exits.{PutExits};
 ghost use Rattle.onll_jobs.specs.Seen.{seen_by};
 ghost use Rattle.onll_open.specs.Files.{SameBut};
@@ -19,30 +19,8 @@ use std::alloc::Global;
 use std::sync::Wait;
 use std::thread::Threads;
 
-/// Does a command, and gives its report. What stops it has its own text and ending.
-fn command_answer<R: Threads + Wait + Sync, S: Store, G: Gate + Sync>(
-    rt: &R,
-    alloc: Global,
-    command: Command<'_>,
-    gate: &G,
-    store: &mut S,
-) -> Result<Vec<u8>, Stop>
-    requires { IsCommand command }
-    ensures { let work = work_of (Some (form_in command.entry)) in
-        Fulfils work.writes (S.seen store.old) (S.seen store.new) work.task result }
-{
-    match command {
-        Command::OverInit { init, over } => objects::answer(rt, alloc, init, over, gate, store),
-        Command::Show { image } => show::answer(alloc, image, store),
-        Command::Make { workload } => make::answer(rt, alloc, workload, gate),
-        Command::Areas { ckpt } => make_areas(alloc, ckpt, store),
-        Command::Restore { files, threads } => restore(alloc, files, threads, store),
-        Command::Checkpoint { files, threads } => checkpoint(alloc, files, threads, store),
-        Command::Ship { logs, threads, out } => ship(alloc, logs, threads, out, store),
-    }
-}
-
-/// Does what the words ask for, and gives its report. Words of no form stop with the usage text, and nothing is done.
+/// Does what the words ask for, and gives its report. What stops it has its own text and ending; words of no form stop with the usage
+/// text, and nothing is done.
 fn answer_to<R: Threads + Wait + Sync, S: Store, G: Gate + Sync>(
     rt: &R,
     alloc: Global,
@@ -53,9 +31,17 @@ fn answer_to<R: Threads + Wait + Sync, S: Store, G: Gate + Sync>(
     ensures { let work = work_of (form_of (map string_bytes words.now)) in
         Fulfils work.writes (S.seen store.old) (S.seen store.new) work.task result }
 {
-    match Command::read(words) {
-        Some(command) => command_answer(rt, alloc, command, gate, store),
-        None => Err(usage(alloc)),
+    let Some(command) = Command::read(words) else {
+        return Err(usage(alloc));
+    };
+    match command {
+        Command::OverInit { init, over } => objects::answer(rt, alloc, init, over, gate, store),
+        Command::Show { image } => show::answer(alloc, image, store),
+        Command::Make { workload } => make::answer(rt, alloc, workload, gate),
+        Command::Areas { ckpt } => make_areas(alloc, ckpt, store),
+        Command::Restore { files, threads } => restore(alloc, files, threads, store),
+        Command::Checkpoint { files, threads } => checkpoint(alloc, files, threads, store),
+        Command::Ship { logs, threads, out } => ship(alloc, logs, threads, out, store),
     }
 }
 

@@ -1,6 +1,5 @@
 use Rattle.std.proofs.Common.{ℕ, zero, suc, Bool, true, false, List, [], ◌∷◌, ◌≡◌, ◌+◌, ◌==◌, ⊎_elim, eqb-true, cond, length, map, take, Some, None, refl, ap, ◌∙◌, sym, subst, arith, Ok}
 use Rattle.std.proofs.lemmas.Bool.{cases_Bool}
-use Rattle.std.proofs.lemmas.List.{length-map}
 use Rattle.std.specs.List.{AllByRecursion}
 use Rattle.onll_model.specs.declared.node.Node.{Node}
 use Rattle.onll_model.specs.declared.call.Call.{Call}
@@ -14,17 +13,17 @@ use Rattle.onll_merge.specs.Merge.{top_of}
 use Rattle.onll_merge.specs.FrameLogs.{AreLogsOf}
 use Rattle.onll_start.specs.Heads.{created_heads}
 use Rattle.onll_start.proofs.Heads.{length-heads_from}
-use Rattle.onll_core.specs.Core.{CoreThread, CoreState}
+use Rattle.onll_core.specs.Core.{CoreState}
 use Rattle.onll_core.specs.CoreFrame.{frame_thread}
 use Rattle.onll_core.specs.Step.{steps_of}
 use Rattle.onll_core.specs.Created.{created_core}
 use Rattle.onll_core.specs.Consistent.{IsConsistent}
 use Rattle.onll_core.specs.Crash.{AreImages, heads_of, Recovers}
 use Rattle.onll_core.proofs.Images.{image_either}
-use Rattle.onll_core.proofs.Crashed.{images_many, are_held, steps_heads}
+use Rattle.onll_core.proofs.Crashed.{are_held, steps_heads}
 use Rattle.onll_core.proofs.Recovered.{first_heads}
 use Rattle.onll_core.proofs.Operations.{AllOperations, steps_operations}
-use Rattle.onll_merge.specs.Recovered.{recovered_with, content_before, contents_from, heads_for, expected_heads, state_recovered}
+use Rattle.onll_merge.specs.Recovered.{recovered_with, content_before, contents_from, heads_for, state_recovered}
 use Rattle.onll_task.proofs.OperationRows.{recovered_is}
 
 -- The images of a core that was made of scripts are logs of this run, and what is recovered from them are operations.
@@ -127,14 +126,6 @@ module _ {State Op Query Reply : Type 0} (b : Behaviour State Op Query Reply) wh
   images_formats count code init c images k same a =
       let held = are_held c.base c.trace c.threads images a (λ t th at image i. image_either count c k t th at image i) in
       formats_are (map (frame_thread c.base c.trace) c.threads) (heads_of c.threads) held.logs images held.left held.contents (subst HaveFormat2 (sym same) (heads_have_format count code init 0 count))
-
-  -- the heads that they are expected to have are its own
-  heads_are : (count code : ℕ) (init : List ℕ) (c : CoreState State Op Query Reply) (images : List (List (List ℕ))) → IsConsistent count c
-      → heads_of c.threads ≡ heads_from count code init 0 count → AreImages c.threads images → expected_heads code init images ≡ heads_from count code init 0 count
-  heads_are count code init c images k same a =
-      let formats = images_formats count code init c images k same a in
-      let many : length images ≡ count = images_many c.threads images a ∙ sym (length-map c.threads (λ (th : CoreThread State Op Query Reply). th.head)) ∙ ap length same ∙ length-heads_from count code init 0 count in
-      heads_expected (length images) code init 0 images formats ∙ ap (λ (n : ℕ). heads_from n code init 0 n) many
 
   -- the heads of a core that was made of scripts, after any steps
   pub made_heads : (code : ℕ) (init : List ℕ) (s : State) (scripts : List (List (Call State Op Query Reply))) (ts : List ℕ)

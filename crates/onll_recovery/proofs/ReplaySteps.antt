@@ -1,4 +1,4 @@
-use Rattle.std.proofs.Common.{ℕ, zero, suc, ◌≡◌, ◌+◌, ◌<◌, ◌≤◌, Bool, List, [], ◌∷◌, ◌++◌, Option, Some, None, length, drop, get_or, map, refl, sym, ap, ◌∙◌, subst, arith}
+use Rattle.std.proofs.Common.{ℕ, zero, suc, ◌≡◌, ◌+◌, ◌<◌, Bool, List, [], ◌∷◌, ◌++◌, Option, Some, None, length, drop, get_or, map, refl, sym, ap, ◌∙◌, subst, arith}
 use Rattle.std.specs.List.{slice_get}
 use Rattle.std.proofs.lemmas.List.{drop_more, append-nil}
 use Rattle.onll_words.specs.Texts.{AreWords, line_text}
@@ -11,14 +11,14 @@ use Rattle.onll_core.specs.declared.returned.Returned.{Returned}
 use Rattle.std.specs.Option.{IfSome}
 use Rattle.onll_core.specs.declared.returned.Current.{Current}
 use Rattle.onll_core.specs.Fences.{fences_of}
-use Rattle.onll_core.specs.Core.{CoreThread, CoreState}
+use Rattle.onll_core.specs.Core.{CoreThread}
 use Rattle.onll_core.specs.Outcomes.{returned_end, current_ends, current_in, ends_of}
 use Rattle.onll_merge.specs.declared.counts.LogCounts.{LogCounts}
 use Rattle.onll_text.specs.Wording.{Wording}
 use Rattle.onll_text.specs.Bytes.{with_lines}
-use Rattle.onll_text.specs.Lines.{call_lines, trace_line, node_line, log_line, flagged_lines}
+use Rattle.onll_text.specs.Lines.{call_lines, node_line, log_line, flagged_lines}
 use Rattle.onll_text.proofs.Appending.{with_lines-one, with_lines-append}
-use Rattle.onll_recovery.specs.ReplayJob.{begun_lines, crash_line, fenced_lines, run_lines}
+use Rattle.onll_recovery.specs.ReplayJob.{begun_lines, crash_line, fenced_lines}
 
 -- The parts of a replay's report, as they are appended one after the other.
 
@@ -38,24 +38,6 @@ flagged_more b w out text i nodes flags n flag h k e =
 
 -- ---- the calls of a thread
 module _ {State Op Query Reply : Type 0} where
-  -- what became of a call is that of its number
-  pub end_returned : (rs : List (Returned State Op Query Reply)) (more : List (CallEnd State Op Query Reply)) (i : ℕ) (r : Returned State Op Query Reply) → i < length rs → r ≡ get_or rs i r → slice_get (map returned_end rs ++ more) i ≡ Some (returned_end r)
-  end_returned [] more i r h e = absurd (omega arith)
-  end_returned (x ∷ rs) more zero r h e = ap (λ (y : Returned State Op Query Reply). Some (returned_end y)) (sym e)
-  end_returned (x ∷ rs) more (suc i) r h e = end_returned rs more i r (omega arith) e
-
-  pub end_after : (rs : List (Returned State Op Query Reply)) (more : List (CallEnd State Op Query Reply)) → slice_get (map returned_end rs ++ more) (length rs) ≡ slice_get more 0
-  end_after [] more = refl
-  end_after (r ∷ rs) more = end_after rs more
-
-  pub beyond : (rs : List (Returned State Op Query Reply)) (more : List (CallEnd State Op Query Reply)) (i : ℕ) → length more ≤ 1 → length rs < i → slice_get (map returned_end rs ++ more) i ≡ None
-  beyond [] [] i few h = refl
-  beyond [] (x ∷ []) zero few h = absurd (omega arith)
-  beyond [] (x ∷ []) (suc i) few h = refl
-  beyond [] (x ∷ y ∷ more) i few h = absurd (omega arith)
-  beyond (r ∷ rs) more zero few h = absurd (omega arith)
-  beyond (r ∷ rs) more (suc i) few h = beyond rs more i few (omega arith)
-
   drop_none : (ends : List (CallEnd State Op Query Reply)) (i : ℕ) → slice_get ends i ≡ None → drop i ends ≡ []
   drop_none [] zero e = refl
   drop_none [] (suc i) e = refl
@@ -98,22 +80,6 @@ module _ {State Op Query Reply : Type 0} where
       ∙ sym (with_lines-append out (call_lines w t 0 th.script (ends_of th)) rest)
       ∙ ap (λ j. with_lines out (call_lines w t 0 th.script (ends_of th) ++ begun_lines w (t + 1) (drop j ths))) s
       ∙ sym (ap (λ (l : List (CoreThread State Op Query Reply)). with_lines out (begun_lines w t l)) x.2)
-
-  -- no thread is left
-  pub threads_done : (w : Wording State Op Query Reply) (out : List ℕ) (t : ℕ) (ths : List (CoreThread State Op Query Reply)) → drop t ths ≡ [] → out ≡ with_lines out (begun_lines w t (drop t ths))
-  threads_done w out t ths e = sym (append-nil out) ∙ sym (ap (λ (l : List (CoreThread State Op Query Reply)). with_lines out (begun_lines w t l)) e)
-
-  -- the lines of the calls, the count of the nodes, and their lines
-  pub run_parts : (b : Behaviour State Op Query Reply) (w : Wording State Op Query Reply) (c : CoreState State Op Query Reply) (old calls counted new : List ℕ) (nodes : List Node) (flags : List Bool) → nodes ≡ c.trace → flags ≡ c.flags
-      → calls ≡ with_lines old (begun_lines w 0 c.threads) → counted ≡ calls ++ line_text (trace_line (length nodes)) → new ≡ with_lines counted (flagged_lines b w 0 nodes flags) → new ≡ with_lines old (run_lines b w c)
-  run_parts b w c old calls counted new nodes flags en ef ec et e =
-      let flagged = flagged_lines b w 0 nodes flags in
-      e ∙ ap (λ z. with_lines z flagged) et
-      ∙ sym (with_lines-one calls (trace_line (length nodes)) flagged)
-      ∙ ap (λ z. with_lines z (trace_line (length nodes) ∷ flagged)) ec
-      ∙ sym (with_lines-append old (begun_lines w 0 c.threads) (trace_line (length nodes) ∷ flagged))
-      ∙ ap (λ (l : List Node). with_lines old (begun_lines w 0 c.threads ++ trace_line (length l) ∷ flagged_lines b w 0 l flags)) en
-      ∙ ap (λ (l : List Bool). with_lines old (begun_lines w 0 c.threads ++ trace_line (length c.trace) ∷ flagged_lines b w 0 c.trace l)) ef
 
   -- one log's line before those of the rest
   pub fenced_more : (out text : List ℕ) (t : ℕ) (logs : List LogCounts) (ths : List (CoreThread State Op Query Reply)) (none d : LogCounts) (fences : ℕ) → t < length logs → t < length ths

@@ -20,7 +20,7 @@ use Rattle.onll_merge.specs.Merge.{merge, unless}
 use Rattle.onll_merge.specs.Recovered.{content_before, contents_from, log_counts, recovered_with, state_recovered}
 use Rattle.onll_merge.specs.Resumed.{entries_of}
 use Rattle.onll_start.specs.declared.fault.ResumeFault.{ResumeFault}
-use Rattle.onll_start.specs.declared.fault.ResumeFault.TheVariants.{Images, OldFormat, NotOp, TooMany, NoMemory}
+use Rattle.onll_start.specs.declared.fault.ResumeFault.TheVariants.{OldFormat, NotOp, TooMany}
 use Rattle.onll_start.specs.Heads.{created_heads}
 use Rattle.onll_start.specs.Start.{Found, is_old, old_format, is_too_many, found_operations, found_merged, found_newer, found_logs, found_in, too_many}
 use Rattle.onll_start.proofs.Heads.{length-heads_from}
@@ -36,14 +36,13 @@ use Rattle.onll_core.proofs.Operations.{AllOperations, steps_operations}
 use Rattle.onll_text.specs.declared.schedule.Schedule.{Schedule}
 use Rattle.onll_text.specs.Wording.{Wording}
 use Rattle.onll_outside.specs.Views.{StoreView}
-use Rattle.onll_task.specs.declared.ending.Ending.TheVariants.{Done}
 use Rattle.onll_task.specs.declared.answer.Stop.{Stop}
 use Rattle.onll_open.specs.Names.{log_names}
 use Rattle.onll_task.specs.Images.{AllDecide}
 use Rattle.onll_task.specs.Doing.{Fulfils}
 use Rattle.onll_recovery.specs.ReplayJob.{crash_task}
 use Rattle.onll_recovery.specs.AgainJob.{resumed_task}
-use Rattle.onll_task.specs.NotResumed.{resume_ending, resume_text}
+use Rattle.onll_task.specs.NotResumed.{resume_text}
 use Rattle.onll_recovery.proofs.Crashes.{AreFormat2, head_format, contents_are, images_recover}
 use Rattle.onll_task.proofs.OperationRows.{front_is}
 use Rattle.onll_task.proofs.Standing.{contents_stand}
@@ -190,14 +189,6 @@ module _ {State Op Query Reply : Type 0} (b : Behaviour State Op Query Reply) (h
       (subst (λ scripts. by base scripts run) (steps_scripts b c (turns_of plan.turns) ∙ on.scripts_are)
       (subst (λ (core : CoreState State Op Query Reply). by base (map script_of core.threads) core) steps
       (subst (λ m. Fulfils (log_names logs 0 m) store after (crash_task b w logs (Some base) (map script_of core.threads) core plan.keep) r) many does))))
-
--- ---- where there is none
-no_report : (fault : ResumeFault) → resume_ending fault ≡ Done → ⊥
-no_report (TooMany thread) e = cc e
-no_report (Images fault) e = cc e
-no_report (OldFormat log) e = cc e
-no_report (NotOp place) e = cc e
-no_report NoMemory e = cc e
 
 -- ---- what images of format 2 give
 two_not_one : (n : ℕ) → n ≡ 2 → (n == 1) ≡ false

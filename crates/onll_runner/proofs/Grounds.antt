@@ -31,10 +31,10 @@ use Rattle.onll_task.specs.Running.{RunPlan, RunLeft, AreSized, FileStands, AllS
 use Rattle.onll_task.specs.Standing.{StandsForRuns}
 use Rattle.onll_runner.specs.Devices.{SaysDevice}
 use Rattle.onll_runner.specs.Ground.{IsGround, lines_over}
-use Rattle.onll_runner.specs.RunEnds.{HasGone, lines_left}
+use Rattle.onll_runner.specs.RunEnds.{lines_left}
 use Rattle.onll_runner.specs.RunJob.{calls_task}
 use Rattle.onll_runner.proofs.Lines.{logs_stay, are_within, lines_small, roomy_again, small_again, fronts_within, lines_reopened}
-use Rattle.onll_runner.proofs.RunSteps.{gone_does, unmade_does, thread_fails}
+use Rattle.onll_runner.proofs.RunSteps.{HasGone, gone_does, unmade_does, thread_fails}
 
 -- the same of all is the same of each
 each_some : (xs ys : List Content) → map Some xs ≡ map Some ys → xs ≡ ys

@@ -1,8 +1,7 @@
 -- The parts of a run's report, as they are appended one after the other.
 
-use Rattle.std.proofs.Common.{ℕ, zero, suc, ◌≡◌, ◌+◌, ◌<◌, ◌≤◌, ◌^◌, List, [], ◌∷◌, ◌++◌, Option, Some, IsSome, length, drop, get_or, map, refl, sym, ap, ◌∙◌, subst, arith}
+use Rattle.std.proofs.Common.{ℕ, zero, suc, ◌≡◌, ◌+◌, ◌<◌, ◌^◌, List, [], ◌∷◌, ◌++◌, Option, Some, IsSome, length, drop, get_or, map, refl, sym, ap, ◌∙◌, subst, arith}
 use Rattle.std.specs.List.{All, AllByRecursion, slice_get}
-use Rattle.std.specs.Option.{IfSome}
 use Rattle.std.proofs.lemmas.List.{drop_more}
 use Rattle.std.proofs.lemmas.List.Elements.{All-cons}
 use Rattle.onll_words.specs.Texts.{AreWords, line_text}
@@ -11,7 +10,6 @@ use Rattle.onll_model.specs.declared.node.Node.{Node}
 use Rattle.onll_model.specs.declared.call.Call.{Call}
 use Rattle.onll_model.specs.declared.call.CallEnd.{CallEnd}
 use Rattle.onll_model.specs.Object.{Behaviour}
-use Rattle.onll_model.specs.Trace.{state_after}
 use Rattle.onll_pmem.specs.Pmem.{DeviceView}
 use Rattle.onll_log.specs.Log.{LogState}
 use Rattle.onll_merge.specs.declared.counts.LogCounts.{LogCounts}
@@ -19,16 +17,16 @@ use Rattle.onll_merge.specs.Recovered.{log_counts}
 use Rattle.onll_trace.specs.declared.trace.Ended.{Ended}
 use Rattle.onll_run.specs.declared.run.DoneScript.{DoneScript}
 use Rattle.onll_run.specs.Outcomes.{failed_in}
-use Rattle.onll_run.specs.Left.{AfterRun, AllOver, content_in}
+use Rattle.onll_run.specs.Left.{AllOver, content_in}
 use Rattle.onll_run.specs.Ended.{log_left}
 use Rattle.onll_run.specs.Ran.{script_in, ends_in, node_in, flag_in}
 use Rattle.onll_text.specs.Wording.{Wording}
 use Rattle.onll_text.specs.Bytes.{with_lines}
-use Rattle.onll_text.specs.Lines.{call_lines, trace_line, node_line, log_line, state_lines, LogData, thread_lines, flagged_lines, counted_lines, recovered_line, fence_line}
-use Rattle.onll_text.specs.Reports.{EndsRead, NodeReads, StateReads, LogReads, EachReads}
+use Rattle.onll_text.specs.Lines.{call_lines, node_line, log_line, LogData, thread_lines, flagged_lines, counted_lines, fence_line}
+use Rattle.onll_text.specs.Reports.{EndsRead, NodeReads, LogReads, EachReads}
 use Rattle.onll_text.proofs.Appending.{with_lines-one, with_lines-append}
-use Rattle.onll_task.specs.RunSaid.{resumed_lines, RunReads, log_data, run_data}
-use Rattle.onll_runner.specs.RunReport.{faults_at, fault_lines, run_report}
+use Rattle.onll_task.specs.RunSaid.{log_data}
+use Rattle.onll_runner.specs.RunReport.{faults_at, fault_lines}
 
 -- ---- lists
 pub here_at : {A : Type 0} (xs : List A) (i : ℕ) (x : A) → i < length xs → x ≡ get_or xs i x → slice_get xs i ≡ Some x
@@ -146,35 +144,3 @@ fault_in_words thread place = (
   record { some = refl; bytes = refl },
   (record { some = refl; bytes = refl }, (IsWord-decimal thread, (record { some = refl; bytes = refl }, (IsWord-decimal place, tt)))),
 )
-
--- ---- the whole
-module _ {State Op Query Reply : Type 0} (b : Behaviour State Op Query Reply) (w : Wording State Op Query Reply) (resumed : Option ℕ) (state after : State) (scripts : List (List (Call State Op Query Reply)))
-    (left : AfterRun State Op Query Reply) (nodes : List Node) (found : nodes ≡ left.nodes) (after_is : after ≡ state_after b state left.nodes) where
-  -- the lines of how many nodes are gone on from, of the calls and of the trace, then those of the logs, of the fences that failed, and of
-  -- the object
-  pub report_parts : (run text : List ℕ) → run ≡ with_lines (with_lines [] (resumed_lines resumed)) (thread_lines w 0 scripts left.ends ++ (trace_line (length left.nodes) ∷ flagged_lines b w 0 left.nodes left.flags))
-      → text ≡ with_lines run (counted_lines 0 (map log_data left.logs) ++ (recovered_line (length nodes) ∷ (fault_lines 0 left.ends ++ state_lines w after)))
-      → text ≡ run_report b w resumed state scripts left
-  report_parts run text e f =
-      let first : List (List (List ℕ)) = resumed_lines resumed in
-      let then_ : List (List (List ℕ)) = thread_lines w 0 scripts left.ends ++ (trace_line (length left.nodes) ∷ flagged_lines b w 0 left.nodes left.flags) in
-      let rest : List Node → State → List (List (List ℕ)) =
-      λ ns s. counted_lines 0 (map log_data left.logs) ++ (recovered_line (length ns) ∷ (fault_lines 0 left.ends ++ state_lines w s)) in
-      f ∙ ap (λ z. with_lines z (rest nodes after)) e
-      ∙ ap (λ (ns : List Node). with_lines (with_lines (with_lines [] first) then_) (rest ns after)) found
-      ∙ ap (λ (s : State). with_lines (with_lines (with_lines [] first) then_) (rest left.nodes s)) after_is
-      ∙ sym (with_lines-append (with_lines [] first) then_ (rest left.nodes (state_after b state left.nodes)))
-      ∙ sym (with_lines-append [] first (then_ ++ rest left.nodes (state_after b state left.nodes)))
-
-  pub report_reads : length scripts ≤ 2 ^ 64 → IfSome resumed (λ n. n < 2 ^ 64) → EachReads w scripts left.ends → All (NodeReads b w) left.nodes → length left.flags ≡ length left.nodes → All LogReads (map log_data left.logs)
-      → length nodes < 2 ^ 64 → StateReads w after → RunReads b w scripts (run_data b resumed state left)
-  report_reads threads base ends rows flags logs few reads = record {
-    threads = threads;
-    resumed = base;
-    ends = ends;
-    nodes = rows;
-    flags = flags;
-    logs = logs;
-    few = subst (λ (ns : List Node). length ns < 2 ^ 64) found few;
-    state = subst (StateReads w) after_is reads;
-  }

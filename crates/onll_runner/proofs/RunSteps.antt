@@ -48,12 +48,46 @@ use Rattle.onll_task.specs.Stop.{StopSays}
 use Rattle.onll_task.proofs.Stages.{stay_same}
 use Rattle.onll_task.proofs.Onwards.{stand_begun}
 use Rattle.onll_task.proofs.Runs.{run_does, broken_does, stopped_does}
-use Rattle.onll_runner.specs.Devices.{SaysLog, SaysDevice, ThreadFails}
+use Rattle.onll_runner.specs.Devices.{SaysLog, SaysDevice, DeviceFails}
 use Rattle.onll_runner.specs.RunReport.{plan_report}
-use Rattle.onll_runner.specs.RunEnds.{IsStored, IsStoredTo, RunIsBroken, IsLost, IsAsBefore, RunHasEnded, GaveUp, RunHasFailed, HasGone, lines_left}
+use Rattle.onll_runner.specs.RunEnds.{IsStored, IsStoredTo, RunIsBroken, IsLost, IsAsBefore, RunHasEnded, lines_left}
 use Rattle.onll_runner.specs.RunJob.{said_task, calls_task}
 use Rattle.onll_runner.proofs.Determined.{run_says}
 use Rattle.onll_runner.proofs.Ending.{but_stay}
+
+-- the device of one of so many threads' logs, which held this, was not had
+pub record ThreadFails (logs : List ℕ) (befores : List Content) (threads : ℕ) (store after : StoreView) (ending : Ending)
+    (text : List ℕ) : Type 0 where
+  pub thread : ℕ
+  pub within : thread < threads
+  pub kind : FaultKind
+  pub call : IsCallFor thread befores kind
+  pub fails : DeviceFails kind logs thread store after ending text
+
+module _ {k : ObjectKind} (plan : RunPlan k) (store after : StoreView) where
+  -- The fence of a thread's header failed: this line says so, every device was given up, and no file changed. Of the logs up to that
+  -- thread's, its own among them, the headers of those that were begun were fenced.
+  pub record GaveUp (text : List ℕ) : Type 0 where
+    pub thread : ℕ
+    pub within : thread < length plan.run.scripts
+    pub begun : IsBegun thread plan.run.base.logs
+    pub line : text ≡ line_text (fence_line thread 0)
+    pub calls : SameFaults store after
+    pub faults : after.device_faults ≡ counted store.device_faults 1
+    pub fences : after.device_fences ≡ counted store.device_fences (begun_logs (take (thread + 1) plan.run.base.logs))
+
+  -- Nothing was left: a header's fence failed, or memory could not be had. No file changed.
+  pub record RunHasFailed (stop : Stop) : Type 0 where
+    pub says : StopSays stop (λ ending text. (ending ≡ Faulty) × GaveUp text)
+    pub files : SameFiles store after
+
+-- What became of the run of a plan over devices of so many lines: it left something, in logs of as many, which has come to its end, or
+-- nothing was left.
+abbrev pub HasGone : {k : ObjectKind} → RunPlan k → (lines : List ℕ) → (store after : StoreView) → {A : Type 0} → Result (Vec ℕ A) Stop
+    → Type 0
+HasGone {k} plan lines store after result =
+    ((left : RunLeft k) × HasRun k.means plan.run left × (map lines_left left.logs ≡ lines) × RunHasEnded plan left store after result)
+    ⊎ IsErrAnd result (RunHasFailed plan store after)
 
 -- ---- from the store before
 same_then : (names : List (List ℕ)) (old mid new : StoreView) → SameBut names old mid → SameBut names mid new → SameBut names old new

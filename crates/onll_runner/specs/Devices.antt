@@ -1,7 +1,6 @@
 -- What is said of devices that were not had, or not kept.
 
-use Rattle.std.specs.Prelude.{ℕ, ◌<◌, ◌≡◌, List, Some}
-use Rattle.onll_log.specs.Grammar.{Content}
+use Rattle.std.specs.Prelude.{ℕ, ◌≡◌, List, Some}
 use Rattle.onll_outside.specs.Views.{StoreView, Rose}
 use Rattle.onll_outside.specs.declared.OutsideFault.{OutsideFault}
 use Rattle.onll_outside.specs.declared.OutsideFault.TheVariants as outside
@@ -14,7 +13,6 @@ use Rattle.onll_task.specs.declared.ending.Ending.TheVariants.{WriteFault}
 use Rattle.onll_task.specs.declared.answer.Stop.{Stop}
 use Rattle.onll_task.specs.declared.answer.Stop.TheVariants.{NoMemory}
 use Rattle.onll_task.specs.Printed.{write_fault_text}
-use Rattle.onll_task.specs.Running.{IsCallFor}
 use Rattle.onll_task.specs.Stop.{StopSays}
 
 -- this line says that the log of this thread can't be written
@@ -38,12 +36,3 @@ pub record DeviceFails (kind : FaultKind) (logs : List ℕ) (thread : ℕ) (stor
   pub says : SaysLog logs thread ending text
   pub rose : Rose store.faults after.faults
   pub last : after.last ≡ Some (record { kind = kind; name = log_name logs thread })
-
--- the device of one of so many threads' logs, which held this, was not had
-pub record ThreadFails (logs : List ℕ) (befores : List Content) (threads : ℕ) (store after : StoreView) (ending : Ending)
-    (text : List ℕ) : Type 0 where
-  pub thread : ℕ
-  pub within : thread < threads
-  pub kind : FaultKind
-  pub call : IsCallFor thread befores kind
-  pub fails : DeviceFails kind logs thread store after ending text

@@ -1,11 +1,10 @@
 -- The report of a standby says what is followed, and nothing else.
-use Rattle.std.proofs.Common.{◌≡◌, ℕ, ◌<◌, ◌^◌, List, [], ◌∷◌, ◌++◌, codes, decimal, drop, refl, ap, ◌∙◌, append_assoc}
+use Rattle.std.proofs.Common.{◌≡◌, ℕ, ◌<◌, ◌^◌, List, [], ◌∷◌, codes, decimal, drop, refl, ap}
 use Rattle.std.specs.List.{flat_map}
 use Rattle.std.proofs.lemmas.Fmt.{decimal_injective}
 use Rattle.onll_words.specs.Texts.{line_text, AreMeaningful}
 use Rattle.onll_words.proofs.Decimals.{IsWord-decimal}
 use Rattle.onll_words.proofs.Joined.{text_determined, line_same}
-use Rattle.onll_text.specs.Bytes.{with_lines}
 use Rattle.onll_text.specs.Lines.{state_lines}
 use Rattle.onll_text.specs.Reports.{SaysOnly}
 use Rattle.onll_text.specs.Wording.{Wording}
@@ -46,12 +45,3 @@ module _ {State Op Query Reply : Type 0} (w : Wording State Op Query Reply) wher
   pub follow_says : (text : List ℕ) (said : FollowData State) → text ≡ flat_map line_text (follow_data_lines w said) → FollowReads w said
       → SaysOnly (follow_data_lines w) (FollowReads w) text said
   follow_says text said e h = says_only (follow_data_lines w) (FollowReads w) determined text said e h
-
-  -- three lines, and then the state's
-  pub follow_text : (said : FollowData State) (one two three all : List ℕ) → one ≡ [] ++ line_text (codes "taken" ∷ decimal said.taken ∷ []) → two ≡ one ++ line_text (codes "held" ∷ decimal said.held ∷ [])
-      → three ≡ two ++ line_text (codes "followed" ∷ decimal said.followed ∷ []) → all ≡ with_lines three (state_lines w said.state) → all ≡ flat_map line_text (follow_data_lines w said)
-  follow_text said one two three all a b c d =
-      let x = line_text (codes "taken" ∷ decimal said.taken ∷ []) in let y = line_text (codes "held" ∷ decimal said.held ∷ []) in
-      let z = line_text (codes "followed" ∷ decimal said.followed ∷ []) in let s = flat_map line_text (state_lines w said.state) in
-      let three_is : three ≡ (x ++ y) ++ z = c ∙ ap (λ (t : List ℕ). t ++ z) (b ∙ ap (λ (t : List ℕ). t ++ y) a) in
-      d ∙ (ap (λ (t : List ℕ). t ++ s) three_is ∙ (append_assoc (x ++ y) z s ∙ append_assoc x y (z ++ s)))

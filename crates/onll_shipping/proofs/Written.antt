@@ -1,6 +1,6 @@
 -- What is shipped, as the command does it: images that were read, a stream that is written, and what is said of it.
 
-use Rattle.std.proofs.Common.{Vec, ℕ, ◌≤◌, ◌≡◌, List, [], ◌∷◌, length, drop, codes, decimal, Option, Some, None, Result, Ok, Err, refl, sym, ap, subst, ◌∙◌}
+use Rattle.std.proofs.Common.{Vec, ℕ, ◌≤◌, ◌≡◌, List, [], ◌∷◌, length, drop, codes, decimal, Option, None, Result, Ok, Err, refl, sym, ap, subst, ◌∙◌}
 use Rattle.std.specs.List.{AllByRecursion, flat_map}
 use Rattle.std.proofs.lemmas.Fmt.{decimal_injective}
 use Rattle.onll_words.specs.Texts.{line_text, AreWords, AreMeaningful}
@@ -10,17 +10,15 @@ use Rattle.onll_log.specs.Tested.{used_in}
 use Rattle.onll_outside.specs.Views.{StoreView}
 use Rattle.onll_text.specs.Reports.{SaysOnly}
 use Rattle.onll_text.proofs.Determined.{says_only}
-use Rattle.onll_task.specs.declared.ending.Ending.TheVariants.{BadLog}
 use Rattle.onll_task.specs.declared.answer.Stop.{Stop}
-use Rattle.onll_task.specs.Stop.{StopSays}
 use Rattle.onll_task.specs.Images.{AllDecide}
-use Rattle.onll_task.specs.Doing.{Task, Fulfils, DoesStage, write_stage}
-use Rattle.onll_task.proofs.Stages.{wider, wrote_does, stop_does, report_does, says_does, none_does}
+use Rattle.onll_task.specs.Doing.{Fulfils, DoesStage, write_stage}
+use Rattle.onll_task.proofs.Stages.{wrote_does, stop_does, report_does, none_does}
 use Rattle.std.specs.Result.{IsErrAnd}
 use Rattle.onll_words.proofs.Joined.{text_determined, line_same}
 use Rattle.onll_task.specs.declared.answer.Stop.TheVariants.{NoMemory}
 use Rattle.onll_shipping.specs.declared.ship_fault.ShipFault.{ShipFault}
-use Rattle.onll_shipping.specs.ShipJob.{HeadedLog, ShipData, ShipReads, ship_data, ship_data_lines, ship_fault, ship_fault_line, logs_unless, headed_logs, contents_of, ready, shipped_bytes, shipped_entries, ship_report_task, ship_logs_task}
+use Rattle.onll_shipping.specs.ShipJob.{HeadedLog, ShipData, ShipReads, ship_data, ship_data_lines, ship_fault, logs_unless, headed_logs, contents_of, ready, shipped_bytes, shipped_entries, ship_report_task, ship_logs_task}
 use Rattle.onll_shipping.specs.Turns.{IsUsedUp}
 
 -- ---- images that were read
@@ -61,20 +59,12 @@ ship_says : (text : List ℕ) (said : ShipData) → text ≡ flat_map line_text 
 ship_says text said e h = says_only ship_data_lines ShipReads determined text said e h
 
 -- ---- the command
-does_wider : {A : Type 0} {store after : StoreView} {task : Task} {r : Result (Vec ℕ A) Stop} (names : List (List ℕ)) → Fulfils [] store after task r → Fulfils names store after task r
-does_wider {store = store} {after} names d = record { done = d.done; reports = d.reports; stops = d.stops; files = wider names store after d.files }
-
 module _ (images : List (List (List ℕ))) (out : List ℕ) (store : StoreView) (fault : Option ShipFault) (is : fault ≡ ship_fault (contents_of images)) where
   ready_as : (f : Option ShipFault) → fault ≡ f → ready images ≡ logs_unless f (headed_logs (contents_of images))
   ready_as f e = ap (λ (o : Option ShipFault). logs_unless o (headed_logs (contents_of images))) (sym is ∙ e)
 
   pub ready_where : fault ≡ None → ready images ≡ Ok (headed_logs (contents_of images))
   ready_where e = ready_as None e
-
-  pub refused : {A : Type 0} (f : ShipFault) (stop : Stop) → fault ≡ Some f → StopSays stop (λ end said. (end ≡ BadLog) × (said ≡ ship_fault_line f)) → Fulfils {A = A} (out ∷ []) store store (ship_logs_task out (ready images)) (Err stop)
-  refused {A} f stop e says =
-      subst (λ (r : Result (List HeadedLog) ShipFault). Fulfils {A = A} (out ∷ []) store store (ship_logs_task out r) (Err stop)) (sym (ready_as (Some f) e))
-      (does_wider (out ∷ []) (says_does store BadLog (ship_fault_line f) stop (λ k. cc k) says))
 
   -- the stream was made
   module _ (e : fault ≡ None) (bytes : List ℕ) (entries : ℕ) (bytes_are : bytes ≡ shipped_bytes (headed_logs (contents_of images))) (entries_are : entries ≡ length (shipped_entries (headed_logs (contents_of images)))) where

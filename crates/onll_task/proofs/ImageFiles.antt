@@ -9,7 +9,8 @@ use Rattle.onll_words.specs.declared.line.Line.{Line}
 use Rattle.onll_pmem.specs.Pmem.{words_of}
 use Rattle.onll_log.specs.ImageFile.{longest_image, image_lines}
 use Rattle.onll_task.specs.declared.ending.Ending.{Ending}
-use Rattle.onll_task.specs.Job.{Job, Never}
+use Rattle.onll_task.specs.Job.{Job}
+use Rattle.onll_task.proofs.Jobs.{Never}
 use Rattle.onll_outside.specs.Views.{StoreView}
 use Rattle.onll_task.specs.declared.answer.Stop.{Stop}
 use Rattle.onll_open.specs.Names.{log_name, log_names}

@@ -1,4 +1,4 @@
-use Rattle.std.proofs.Common.{ℕ, Bool, true, false, List, ◌≡◌, ◌⊎◌, inl, inr, Result, Ok, Err, sym, ap, ◌∙◌, subst, arith, true≢false, ⊎_elim, cond, Option, Some}
+use Rattle.std.proofs.Common.{ℕ, Bool, true, false, List, ◌≡◌, ◌⊎◌, inl, inr, Result, Ok, Err, refl, sym, ap, ◌∙◌, subst, arith, true≢false, ⊎_elim, cond, Option, Some}
 use Rattle.std.proofs.lemmas.Bool.{cases_Bool}
 use Rattle.std.proofs.lemmas.Slice.Eq.{bytes_eq-Decides}
 use Rattle.std.specs.Str.{bytes_eq}
@@ -7,13 +7,28 @@ use Rattle.onll_areas.specs.Keeping.{OthersStay, DeviceNotMade, DeviceNotKept, H
 use Rattle.onll_text.specs.Refusal.{Refusal}
 use Rattle.onll_task.specs.declared.ending.Ending.{Ending}
 use Rattle.onll_task.specs.declared.ending.Ending.TheVariants.{Done, Usage, Refused, BadLog, ReadFault, WriteFault, Faulty, Judged}
-use Rattle.onll_task.specs.Reading.{FileIsTold, CannotRead}
-use Rattle.onll_text.specs.Kinds.{ObjectKind}
-use Rattle.onll_task.specs.Running.{RunPlan, RunStops}
+use Rattle.onll_task.specs.Reading.{FileIsTold, RefusesFile, Unread, CannotRead}
+use Rattle.onll_text.specs.Kinds.{ObjectKind, kind_at}
+use Rattle.onll_task.specs.Running.{RunPlan, RunLeft, RunStops}
 use Rattle.onll_task.specs.Writing.{FilesStay, CannotWrite, written}
 use Rattle.onll_open.specs.Files.{SameCounts}
 use Rattle.onll_task.specs.Keeps.{KeepStops}
-use Rattle.onll_task.specs.Job.{Job, Say, Read, Write, Keep, Assured, Threads, JobEnds, DecidesWhere, Decides, Never, on_value, reading, reading_whole}
+use Rattle.onll_task.specs.Job.{Job, Say, Read, Write, Keep, Assured, Threads, JobEnds, DecidesWhere, Decides, on_value, reading, reading_whole}
+
+-- how the reading of a file ends a call; a text that is refused was read
+abbrev pub Stops : {A : Type 0} → StoreView → StoreView → (List ℕ → Result A Refusal) → List ℕ → Ending → List ℕ → Type 0
+Stops store after grammar name Refused text = RefusesFile store grammar name text × SameCounts store after
+Stops store after grammar name ReadFault text = Unread store after name text
+Stops store after grammar name ending text = ⊥
+
+-- the job never ends so; with the fault of a fence a device may that is kept, and a run
+abbrev pub Never : Ending → Job → Type 0
+Never ending (Say e t) = e ≡ ending → ⊥
+Never ending (Read name next) = (bytes : List ℕ) → Never ending (next bytes)
+Never ending (Write name bytes next) = Never ending next
+Never ending (Keep name lines fences said next) = (ending ≡ Faulty → ⊥) × Never ending next
+Never ending (Assured b next) = Never ending next
+Never ending (Threads kind plan next) = (ending ≡ Faulty → ⊥) × ((left : RunLeft (kind_at kind)) → Never ending (next left))
 
 -- a told file holds its bytes alone
 pub held_bytes : (store : StoreView) (name bytes found : List ℕ) → FileIsTold store name bytes → FileHolds store name found → found ≡ bytes
@@ -177,7 +192,7 @@ nothing_failed store after (Threads kind plan next) ending text sound (inr h) =
 pub files_stay : (store after : StoreView) → SameFiles store after → FilesStay store after
 files_stay store after same = record { tells = same.tells; file = λ tells. same.file }
 
--- endings that no file, no fence and no refused text gives
+-- endings that no file and no refused text gives
 abbrev pub IsRare : Ending → Type 0
 IsRare Done = ⊥
 IsRare Usage = Unit {0}
@@ -185,33 +200,34 @@ IsRare Refused = ⊥
 IsRare BadLog = ⊥
 IsRare ReadFault = ⊥
 IsRare WriteFault = ⊥
-IsRare Faulty = ⊥
+IsRare Faulty = Unit {0}
 IsRare Judged = Unit {0}
 
-pub rare_none : (P : Ending → Type 0) → (P Usage → ⊥) → (P Judged → ⊥) → (ending : Ending) → IsRare ending → P ending → ⊥
-rare_none P usage judged Done rare h = rare
-rare_none P usage judged Usage rare h = usage h
-rare_none P usage judged Refused rare h = rare
-rare_none P usage judged BadLog rare h = rare
-rare_none P usage judged ReadFault rare h = rare
-rare_none P usage judged WriteFault rare h = rare
-rare_none P usage judged Faulty rare h = rare
-rare_none P usage judged Judged rare h = judged h
+rare_none : (P : Ending → Type 0) → (P Usage → ⊥) → (P Faulty → ⊥) → (P Judged → ⊥) → (ending : Ending) → IsRare ending → P ending → ⊥
+rare_none P usage faulty judged Done rare h = rare
+rare_none P usage faulty judged Usage rare h = usage h
+rare_none P usage faulty judged Refused rare h = rare
+rare_none P usage faulty judged BadLog rare h = rare
+rare_none P usage faulty judged ReadFault rare h = rare
+rare_none P usage faulty judged WriteFault rare h = rare
+rare_none P usage faulty judged Faulty rare h = faulty h
+rare_none P usage faulty judged Judged rare h = judged h
 
 module _ (ending : Ending) (rare : IsRare ending) where
   -- a job that never says such an ending doesn't end so
   pub never_says : (store after : StoreView) (job : Job) (text : List ℕ) → Never ending job → JobEnds store after job ending text → ⊥
   never_says store after (Say e t) text never h = never (sym h.0)
-  never_says store after (Read name next) text never (inl h) = rare_none (λ e. CannotRead store after name e text) (λ no. no) (λ no. no) ending rare h.0
+  never_says store after (Read name next) text never (inl h) = rare_none (λ e. CannotRead store after name e text) (λ no. no) (λ no. no) (λ no. no) ending rare h.0
   never_says store after (Read name next) text never (inr h) = never_says store after (next h.0) text (never h.0) h.1.1
-  never_says store after (Write name bytes next) text never (inl h) = rare_none (λ e. CannotWrite store after name e text) (λ no. no) (λ no. no) ending rare h
+  never_says store after (Write name bytes next) text never (inl h) = rare_none (λ e. CannotWrite store after name e text) (λ no. no) (λ no. no) (λ no. no) ending rare h
   never_says store after (Write name bytes next) text never (inr h) = never_says (written store name bytes) after next text never h
   never_says store after (Keep name lines fences said next) text never (inl h) =
-      rare_none (λ e. KeepStops store after name lines fences said e text) (λ no. no) (λ no. no) ending rare h
-  never_says store after (Keep name lines fences said next) text never (inr h) = never_says h.0 after next text never h.2
+      rare_none (λ e. (e ≡ Faulty → ⊥) × KeepStops store after name lines fences said e text) (λ no. no.1) (λ no. no.0 refl) (λ no. no.1) ending rare (never.0, h)
+  never_says store after (Keep name lines fences said next) text never (inr h) = never_says h.0 after next text never.1 h.2
   never_says store after (Assured b next) text never h = never_says store after next text never h.1
-  never_says store after (Threads kind plan next) text never (inl h) = rare_none (λ e. RunStops plan store after e text) (λ no. no) (λ no. no) ending rare h
-  never_says store after (Threads kind plan next) text never (inr h) = never_says h.kept after (next h.left) text (never h.left) h.next
+  never_says store after (Threads kind plan next) text never (inl h) =
+      rare_none (λ e. (e ≡ Faulty → ⊥) × RunStops plan store after e text) (λ no. no.1) (λ no. no.0 refl) (λ no. no.1) ending rare (never.0, h)
+  never_says store after (Threads kind plan next) text never (inr h) = never_says h.kept after (next h.left) text (never.1 h.left) h.next
 
 pub cannot_from : (store mid after : StoreView) (name : List ℕ) (ending : Ending) (text : List ℕ) → SameCounts store mid → CannotRead mid after name ending text → CannotRead store after name ending text
 cannot_from store mid after name Done text same h = h

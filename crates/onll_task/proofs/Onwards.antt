@@ -9,7 +9,7 @@ use Rattle.onll_areas.specs.Keeping.{OthersStay, StaysOrZeros, MayKeepLines, Has
 use Rattle.onll_text.specs.Refusal.{Refusal}
 use Rattle.onll_task.specs.declared.ending.Ending.{Ending}
 use Rattle.onll_task.specs.declared.ending.Ending.TheVariants.{Done, Usage, Refused, BadLog, ReadFault, WriteFault, Faulty, Judged}
-use Rattle.onll_task.specs.Reading.{Reads, ReadsWhole, HoldsImage, Stops}
+use Rattle.onll_task.specs.Reading.{Reads, ReadsWhole, HoldsImage}
 use Rattle.onll_open.specs.Names.{log_name, log_names}
 use Rattle.onll_task.specs.Images.{writing_images}
 use Rattle.onll_text.specs.Kinds.{ObjectKind}
@@ -25,7 +25,7 @@ use Rattle.onll_task.specs.Writing.{FilesStay, AllButStay, HasWritten, CannotWri
 use Rattle.onll_open.specs.Files.{SameCounts, SameBut}
 use Rattle.onll_task.specs.Keeps.{KeepStops}
 use Rattle.onll_task.specs.Job.{Job, Say, Read, Write, Keep, Assured, Threads, JobEnds, JobCut, JobGoesOn, on_value, reading, reading_whole}
-use Rattle.onll_task.proofs.Jobs.{files_stay, written_stays, leaves_written, cannot_from}
+use Rattle.onll_task.proofs.Jobs.{Stops, files_stay, written_stays, leaves_written, cannot_from}
 
 pub stay_more : (store mid after : StoreView) → FilesStay store mid → FilesStay mid after → FilesStay store after
 stay_more store mid after first then_ = record { tells = then_.tells ∙ first.tells; file = λ tells name. then_.file (first.tells ∙ tells) name ∙ first.file tells name }
@@ -467,9 +467,6 @@ on_write store mid name bytes next h = record {
   ends = λ after ending text k. inr (ends_from (written store name bytes) mid after next ending text h.files h.counts k);
   cut = λ after k. inr (cut_from (written store name bytes) mid after next h.files h.counts k);
 }
-
-pub others_stay : (name : List ℕ) (old new : StoreView) → SameOthers name old new → OthersStay name old new
-others_stay name old new h = record { tells = h.tells; file = λ tells. h.file }
 
 -- ---- images
 -- so many images were written, and the rest is left

@@ -28,9 +28,6 @@ leaves store after left run reads kept next = record { left = left; kept = after
 
 module _ {k : ObjectKind} (threads : RunPlan k → (RunLeft k → Job) → Job) (stands : StandsForRuns k threads) (plan : RunPlan k)
     (next : RunLeft k → Task) where
-  task : Task
-  task = after_stage (threads_stage threads plan) next
-
   -- what was run is kept, and its report is said
   pub run_does : {A : Type 0} (store after : StoreView) (left : RunLeft k) (text : Vec ℕ A) → HasRun k.means plan.run left → PlanReads plan left → HasKept plan left store after
       → SameBut (log_files plan) store after → JobEnds after after (next left).job Done text.items → ((before : StoreView) → (next left).reports before text.items)

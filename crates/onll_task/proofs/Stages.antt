@@ -12,14 +12,14 @@ use Rattle.onll_task.specs.declared.answer.Stop.{Stop}
 use Rattle.onll_task.specs.declared.answer.Stop.TheVariants.{Says, NoMemory}
 use Rattle.onll_task.specs.Doing.{Task, Stage, after_stage, report_task, say_task, text_stage, whole_stage, lines_stage, each_job, AreKnown, each_stage, StopsSo, Fulfils, DoesStage, GoesBy, BeginsBy}
 use Rattle.onll_task.specs.Job.{Job, Say, Read, Write, JobEnds, JobGoesOn, reading, reading_whole}
-use Rattle.onll_task.specs.Reading.{Reads, ReadsWhole, HoldsImage, CannotRead, Stops}
+use Rattle.onll_task.specs.Reading.{Reads, ReadsWhole, HoldsImage, CannotRead}
 use Rattle.onll_open.specs.Names.{log_name, log_names}
 use Rattle.onll_task.specs.Images.{writing_images, writing_stage}
 use Rattle.onll_task.specs.Stop.{StopSays}
 use Rattle.onll_task.specs.Writing.{FilesStay, CannotWrite, WriteStops}
 use Rattle.onll_open.specs.Files.{SameBut, SameCounts}
 use Rattle.onll_task.proofs.Onwards.{on_whole, on_text, on_image, stay_cut, stay_more, stopped_ends, goes_same, goes_after, WroteSo, others_on}
-use Rattle.onll_task.proofs.Jobs.{files_stay}
+use Rattle.onll_task.proofs.Jobs.{Stops, files_stay}
 
 -- ---- what changes no files, or few
 pub same_none : {store after : StoreView} → SameFiles store after → SameBut [] store after

@@ -7,9 +7,10 @@ use Rattle.onll_task.specs.declared.ending.Ending.TheVariants.{Refused}
 use Rattle.onll_task.specs.declared.answer.Stop.{Stop}
 use Rattle.onll_task.specs.declared.answer.Stop.TheVariants.{Says, NoMemory}
 use Rattle.onll_task.specs.Printed.{refusal_text}
-use Rattle.onll_task.specs.Reading.{IsCutText, Reads, Stops}
+use Rattle.onll_task.specs.Reading.{IsCutText, Reads}
 use Rattle.onll_task.specs.Stop.{StopSays}
 use Rattle.onll_open.specs.Files.{SameCounts}
+use Rattle.onll_task.proofs.Jobs.{Stops}
 
 pub StopSays-weaker : (s : Stop) (P Q : Ending → List ℕ → Type 0) → ((e : Ending) (t : List ℕ) → P e t → Q e t) → StopSays s P → StopSays s Q
 StopSays-weaker (Says ending text) P Q f h = f ending text.items h

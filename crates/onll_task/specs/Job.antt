@@ -63,15 +63,6 @@ pub record JobGoesOn (store mid : StoreView) (job next : Job) : Type 0 where
       → JobEnds store after job ending text
   pub cut : (after : StoreView) → JobCut mid after next → JobCut store after job
 
--- the job says this without reading any file
-abbrev pub SaysNow : Job → Ending → List ℕ → Type 0
-SaysNow (Say e t) ending text = (ending ≡ e) × (text ≡ t)
-SaysNow (Read name next) ending text = ⊥
-SaysNow (Write name bytes next) ending text = ⊥
-SaysNow (Keep name lines fences said next) ending text = ⊥
-SaysNow (Assured b next) ending text = ⊥
-SaysNow (Threads kind plan next) ending text = ⊥
-
 -- The files that are told decide that it ends so, unless a call of the store fails; one that keeps a device only where the devices'
 -- fences are taken to hold.
 abbrev pub DecidesWhere : (hold : Bool) → StoreView → Job → Ending → List ℕ → Type 0
@@ -87,15 +78,6 @@ DecidesWhere hold store (Threads kind plan next) ending text = ⊥
 -- the files that are told decide that it ends so, unless a write fails
 abbrev pub Decides : StoreView → Job → Ending → List ℕ → Type 0
 Decides store job ending text = DecidesWhere false store job ending text
-
--- the job never ends so
-abbrev pub Never : Ending → Job → Type 0
-Never ending (Say e t) = e ≡ ending → ⊥
-Never ending (Read name next) = (bytes : List ℕ) → Never ending (next bytes)
-Never ending (Write name bytes next) = Never ending next
-Never ending (Keep name lines fences said next) = Never ending next
-Never ending (Assured b next) = Never ending next
-Never ending (Threads kind plan next) = (left : RunLeft (kind_at kind)) → Never ending (next left)
 
 -- goes on with a value, or says why a text is refused
 abbrev pub on_value : {A : Type 0} → List ℕ → (A → Job) → Result A Refusal → Job

@@ -7,9 +7,8 @@ use Rattle.onll_text.specs.Script.{longest_text}
 use Rattle.onll_outside.specs.Views.{StoreView, FileHolds, Rose}
 use Rattle.onll_outside.specs.declared.store.FaultKind.TheVariants as kinds
 use Rattle.onll_task.specs.declared.ending.Ending.{Ending}
-use Rattle.onll_task.specs.declared.ending.Ending.TheVariants.{Refused, ReadFault}
+use Rattle.onll_task.specs.declared.ending.Ending.TheVariants.{ReadFault}
 use Rattle.onll_task.specs.Printed.{refusal_text, read_fault_text}
-use Rattle.onll_open.specs.Files.{SameCounts}
 
 -- the named file is told, and has these bytes
 pub record FileIsTold (store : StoreView) (name bytes : List ℕ) : Type 0 where
@@ -58,9 +57,3 @@ pub record Unread (store after : StoreView) (name text : List ℕ) : Type 0 wher
 abbrev pub CannotRead : StoreView → StoreView → List ℕ → Ending → List ℕ → Type 0
 CannotRead store after name ReadFault text = Unread store after name text
 CannotRead store after name ending text = ⊥
-
--- how the reading of a file ends a call; a text that is refused was read
-abbrev pub Stops : {A : Type 0} → StoreView → StoreView → (List ℕ → Result A Refusal) → List ℕ → Ending → List ℕ → Type 0
-Stops store after grammar name Refused text = RefusesFile store grammar name text × SameCounts store after
-Stops store after grammar name ReadFault text = Unread store after name text
-Stops store after grammar name ending text = ⊥

@@ -1,15 +1,15 @@
 //! The images of the logs of one run: a file for each thread.
 
 ghost use Rattle.std.specs.Prelude.{◌≡◌, ◌≤◌, ◌*◌, [], length, All, string_bytes, IfOk, IfErr, OnOk};
-ghost use Rattle.onll_outside.specs.Views.{SameOthers, BeginsWith, with_zeros, image_bytes};
+ghost use Rattle.onll_outside.specs.Views.{SameOthers, with_zeros, image_bytes};
 ghost use Rattle.onll_pmem.specs.Pmem.{words_of};
 ghost use Rattle.std.specs.Cow.{cow_slice_items};
 ghost use Rattle.onll_log.specs.ImageFile.{longest_image};
 ghost use Rattle.onll_open.specs.Names.{log_name, log_names};
-ghost use Rattle.onll_task.specs.Images.{Decides, KeepsOf, KeepOf, AllBeginWith, images_in, images_stage};
+ghost use Rattle.onll_task.specs.Images.{Decides, KeepOf, AllBeginWith, images_in, images_stage};
 ghost use Rattle.onll_task.specs.Writing.{HasWritten, CannotWrite, WriteStops};
 ghost use Rattle.onll_task.specs.Stop.{StopSays};
-ghost use Rattle.onll_task.specs.Doing.{BeginsBy, lines_stage};
+ghost use Rattle.onll_task.specs.Doing.{BeginsBy};
 
 use crate::answer::Stop;
 use crate::texts::{KeptImage, kept_image, write_lines};
@@ -19,23 +19,6 @@ use onll_outside::Store;
 use onll_words::Line;
 use std::alloc::{AllocError, Global};
 use std::borrow::CowSlice;
-
-/// What is kept of the image of a thread's log. It stops only where the file can't be read, and names it.
-fn read_image<S: Store>(
-    alloc: Global,
-    logs: &str,
-    thread: u64,
-    store: &mut S,
-) -> Result<KeptImage, Stop>
-    ensures begins { let stage = lines_stage (log_name logs.now thread) in
-        BeginsBy [] (S.seen store.old) (S.seen store.new) stage (λ kept image. KeepsOf kept.image kept.count image) result }
-    ensures front { IfOk result (λ kept. BeginsWith (S.seen store.new) (log_name logs.now thread)
-        (image_bytes kept.image)) }
-    ensures few { IfOk result (λ kept. 64 * kept.count ≤ longest_image) }
-{
-    let name = log_name(alloc, logs, thread)?;
-    kept_image(alloc, &name, store)
-}
 
 /// What is kept of the images of a run's logs, in their order.
 #[derive(Drop)]
@@ -64,7 +47,8 @@ pub fn read_images<S: Store>(
     let mut images = Vec::new(alloc);
     let mut counts = Vec::new(alloc);
     for thread in 0..threads {
-        match read_image(alloc, logs, thread, store) {
+        let name = log_name(alloc, logs, thread)?;
+        match kept_image(alloc, &name, store) {
             Ok(KeptImage { image, count }) => {
                 images.push(image)?;
                 counts.push(count)?;
@@ -106,27 +90,6 @@ fn with_one<'a>(
     Ok(CowSlice::Owned(lines))
 }
 
-/// Writes these lines, and then lines of zeros, `count` in all, as the image of a thread's log. It stops where the file can't be written.
-fn write_thread<S: Store>(
-    alloc: Global,
-    logs: &str,
-    thread: u64,
-    front: &[Line],
-    count: u64,
-    store: &mut S,
-) -> Result<(), Stop>
-    requires { length front.now ≤ count }
-    ensures written { OnOk result (HasWritten (S.seen store.old) (S.seen store.new) (log_name logs.now thread)
-        (image_bytes (with_zeros (words_of front.now) count))) }
-    ensures stop { IfErr result (λ stop. StopSays stop
-        (CannotWrite (S.seen store.old) (S.seen store.new) (log_name logs.now thread))) }
-    ensures cut { IfErr result (λ stop. WriteStops (S.seen store.old) (S.seen store.new) (log_name logs.now thread)) }
-    ensures others { SameOthers (log_name logs.now thread) (S.seen store.old) (S.seen store.new) }
-{
-    let name = log_name(alloc, logs, thread)?;
-    write_lines(alloc, &name, front, count, store)
-}
-
 /// Writes these lines, and then lines of zeros, `count` in all, as the image of a thread's log, and gives the lines that decide what the
 /// image holds. It stops where the file can't be written, and names it.
 pub fn write_image<'a, S: Store>(
@@ -146,8 +109,9 @@ pub fn write_image<'a, S: Store>(
     ensures cut { IfErr result (λ stop. WriteStops (S.seen store.old) (S.seen store.new) (log_name logs.now thread)) }
     ensures others { SameOthers (log_name logs.now thread) (S.seen store.old) (S.seen store.new) }
 {
+    let name = log_name(alloc, logs, thread)?;
     let lines = with_one(alloc, front, count)?;
-    match write_thread(alloc, logs, thread, lines.as_slice(), count, store) {
+    match write_lines(alloc, &name, lines.as_slice(), count, store) {
         Ok(()) => Ok(TestedImage::of_lines(lines)),
         Err(stop) => Err(stop),
     }

@@ -105,7 +105,7 @@ pub fn recover_logs<O: Object, P: Pmem>(
     ensures whole { OnOk result (All (λ log. AllByRecursion IsWholeLine (P.means log.device).read) logs.now) }
 {
     let images = images_of(alloc, logs)?;
-    match recover_state(alloc, object, heads, &images) {
+    match recover_tested(alloc, object, heads, &images) {
         Ok(recovery) => Ok(recovery),
         Err(fault) => Err(wants_memory(fault)),
     }

@@ -104,7 +104,7 @@ next_account done marks n x e few fits =
 
 -- the lines of the accounts that are left put their balances in
 after_lines-accounts : (k : ℕ) (done : List ℕ) (marks : List Bool) (xs : List ℕ) → length marks ≡ length done → length done + length xs ≤ 4096 → sum done + sum xs ≤ greatest_total
-    → (after_lines with_account_line (so_far done marks (length xs)) (numbered k (map joined (account_lines (length done) xs))) >>= λ made. Ok made.balances) ≡ Ok (done ++ xs)
+    → (after_lines with_account_line (so_far done marks (length xs)) (numbered k (map joined (account_lines (length done) xs))) >>= λ made. Ok (objects.Bank made.balances)) ≡ Ok (objects.Bank (done ++ xs))
 after_lines-accounts k done marks [] e few fits = refl
 after_lines-accounts k done marks (x ∷ xs) e few fits =
     let total : sum (x ∷ xs) ≡ x + sum xs = sum_by-cons (λ n. n) x xs in
@@ -112,16 +112,16 @@ after_lines-accounts k done marks (x ∷ xs) e few fits =
     let a : length (done ++ x ∷ []) ≡ length done + 1 = omega (arith, length-append done (x ∷ [])) in
     let m : length (marks ++ true ∷ []) ≡ length (done ++ x ∷ []) = omega (arith, length-append marks (true ∷ [])) in
     let rest : ℕ → List Numbered = λ b. numbered (k + 1) (map joined (account_lines b xs)) in
-    ap (λ (v : Result Accounts Refusal). v >>= λ made. Ok made.balances)
+    ap (λ (v : Result Accounts Refusal). v >>= λ made. Ok (objects.Bank made.balances))
     (after_lines-joined with_account_line (so_far done marks (suc (length xs))) k (account_line (length done) x) (rest (length done + 1)) (account_line_in_words (length done) x))
-    ∙ ap (λ (v : Result Accounts Reason). at_line k v >>= (λ more. after_lines with_account_line more (rest (length done + 1))) >>= λ made. Ok made.balances)
+    ∙ ap (λ (v : Result Accounts Reason). at_line k v >>= (λ more. after_lines with_account_line more (rest (length done + 1))) >>= λ made. Ok (objects.Bank made.balances))
     (next_account done marks (length xs) x e (omega arith) (omega arith))
-    ∙ ap (λ b. after_lines with_account_line (so_far (done ++ x ∷ []) (marks ++ true ∷ []) (length xs)) (rest b) >>= λ made. Ok made.balances) (sym a)
+    ∙ ap (λ b. after_lines with_account_line (so_far (done ++ x ∷ []) (marks ++ true ∷ []) (length xs)) (rest b) >>= λ made. Ok (objects.Bank made.balances)) (sym a)
     ∙ after_lines-accounts (k + 1) (done ++ x ∷ []) (marks ++ true ∷ []) xs m (omega arith) (omega arith)
-    ∙ ap Ok (append_assoc done (x ∷ []) xs)
+    ∙ ap (λ balances. Ok (objects.Bank balances)) (append_assoc done (x ∷ []) xs)
 
 -- what is printed of a bank reads as that bank
 pub bank_reads_back : (s : List ℕ) → IsBank s → ReadsBack bank_wording objects.Bank s
 bank_reads_back s h =
     init_of-flat_map (codes "bank" ∷ decimal (length s) ∷ []) (account_lines 0 s) (record { kind = kinds.Bank; capacity = length s }) (state_in_lines s) (within_text (bank_is_short s h)) (head_of-bank (length s) h.least h.greatest)
-    ∙ ap (λ (v : Result (List ℕ) Refusal). v >>= λ balances. Ok (objects.Bank balances)) (after_lines-accounts 2 [] [] s refl (from_zero (length s) h.greatest) (omega (arith, h.total)))
+    ∙ after_lines-accounts 2 [] [] s refl (from_zero (length s) h.greatest) (omega (arith, h.total))

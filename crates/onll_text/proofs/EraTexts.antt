@@ -10,20 +10,12 @@ use Rattle.onll_words.proofs.Joined.{words_of-joined, list_all-joined}
 use Rattle.onll_text.specs.declared.reason.Reason.{Reason}
 use Rattle.onll_text.specs.declared.reason.Reason.TheVariants.{TooLong}
 use Rattle.onll_text.specs.declared.any_object.AnyObject.{AnyObject}
-use Rattle.onll_text.specs.declared.any_object.AnyObject.TheVariants as objects
 use Rattle.onll_text.specs.declared.any_object.Kind.{Kind}
-use Rattle.onll_text.specs.declared.any_object.Kind.TheVariants as kinds
 use Rattle.onll_text.specs.Refusal.{Refusal, refused, ◌>>=◌, at_line}
 use Rattle.onll_text.specs.Script.{longest_text, is_too_long}
 use Rattle.onll_text.specs.Wording.{longest_state}
 use Rattle.onll_text.specs.Making.{after_lines}
-use Rattle.onll_text.specs.Init.{head_of, object_of, init_of_lines, init_of}
-use Rattle.onll_text.specs.BankText.{with_account_line, no_accounts}
-use Rattle.onll_text.specs.MapText.{with_pair_line, no_pairs}
-use Rattle.onll_text.specs.QueueText.{with_item_line}
-use Rattle.onll_queue.specs.Queue.{items_in}
-use Rattle.onll_text.specs.LeaseText.{with_held_line}
-use Rattle.onll_lease.specs.Entry.{no_lease}
+use Rattle.onll_text.specs.Init.{head_of, states_of, object_at, object_of, init_of_lines, init_of}
 use Rattle.onll_text.specs.EraText.{era_words, era_text}
 use Rattle.onll_text.specs.WordsAgain.{length-decimal}
 use Rattle.onll_text.proofs.ReadBack.{not_too_long}
@@ -94,15 +86,10 @@ after_alike {Making} with_line made end (x ∷ xs) (y ∷ ys) h e =
     (λ more f. after_alike with_line more end xs ys h.1 f) e)
 
 object_alike : (kind : Kind) (capacity : ℕ) (xs ys : List Numbered) (object : AnyObject) → AreAlike xs ys → object_of kind capacity xs ≡ Ok object → object_of kind capacity ys ≡ Ok object
-object_alike kinds.Bank capacity xs ys object h e =
-    then_alike _ _ (λ balances. Ok (objects.Bank balances)) object
-    (λ b f. then_alike _ _ (λ made. Ok made.balances) b (λ made g. after_alike with_account_line (no_accounts capacity) made xs ys h g) f) e
-object_alike kinds.Map capacity xs ys object h e =
-    then_alike _ _ (λ entries. Ok (objects.Map entries)) object (λ made g. after_alike with_pair_line (no_pairs capacity) made xs ys h g) e
-object_alike kinds.Queue capacity xs ys object h e =
-    then_alike _ _ (λ items. Ok (objects.Queue items)) object (λ made g. after_alike with_item_line (items_in capacity []) made xs ys h g) e
-object_alike kinds.Lease capacity xs ys object h e =
-    then_alike _ _ (λ entries. Ok (objects.Lease entries)) object (λ made g. after_alike with_held_line (Rattle.std.proofs.Common.replicate capacity no_lease) made xs ys h g) e
+object_alike kind capacity xs ys object h e =
+    let k = states_of kind in
+    then_alike (after_lines k.with_line (k.begun capacity) xs) (after_lines k.with_line (k.begun capacity) ys) (λ made. Ok (object_at kind (k.ended made))) object
+    (λ made g. after_alike k.with_line (k.begun capacity) made xs ys h g) e
 
 init_alike : (xs ys : List Numbered) (object : AnyObject) → AreAlike xs ys → init_of_lines xs ≡ Ok object → init_of_lines ys ≡ Ok object
 init_alike [] [] object h e = absurd (cc)

@@ -1,8 +1,7 @@
 use Rattle.std.proofs.Common.{ℕ, true, List, [], ◌∷◌, ◌++◌, ◌≡◌, ◌+◌, ◌<◌, ◌≤◌, ◌∙◌, length, drop, map, get_or, arith, ap, sym, subst, append_assoc}
 use Rattle.std.specs.List.{flat_map}
 use Rattle.std.specs.Io.{StartsWith}
-use Rattle.std.proofs.lemmas.List.{take-append-le, length-take, take-append-drop, drop_more}
-use Rattle.std.proofs.Math.Seq.{take-length}
+use Rattle.std.proofs.lemmas.List.{take-append-le, length-take, drop_more}
 use Rattle.onll_words.specs.Texts.{line_text, AreWords}
 use Rattle.onll_text.specs.declared.report.Piece.{Piece}
 use Rattle.onll_text.specs.Pieces.{piece_word}
@@ -14,10 +13,6 @@ pub take-append_front : (old more front : List ℕ) → StartsWith old front →
 take-append_front old more front h =
     let n : length front ≤ length old = omega (arith, length-take (length front) old, ap length h) in
     take-append-le (length front) old more n ∙ h
-
--- bytes and what begins with them
-pub kept : (old new : List ℕ) → IsFront old new → new ≡ old ++ drop (length old) new
-kept old new h = sym (take-append-drop (length old) new) ∙ ap (λ t. t ++ drop (length old) new) (h old (take-length old))
 
 -- what begins the first of two parts begins both
 pub part_front : (new part more whole : List ℕ) → part ++ more ≡ whole → IsFront new part → IsFront new whole

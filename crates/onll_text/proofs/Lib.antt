@@ -17,3 +17,4 @@ mod KindList
 pub mod Keeping
 mod LineFronts
 pub mod Determined
+pub mod SameBytes

@@ -1,24 +1,13 @@
 -- A text that prints back is what is printed of the state that it says, and what is printed of a state prints back.
 
-use Rattle.std.proofs.Common.{ℕ, zero, suc, Bool, true, false, ◌&&◌, nat_le, List, [], ◌∷◌, ◌≡◌, ◌<◌, ◌≤◌, length, refl, sym, ap, ◌∙◌, subst, slice_index, arith, Option, Some, None, Ok}
+use Rattle.std.proofs.Common.{ℕ, zero, suc, Bool, true, false, ◌&&◌, nat_le, List, [], ◌∷◌, ◌≡◌, ◌<◌, ◌≤◌, length, refl, sym, ap, ◌∙◌, subst, slice_index, arith, Option, Some, None}
 use Rattle.std.specs.List.{list_all}
 use Rattle.std.proofs.lemmas.Slice.Eq.{bytes_eq-Decides}
 use Rattle.std.proofs.lemmas.Bool.Decides.{nat_tests}
 use Rattle.onll_words.proofs.WordBytes.{Bytes}
-use Rattle.onll_text.specs.declared.any_object.AnyObject.{AnyObject}
-use Rattle.onll_text.specs.declared.any_object.AnyObject.TheVariants as objects
-use Rattle.onll_text.specs.declared.any_object.Kind.{Kind}
-use Rattle.onll_text.specs.declared.any_object.Kind.TheVariants as kinds
 use Rattle.onll_text.specs.Wording.{longest_state, Wording}
-use Rattle.onll_text.specs.Init.{init_of}
-use Rattle.onll_text.specs.Kinds.{kind_at, object_at, on_kind}
 use Rattle.onll_text.specs.Reports.{StateReads}
 use Rattle.onll_text.specs.PrintsBack.{state_text, is_state_text, is_byte, prints_back}
-use Rattle.onll_text.proofs.EachKind.{kind_and_state}
-use Rattle.onll_text.specs.BankWording.{bank_back}
-use Rattle.onll_text.specs.MapWording.{map_back}
-use Rattle.onll_text.specs.QueueWording.{queue_back}
-use Rattle.onll_text.specs.LeaseWording.{lease_back}
 
 -- ---- tests
 both_hold : (b c : Bool) → (b && c) ≡ true → (b ≡ true) × (c ≡ true)
@@ -83,25 +72,3 @@ prints_state w text h =
     let parts = both_hold (is_state_text w (w.state_of text) text) (nat_le (length text) longest_state && list_all is_byte text) h in
     let rest = both_hold (nat_le (length text) longest_state) (list_all is_byte text) parts.1 in
     state_found w text (w.state_of text) refl parts.0 (le_of_test (length text) longest_state rest.0) (bytes_of_test text rest.1)
-
--- ---- the object that it is read as
--- a text that says a state of a kind is the initial state of the object with that state
-pub says_object : (kind : Kind) (text : List ℕ) (s : (kind_at kind).State) → (kind_at kind).wording.state_of text ≡ Some s → init_of text ≡ Ok (object_at kind s)
-says_object kinds.Bank text s e = bank_back (init_of text) s e
-says_object kinds.Map text s e = map_back (init_of text) s e
-says_object kinds.Queue text s e = queue_back (init_of text) s e
-says_object kinds.Lease text s e = lease_back (init_of text) s e
-
--- what is said of that object is said of its kind and its state
-pub on_kind_at {ℓ} : {A : Type ℓ} (say : (kind : Kind) → (kind_at kind).State → A) (kind : Kind) (s : (kind_at kind).State) → on_kind say (object_at kind s) ≡ say kind s
-on_kind_at say kinds.Bank s = refl
-on_kind_at say kinds.Map s = refl
-on_kind_at say kinds.Queue s = refl
-on_kind_at say kinds.Lease s = refl
-
--- an object is that of its kind and its state
-pub same_object : (object : AnyObject) → object_at (kind_and_state object).0 (kind_and_state object).1 ≡ object
-same_object (objects.Bank s) = refl
-same_object (objects.Map s) = refl
-same_object (objects.Queue s) = refl
-same_object (objects.Lease s) = refl

@@ -8,22 +8,22 @@ use Rattle.std.proofs.lemmas.List.Sums.{sum_by-cons, sum_by-set}
 use Rattle.std.proofs.lemmas.List.Folds.{sum_by-replicate}
 use Rattle.std.proofs.lemmas.List.{length-replicate}
 use Rattle.std.proofs.lemmas.Result.{IfOk-at_ok}
-use Rattle.onll_words.specs.Texts.{Numbered, joined, line_text}
+use Rattle.onll_words.specs.Texts.{joined, line_text}
 use Rattle.onll_model.specs.declared.call.Call.TheVariants.{Update, Ask}
 use Rattle.onll_bank.specs.declared.operation.BankOp.TheVariants.{Deposit, Withdraw, Transfer}
 use Rattle.onll_bank.specs.declared.operation.BankQuery.TheVariants.{Balance, Total}
 use Rattle.onll_bank.specs.declared.operation.BankReply.{BankReply}
 use Rattle.onll_bank.specs.declared.operation.BankReply.TheVariants.{Done, Over, TooLittle, NoAccount, Amount}
 use Rattle.onll_bank.specs.Bank.{IsBank, greatest_total, is_account, raised}
+use Rattle.onll_text.specs.declared.any_object.AnyObject.TheVariants as objects
 use Rattle.onll_text.specs.declared.reason.Reason.{Reason}
 use Rattle.onll_text.specs.declared.reason.Reason.TheVariants.{UnknownWord, OutOfRange, Repeated, TooLarge}
 use Rattle.onll_text.specs.Refusal.{◌>>=◌, only_if}
 use Rattle.onll_text.specs.Wording.{longest_words, longest_state}
 use Rattle.onll_text.specs.Words.{word_as_number, two_numbers}
 use Rattle.onll_text.specs.WordsAgain.{IsNumber, AreTwo, word_fits, two_fit, length-decimal, if_ok_next, if_ok_either, if_ok_tested, no_arguments, number_argument, two_arguments, three_arguments, PrintsAgain, line_again}
-use Rattle.onll_text.specs.Making.{after_lines}
-use Rattle.onll_text.specs.MakingKeeps.{after_lines_keep}
-use Rattle.onll_text.specs.BankText.{BankCall, bank_call_of, bank_reply_of, bank_op_words, bank_query_words, bank_reply_words, word_reply_of, amount_or, deposit_of, withdraw_of, transfer_of, balance_of, total_of, account_line, account_lines, bank_state_lines, Accounts, no_accounts, is_named, with_account, with_account_line, bank_of_lines}
+use Rattle.onll_text.specs.Making.{StateKind}
+use Rattle.onll_text.specs.BankText.{BankCall, bank_call_of, bank_reply_of, bank_op_words, bank_query_words, bank_reply_words, word_reply_of, amount_or, deposit_of, withdraw_of, transfer_of, balance_of, total_of, account_line, account_lines, bank_state_lines, Accounts, no_accounts, is_named, with_account, with_account_line}
 
 -- ---- calls
 abbrev pub bank_call_words : BankCall → List (List ℕ)
@@ -118,26 +118,33 @@ account_keeps made n h =
     (λ m k. if_ok_tested (not (is_named m n.0)) Repeated m Here (λ e. k)))
     (λ m k. if_ok_tested (within m) TooLarge (put m) MakesBank (λ e. raised_is_bank m.balances n.0 n.1 k.0 k.1 e))
 
-account_line_keeps : (made : Accounts) (words : List (List ℕ)) → MakesBank made → IfOk (with_account_line made words) MakesBank
+pub account_line_keeps : (made : Accounts) (words : List (List ℕ)) → MakesBank made → IfOk (with_account_line made words) MakesBank
 account_line_keeps made [] h = tt
 account_line_keeps made (first ∷ args) h =
     if_ok_either (bytes_eq first (codes "account")) (two_numbers args >>= with_account made) (Err UnknownWord) MakesBank
     (if_ok_next (two_numbers args) (with_account made) AreTwo MakesBank (two_fit args) (λ n k. account_keeps made n h)) tt
 
 -- accounts with nothing in them
-empty_is_bank : (n : ℕ) → 1 ≤ n → n ≤ 4096 → IsBank (replicate n 0)
+pub empty_is_bank : (n : ℕ) → 1 ≤ n → n ≤ 4096 → IsBank (replicate n 0)
 empty_is_bank n least greatest = record {
   least = omega (arith, length-replicate {A = ℕ} n 0);
   greatest = omega (arith, length-replicate {A = ℕ} n 0);
   total = omega (arith, sum_by-replicate (λ (x : ℕ). x) n 0);
 }
 
--- the state that was read is a bank
-pub bank_lines_make_bank : (n : ℕ) (lines : List Numbered) → 1 ≤ n → n ≤ 4096 → IfOk (bank_of_lines n lines) IsBank
-bank_lines_make_bank n lines least greatest =
-    if_ok_next (after_lines with_account_line (no_accounts n) lines) (λ made. Ok made.balances) MakesBank IsBank
-    (after_lines_keep with_account_line MakesBank account_line_keeps (no_accounts n) lines (empty_is_bank n least greatest))
-    (λ made h. h)
+-- the states of a bank
+abbrev pub bank_states : StateKind
+bank_states = record {
+  State = List ℕ;
+  object = objects.Bank;
+  Making = Accounts;
+  begun = no_accounts;
+  with_line = with_account_line;
+  ended = λ made. made.balances;
+  Invariant = IsBank;
+  begun_keeps = empty_is_bank;
+  line_keeps = account_line_keeps;
+}
 
 -- the lines of a bank are short
 length-account_line : (a x : ℕ) → a < 2 ^ 64 → x < 2 ^ 64 → length (line_text (account_line a x)) ≤ 50

@@ -13,10 +13,8 @@ use Rattle.onll_bank.specs.declared.operation.BankReply.TheVariants.{Done, Over,
 use Rattle.onll_bank.specs.Bank.{is_account, raised, greatest_total}
 use Rattle.onll_text.specs.declared.reason.Reason.{Reason}
 use Rattle.onll_text.specs.declared.reason.Reason.TheVariants.{UnknownWord, WrongCount, OutOfRange, Repeated, TooLarge}
-use Rattle.onll_text.specs.Refusal.{Refusal, ◌>>=◌, only_if}
+use Rattle.onll_text.specs.Refusal.{◌>>=◌, only_if}
 use Rattle.onll_text.specs.Words.{word_as_number, no_word, one_number, two_numbers, three_numbers}
-use Rattle.onll_words.specs.Texts.{Numbered}
-use Rattle.onll_text.specs.Making.{after_lines}
 
 abbrev pub BankCall : Type 0
 BankCall = Call (List ℕ) BankOp BankQuery BankReply
@@ -121,7 +119,3 @@ abbrev pub with_account_line : Accounts → List (List ℕ) → Result Accounts 
 with_account_line made [] = Err UnknownWord
 with_account_line made (first ∷ args) =
     if bytes_eq first (codes "account") then (two_numbers args >>= with_account made) else Err UnknownWord
-
--- the bank of this many accounts, with further lines
-abbrev pub bank_of_lines : ℕ → List Numbered → Result (List ℕ) Refusal
-bank_of_lines capacity lines = after_lines with_account_line (no_accounts capacity) lines >>= λ made. Ok made.balances

@@ -1,8 +1,8 @@
 -- How a bank is written, as one record.
 
-use Rattle.std.specs.Prelude.{ℕ, List, [], ◌∷◌, ◌+◌, refl, Option, Some, None, Result, Ok, ◌≡◌, ◌≤◌, length}
+use Rattle.std.specs.Prelude.{ℕ, List, [], ◌∷◌, ◌+◌, refl, Option, Some, None, Result, Ok, ◌≡◌, ◌≤◌, length, codes, decimal}
 use Rattle.std.specs.List.{flat_map}
-use Rattle.std.proofs.Common.{arith}
+use Rattle.std.proofs.Common.{arith, sym, subst}
 use Rattle.std.proofs.lemmas.Result.{IfOk-at_ok}
 use Rattle.onll_words.specs.Texts.{AreWords, AreMeaningful, line_text}
 use Rattle.onll_model.specs.declared.call.Call.TheVariants.{Update, Ask}
@@ -13,15 +13,19 @@ use Rattle.onll_bank.specs.declared.operation.BankQuery.{BankQuery}
 use Rattle.onll_bank.specs.declared.operation.BankQuery.TheVariants.{Balance, Total}
 use Rattle.onll_bank.specs.declared.operation.BankReply.{BankReply}
 use Rattle.onll_bank.specs.declared.operation.BankReply.TheVariants.{Done, Over, TooLittle, NoAccount, Amount}
+use Rattle.onll_bank.specs.Object.{bank}
+use Rattle.onll_bank.specs.Bank.{IsBank}
 use Rattle.onll_text.specs.Wording.{longest_state, Wording}
 use Rattle.onll_text.specs.WordsAgain.{read_again, short_again}
 use Rattle.onll_text.specs.BankLaws.{bank_call_words, bank_calls_again, bank_reply_short, bank_is_short}
 use Rattle.onll_text.specs.BankText.{bank_call_of, bank_reply_of, bank_op_words, bank_query_words, bank_reply_words, account_lines, bank_state_lines}
+use Rattle.onll_text.specs.declared.any_object.Kind.TheVariants as kinds
 use Rattle.onll_text.specs.declared.any_object.AnyObject.{AnyObject}
 use Rattle.onll_text.specs.declared.any_object.AnyObject.TheVariants as objects
 use Rattle.onll_text.specs.Refusal.{Refusal}
 use Rattle.onll_text.specs.Init.{init_of}
-use Rattle.onll_text.specs.InitLaws.{IsState, init_is_state}
+use Rattle.onll_text.specs.CallKind.{CallKind}
+use Rattle.onll_text.specs.InitLaws.{IsOfKind, init_of_kind}
 
 pub op_in_words : (op : BankOp) → AreWords (bank_op_words op)
 op_in_words (Deposit a x) = (record { some = refl; bytes = refl }, (IsWord-decimal a, (IsWord-decimal x, tt)))
@@ -56,13 +60,19 @@ bank_read _ = None
 pub bank_back : (v : Result AnyObject Refusal) (s : List ℕ) → bank_read v ≡ Some s → v ≡ Ok (objects.Bank s)
 bank_back v s e = grind arith
 
+same_bank : (s t : List ℕ) → objects.Bank s ≡ objects.Bank t → s ≡ t
+same_bank s t e = cc
+
 -- what is printed of a state that reads as it is short
 pub bank_state_short : (s : List ℕ)
     → bank_read (init_of (flat_map line_text (bank_state_lines s))) ≡ Some s
     → length (flat_map line_text (bank_state_lines s)) ≤ longest_state
 bank_state_short s e =
     let text : List ℕ = flat_map line_text (bank_state_lines s) in
-    bank_is_short s (IfOk-at_ok IsState (bank_back (init_of text) s e) (init_is_state text))
+    let kept : IsOfKind kinds.Bank (objects.Bank s) =
+    IfOk-at_ok (IsOfKind kinds.Bank) (bank_back (init_of text) s e)
+    (init_of_kind kinds.Bank (codes "bank") (decimal (length s) ∷ []) (account_lines 0 s) refl (state_in_lines s)) in
+    bank_is_short s (subst IsBank (same_bank kept.0 s (sym kept.1.0)) kept.1.1)
 
 -- how a bank is written
 abbrev pub bank_wording : Wording (List ℕ) BankOp BankQuery BankReply
@@ -89,4 +99,18 @@ bank_wording = record {
   query_is_short = λ query e. short_again bank_call_of bank_call_words bank_calls_again (Ask query) e;
   reply_is_short = bank_reply_short;
   state_is_short = bank_state_short;
+}
+
+-- the calls of a bank
+abbrev pub bank_calls : CallKind kinds.Bank
+bank_calls = record {
+  Op = BankOp;
+  Query = BankQuery;
+  Reply = BankReply;
+  means = bank;
+  wording = bank_wording;
+  code = 1;
+  known = (omega arith, omega arith);
+  says = λ text s e. bank_back (init_of text) s e;
+  at = λ s. refl;
 }

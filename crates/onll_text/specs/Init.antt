@@ -14,10 +14,11 @@ use Rattle.onll_text.specs.declared.init.Head.{Head}
 use Rattle.onll_text.specs.Refusal.{Refusal, refused, ◌>>=◌, only_if, at_line}
 use Rattle.onll_text.specs.Words.{one_number}
 use Rattle.onll_text.specs.Script.{is_too_long}
-use Rattle.onll_text.specs.BankText.{bank_of_lines}
-use Rattle.onll_text.specs.MapText.{map_of_lines}
-use Rattle.onll_text.specs.QueueText.{queue_of_lines}
-use Rattle.onll_text.specs.LeaseText.{lease_of_lines}
+use Rattle.onll_text.specs.Making.{after_lines, StateKind}
+use Rattle.onll_text.specs.BankLaws.{bank_states}
+use Rattle.onll_text.specs.MapLaws.{map_states}
+use Rattle.onll_text.specs.QueueLaws.{queue_states}
+use Rattle.onll_text.specs.LeaseLaws.{lease_states}
 
 -- The kinds of object in the order of their codes, the first of which is 1, each with the word that names it.
 abbrev pub named_kinds : List (Kind × List ℕ)
@@ -46,12 +47,37 @@ abbrev pub head_of : List (List ℕ) → Result Head Reason
 head_of [] = Err UnknownObject
 head_of (first ∷ args) = kind_of first >>= λ kind. capacity_of args >>= λ capacity. Ok (record { kind = kind; capacity = capacity })
 
+-- the states of the kind that is named so
+abbrev pub states_of : Kind → StateKind
+states_of kinds.Bank = bank_states
+states_of kinds.Map = map_states
+states_of kinds.Queue = queue_states
+states_of kinds.Lease = lease_states
+
+-- the object of this kind with this state
+abbrev pub object_at : (kind : Kind) → (states_of kind).State → AnyObject
+object_at kind s = (states_of kind).object s
+
+-- what is said of the object of each kind and each state of it, of an object of any kind
+abbrev pub by_object {ℓ} : (P : AnyObject → Type ℓ) → ((kind : Kind) (s : (states_of kind).State) → P (object_at kind s))
+    → (object : AnyObject) → P object
+by_object P say (objects.Bank s) = say kinds.Bank s
+by_object P say (objects.Map s) = say kinds.Map s
+by_object P say (objects.Queue s) = say kinds.Queue s
+by_object P say (objects.Lease s) = say kinds.Lease s
+
+-- what is said of a kind by its name and of a state of it, of an object of any kind
+abbrev pub on_kind {ℓ} : {A : Type ℓ} → ((kind : Kind) → (states_of kind).State → A) → AnyObject → A
+on_kind {A = A} say object = by_object (λ _. A) say object
+
+-- an object's kind, by its name, and its state
+abbrev pub kind_and_state : AnyObject → (kind : Kind) × (states_of kind).State
+kind_and_state object = on_kind (λ kind s. (kind, s)) object
+
 -- the object of this kind and capacity, with further lines
 abbrev pub object_of : Kind → ℕ → List Numbered → Result AnyObject Refusal
-object_of kinds.Bank capacity lines = bank_of_lines capacity lines >>= λ balances. Ok (objects.Bank balances)
-object_of kinds.Map capacity lines = map_of_lines capacity lines >>= λ entries. Ok (objects.Map entries)
-object_of kinds.Queue capacity lines = queue_of_lines capacity lines >>= λ items. Ok (objects.Queue items)
-object_of kinds.Lease capacity lines = lease_of_lines capacity lines >>= λ entries. Ok (objects.Lease entries)
+object_of kind capacity lines = after_lines (states_of kind).with_line ((states_of kind).begun capacity) lines
+    >>= λ made. Ok (object_at kind ((states_of kind).ended made))
 
 abbrev pub init_of_lines : List Numbered → Result AnyObject Refusal
 init_of_lines [] = Err (refused 0 Missing)

@@ -6,7 +6,7 @@ use Rattle.std.specs.Str.{bytes_eq}
 use Rattle.std.proofs.lemmas.List.{length-replicate}
 use Rattle.std.proofs.lemmas.List.Elements.{All-head, All-tail, All-set, All-replicate}
 use Rattle.std.proofs.lemmas.Bool.Decides.{nat_tests}
-use Rattle.onll_words.specs.Texts.{Numbered, joined, line_text}
+use Rattle.onll_words.specs.Texts.{joined, line_text}
 use Rattle.onll_model.specs.declared.call.Call.TheVariants.{Update, Ask}
 use Rattle.onll_lease.specs.declared.entry.LeaseEntry.{LeaseEntry}
 use Rattle.onll_lease.specs.declared.operation.LeaseOp.TheVariants.{Grant, Renew, Release}
@@ -15,14 +15,15 @@ use Rattle.onll_lease.specs.declared.operation.LeaseReply.{LeaseReply}
 use Rattle.onll_lease.specs.declared.operation.LeaseReply.TheVariants.{NoResource, HeldUntil, Late, Spent, Granted, Renewed, Stale, Released, HeldBy, Free}
 use Rattle.onll_lease.specs.Entry.{IsEntry, OfNumbers, no_lease}
 use Rattle.onll_lease.specs.Lease.{IsLease, entry_at}
+use Rattle.onll_text.specs.declared.any_object.AnyObject.TheVariants as objects
 use Rattle.onll_text.specs.declared.reason.Reason.{Reason}
 use Rattle.onll_text.specs.declared.reason.Reason.TheVariants.{UnknownWord, OutOfRange, Repeated}
 use Rattle.onll_text.specs.Refusal.{◌>>=◌, only_if}
 use Rattle.onll_text.specs.Wording.{longest_state}
 use Rattle.onll_text.specs.Words.{word_as_number, no_word, one_number, four_numbers}
 use Rattle.onll_text.specs.WordsAgain.{IsNumber, AreFour, one_fits, word_fits, four_fit, decimal_next, one_number-decimal, length-decimal, length-joined, if_ok_next, if_ok_either, if_ok_tested, Arguments, no_arguments, number_argument, two_arguments, four_arguments, PrintsAgain, line_again}
-use Rattle.onll_text.specs.MakingKeeps.{after_lines_keep}
-use Rattle.onll_text.specs.LeaseText.{LeaseCall, lease_call_of, lease_reply_of, lease_op_words, lease_query_words, lease_reply_words, grant_of, renew_of, release_of, holder_of, until_of, held_by_of, held_line, held_lines, lease_state_lines, entry_of, with_held, with_held_line, lease_of_lines}
+use Rattle.onll_text.specs.Making.{StateKind}
+use Rattle.onll_text.specs.LeaseText.{LeaseCall, lease_call_of, lease_reply_of, lease_op_words, lease_query_words, lease_reply_words, grant_of, renew_of, release_of, holder_of, until_of, held_by_of, held_line, held_lines, lease_state_lines, entry_of, with_held, with_held_line}
 
 -- ---- calls
 abbrev pub lease_call_words : LeaseCall → List (List ℕ)
@@ -151,7 +152,7 @@ held_keeps made r e h numbers =
     (if_ok_tested test OutOfRange made Here (λ here. (h, here)))
     (λ m k. if_ok_tested ((entry_at m r).token == 0) Repeated (slice_set m r e) IsLease (λ none. held_is_lease m r e k.0 numbers k.1))
 
-held_line_keeps : (made : List LeaseEntry) (words : List (List ℕ)) → IsLease made → IfOk (with_held_line made words) IsLease
+pub held_line_keeps : (made : List LeaseEntry) (words : List (List ℕ)) → IsLease made → IfOk (with_held_line made words) IsLease
 held_line_keeps made [] h = tt
 held_line_keeps made (first ∷ args) h =
     if_ok_either (bytes_eq first (codes "held")) (four_numbers args >>= λ n. with_held made n.0 (entry_of n.1 n.2 n.3))
@@ -160,7 +161,7 @@ held_line_keeps made (first ∷ args) h =
     (λ n k. held_keeps made n.0 (entry_of n.1 n.2 n.3) h (record { token = k.1; holder = k.2; until = k.3 }))) tt
 
 -- resources that were never granted
-none_is_lease : (n : ℕ) → 1 ≤ n → n ≤ 4096 → IsLease (replicate n no_lease)
+pub none_is_lease : (n : ℕ) → 1 ≤ n → n ≤ 4096 → IsLease (replicate n no_lease)
 none_is_lease n least greatest = record {
   valid = All-replicate IsEntry n no_lease (λ none. (refl, refl));
   numbers = All-replicate OfNumbers n no_lease (record { token = omega arith; holder = omega arith; until = omega arith });
@@ -168,10 +169,19 @@ none_is_lease n least greatest = record {
   greatest = omega (arith, length-replicate {A = LeaseEntry} n no_lease);
 }
 
--- the state that was read is a lease table
-pub lease_lines_make_lease : (n : ℕ) (lines : List Numbered) → 1 ≤ n → n ≤ 4096 → IfOk (lease_of_lines n lines) IsLease
-lease_lines_make_lease n lines least greatest =
-    after_lines_keep with_held_line IsLease held_line_keeps (replicate n no_lease) lines (none_is_lease n least greatest)
+-- the states of a lease table
+abbrev pub lease_states : StateKind
+lease_states = record {
+  State = List LeaseEntry;
+  object = objects.Lease;
+  Making = List LeaseEntry;
+  begun = λ capacity. replicate capacity no_lease;
+  with_line = with_held_line;
+  ended = λ made. made;
+  Invariant = IsLease;
+  begun_keeps = none_is_lease;
+  line_keeps = held_line_keeps;
+}
 
 -- the lines of a table are short
 length-held_line : (r : ℕ) (e : LeaseEntry) → r < 2 ^ 64 → OfNumbers e → length (line_text (held_line r e)) ≤ 89

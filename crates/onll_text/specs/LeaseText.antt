@@ -1,6 +1,6 @@
 -- The calls, replies and initial states of a lease table, as texts say them.
 
-use Rattle.std.specs.Prelude.{ℕ, List, [], ◌∷◌, ◌++◌, ◌+◌, Result, Ok, Err, if◌then◌else◌, length, codes, decimal, nat_lt, slice_set, ◌==◌, ◌&&◌, replicate}
+use Rattle.std.specs.Prelude.{ℕ, List, [], ◌∷◌, ◌++◌, ◌+◌, Result, Ok, Err, if◌then◌else◌, length, codes, decimal, nat_lt, slice_set, ◌==◌, ◌&&◌}
 use Rattle.std.specs.Str.{bytes_eq}
 use Rattle.onll_model.specs.declared.call.Call.{Call}
 use Rattle.onll_model.specs.declared.call.Call.TheVariants.{Update, Ask}
@@ -14,11 +14,8 @@ use Rattle.onll_lease.specs.declared.operation.LeaseReply.TheVariants.{NoResourc
 use Rattle.onll_lease.specs.Lease.{entry_at}
 use Rattle.onll_text.specs.declared.reason.Reason.{Reason}
 use Rattle.onll_text.specs.declared.reason.Reason.TheVariants.{UnknownWord, WrongCount, OutOfRange, Repeated}
-use Rattle.onll_text.specs.Refusal.{Refusal, ◌>>=◌, only_if}
+use Rattle.onll_text.specs.Refusal.{◌>>=◌, only_if}
 use Rattle.onll_text.specs.Words.{word_as_number, no_word, one_number, two_numbers, four_numbers}
-use Rattle.onll_words.specs.Texts.{Numbered}
-use Rattle.onll_text.specs.Making.{after_lines}
-use Rattle.onll_lease.specs.Entry.{no_lease}
 
 abbrev pub LeaseCall : Type 0
 LeaseCall = Call (List LeaseEntry) LeaseOp LeaseQuery LeaseReply
@@ -125,7 +122,3 @@ abbrev pub with_held_line : List LeaseEntry → List (List ℕ) → Result (List
 with_held_line made [] = Err UnknownWord
 with_held_line made (first ∷ args) =
     if bytes_eq first (codes "held") then (four_numbers args >>= λ n. with_held made n.0 (entry_of n.1 n.2 n.3)) else Err UnknownWord
-
--- the leases of this many resources, with further lines
-abbrev pub lease_of_lines : ℕ → List Numbered → Result (List LeaseEntry) Refusal
-lease_of_lines capacity lines = after_lines with_held_line (replicate capacity no_lease) lines

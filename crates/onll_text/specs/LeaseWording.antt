@@ -1,8 +1,8 @@
 -- How a lease table is written, as one record.
 
-use Rattle.std.specs.Prelude.{ℕ, Bool, true, false, List, [], ◌∷◌, ◌++◌, ◌+◌, ◌==◌, if◌then◌else◌, refl, Option, Some, None, Result, Ok, ◌≡◌, ◌≤◌, length}
+use Rattle.std.specs.Prelude.{ℕ, Bool, true, false, List, [], ◌∷◌, ◌++◌, ◌+◌, ◌==◌, if◌then◌else◌, refl, Option, Some, None, Result, Ok, ◌≡◌, ◌≤◌, length, codes, decimal}
 use Rattle.std.specs.List.{flat_map}
-use Rattle.std.proofs.Common.{arith}
+use Rattle.std.proofs.Common.{arith, sym, subst}
 use Rattle.std.proofs.lemmas.Result.{IfOk-at_ok}
 use Rattle.onll_words.specs.Texts.{AreWords, AreMeaningful, line_text}
 use Rattle.onll_model.specs.declared.call.Call.TheVariants.{Update, Ask}
@@ -14,15 +14,19 @@ use Rattle.onll_lease.specs.declared.operation.LeaseQuery.{LeaseQuery}
 use Rattle.onll_lease.specs.declared.operation.LeaseQuery.TheVariants.{Holder}
 use Rattle.onll_lease.specs.declared.operation.LeaseReply.{LeaseReply}
 use Rattle.onll_lease.specs.declared.operation.LeaseReply.TheVariants.{NoResource, HeldUntil, Late, Spent, Granted, Renewed, Stale, Released, HeldBy, Free}
+use Rattle.onll_lease.specs.Object.{lease}
+use Rattle.onll_lease.specs.Lease.{IsLease}
 use Rattle.onll_text.specs.Wording.{longest_state, Wording}
 use Rattle.onll_text.specs.WordsAgain.{read_again, short_again}
 use Rattle.onll_text.specs.LeaseLaws.{lease_call_words, lease_calls_again, lease_replies_again, lease_is_short}
 use Rattle.onll_text.specs.LeaseText.{lease_call_of, lease_reply_of, lease_op_words, lease_query_words, lease_reply_words, held_line, held_lines, lease_state_lines}
+use Rattle.onll_text.specs.declared.any_object.Kind.TheVariants as kinds
 use Rattle.onll_text.specs.declared.any_object.AnyObject.{AnyObject}
 use Rattle.onll_text.specs.declared.any_object.AnyObject.TheVariants as objects
 use Rattle.onll_text.specs.Refusal.{Refusal}
 use Rattle.onll_text.specs.Init.{init_of}
-use Rattle.onll_text.specs.InitLaws.{IsState, init_is_state}
+use Rattle.onll_text.specs.CallKind.{CallKind}
+use Rattle.onll_text.specs.InitLaws.{IsOfKind, init_of_kind}
 
 pub op_in_words : (op : LeaseOp) → AreWords (lease_op_words op)
 op_in_words (Grant r h now ttl) = (
@@ -88,13 +92,19 @@ lease_read _ = None
 pub lease_back : (v : Result AnyObject Refusal) (s : List LeaseEntry) → lease_read v ≡ Some s → v ≡ Ok (objects.Lease s)
 lease_back v s e = grind arith
 
+same_lease : (s t : List LeaseEntry) → objects.Lease s ≡ objects.Lease t → s ≡ t
+same_lease s t e = cc
+
 -- what is printed of a state that reads as it is short
 pub lease_state_short : (s : List LeaseEntry)
     → lease_read (init_of (flat_map line_text (lease_state_lines s))) ≡ Some s
     → length (flat_map line_text (lease_state_lines s)) ≤ longest_state
 lease_state_short s e =
     let text : List ℕ = flat_map line_text (lease_state_lines s) in
-    lease_is_short s (IfOk-at_ok IsState (lease_back (init_of text) s e) (init_is_state text))
+    let kept : IsOfKind kinds.Lease (objects.Lease s) =
+    IfOk-at_ok (IsOfKind kinds.Lease) (lease_back (init_of text) s e)
+    (init_of_kind kinds.Lease (codes "lease") (decimal (length s) ∷ []) (held_lines 0 s) refl (state_in_lines s)) in
+    lease_is_short s (subst IsLease (same_lease kept.0 s (sym kept.1.0)) kept.1.1)
 
 -- how a table of leases is written
 abbrev pub lease_wording : Wording (List LeaseEntry) LeaseOp LeaseQuery LeaseReply
@@ -121,4 +131,18 @@ lease_wording = record {
   query_is_short = λ query e. short_again lease_call_of lease_call_words lease_calls_again (Ask query) e;
   reply_is_short = λ reply e. short_again lease_reply_of lease_reply_words lease_replies_again reply e;
   state_is_short = lease_state_short;
+}
+
+-- the calls of a lease table
+abbrev pub lease_calls : CallKind kinds.Lease
+lease_calls = record {
+  Op = LeaseOp;
+  Query = LeaseQuery;
+  Reply = LeaseReply;
+  means = lease;
+  wording = lease_wording;
+  code = 4;
+  known = (omega arith, omega arith);
+  says = λ text s e. lease_back (init_of text) s e;
+  at = λ s. refl;
 }

@@ -23,6 +23,7 @@ pub mod LeaseLaws
 pub mod LeaseWording
 pub mod Init
 pub mod InitLaws
+pub mod CallKind
 pub mod Kinds
 pub mod ReadBack
 pub mod PrintsBack

@@ -6,7 +6,7 @@ use Rattle.std.specs.Option.{is_some}
 use Rattle.std.specs.Str.{bytes_eq}
 use Rattle.std.proofs.Math.Bool.{or-true}
 use Rattle.onll_words.specs.Short.{ShortText}
-use Rattle.onll_words.specs.Texts.{Numbered, line_text}
+use Rattle.onll_words.specs.Texts.{line_text}
 use Rattle.onll_words.proofs.Packing.{fits-of}
 use Rattle.onll_model.specs.declared.call.Call.TheVariants.{Update, Ask}
 use Rattle.onll_map.specs.declared.operation.MapOp.TheVariants.{Put, Del}
@@ -15,13 +15,14 @@ use Rattle.onll_map.specs.declared.operation.MapReply.{MapReply}
 use Rattle.onll_map.specs.declared.operation.MapReply.TheVariants.{New, Old, Full, Absent, Value, Key, Count as Counted}
 use Rattle.onll_map.specs.Map.{Pairs, Entries, IsMap, value_at, has_room, pairs_put}
 use Rattle.onll_map.proofs.Maps.{empty_is_map, IsMap-next}
+use Rattle.onll_text.specs.declared.any_object.AnyObject.TheVariants as objects
 use Rattle.onll_text.specs.declared.reason.Reason.TheVariants.{UnknownWord, Repeated, TooMany}
 use Rattle.onll_text.specs.Refusal.{◌>>=◌, only_if}
 use Rattle.onll_text.specs.Wording.{longest_state}
 use Rattle.onll_text.specs.Words.{no_word, one_number, one_short, two_shorts}
 use Rattle.onll_text.specs.WordsAgain.{length-decimal, if_ok_next, if_ok_either, if_ok_any, if_ok_tested, no_arguments, number_argument, text_argument, text_arguments, PrintsAgain, line_again}
-use Rattle.onll_text.specs.MakingKeeps.{after_lines_keep}
-use Rattle.onll_text.specs.MapText.{MapCall, map_call_of, map_reply_of, map_op_words, map_query_words, map_reply_words, put_of, del_of, get_of, next_of, count_of, pair_line, pair_lines, map_state_lines, with_pair, with_pair_line, no_pairs, map_of_lines}
+use Rattle.onll_text.specs.Making.{StateKind}
+use Rattle.onll_text.specs.MapText.{MapCall, map_call_of, map_reply_of, map_op_words, map_query_words, map_reply_words, put_of, del_of, get_of, next_of, count_of, pair_line, pair_lines, map_state_lines, with_pair, with_pair_line, no_pairs}
 
 -- ---- calls
 abbrev pub map_call_words : MapCall → List (List ℕ)
@@ -97,17 +98,26 @@ pair_keeps made pair h =
     (if_ok_tested (not (is_some (value_at made.pairs pair.0))) Repeated made IsMap (λ e. h))
     (λ m k. if_ok_tested (has_room m) TooMany (put m) IsMap (λ fits. put_is_map m pair.0 pair.1 k fits))
 
-pair_line_keeps : (made : Entries) (words : List (List ℕ)) → IsMap made → IfOk (with_pair_line made words) IsMap
+pub pair_line_keeps : (made : Entries) (words : List (List ℕ)) → IsMap made → IfOk (with_pair_line made words) IsMap
 pair_line_keeps made [] h = tt
 pair_line_keeps made (first ∷ args) h =
     if_ok_either (bytes_eq first (codes "pair")) (two_shorts args >>= with_pair made) (Err UnknownWord) IsMap
     (if_ok_next (two_shorts args) (with_pair made) (λ pair. Unit {0}) IsMap (if_ok_any (two_shorts args))
     (λ pair k. pair_keeps made pair h)) tt
 
--- the state that was read is a map
-pub map_lines_make_map : (n : ℕ) (lines : List Numbered) → 1 ≤ n → n ≤ 4096 → IfOk (map_of_lines n lines) IsMap
-map_lines_make_map n lines least greatest =
-    after_lines_keep with_pair_line IsMap pair_line_keeps (no_pairs n) lines (empty_is_map n least greatest)
+-- the states of a map
+abbrev pub map_states : StateKind
+map_states = record {
+  State = Entries;
+  object = objects.Map;
+  Making = Entries;
+  begun = no_pairs;
+  with_line = with_pair_line;
+  ended = λ made. made;
+  Invariant = IsMap;
+  begun_keeps = empty_is_map;
+  line_keeps = pair_line_keeps;
+}
 
 -- the lines of a map are short
 length-pair_line : (pair : ShortText × ShortText) → length (line_text (pair_line pair)) ≤ 53

@@ -14,10 +14,8 @@ use Rattle.onll_map.specs.declared.operation.MapReply.TheVariants.{New, Old, Ful
 use Rattle.onll_map.specs.Map.{Pairs, Entries, value_at, has_room, pairs_put}
 use Rattle.onll_text.specs.declared.reason.Reason.{Reason}
 use Rattle.onll_text.specs.declared.reason.Reason.TheVariants.{UnknownWord, Repeated, TooMany}
-use Rattle.onll_text.specs.Refusal.{Refusal, ◌>>=◌, only_if}
+use Rattle.onll_text.specs.Refusal.{◌>>=◌, only_if}
 use Rattle.onll_text.specs.Words.{no_word, one_number, one_short, two_shorts}
-use Rattle.onll_words.specs.Texts.{Numbered}
-use Rattle.onll_text.specs.Making.{after_lines}
 
 abbrev pub MapCall : Type 0
 MapCall = Call Entries MapOp MapQuery MapReply
@@ -105,7 +103,3 @@ with_pair_line made (first ∷ args) =
 
 abbrev pub no_pairs : ℕ → Entries
 no_pairs capacity = record { pairs = []; room = capacity }
-
--- the map of at most so many pairs, with further lines
-abbrev pub map_of_lines : ℕ → List Numbered → Result Entries Refusal
-map_of_lines capacity lines = after_lines with_pair_line (no_pairs capacity) lines

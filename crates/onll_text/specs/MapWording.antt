@@ -1,8 +1,8 @@
 -- How a map is written, as one record.
 
-use Rattle.std.specs.Prelude.{[], ◌∷◌, refl, Option, Some, None, Result, Ok, ℕ, List, ◌≡◌, ◌≤◌, length}
+use Rattle.std.specs.Prelude.{[], ◌∷◌, refl, Option, Some, None, Result, Ok, ℕ, List, ◌≡◌, ◌≤◌, length, codes, decimal}
 use Rattle.std.specs.List.{flat_map}
-use Rattle.std.proofs.Common.{arith}
+use Rattle.std.proofs.Common.{arith, sym, subst}
 use Rattle.std.proofs.lemmas.Result.{IfOk-at_ok}
 use Rattle.onll_words.specs.Texts.{AreWords, AreMeaningful, line_text}
 use Rattle.onll_model.specs.declared.call.Call.TheVariants.{Update, Ask}
@@ -14,16 +14,19 @@ use Rattle.onll_map.specs.declared.operation.MapQuery.{MapQuery}
 use Rattle.onll_map.specs.declared.operation.MapQuery.TheVariants.{Get, Next, Count}
 use Rattle.onll_map.specs.declared.operation.MapReply.{MapReply}
 use Rattle.onll_map.specs.declared.operation.MapReply.TheVariants.{New, Old, Full, Absent, Value, Key, Count as Counted}
-use Rattle.onll_map.specs.Map.{Pairs, Entries}
+use Rattle.onll_map.specs.Map.{Pairs, Entries, IsMap}
+use Rattle.onll_map.specs.Object.{map_object}
 use Rattle.onll_text.specs.Wording.{longest_state, Wording}
 use Rattle.onll_text.specs.WordsAgain.{read_again, short_again}
 use Rattle.onll_text.specs.MapLaws.{map_call_words, map_calls_again, map_replies_again, map_is_short}
 use Rattle.onll_text.specs.MapText.{map_call_of, map_reply_of, map_op_words, map_query_words, map_reply_words, pair_lines, map_state_lines}
+use Rattle.onll_text.specs.declared.any_object.Kind.TheVariants as kinds
 use Rattle.onll_text.specs.declared.any_object.AnyObject.{AnyObject}
 use Rattle.onll_text.specs.declared.any_object.AnyObject.TheVariants as objects
 use Rattle.onll_text.specs.Refusal.{Refusal}
 use Rattle.onll_text.specs.Init.{init_of}
-use Rattle.onll_text.specs.InitLaws.{IsState, init_is_state}
+use Rattle.onll_text.specs.CallKind.{CallKind}
+use Rattle.onll_text.specs.InitLaws.{IsOfKind, init_of_kind}
 
 pub op_in_words : (op : MapOp) → AreWords (map_op_words op)
 op_in_words (Put k v) = (record { some = refl; bytes = refl }, (IsWord-short k, (IsWord-short v, tt)))
@@ -60,13 +63,19 @@ map_read _ = None
 pub map_back : (v : Result AnyObject Refusal) (s : Entries) → map_read v ≡ Some s → v ≡ Ok (objects.Map s)
 map_back v s e = grind arith
 
+same_map : (s t : Entries) → objects.Map s ≡ objects.Map t → s ≡ t
+same_map s t e = cc
+
 -- what is printed of a state that reads as it is short
 pub map_state_short : (s : Entries)
     → map_read (init_of (flat_map line_text (map_state_lines s))) ≡ Some s
     → length (flat_map line_text (map_state_lines s)) ≤ longest_state
 map_state_short s e =
     let text : List ℕ = flat_map line_text (map_state_lines s) in
-    map_is_short s (IfOk-at_ok IsState (map_back (init_of text) s e) (init_is_state text))
+    let kept : IsOfKind kinds.Map (objects.Map s) =
+    IfOk-at_ok (IsOfKind kinds.Map) (map_back (init_of text) s e)
+    (init_of_kind kinds.Map (codes "map") (decimal s.room ∷ []) (pair_lines s.pairs) refl (state_in_lines s)) in
+    map_is_short s (subst IsMap (same_map kept.0 s (sym kept.1.0)) kept.1.1)
 
 -- how a map is written
 abbrev pub map_wording : Wording Entries MapOp MapQuery MapReply
@@ -93,4 +102,18 @@ map_wording = record {
   query_is_short = λ query e. short_again map_call_of map_call_words map_calls_again (Ask query) e;
   reply_is_short = λ reply e. short_again map_reply_of map_reply_words map_replies_again reply e;
   state_is_short = map_state_short;
+}
+
+-- the calls of a map
+abbrev pub map_calls : CallKind kinds.Map
+map_calls = record {
+  Op = MapOp;
+  Query = MapQuery;
+  Reply = MapReply;
+  means = map_object;
+  wording = map_wording;
+  code = 2;
+  known = (omega arith, omega arith);
+  says = λ text s e. map_back (init_of text) s e;
+  at = λ s. refl;
 }

@@ -5,7 +5,7 @@ use Rattle.std.specs.List.{flat_map}
 use Rattle.std.specs.Str.{bytes_eq}
 use Rattle.std.proofs.lemmas.List.Elements.{All-head, All-tail, All-nil, All-push}
 use Rattle.std.proofs.lemmas.Bool.Decides.{nat_tests}
-use Rattle.onll_words.specs.Texts.{Numbered, line_text}
+use Rattle.onll_words.specs.Texts.{line_text}
 use Rattle.onll_model.specs.declared.call.Call.TheVariants.{Update, Ask}
 use Rattle.onll_queue.specs.Items.{Items, IsQueue}
 use Rattle.onll_queue.specs.declared.operation.QueueOp.TheVariants.{Push, Pop}
@@ -13,13 +13,14 @@ use Rattle.onll_queue.specs.declared.operation.QueueQuery.TheVariants.{Front, Le
 use Rattle.onll_queue.specs.declared.operation.QueueReply.{QueueReply}
 use Rattle.onll_queue.specs.declared.operation.QueueReply.TheVariants.{Done, Full, Empty, Item, Length}
 use Rattle.onll_queue.specs.Queue.{items_in, is_full}
+use Rattle.onll_text.specs.declared.any_object.AnyObject.TheVariants as objects
 use Rattle.onll_text.specs.declared.reason.Reason.TheVariants.{UnknownWord, TooMany}
 use Rattle.onll_text.specs.Refusal.{◌>>=◌}
 use Rattle.onll_text.specs.Wording.{longest_state}
 use Rattle.onll_text.specs.Words.{no_word, one_number}
 use Rattle.onll_text.specs.WordsAgain.{IsNumber, one_fits, length-decimal, if_ok_next, if_ok_either, if_ok_tested, no_arguments, number_argument, PrintsAgain, line_again}
-use Rattle.onll_text.specs.MakingKeeps.{after_lines_keep}
-use Rattle.onll_text.specs.QueueText.{QueueCall, queue_call_of, queue_reply_of, queue_op_words, queue_query_words, queue_reply_words, push_of, pop_of, front_of, length_of, item_line, item_lines, queue_state_lines, with_item, with_item_line, queue_of_lines}
+use Rattle.onll_text.specs.Making.{StateKind}
+use Rattle.onll_text.specs.QueueText.{QueueCall, queue_call_of, queue_reply_of, queue_op_words, queue_query_words, queue_reply_words, push_of, pop_of, front_of, length_of, item_line, item_lines, queue_state_lines, with_item, with_item_line}
 
 -- ---- calls
 abbrev pub queue_call_words : QueueCall → List (List ℕ)
@@ -83,7 +84,7 @@ pushed_is_queue s x h word free =
       greatest_room = h.greatest_room;
     }
 
-item_line_keeps : (made : Items) (words : List (List ℕ)) → IsQueue made → IfOk (with_item_line made words) IsQueue
+pub item_line_keeps : (made : Items) (words : List (List ℕ)) → IsQueue made → IfOk (with_item_line made words) IsQueue
 item_line_keeps made [] h = tt
 item_line_keeps made (first ∷ args) h =
     if_ok_either (bytes_eq first (codes "item")) (one_number args >>= with_item made) (Err UnknownWord) IsQueue
@@ -91,14 +92,23 @@ item_line_keeps made (first ∷ args) h =
     (λ x k. if_ok_tested (not (is_full made)) TooMany (items_in made.room (made.items ++ x ∷ [])) IsQueue
     (λ free. pushed_is_queue made x h k free))) tt
 
-empty_is_queue : (n : ℕ) → 1 ≤ n → n ≤ 4096 → IsQueue (items_in n [])
+pub empty_is_queue : (n : ℕ) → 1 ≤ n → n ≤ 4096 → IsQueue (items_in n [])
 empty_is_queue n least greatest =
     record { numbers = All-nil (λ (x : ℕ). x < 2 ^ 64); fits = omega arith; least_room = least; greatest_room = greatest }
 
--- the state that was read is a queue
-pub queue_lines_make_queue : (n : ℕ) (lines : List Numbered) → 1 ≤ n → n ≤ 4096 → IfOk (queue_of_lines n lines) IsQueue
-queue_lines_make_queue n lines least greatest =
-    after_lines_keep with_item_line IsQueue item_line_keeps (items_in n []) lines (empty_is_queue n least greatest)
+-- the states of a queue
+abbrev pub queue_states : StateKind
+queue_states = record {
+  State = Items;
+  object = objects.Queue;
+  Making = Items;
+  begun = λ capacity. items_in capacity [];
+  with_line = with_item_line;
+  ended = λ made. made;
+  Invariant = IsQueue;
+  begun_keeps = empty_is_queue;
+  line_keeps = item_line_keeps;
+}
 
 -- the lines of a queue are short
 length-item_line : (x : ℕ) → x < 2 ^ 64 → length (line_text (item_line x)) ≤ 26

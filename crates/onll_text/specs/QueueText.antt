@@ -14,10 +14,8 @@ use Rattle.onll_queue.specs.declared.operation.QueueReply.TheVariants.{Done, Ful
 use Rattle.onll_queue.specs.Queue.{items_in, is_full}
 use Rattle.onll_text.specs.declared.reason.Reason.{Reason}
 use Rattle.onll_text.specs.declared.reason.Reason.TheVariants.{UnknownWord, TooMany}
-use Rattle.onll_text.specs.Refusal.{Refusal, ◌>>=◌, only_if}
+use Rattle.onll_text.specs.Refusal.{◌>>=◌, only_if}
 use Rattle.onll_text.specs.Words.{no_word, one_number}
-use Rattle.onll_words.specs.Texts.{Numbered}
-use Rattle.onll_text.specs.Making.{after_lines}
 
 abbrev pub QueueCall : Type 0
 QueueCall = Call Items QueueOp QueueQuery QueueReply
@@ -92,7 +90,3 @@ abbrev pub with_item_line : Items → List (List ℕ) → Result Items Reason
 with_item_line made [] = Err UnknownWord
 with_item_line made (first ∷ args) =
     if bytes_eq first (codes "item") then (one_number args >>= with_item made) else Err UnknownWord
-
--- the queue of at most so many items, with further lines
-abbrev pub queue_of_lines : ℕ → List Numbered → Result Items Refusal
-queue_of_lines capacity lines = after_lines with_item_line (items_in capacity []) lines

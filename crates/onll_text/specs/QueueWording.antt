@@ -1,28 +1,31 @@
 -- How a queue is written, as one record.
 
-use Rattle.std.specs.Prelude.{ℕ, List, [], ◌∷◌, refl, Option, Some, None, Result, Ok, ◌≡◌, ◌≤◌, length}
+use Rattle.std.specs.Prelude.{ℕ, List, [], ◌∷◌, refl, Option, Some, None, Result, Ok, ◌≡◌, ◌≤◌, length, codes, decimal}
 use Rattle.std.specs.List.{flat_map}
-use Rattle.std.proofs.Common.{arith}
+use Rattle.std.proofs.Common.{arith, sym, subst}
 use Rattle.std.proofs.lemmas.Result.{IfOk-at_ok}
 use Rattle.onll_words.specs.Texts.{AreWords, AreMeaningful, line_text}
 use Rattle.onll_model.specs.declared.call.Call.TheVariants.{Update, Ask}
 use Rattle.onll_words.proofs.Decimals.{IsWord-decimal}
-use Rattle.onll_queue.specs.Items.{Items}
+use Rattle.onll_queue.specs.Items.{Items, IsQueue}
 use Rattle.onll_queue.specs.declared.operation.QueueOp.{QueueOp}
 use Rattle.onll_queue.specs.declared.operation.QueueOp.TheVariants.{Push, Pop}
 use Rattle.onll_queue.specs.declared.operation.QueueQuery.{QueueQuery}
 use Rattle.onll_queue.specs.declared.operation.QueueQuery.TheVariants.{Front, Length as AskLength}
 use Rattle.onll_queue.specs.declared.operation.QueueReply.{QueueReply}
 use Rattle.onll_queue.specs.declared.operation.QueueReply.TheVariants.{Done, Full, Empty, Item, Length}
+use Rattle.onll_queue.specs.Object.{queue}
 use Rattle.onll_text.specs.Wording.{longest_state, Wording}
 use Rattle.onll_text.specs.WordsAgain.{read_again, short_again}
 use Rattle.onll_text.specs.QueueLaws.{queue_call_words, queue_calls_again, queue_replies_again, queue_is_short}
 use Rattle.onll_text.specs.QueueText.{queue_call_of, queue_reply_of, queue_op_words, queue_query_words, queue_reply_words, item_lines, queue_state_lines}
+use Rattle.onll_text.specs.declared.any_object.Kind.TheVariants as kinds
 use Rattle.onll_text.specs.declared.any_object.AnyObject.{AnyObject}
 use Rattle.onll_text.specs.declared.any_object.AnyObject.TheVariants as objects
 use Rattle.onll_text.specs.Refusal.{Refusal}
 use Rattle.onll_text.specs.Init.{init_of}
-use Rattle.onll_text.specs.InitLaws.{IsState, init_is_state}
+use Rattle.onll_text.specs.CallKind.{CallKind}
+use Rattle.onll_text.specs.InitLaws.{IsOfKind, init_of_kind}
 
 pub op_in_words : (op : QueueOp) → AreWords (queue_op_words op)
 op_in_words (Push x) = (record { some = refl; bytes = refl }, (IsWord-decimal x, tt))
@@ -55,13 +58,19 @@ queue_read _ = None
 pub queue_back : (v : Result AnyObject Refusal) (s : Items) → queue_read v ≡ Some s → v ≡ Ok (objects.Queue s)
 queue_back v s e = grind arith
 
+same_queue : (s t : Items) → objects.Queue s ≡ objects.Queue t → s ≡ t
+same_queue s t e = cc
+
 -- what is printed of a state that reads as it is short
 pub queue_state_short : (s : Items)
     → queue_read (init_of (flat_map line_text (queue_state_lines s))) ≡ Some s
     → length (flat_map line_text (queue_state_lines s)) ≤ longest_state
 queue_state_short s e =
     let text : List ℕ = flat_map line_text (queue_state_lines s) in
-    queue_is_short s (IfOk-at_ok IsState (queue_back (init_of text) s e) (init_is_state text))
+    let kept : IsOfKind kinds.Queue (objects.Queue s) =
+    IfOk-at_ok (IsOfKind kinds.Queue) (queue_back (init_of text) s e)
+    (init_of_kind kinds.Queue (codes "queue") (decimal s.room ∷ []) (item_lines s.items) refl (state_in_lines s)) in
+    queue_is_short s (subst IsQueue (same_queue kept.0 s (sym kept.1.0)) kept.1.1)
 
 -- how a queue is written
 abbrev pub queue_wording : Wording Items QueueOp QueueQuery QueueReply
@@ -88,4 +97,18 @@ queue_wording = record {
   query_is_short = λ query e. short_again queue_call_of queue_call_words queue_calls_again (Ask query) e;
   reply_is_short = λ reply e. short_again queue_reply_of queue_reply_words queue_replies_again reply e;
   state_is_short = queue_state_short;
+}
+
+-- the calls of a queue
+abbrev pub queue_calls : CallKind kinds.Queue
+queue_calls = record {
+  Op = QueueOp;
+  Query = QueueQuery;
+  Reply = QueueReply;
+  means = queue;
+  wording = queue_wording;
+  code = 3;
+  known = (omega arith, omega arith);
+  says = λ text s e. queue_back (init_of text) s e;
+  at = λ s. refl;
 }

@@ -71,6 +71,19 @@ pub fn object_name(code: u64) -> &'static [u8]
     b"unknown"
 }
 
+/// Does the same with the object of whatever kind.
+#[macro_export]
+macro_rules! with_object {
+    ($any:expr, $object:ident => $done:expr) => {
+        match $any {
+            $crate::AnyObject::Bank($object) => $done,
+            $crate::AnyObject::Map($object) => $done,
+            $crate::AnyObject::Queue($object) => $done,
+            $crate::AnyObject::Lease($object) => $done,
+        }
+    };
+}
+
 /// The object of this kind and capacity, with the lines that are left.
 pub(crate) fn read_object(
     alloc: Global,
@@ -83,9 +96,9 @@ pub(crate) fn read_object(
         (λ fault. Fails fault (object_of kind capacity lines.old)) }
 {
     match kind {
-        Kind::Bank => Ok(AnyObject::Bank(read_bank(alloc, capacity, lines)?)),
-        Kind::Map => Ok(AnyObject::Map(read_map(alloc, capacity, lines)?)),
-        Kind::Queue => Ok(AnyObject::Queue(read_queue(alloc, capacity, lines)?)),
-        Kind::Lease => Ok(AnyObject::Lease(read_lease(alloc, capacity, lines)?)),
+        Kind::Bank => read_bank(alloc, capacity, lines),
+        Kind::Map => read_map(alloc, capacity, lines),
+        Kind::Queue => read_queue(alloc, capacity, lines),
+        Kind::Lease => read_lease(alloc, capacity, lines),
     }
 }

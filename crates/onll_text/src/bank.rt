@@ -82,7 +82,7 @@ fn put_accounts(bank: &Bank, out: &mut Report) -> Result<(), NoMemory>
 }
 
 /// A law: what is printed of a bank's state reads as that bank. It does nothing when called.
-pub fn bank_reads_back(bank: &Bank)
+fn bank_reads_back(bank: &Bank)
     ensures { ReadsBack bank_wording objects.Bank bank.now }
 {
     bank.consistent();
@@ -90,6 +90,8 @@ pub fn bank_reads_back(bank: &Bank)
 
 impl Texted for Bank {
     ghost wording = { bank_wording };
+
+    ghost object = { objects.Bank };
 
     fn read_call(line: &[u8]) -> Result<Call<Bank>, Reason> {
         let Some(Cut { word, rest }) = split_word(line) else {

@@ -3,8 +3,11 @@
 ghost use Rattle.std.specs.Prelude.{◌≡◌, ◌≤◌, MatchResult, IfOk, OnErr, Ok, Err};
 ghost use Rattle.onll_model.specs.Limits.{most_elements};
 ghost use Rattle.onll_text.specs.Refusal.{Fails};
-ghost use Rattle.onll_text.specs.BankText.{no_accounts, with_account, with_account_line, bank_of_lines};
+ghost use Rattle.onll_text.specs.Init.{object_of};
+ghost use Rattle.onll_text.specs.declared.any_object.Kind.TheVariants as kinds;
+ghost use Rattle.onll_text.specs.BankText.{no_accounts, with_account, with_account_line};
 
+use crate::any_object::AnyObject;
 use crate::init::{Initial, add_lines};
 use crate::reason::{Reason, TextFault};
 use crate::words::{is_text, two_numbers};
@@ -91,12 +94,12 @@ pub(crate) fn read_bank(
     alloc: Global,
     capacity: u64,
     lines: &mut Lines<'_>,
-) -> Result<Bank, TextFault>
+) -> Result<AnyObject, TextFault>
     requires { (1 ≤ capacity) × (capacity ≤ most_elements) }
-    ensures { MatchResult result (λ bank. bank_of_lines capacity lines.old ≡ Ok bank)
-        (λ fault. Fails fault (bank_of_lines capacity lines.old)) }
+    ensures { MatchResult result (λ object. object_of kinds.Bank capacity lines.old ≡ Ok object)
+        (λ fault. Fails fault (object_of kinds.Bank capacity lines.old)) }
 {
     let mut made = BankInit::begin(alloc, capacity)?;
     add_lines(&mut made, lines)?;
-    Ok(made.finish())
+    Ok(AnyObject::Bank(made.finish()))
 }

@@ -3,13 +3,16 @@
 ghost use Rattle.std.specs.Prelude.{◌≡◌, ◌++◌, ◌<◌, true, OnOk, OnErr, MatchResult, Ok, Err, ◌≤◌};
 ghost use Rattle.onll_model.specs.Limits.{most_elements};
 ghost use Rattle.onll_text.specs.Refusal.{Fails};
+ghost use Rattle.onll_text.specs.Init.{object_of};
+ghost use Rattle.onll_text.specs.declared.any_object.Kind.TheVariants as kinds;
 ghost use Rattle.onll_words.specs.Texts.{words_of, line_text};
 ghost use Rattle.onll_text.specs.Bytes.{begins_line, with_lines, IsFront};
-ghost use Rattle.onll_text.specs.LeaseText.{grant_of, renew_of, release_of, holder_of, held_line, entry_lines, held_lines, with_held, with_held_line, lease_of_lines};
+ghost use Rattle.onll_text.specs.LeaseText.{grant_of, renew_of, release_of, holder_of, held_line, entry_lines, held_lines, with_held, with_held_line};
 ghost use Rattle.onll_text.specs.LeaseWording.{lease_wording};
 ghost use Rattle.onll_text.specs.ReadBack.{ReadsBack};
 ghost use Rattle.onll_text.specs.declared.any_object.AnyObject.TheVariants as objects;
 
+use crate::any_object::AnyObject;
 use crate::init::{Initial, add_lines};
 use crate::reason::{Reason, TextFault};
 use crate::report::{Piece, Report};
@@ -96,7 +99,7 @@ fn put_table(lease: &Lease, out: &mut Report) -> Result<(), NoMemory>
 }
 
 /// A law: what is printed of a lease table's state reads as that table. It does nothing when called.
-pub fn lease_reads_back(lease: &Lease)
+fn lease_reads_back(lease: &Lease)
     ensures { ReadsBack lease_wording objects.Lease lease.now }
 {
     lease.consistent();
@@ -104,6 +107,8 @@ pub fn lease_reads_back(lease: &Lease)
 
 impl Texted for Lease {
     ghost wording = { lease_wording };
+
+    ghost object = { objects.Lease };
 
     fn read_call(line: &[u8]) -> Result<Call<Lease>, Reason> {
         let Some(Cut { word, rest }) = split_word(line) else {
@@ -284,12 +289,12 @@ pub(crate) fn read_lease(
     alloc: Global,
     capacity: u64,
     lines: &mut Lines<'_>,
-) -> Result<Lease, TextFault>
+) -> Result<AnyObject, TextFault>
     requires { (1 ≤ capacity) × (capacity ≤ most_elements) }
-    ensures { MatchResult result (λ lease. lease_of_lines capacity lines.old ≡ Ok lease)
-        (λ fault. Fails fault (lease_of_lines capacity lines.old)) }
+    ensures { MatchResult result (λ object. object_of kinds.Lease capacity lines.old ≡ Ok object)
+        (λ fault. Fails fault (object_of kinds.Lease capacity lines.old)) }
 {
     let mut lease = Lease::make(alloc, capacity)?;
     add_lines(&mut lease, lines)?;
-    Ok(lease)
+    Ok(AnyObject::Lease(lease))
 }

@@ -19,12 +19,8 @@ mod texted;
 mod words;
 
 pub use any_object::{AnyObject, Kind, object_name};
-pub use bank::bank_reads_back;
 pub use init::read_init;
-pub use lease::lease_reads_back;
-pub use map::map_reads_back;
 pub use printed::print_state;
-pub use queue::queue_reads_back;
 pub use reason::{Reason, TextFault};
 pub use report::{Piece, Report};
 pub use report_laws::{end_reads_back, fold_determined_law, node_reads_back, parts_determined_law};

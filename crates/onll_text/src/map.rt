@@ -3,13 +3,16 @@
 ghost use Rattle.std.specs.Prelude.{◌≡◌, ◌++◌, true, OnOk, OnErr, MatchResult, Ok, Err, ◌≤◌};
 ghost use Rattle.onll_model.specs.Limits.{most_elements};
 ghost use Rattle.onll_text.specs.Refusal.{Fails};
+ghost use Rattle.onll_text.specs.Init.{object_of};
+ghost use Rattle.onll_text.specs.declared.any_object.Kind.TheVariants as kinds;
 ghost use Rattle.onll_words.specs.Texts.{words_of, line_text};
 ghost use Rattle.onll_text.specs.Bytes.{begins_line, with_lines, IsFront};
-ghost use Rattle.onll_text.specs.MapText.{put_of, del_of, get_of, next_of, count_of, pair_line, pair_lines, with_pair, with_pair_line, map_of_lines};
+ghost use Rattle.onll_text.specs.MapText.{put_of, del_of, get_of, next_of, count_of, pair_line, pair_lines, with_pair, with_pair_line};
 ghost use Rattle.onll_text.specs.MapWording.{map_wording};
 ghost use Rattle.onll_text.specs.ReadBack.{ReadsBack};
 ghost use Rattle.onll_text.specs.declared.any_object.AnyObject.TheVariants as objects;
 
+use crate::any_object::AnyObject;
 use crate::init::{Initial, add_lines};
 use crate::reason::{Reason, TextFault};
 use crate::report::{Piece, Report};
@@ -83,7 +86,7 @@ fn put_pairs(map: &Map, out: &mut Report) -> Result<(), NoMemory>
 }
 
 /// A law: what is printed of a map's state reads as that map. It does nothing when called.
-pub fn map_reads_back(map: &Map)
+fn map_reads_back(map: &Map)
     ensures { ReadsBack map_wording objects.Map map.now }
 {
     map.consistent();
@@ -91,6 +94,8 @@ pub fn map_reads_back(map: &Map)
 
 impl Texted for Map {
     ghost wording = { map_wording };
+
+    ghost object = { objects.Map };
 
     fn read_call(line: &[u8]) -> Result<Call<Map>, Reason> {
         let Some(Cut { word, rest }) = split_word(line) else {
@@ -218,12 +223,12 @@ pub(crate) fn read_map(
     alloc: Global,
     capacity: u64,
     lines: &mut Lines<'_>,
-) -> Result<Map, TextFault>
+) -> Result<AnyObject, TextFault>
     requires { (1 ≤ capacity) × (capacity ≤ most_elements) }
-    ensures { MatchResult result (λ map. map_of_lines capacity lines.old ≡ Ok map)
-        (λ fault. Fails fault (map_of_lines capacity lines.old)) }
+    ensures { MatchResult result (λ object. object_of kinds.Map capacity lines.old ≡ Ok object)
+        (λ fault. Fails fault (object_of kinds.Map capacity lines.old)) }
 {
     let mut map = Map::make(alloc, capacity)?;
     add_lines(&mut map, lines)?;
-    Ok(map)
+    Ok(AnyObject::Map(map))
 }

@@ -3,13 +3,16 @@
 ghost use Rattle.std.specs.Prelude.{◌≡◌, ◌++◌, true, OnOk, OnErr, MatchResult, Ok, Err, ◌≤◌};
 ghost use Rattle.onll_model.specs.Limits.{most_elements};
 ghost use Rattle.onll_text.specs.Refusal.{Fails};
+ghost use Rattle.onll_text.specs.Init.{object_of};
+ghost use Rattle.onll_text.specs.declared.any_object.Kind.TheVariants as kinds;
 ghost use Rattle.onll_words.specs.Texts.{words_of, line_text};
 ghost use Rattle.onll_text.specs.Bytes.{begins_line, with_lines, IsFront};
-ghost use Rattle.onll_text.specs.QueueText.{push_of, pop_of, front_of, length_of, item_line, item_lines, with_item, with_item_line, queue_of_lines};
+ghost use Rattle.onll_text.specs.QueueText.{push_of, pop_of, front_of, length_of, item_line, item_lines, with_item, with_item_line};
 ghost use Rattle.onll_text.specs.QueueWording.{queue_wording};
 ghost use Rattle.onll_text.specs.ReadBack.{ReadsBack};
 ghost use Rattle.onll_text.specs.declared.any_object.AnyObject.TheVariants as objects;
 
+use crate::any_object::AnyObject;
 use crate::init::{Initial, add_lines};
 use crate::reason::{Reason, TextFault};
 use crate::report::{Piece, Report};
@@ -75,7 +78,7 @@ fn put_items(queue: &Queue, out: &mut Report) -> Result<(), NoMemory>
 }
 
 /// A law: what is printed of a queue's state reads as that queue. It does nothing when called.
-pub fn queue_reads_back(queue: &Queue)
+fn queue_reads_back(queue: &Queue)
     ensures { ReadsBack queue_wording objects.Queue queue.now }
 {
     queue.consistent();
@@ -83,6 +86,8 @@ pub fn queue_reads_back(queue: &Queue)
 
 impl Texted for Queue {
     ghost wording = { queue_wording };
+
+    ghost object = { objects.Queue };
 
     fn read_call(line: &[u8]) -> Result<Call<Queue>, Reason> {
         let Some(Cut { word, rest }) = split_word(line) else {
@@ -191,12 +196,12 @@ pub(crate) fn read_queue(
     alloc: Global,
     capacity: u64,
     lines: &mut Lines<'_>,
-) -> Result<Queue, TextFault>
+) -> Result<AnyObject, TextFault>
     requires { (1 ≤ capacity) × (capacity ≤ most_elements) }
-    ensures { MatchResult result (λ queue. queue_of_lines capacity lines.old ≡ Ok queue)
-        (λ fault. Fails fault (queue_of_lines capacity lines.old)) }
+    ensures { MatchResult result (λ object. object_of kinds.Queue capacity lines.old ≡ Ok object)
+        (λ fault. Fails fault (object_of kinds.Queue capacity lines.old)) }
 {
     let mut queue = Queue::make(alloc, capacity)?;
     add_lines(&mut queue, lines)?;
-    Ok(queue)
+    Ok(AnyObject::Queue(queue))
 }

@@ -58,6 +58,13 @@ impl Report {
         }
     }
 
+    /// An empty report again, with the room that it has.
+    pub fn clear(&mut self)
+        ensures { self.new ≡ [] }
+    {
+        self.bytes.clear();
+    }
+
     pub fn bytes(&self) -> &[u8]
         ensures { result.now ≡ self.now }
     {

@@ -6,6 +6,8 @@ ghost use Rattle.onll_model.specs.declared.call.Call.TheVariants.{Update, Ask};
 ghost use Rattle.onll_words.specs.Texts.{words_of, line_text};
 ghost use Rattle.onll_text.specs.Bytes.{begins_line, with_words, with_lines, IsFront};
 ghost use Rattle.onll_text.specs.Wording.{Wording};
+ghost use Rattle.onll_text.specs.ReadBack.{ReadsBack};
+ghost use Rattle.onll_text.specs.declared.any_object.AnyObject.{AnyObject};
 
 use crate::reason::Reason;
 use crate::report::Report;
@@ -16,6 +18,9 @@ use onll_words::NoMemory;
 pub trait Texted: Object {
     /// How the object is written.
     ghost wording: { Wording Self Self.Op Self.Query Self.Reply };
+
+    /// It as an object of any kind.
+    ghost object: { Self → AnyObject };
 
     /// The call that a line says.
     fn read_call(line: &[u8]) -> Result<Call<Self>, Reason>
@@ -58,7 +63,8 @@ pub trait Texted: Object {
     fn reply_reads_back(reply: Self::Reply)
         ensures { wording.reply_of (wording.reply_words reply) ≡ Ok reply };
 
-    /// A law: what is printed of a state reads as that state. It does nothing when called.
+    /// A law: what is printed of a state reads as that state, and as the object that it is. It does nothing when called.
     fn state_reads_back(&self)
-        ensures { wording.state_of (flat_map line_text (wording.state_lines self.now)) ≡ Some self.now };
+        ensures state { wording.state_of (flat_map line_text (wording.state_lines self.now)) ≡ Some self.now }
+        ensures object { ReadsBack wording object self.now };
 }

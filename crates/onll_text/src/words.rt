@@ -8,11 +8,20 @@ ghost use Rattle.onll_text.specs.Words.{word_as_number, word_as_short, no_word, 
 use crate::reason::Reason;
 use onll_words::{Cut, Short, split_word, whole_number};
 
-/// Whether a word is this text.
+/// Whether a word is this text. Its bytes are compared up to the first other one, since words are short.
+#[tactic(auto, using(crate::proofs::SameBytes::comparing))]
 pub(crate) fn is_text(word: &[u8], text: &[u8]) -> bool
     ensures { result ≡ bytes_eq word.now text.now }
 {
-    word == text
+    if word.len() != text.len() {
+        return false;
+    }
+    for i in 0..text.len() {
+        if word[i] != text[i] {
+            return false;
+        }
+    }
+    true
 }
 
 pub(crate) fn number(word: &[u8]) -> Result<u64, Reason>

@@ -1,7 +1,6 @@
 -- What a run of a workload needs: heads, and devices with room for its scripts.
 
-use Rattle.std.proofs.Common.{ℕ, zero, suc, ◌≡◌, ◌+◌, ◌*◌, ◌≤◌, List, [], length, None, replicate, refl, sym, ap, ◌∙◌, subst, arith}
-use Rattle.std.proofs.lemmas.Nat.{mul-le}
+use Rattle.std.proofs.Common.{ℕ, zero, suc, ◌≡◌, ◌+◌, ◌*◌, List, [], length, None, replicate, refl, sym, ap, ◌∙◌, subst, arith}
 use Rattle.onll_model.specs.Calls.{updates_in}
 use Rattle.onll_model.proofs.Lists.{same_some}
 use Rattle.onll_pmem.specs.Device.{DeviceState, new_device}
@@ -16,10 +15,6 @@ use Rattle.onll_text.specs.BankText.{BankCall}
 use Rattle.onll_workload.specs.Workload.{IsWorkload, script_of, scripts_from, scripts_of, device_lines}
 use Rattle.onll_workload.proofs.Scripts.{updates_of_script, length-scripts}
 use Rattle.onll_workload.proofs.Sums.{scripts_short}
-
--- a device has at most 69,633 lines
-pub lines_few : (w : Workload) → IsWorkload w → (w.threads + 1) * w.updates ≤ 69632
-lines_few w h = mul-le (w.threads + 1) w.updates 17 4096 (omega (arith, h.few_threads)) h.few_updates
 
 roomy_device : (w : Workload) (t : ℕ) → IsWorkload w → IsRoomyFor faultless_view w.threads (record { head = None; entries = [] }) (script_of w t) (new_device (device_lines w))
 roomy_device w t h =

@@ -25,10 +25,6 @@ more_calls updates made x next calls pushed all low n p e =
 
 -- ---- all scripts
 module _ {V : Type 0} (items : V → List BankCall) (w : Workload) where
-  pub scripts_start : (scripts : List V) → scripts ≡ [] → map items scripts ++ scripts_from w (w.threads - 0) 0 ≡ scripts_of w
-  scripts_start scripts e =
-      ap (λ (l : List V). map items l ++ scripts_from w (w.threads - 0) 0) e ∙ (let same : w.threads - 0 ≡ w.threads = omega arith in ap (λ n. scripts_from w n 0) same)
-
   map_push : (xs : List V) (x : V) → map items (xs ++ x ∷ []) ≡ map items xs ++ items x ∷ []
   map_push [] x = refl
   map_push (y ∷ xs) x = ap (λ (l : List (List BankCall)). items y ∷ l) (map_push xs x)
@@ -43,8 +39,3 @@ module _ {V : Type 0} (items : V → List BankCall) (w : Workload) where
       ∙ append_assoc (map items scripts) (items script ∷ []) rest
       ∙ ap (λ (s : List BankCall). map items scripts ++ s ∷ rest) is
       ∙ ap (λ n. map items scripts ++ scripts_from w n t) (sym one) ∙ e
-
-  pub scripts_end : (t : ℕ) (scripts : List V) → w.threads ≤ t → map items scripts ++ scripts_from w (w.threads - t) t ≡ scripts_of w → map items scripts ≡ scripts_of w
-  scripts_end t scripts over e =
-      let none : w.threads - t ≡ 0 = omega arith in
-      sym (append-nil (map items scripts)) ∙ ap (λ n. map items scripts ++ scripts_from w n t) (sym none) ∙ e

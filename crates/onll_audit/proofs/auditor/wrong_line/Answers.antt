@@ -8,10 +8,10 @@ calls_wrong-requires-after_bounds g c κs within = omega (arith, c.requires)
 
 pub count_lines-number-requires : goal.count_lines-number-requires
 count_lines-number-requires g c =
-    let same = ap (λ groups. total_lines (as_groups groups)) c.deref-2.ensures.value in
+    let same = ap (λ groups. total_lines (as_groups groups)) c.deref.ensures.value in
     omega (arith, c.requires, same)
 
 pub overflow_add-number : goal.overflow_add-number
 overflow_add-number g c =
-    let same = ap (λ groups. total_lines (as_groups groups)) c.deref-2.ensures.value in
+    let same = ap (λ groups. total_lines (as_groups groups)) c.deref.ensures.value in
     omega (arith, c.requires, c.count_lines-number.ensures, same)

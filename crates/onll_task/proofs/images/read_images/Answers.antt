@@ -26,27 +26,31 @@ loop-thread-init g c =
       many = ap length nothing;
     }
 
+pub returns-in_err-name-clause-begins : goal.returns-in_err-name-clause-begins
+returns-in_err-name-clause-begins g c = none_by c.from_residual.ensures.1 c.loop-thread.invariant.so.so.same
+
 pub returns-in_err-push-in-Ok-clause-begins : goal.returns-in_err-push-in-Ok-clause-begins
-returns-in_err-push-in-Ok-clause-begins g c = none_by c.from_residual.ensures.1 (none_then c.loop-thread.invariant.so.so.same c.in-Ok.ensures.begins.files)
+returns-in_err-push-in-Ok-clause-begins g c = none_by c.from_residual-in_err-push-in-Ok.ensures.1 (none_then c.loop-thread.invariant.so.so.same c.in-Ok.ensures.begins.files)
 
 pub returns-in_err-push-in-Ok-2-clause-begins : goal.returns-in_err-push-in-Ok-2-clause-begins
 returns-in_err-push-in-Ok-2-clause-begins g c = none_by c.from_residual-in_err-push-in-Ok-2.ensures.1 (none_then c.loop-thread.invariant.so.so.same c.in-Ok.ensures.begins.files)
 
 pub returns-in-Err-clause-begins : goal.returns-in-Err-clause-begins
-returns-in-Err-clause-begins g c = standing_stops c.loop-thread.invariant.so (names_more c.args.logs.now c.loop-thread.thread c.args.threads (omega arith)) c.in-Err.ensures.begins
+returns-in-Err-clause-begins g c = standing_stops c.loop-thread.invariant.so (names_more c.args.logs.now c.loop-thread.thread c.args.threads (omega arith)) (rw (c.deref.ensures ∙ c.in_ok-name.ensures) at c.in-Err.ensures.begins)
 
 pub loop-thread-preserved : goal.loop-thread-preserved
 loop-thread-preserved g c =
     let images = c.loop-thread.images.items in
     let counts = c.loop-thread.counts.items in
     let mid = g.S.Store.seen c.loop-thread.store in
-    let new = g.S.Store.seen c.read_image.new.store in
+    let new = g.S.Store.seen c.kept_image.new.store in
+    let named = c.deref.ensures ∙ c.in_ok-name.ensures in
     let pushed : c.push.new.self.items ≡ images ++ c.in-Ok.field-0.image ∷ [] = (search rules) ∙ ap (λ i. images ++ i ∷ []) (sym c.in-Ok.image-is) in
     let counted : c.push-in-Ok.new.self.items ≡ counts ++ c.in-Ok.field-0.count ∷ [] = (search rules) ∙ ap (λ n. counts ++ n ∷ []) (sym c.in-Ok.count-is) in
     record {
-      so = standing_next c.loop-thread.invariant.so (names_more c.args.logs.now c.loop-thread.thread c.args.threads (omega arith)) c.in-Ok.ensures.begins pushed counted;
+      so = standing_next c.loop-thread.invariant.so (names_more c.args.logs.now c.loop-thread.thread c.args.threads (omega arith)) (rw named at c.in-Ok.ensures.begins) pushed counted;
       fronts = fronts_more c.args.logs.now c.loop-thread.thread images c.push.new.self.items c.in-Ok.field-0.image mid new
-          c.loop-thread.invariant.count c.in-Ok.ensures.begins.files c.loop-thread.invariant.fronts c.in-Ok.ensures.front pushed;
+          c.loop-thread.invariant.count c.in-Ok.ensures.begins.files c.loop-thread.invariant.fronts (rw named at c.in-Ok.ensures.front) pushed;
       few = few_more counts c.push-in-Ok.new.self.items c.in-Ok.field-0.count c.loop-thread.invariant.few c.in-Ok.ensures.few counted;
       count = ap length pushed ∙ length-append images (c.in-Ok.field-0.image ∷ []) ∙ ap (λ n. n + 1) c.loop-thread.invariant.count;
       many = ap length counted ∙ length-append counts (c.in-Ok.field-0.count ∷ []) ∙ ap (λ n. n + 1) c.loop-thread.invariant.many;

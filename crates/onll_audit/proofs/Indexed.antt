@@ -1,5 +1,7 @@
 -- What is left of a list from an index on, by the element there.
-use Rattle.std.proofs.Common.{ℕ, List, ◌∷◌, ◌≡◌, ◌+◌, ◌<◌, length, map, drop, get_or, ap, sym, ◌∙◌}
+use Rattle.std.proofs.Common.{ℕ, List, ◌∷◌, ◌≡◌, ◌+◌, ◌<◌, length, map, drop, get_or, slice_get, Some, refl, ap, sym, ◌∙◌}
+use Rattle.std.specs.Option.{option_map}
+use Rattle.std.proofs.lemmas.Option.{slice_get-map, slice_get_read}
 use Rattle.std.proofs.lemmas.List.{drop_more, drop-map}
 
 pub at_place : {A : Type 0} (xs : List A) (i : ℕ) (x : A) → i < length xs → x ≡ get_or xs i x → drop i xs ≡ x ∷ drop (i + 1) xs
@@ -10,6 +12,9 @@ pub at_mapped : {A B : Type 0} (f : A → B) (xs : List A) (i : ℕ) (x : A) →
     → drop i (map f xs) ≡ f x ∷ drop (i + 1) (map f xs)
 at_mapped {A} {B} f xs i x lt e =
     drop-map f i xs ∙ ap (map f) (at_place xs i x lt e) ∙ ap (λ (ys : List B). f x ∷ ys) (sym (drop-map f (i + 1) xs))
+
+pub got_mapped : {A B : Type 0} (f : A → B) (xs : List A) (i : ℕ) (x : A) → i < length xs → x ≡ get_or xs i x → slice_get (map f xs) i ≡ Some (f x)
+got_mapped f xs i x lt e = slice_get-map f xs i ∙ ap (option_map f) (slice_get_read xs (length xs) i x refl lt e)
 
 pub at_mapped_or : {A B : Type 0} (f : A → B) (xs : List A) (i : ℕ) (d : A) → i < length xs
     → drop i (map f xs) ≡ f (get_or xs i d) ∷ drop (i + 1) (map f xs)

@@ -41,6 +41,14 @@ few_placed past (Ask query) (said.Answered place) = omega arith
 few_placed past (Ask query) (said.FenceFailed place) = omega arith
 few_placed past (Ask query) (said.Broken place) = omega arith
 
+-- a line is judged by what it was read to say of its call
+pub judged_by : {State Op Query Reply : Type 0} (b : Behaviour State Op Query Reply) (w : Wording State Op Query Reply) (s : State) (nodes : List Node)
+    (places : List ℕ) (past : Past) (c : Call State Op Query Reply) (t k : ℕ) (line : List ℕ) (end : Option (List ℕ × Said)) (r : Result Said Why)
+    → past.calls ≡ k → end ≡ end_of_call w t (k + 1) c line → r ≡ judge_end b w s nodes places past c end → judge b w s nodes t places past c line ≡ r
+judged_by b w s nodes places past c t k line end r same is e =
+    ap (λ (n : ℕ). judge_end b w s nodes places past c (end_of_call w t (n + 1) c line)) same
+    ∙ ap (judge_end b w s nodes places past c) (sym is) ∙ sym e
+
 -- the outcome of a line that is right is the one that it says
 module _ {State Op Query Reply : Type 0} (b : Behaviour State Op Query Reply) (w : Wording State Op Query Reply) (s : State) (nodes : List Node)
     (places : List ℕ) (past : Past) (c : Call State Op Query Reply) (e : Said) where

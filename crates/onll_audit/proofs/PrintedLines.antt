@@ -1,5 +1,5 @@
 -- The lines of calls and of nodes read back.
-use Rattle.std.proofs.Common.{ℕ, Bool, true, false, List, ◌∷◌, ◌++◌, ◌≡◌, ◌≢◌, ◌<◌, ◌^◌, length, take, drop, codes, decimal, nat_eq, is_some, Option, Some, refl, ap, sym, ◌∙◌, arith, length-append}
+use Rattle.std.proofs.Common.{ℕ, Bool, true, false, List, [], ◌∷◌, ◌++◌, ◌≡◌, ◌≢◌, ◌<◌, ◌^◌, length, take, drop, codes, decimal, nat_eq, is_some, Option, Some, None, MatchOption, IfSome, append_assoc, refl, ap, sym, ◌∙◌, arith, length-append}
 use Rattle.std.specs.List.{starts_with}
 use Rattle.std.proofs.Math.Seq.{take-append_seam, drop-append_seam, drop-append-add}
 use Rattle.std.proofs.lemmas.Slice.Eq.{bytes_eq-Decides}
@@ -18,7 +18,10 @@ use Rattle.onll_text.specs.Reports.{CallReads, NodeReads}
 use Rattle.onll_audit.specs.declared.said.Said.{Said}
 use Rattle.onll_audit.specs.Fields.{some_if}
 use Rattle.onll_audit.specs.Form.{said_of, is_printed, is_call, is_arrow, some_arrow, after_number, is_call_line, op_printed, op_said, past_flag, node_front, node_said}
-use Rattle.onll_audit.proofs.Reading.{joined-append, some_end}
+use Rattle.onll_audit.specs.Values.{as_end}
+use Rattle.onll_audit.specs.Verdict.{call_front, end_after, end_of_call}
+use Rattle.onll_audit.specs.declared.groups.EndText.{EndText}
+use Rattle.onll_audit.proofs.Reading.{joined-append, line_parts, end_after_is}
 use Rattle.onll_audit.proofs.Printing.{has_arrow_at, call_in_words}
 use Rattle.onll_audit.proofs.Threads.{and_true}
 use Rattle.onll_audit.proofs.Fronts.{read_on, read_none, field_reads, word_reads, word_differs, number_reads, own_number}
@@ -63,26 +66,47 @@ module _ {State Op Query Reply : Type 0} (w : Wording State Op Query Reply) wher
       (and_true (is_call w (take (length call) line)) _ (ap (is_call w) (take-append_seam call arrow) ∙ call_printed c reads)
       (ap (λ (r : List ℕ). is_some (said_of r)) (drop-append-add call arrow 4) ∙ ap is_some says))
 
+  -- the front of a call's line, and a text that says what became of the call
+  front_is_line : (t k : ℕ) (c : Call State Op Query Reply) (text : List ℕ) (x : Said) → k < 2 ^ 64 → CallReads w c → said_of text ≡ Some x
+      → is_call_line w t (call_front w t k c ++ 32 ∷ text) ≡ true
+  front_is_line t k c text x fits reads says =
+      let ws = call_words w c in
+      let first = some_words w.call_of ws c w.no_words_are_no_call reads in
+      let call = joined ws in
+      let rest : List ℕ = call ++ (codes " -> " ++ text) in
+      let last : List (List ℕ) = codes "->" ∷ text ∷ [] in
+      let line : call_front w t k c ++ 32 ∷ text ≡ joined (codes "call" ∷ decimal t ∷ decimal k ∷ (ws ++ last)) =
+      sym (joined-append (codes "call") (decimal t ∷ decimal k ∷ (ws ++ codes "->" ∷ [])) text [])
+      ∙ ap (λ (vs : List (List ℕ)). joined (codes "call" ∷ decimal t ∷ decimal k ∷ vs)) (append_assoc ws (codes "->" ∷ []) (text ∷ [])) in
+      let words : joined (ws ++ last) ≡ rest =
+      ap (λ (vs : List (List ℕ)). joined (vs ++ last)) first.2 ∙ joined-append first.0 first.1 (codes "->") (text ∷ [])
+      ∙ ap (λ (vs : List (List ℕ)). joined vs ++ (codes " -> " ++ text)) (sym first.2) in
+      let after : after_number t (call_front w t k c ++ 32 ∷ text) ≡ Some rest =
+      ap (after_number t) line
+      ∙ ap (λ (vs : List (List ℕ)). after_number t (joined (codes "call" ∷ decimal t ∷ decimal k ∷ (vs ++ last)))) first.2
+      ∙ number_stands t k first.0 (first.1 ++ last) fits
+      ∙ ap Some (ap (λ (vs : List (List ℕ)). joined (vs ++ last)) (sym first.2) ∙ words) in
+      let within : length call < length rest = omega (arith, length-append call (codes " -> " ++ text)) in
+      ap (some_arrow w) after ∙ has_arrow_at w rest (length call) (length rest) within (arrow_there c text x reads says)
+
   -- the line of a call
   pub call_is_line : (t k : ℕ) (c : Call State Op Query Reply) (e : CallEnd State Op Query Reply) (x : Said) → k < 2 ^ 64 → CallReads w c
       → said_of (joined (end_words w e)) ≡ Some x → is_call_line w t (joined (call_line w t k c e)) ≡ true
   call_is_line t k c e x fits reads says =
-      let first = some_words w.call_of (call_words w c) c w.no_words_are_no_call reads in
-      let last = some_end w e in
-      let call = joined (call_words w c) in
-      let text : List ℕ = call ++ (codes " -> " ++ joined (end_words w e)) in
-      let words : joined (call_words w c ++ codes "->" ∷ end_words w e) ≡ text =
-      ap (λ (ws : List (List ℕ)). joined (ws ++ codes "->" ∷ end_words w e)) first.2
-      ∙ joined-append first.0 first.1 (codes "->") (end_words w e)
-      ∙ ap (λ (es : List (List ℕ)). joined (first.0 ∷ first.1) ++ 32 ∷ joined (codes "->" ∷ es)) last.2
-      ∙ ap (λ (ws : List (List ℕ)). joined ws ++ (codes " -> " ++ joined (last.0 ∷ last.1))) (sym first.2)
-      ∙ ap (λ (es : List (List ℕ)). call ++ (codes " -> " ++ joined es)) (sym last.2) in
-      let after : after_number t (joined (call_line w t k c e)) ≡ Some text =
-      ap (λ (ws : List (List ℕ)). after_number t (joined (codes "call" ∷ decimal t ∷ decimal k ∷ (ws ++ codes "->" ∷ end_words w e)))) first.2
-      ∙ number_stands t k first.0 (first.1 ++ codes "->" ∷ end_words w e) fits
-      ∙ ap Some (ap (λ (ws : List (List ℕ)). joined (ws ++ codes "->" ∷ end_words w e)) (sym first.2) ∙ words) in
-      let within : length call < length text = omega (arith, length-append call (codes " -> " ++ joined (end_words w e))) in
-      ap (some_arrow w) after ∙ has_arrow_at w text (length call) (length text) within (arrow_there c (joined (end_words w e)) x reads says)
+      ap (is_call_line w t) (line_parts w t k c e) ∙ front_is_line t k c (joined (end_words w e)) x fits reads says
+
+  -- what a line says after the front of a call's is what it says of that call, and where it says something it is a line of one
+  pub end_is : (t k : ℕ) (c : Call State Op Query Reply) (front line : List ℕ) (o : Option EndText) → front ≡ call_front w t k c
+      → MatchOption o (end_after front line ≡ None) (λ e. end_after front line ≡ Some (e.text.now, e.said)) → as_end o ≡ end_of_call w t k c line
+  end_is t k c front line None is says = sym says ∙ ap (λ (f : List ℕ). end_after f line) is
+  end_is t k c front line (Some e) is says = sym says ∙ ap (λ (f : List ℕ). end_after f line) is
+
+  pub end_is_line : (t k : ℕ) (c : Call State Op Query Reply) (line : List ℕ) (o : Option EndText) → k < 2 ^ 64 → CallReads w c
+      → as_end o ≡ end_of_call w t k c line → IfSome o (λ _. is_call_line w t line ≡ true)
+  end_is_line t k c line None fits reads is = tt
+  end_is_line t k c line (Some e) fits reads is =
+      let parts = end_after_is w (call_front w t k c) line e.text.now e.said (sym is) in
+      ap (is_call_line w t) parts.0 ∙ front_is_line t k c e.text.now e.said fits reads parts.1
 
 -- ---- nodes
 flag_stands : (p t n : ℕ) (flag : Bool) (v : List ℕ) (vs : List (List ℕ)) → t < 2 ^ 64 → n < 2 ^ 64
@@ -127,3 +151,5 @@ module _ {State Op Query Reply : Type 0} (b : Behaviour State Op Query Reply) (w
       read_on _ (n.thread, n.number, joined (w.op_words h.op)) _ _ front
       (read_on _ h.op _ _ (op_is_said h.op h.reads)
       (ap (λ row. Some (record { thread = n.thread; number = n.number; row = row })) (b.row_of_its_op n.row h.op h.row)))
+
+pub ruleset expecting = (end_is, end_is_line)

@@ -1,15 +1,17 @@
-use Rattle.std.proofs.Common.{ℕ, ◌≤◌, suc, Bool, true, false, List, [], ◌∷◌, ◌++◌, ◌≡◌, ◌+◌, ◌-◌, ◌<◌, Option, Some, None, Result, Ok, Err, cond, map, refl, ap, sym, ◌∙◌, arith, append_assoc}
+use Rattle.std.proofs.Common.{ℕ, ◌≤◌, zero, suc, Bool, true, false, List, [], ◌∷◌, ◌++◌, ◌≡◌, ◌+◌, ◌-◌, ◌<◌, Option, Some, None, Result, Ok, Err, cond, map, length, slice_get, IfSome, ◌⊎◌, inl, inr, subst, refl, ap, sym, ◌∙◌, arith, append_assoc, length-append}
 use Rattle.std.proofs.lemmas.Option.{same_Some}
-use Rattle.std.proofs.lemmas.List.{append-nil, map-append}
+use Rattle.std.proofs.lemmas.List.{append-nil, map-append, length-map}
 use Rattle.onll_model.specs.declared.node.Node.{Node}
 use Rattle.onll_model.specs.Object.{Behaviour}
 use Rattle.onll_text.specs.Refusal.{◌>>=◌}
 use Rattle.onll_text.specs.Wording.{Wording}
 use Rattle.onll_audit.specs.Fields.{◌>?◌, some_if}
 use Rattle.onll_audit.specs.Form.{LinesLeft, wanted, next_part, next_line, lines_while, before_lines, node_said, node_run, one_line, line_that, is_log_line, log_run, fault_said, fault_run, after_fault, is_call_line, call_groups, before_groups}
-use Rattle.onll_audit.specs.Values.{as_lines, as_groups, IsFault}
+use Rattle.onll_audit.specs.Values.{as_lines, as_groups, as_end, AreReadWith, EachReadWith, IsFault}
 use Rattle.std.specs.declared.vec.Vec.{Vec}
-use denote.Ref.{Bor}
+use Rattle.onll_model.specs.declared.call.Call.{Call}
+use Rattle.onll_audit.specs.declared.groups.CallLine.{CallLine}
+use Rattle.onll_audit.specs.Verdict.{end_of_call}
 use Rattle.onll_audit.specs.declared.verdict.AuditFault.{AuditFault}
 use Rattle.onll_audit.specs.declared.verdict.AuditFault.TheVariants.{Refused, NoMemory}
 
@@ -221,10 +223,62 @@ module _ {State Op Query Reply : Type 0} (w : Wording State Op Query Reply) wher
   groups_start threads left = let all : threads - 0 ≡ threads = omega arith in ap (λ (k : ℕ). onto_groups [] (call_groups w 0 k left)) (sym all)
 
 -- a group more
-pub groups_pushed : {A B : Type 0} (old new : Vec (Vec (Bor (List ℕ)) A) B) (group : Vec (Bor (List ℕ)) A) → new.items ≡ old.items ++ group ∷ []
+pub groups_pushed : {A B : Type 0} (old new : Vec (Vec CallLine A) B) (group : Vec CallLine A) → new.items ≡ old.items ++ group ∷ []
     → as_groups new.items ≡ as_groups old.items ++ as_lines group ∷ []
 groups_pushed {A} old new group e =
-    let f = λ (g : Vec (Bor (List ℕ)) A). as_lines g in
+    let f = λ (g : Vec CallLine A). as_lines g in
     ap (map f) e ∙ map-append f old.items (group ∷ [])
+
+pub many_pushed : {A : Type 0} (xs : List A) (x : A) → length (xs ++ x ∷ []) ≡ length xs + 1
+many_pushed xs x = omega (arith, length-append xs (x ∷ []))
+
+-- what stands in a list with one element more
+pushed : {A : Type 0} (xs : List A) (x y : A) (i : ℕ) → slice_get (xs ++ x ∷ []) i ≡ Some y → (slice_get xs i ≡ Some y) ⊎ ((i ≡ length xs) × (x ≡ y))
+pushed [] x y zero e = inr (refl, same_Some x y e)
+pushed [] x y (suc i) e = cc e
+pushed (z ∷ xs) x y zero e = inl e
+pushed (z ∷ xs) x y (suc i) e = elim (pushed xs x y i e) [
+  | inl old ↦ inl old
+  | inr new ↦ inr (omega (arith, new.0), new.1)
+]
+
+module _ {State Op Query Reply : Type 0} (w : Wording State Op Query Reply) where
+  -- a line more that was read beside its call
+  pub lines_read : (t : ℕ) (script : List (Call State Op Query Reply)) (lines new : List CallLine) (l : CallLine) (k : ℕ) → new ≡ lines ++ l ∷ []
+      → k ≡ length lines → AreReadWith w t script lines
+      → IfSome (slice_get script k) (λ c. as_end l.end ≡ end_of_call w t (k + 1) c l.line.now) → AreReadWith w t script new
+  lines_read t script lines new l k is many each said i c m here there = elim (pushed lines l m i (ap (λ (ls : List CallLine). slice_get ls i) (sym is) ∙ there)) [
+    | inl old ↦ each i c m here old
+    | inr last ↦
+        let at : k ≡ i = many ∙ sym last.0 in
+        let call : slice_get script k ≡ Some c = ap (slice_get script) at ∙ here in
+        let says : as_end l.end ≡ end_of_call w t (k + 1) c l.line.now =
+        subst (λ (o : Option (Call State Op Query Reply)). IfSome o (λ d. as_end l.end ≡ end_of_call w t (k + 1) d l.line.now)) call said in
+        subst (λ (j : ℕ). as_end m.end ≡ end_of_call w t (j + 1) c m.line.now) at
+        (subst (λ (n : CallLine). as_end n.end ≡ end_of_call w t (k + 1) c n.line.now) last.1 says)
+  ]
+
+  -- a thread more
+  pub groups_read : {A B : Type 0} (f : A → List (Call State Op Query Reply)) (h : B → List CallLine) (scripts : List A) (old new : List B) (group : B)
+      (script : List (Call State Op Query Reply)) (i : ℕ) → length old ≡ i → EachReadWith w (map f scripts) (map h old)
+      → slice_get (map f scripts) i ≡ Some script → AreReadWith w i script (h group) → new ≡ old ++ group ∷ [] → EachReadWith w (map f scripts) (map h new)
+  groups_read {A} {B} f h scripts old new group script i many each here last is =
+      let here_all : slice_get (map f scripts) (length (map h old)) ≡ Some script = ap (slice_get (map f scripts)) (length-map old h ∙ many) ∙ here in
+      let last_all : AreReadWith w (length (map h old)) script (h group) =
+      subst (λ (j : ℕ). AreReadWith w j script (h group)) (sym (length-map old h ∙ many)) last in
+      subst (λ (groups : List (List CallLine)). EachReadWith w (map f scripts) groups) (sym (ap (map h) is ∙ map-append h old (group ∷ [])))
+      (one_read (map f scripts) (map h old) script (h group) each here_all last_all)
+    where
+      one_read : (all : List (List (Call State Op Query Reply))) (groups : List (List CallLine)) (own : List (Call State Op Query Reply))
+          (lines : List CallLine) → EachReadWith w all groups → slice_get all (length groups) ≡ Some own → AreReadWith w (length groups) own lines
+          → EachReadWith w all (groups ++ lines ∷ [])
+      one_read all groups own lines before at said t s ls from there = elim (pushed groups lines ls t there) [
+        | inl one ↦ before t s ls from one
+        | inr end ↦
+            let same : own ≡ s = same_Some own s (sym at ∙ ap (slice_get all) (sym end.0) ∙ from) in
+            subst (λ (u : ℕ). AreReadWith w u s ls) (sym end.0)
+            (subst (λ (xs : List CallLine). AreReadWith w (length groups) s xs) end.1
+            (subst (λ (cs : List (Call State Op Query Reply)). AreReadWith w (length groups) cs lines) same said))
+      ]
 
 pub ruleset groups_running = (groups_more, groups_end, groups_start)

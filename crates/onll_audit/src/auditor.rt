@@ -6,11 +6,12 @@ ghost use Rattle.std.specs.Str.{bytes_eq};
 ghost use Rattle.onll_words.specs.Texts.{line_text};
 ghost use Rattle.onll_model.specs.Trace.{state_after};
 ghost use Rattle.onll_audit.specs.declared.verdict.Verdict.TheVariants.{Legal};
-ghost use Rattle.onll_audit.specs.Values.{as_groups, as_form, as_judged, as_wrong, IsFault};
+ghost use Rattle.onll_audit.specs.Values.{as_groups, as_form, as_judged, as_wrong, IsFault, EachReadWith};
 ghost use Rattle.onll_audit.specs.Verdict.{total_lines, calls_wrong, all_rows, wrong_in, verdict_of};
 ghost use Rattle.onll_audit.specs.Legality.{IsLegalReport};
 
 use crate::fields::is_text;
+use crate::groups::CallLine;
 use crate::judge::{Wrong, thread_wrong};
 use crate::read::{ReportForm, read_form};
 use crate::replica::{Evidence, apply_all};
@@ -29,7 +30,8 @@ fn calls_wrong<O: Texted + Drop>(
     scripts: &[Vec<Call<O>>],
     form: &ReportForm<'_>,
 ) -> Result<Result<Vec<Vec<OpRow>>, Wrong>, NoMemory>
-    requires { total_lines (as_groups form.now.calls.items) + 1 < 2 ^ 64 }
+    requires few { total_lines (as_groups form.now.calls.items) + 1 < 2 ^ 64 }
+    requires read { EachReadWith O.wording (map (λ s. s.items) scripts.now) (map (λ own. own.items) form.now.calls.items) }
     ensures wrong { IfOk result (λ judged. as_judged judged ≡ calls_wrong O.means O.wording first.now form.now.nodes.items 0 1
         (map (λ s. s.items) scripts.now) (as_groups form.now.calls.items)) }
     ensures rows { IfOk result (λ judged. IfOk judged (λ rows. map (λ own. own.items) rows.items
@@ -58,7 +60,7 @@ fn calls_wrong<O: Texted + Drop>(
 
 /// How many lines there are in all groups.
 #[tactic(auto, using(crate::proofs::Calling::calling))]
-fn count_lines(groups: &[Vec<&[u8]>]) -> u64
+fn count_lines(groups: &[Vec<CallLine<'_>>]) -> u64
     requires { total_lines (as_groups groups.now) < 2 ^ 64 }
     ensures { result ≡ total_lines (as_groups groups.now) }
 {
@@ -104,7 +106,8 @@ fn wrong_line<O: Texted + Drop>(
     scripts: &[Vec<Call<O>>],
     form: ReportForm<'_>,
 ) -> Result<Option<Wrong>, NoMemory>
-    requires { total_lines (as_groups form.calls.items) + length form.nodes.items + 2 ≤ form.state_line }
+    requires few { total_lines (as_groups form.calls.items) + length form.nodes.items + 2 ≤ form.state_line }
+    requires read { EachReadWith O.wording (map (λ s. s.items) scripts.now) (map (λ own. own.items) form.calls.items) }
     ensures { IfOk result (λ wrong. as_wrong wrong
         ≡ wrong_in O.means O.wording object (map (λ s. s.items) scripts.now) (as_form form.entry)) }
 {
@@ -136,7 +139,7 @@ fn verdict<O: Texted + Drop>(
     ensures { let read = verdict_of O.means O.wording object (map (λ s. s.items) scripts.now) report.now in
         MatchResult result (λ verdict. read ≡ Ok verdict) (λ fault. IsFault fault read) }
 {
-    let form = match read_form::<O>(alloc, scripts.len() as u64, report) {
+    let form = match read_form(alloc, scripts, report) {
         Ok(form) => form,
         Err(fault) => return Err(fault),
     };

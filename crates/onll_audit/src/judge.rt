@@ -1,58 +1,22 @@
 //! Whether the lines of a thread's calls are right.
 
-ghost use Rattle.std.specs.Prelude.{◌≡◌, ◌<◌, ◌≤◌, ◌+◌, ◌^◌, ◌++◌, ◌∷◌, None, Some, length, take, drop, map, IfOk, OnOk, MatchOption};
+ghost use Rattle.std.specs.Prelude.{◌≡◌, ◌<◌, ◌≤◌, ◌+◌, ◌^◌, ◌++◌, ◌∷◌, Some, length, take, drop, map, slice_get, IfOk, OnOk};
 ghost use Rattle.onll_words.specs.Texts.{joined};
 ghost use Rattle.onll_model.specs.Trace.{state_after};
 ghost use Rattle.onll_text.specs.Lines.{at_words};
-ghost use Rattle.onll_audit.specs.Values.{as_judged};
-ghost use Rattle.onll_audit.specs.Verdict.{no_past, call_front, end_after, reply_right, judge, thread_wrong, row_said, rows_said};
+ghost use Rattle.onll_audit.specs.Values.{as_end, as_judged, AreReadWith};
+ghost use Rattle.onll_audit.specs.Verdict.{no_past, reply_right, judge_end, thread_wrong, row_said, rows_said};
 
-use crate::fields::{after_text, is_text};
-use crate::form::put_call;
+use crate::fields::is_text;
+use crate::groups::{CallLine, EndText};
 use crate::past::{Past, outcome_right, place_right};
 use crate::replica::{Evidence, Replica};
-use crate::said::{Said, said_of};
+use crate::said::Said;
 use crate::verdict::Why;
 use onll_model::Call;
 use onll_text::{Piece, Report, Texted};
 use onll_words::{NoMemory, OpRow};
 use std::alloc::Global;
-
-/// What the line of a call begins with, up to its arrow.
-fn print_front<O: Texted>(
-    room: &mut Report,
-    thread: u64,
-    number: u64,
-    call: &Call<O>,
-) -> Result<(), NoMemory>
-    ensures { OnOk result (room.new ≡ call_front O.wording thread number call.now) }
-{
-    room.clear();
-    room.words(&[
-        Piece::Text(b"call"),
-        Piece::Number(thread),
-        Piece::Number(number),
-    ])?;
-    put_call(call, room)?;
-    room.word(b"->")
-}
-
-/// The text after the arrow of a call's line, and the outcome that it says.
-#[derive(Clone, Copy, Debug)]
-struct EndText<'a> {
-    text: &'a [u8],
-    said: Said,
-}
-
-/// What follows the front of a line and one space, and the outcome that it says.
-fn end_after<'a>(line: &'a [u8], front: &[u8]) -> Option<EndText<'a>>
-    ensures { MatchOption result (end_after front.now line.now ≡ None) (λ e. end_after front.now line.now ≡ Some (e.text.now, e.said)) }
-{
-    let rest = after_text(line, front)?;
-    let text = after_text(rest, b" ")?;
-    let said = said_of(text)?;
-    Some(EndText { text, said })
-}
 
 /// A reply and its place, as they are printed.
 #[tactic(auto, using(crate::proofs::Printing::replies))]
@@ -90,26 +54,24 @@ fn check_reply<O: Texted + Drop>(
     }
 }
 
-/// What the line of a call says of it, or the first reason why it is wrong.
+/// What became of a call by its line, or the first reason why the line is wrong.
 fn judge<O: Texted + Drop>(
     alloc: Global,
     evidence: &Evidence<'_, O>,
     replica: &mut Replica<O>,
     past: Past,
     call: &Call<O>,
-    line: &[u8],
+    end: Option<EndText<'_>>,
 ) -> Result<Result<Said, Why>, NoMemory>
-    requires calls { past.calls + 1 < 2 ^ 64 }
     requires at { replica.old.at ≤ length evidence.now.nodes.now }
     requires object { replica.old.object ≡ state_after O.means evidence.now.first.now (take replica.old.at evidence.now.nodes.now) }
     ensures said { let e = evidence.now in IfOk result (λ said. said
-        ≡ judge O.means O.wording e.first.now e.nodes.now e.thread e.places.now past call.now line.now) }
+        ≡ judge_end O.means O.wording e.first.now e.nodes.now e.places.now past call.now (as_end end.entry)) }
     ensures at { OnOk result (replica.new.at ≤ length evidence.now.nodes.now) }
     ensures object { OnOk result (replica.new.object
         ≡ state_after O.means evidence.now.first.now (take replica.new.at evidence.now.nodes.now)) }
 {
-    print_front(&mut replica.room, evidence.thread, past.calls + 1, call)?;
-    let Some(end) = end_after(line, replica.room.bytes()) else {
+    let Some(end) = end else {
         return Ok(Err(Why::Script));
     };
     if !outcome_right(past, call, end.said) {
@@ -134,11 +96,12 @@ pub(crate) struct Wrong {
 }
 
 /// The line at an index.
-pub(crate) fn line_at<'a>(lines: &[&'a [u8]], i: usize) -> &'a [u8]
+fn line_at<'b, 'a>(lines: &'b [CallLine<'a>], i: usize) -> &'b CallLine<'a>
     requires { i < length lines.now }
-    ensures { drop i (map (λ l. l.now) lines.now) ≡ result.now ∷ drop (i + 1) (map (λ l. l.now) lines.now) }
+    ensures rest { drop i (map (λ l. l.line.now) lines.now) ≡ result.now.line.now ∷ drop (i + 1) (map (λ l. l.line.now) lines.now) }
+    ensures there { slice_get lines.now i ≡ Some result.now }
 {
-    lines[i]
+    &lines[i]
 }
 
 /// Appends the row of an update with a place, by what its line says of it.
@@ -161,14 +124,15 @@ pub(crate) fn thread_wrong<O: Texted + Drop>(
     evidence: &Evidence<'_, O>,
     number: u64,
     script: &[Call<O>],
-    lines: &[&[u8]],
+    lines: &[CallLine<'_>],
 ) -> Result<Result<Vec<OpRow>, Wrong>, NoMemory>
-    requires { number + length lines.now < 2 ^ 64 }
+    requires few { number + length lines.now < 2 ^ 64 }
+    requires read { AreReadWith O.wording evidence.now.thread script.now lines.now }
     ensures wrong { let e = evidence.now in IfOk result (λ judged. as_judged judged
         ≡ thread_wrong O.means O.wording e.first.now e.nodes.now e.thread e.places.now number no_past script.now
-        (map (λ l. l.now) lines.now)) }
+        (map (λ l. l.line.now) lines.now)) }
     ensures rows { IfOk result (λ judged. IfOk judged (λ rows. rows.items
-        ≡ rows_said O.means O.wording evidence.now.thread 0 script.now (map (λ l. l.now) lines.now))) }
+        ≡ rows_said O.means O.wording evidence.now.thread 0 script.now (map (λ l. l.line.now) lines.now))) }
 {
     let mut rows = Vec::new(alloc);
     let mut past = Past::none();
@@ -184,8 +148,8 @@ pub(crate) fn thread_wrong<O: Texted + Drop>(
             return Ok(Err(Wrong { line, why }));
         }
         let call = &script[i];
-        let text = line_at(lines, i);
-        match judge(alloc, evidence, &mut replica, past, call, text)? {
+        let read = line_at(lines, i);
+        match judge(alloc, evidence, &mut replica, past, call, read.end)? {
             Ok(said) => {
                 push_row(call, said, &mut rows)?;
                 past = past.with(call, said);

@@ -1,15 +1,16 @@
 //! The reading of a whole report.
 
-ghost use Rattle.std.specs.Prelude.{◌≡◌, ◌<◌, ◌≤◌, ◌+◌, ◌^◌, Ok, Err, length, IfOk, IfSome, MatchOption, MatchResult};
+ghost use Rattle.std.specs.Prelude.{◌≡◌, ◌<◌, ◌≤◌, ◌+◌, ◌^◌, Ok, Err, length, map, IfOk, IfSome, MatchOption, MatchResult};
 ghost use Rattle.onll_audit.specs.Form.{one_line, line_that, trace_said, node_said, node_run, is_log_line, log_run, is_recovered_line, fault_run, is_state_line, call_groups, rest_of, report_form};
-ghost use Rattle.onll_audit.specs.Values.{as_left, as_groups, as_form, IsFault};
+ghost use Rattle.onll_audit.specs.Values.{as_left, as_groups, as_form, IsFault, EachReadWith};
 
 use crate::fields::is_text;
 use crate::form::{fault_said, log_said, node_said, recovered_said, trace_said};
-use crate::groups::read_group;
+use crate::groups::{CallLine, read_group};
 use crate::lines::LinesLeft;
+use crate::trace::script_at;
 use crate::verdict::AuditFault;
-use onll_model::Node;
+use onll_model::{Call, Node};
 use onll_text::{Report, Texted};
 use onll_words::NoMemory;
 use std::alloc::Global;
@@ -186,7 +187,7 @@ fn read_faults<'a>(threads: u64, lines: LinesLeft<'a>) -> LinesLeft<'a>
 #[derive(Drop)]
 pub(crate) struct ReportForm<'a> {
     /// The lines of the calls of each thread.
-    pub calls: Vec<Vec<&'a [u8]>>,
+    pub calls: Vec<Vec<CallLine<'a>>>,
     pub nodes: Vec<Node>,
     /// The number of the line `state`.
     pub state_line: u64,
@@ -200,11 +201,12 @@ fn read_rest<'a, O: Texted>(
     alloc: Global,
     room: &mut Report,
     threads: u64,
-    calls: Vec<Vec<&'a [u8]>>,
+    calls: Vec<Vec<CallLine<'a>>>,
     lines: LinesLeft<'a>,
 ) -> Result<ReportForm<'a>, AuditFault>
     requires { lines.number + length lines.rest.now < 2 ^ 64 }
-    ensures { let read = rest_of O.means O.wording threads (as_groups calls.entry.items) (as_left lines.entry) in
+    ensures calls { IfOk result (λ f. f.calls.items ≡ calls.entry.items) }
+    ensures form { let read = rest_of O.means O.wording threads (as_groups calls.entry.items) (as_left lines.entry) in
         MatchResult result (λ f. read ≡ Ok (as_form f)) (λ fault. IsFault fault read) }
 {
     let Some(count) = read_trace(lines) else {
@@ -238,42 +240,47 @@ fn read_rest<'a, O: Texted>(
 /// The lines of the calls of all threads, and those after them.
 #[derive(Drop)]
 struct Groups<'a> {
-    calls: Vec<Vec<&'a [u8]>>,
+    calls: Vec<Vec<CallLine<'a>>>,
     after: LinesLeft<'a>,
 }
 
-/// The lines of the calls of so many threads.
+/// The lines of the calls of each thread, beside its script.
 #[tactic(auto, using(crate::proofs::Running::groups_running))]
 fn read_groups<'a, O: Texted>(
     alloc: Global,
     room: &mut Report,
-    threads: u64,
+    scripts: &[Vec<Call<O>>],
     lines: LinesLeft<'a>,
 ) -> Result<Groups<'a>, NoMemory>
     requires { lines.number + length lines.rest.now < 2 ^ 64 }
-    ensures groups { IfOk result (λ g. call_groups O.wording 0 threads (as_left lines.entry) ≡ (as_groups g.calls.items, as_left g.after)) }
+    ensures groups { IfOk result (λ g. call_groups O.wording 0 (length scripts.now) (as_left lines.entry)
+        ≡ (as_groups g.calls.items, as_left g.after)) }
+    ensures read { IfOk result (λ g. EachReadWith O.wording (map (λ s. s.items) scripts.now) (map (λ own. own.items) g.calls.items)) }
     ensures within { IfOk result (λ g. g.after.number + length g.after.rest.now ≤ lines.entry.number + length lines.entry.rest.now) }
 {
     let mut left = lines;
     let mut calls = Vec::new(alloc);
-    for thread in 0..threads {
-        let group = read_group::<O>(alloc, room, thread, left)?;
+    for i in 0..scripts.len() {
+        let group = read_group(alloc, room, i as u64, script_at(scripts, i), left)?;
         calls.push(group.lines)?;
         left = group.after;
     }
     Ok(Groups { calls, after: left })
 }
 
-/// What a report says that is judged, for so many threads, or its first line that is none of the form.
+/// What a report says that is judged, for so many threads, or its first line that is none of the form. The lines of calls are read
+/// beside the scripts.
 pub(crate) fn read_form<'a, O: Texted>(
     alloc: Global,
-    threads: u64,
+    scripts: &[Vec<Call<O>>],
     text: &'a [u8],
 ) -> Result<ReportForm<'a>, AuditFault>
-    ensures { let read = report_form O.means O.wording threads text.now in
+    ensures form { let read = report_form O.means O.wording (length scripts.now) text.now in
         MatchResult result (λ f. read ≡ Ok (as_form f)) (λ fault. IsFault fault read) }
+    ensures read { IfOk result (λ f. EachReadWith O.wording (map (λ s. s.items) scripts.now) (map (λ own. own.items) f.calls.items)) }
 {
     let mut room = Report::new(alloc);
-    let groups = read_groups::<O>(alloc, &mut room, threads, LinesLeft::of(text))?;
+    let threads = scripts.len() as u64;
+    let groups = read_groups(alloc, &mut room, scripts, LinesLeft::of(text))?;
     read_rest::<O>(alloc, &mut room, threads, groups.calls, groups.after)
 }

@@ -1,9 +1,10 @@
 //! Whether the nodes of a report are its calls' updates.
 
-ghost use Rattle.std.specs.Prelude.{◌≡◌, ◌<◌, ◌+◌, ◌==◌, ◌^◌, ◌∷◌, [], true, length, map, drop, get_or, slice_get, IfOk};
+ghost use Rattle.std.specs.Prelude.{◌≡◌, ◌<◌, ◌+◌, ◌==◌, ◌^◌, ◌∷◌, [], true, Some, length, map, drop, get_or, slice_get, IfOk};
 ghost use Rattle.onll_audit.specs.Values.{as_groups, as_wrong};
 ghost use Rattle.onll_audit.specs.Verdict.{thread_places, same_row, nth_row, node_after, nodes_wrong};
 
+use crate::groups::CallLine;
 use crate::judge::Wrong;
 use crate::replica::same_row;
 use crate::verdict::Why;
@@ -34,15 +35,17 @@ pub(crate) fn thread_places(
 /// The calls of a script.
 pub(crate) fn script_at<O: Texted>(scripts: &[Vec<Call<O>>], i: usize) -> &[Call<O>]
     requires { i < length scripts.now }
-    ensures { drop i (map (λ s. s.items) scripts.now) ≡ result.now ∷ drop (i + 1) (map (λ s. s.items) scripts.now) }
+    ensures rest { drop i (map (λ s. s.items) scripts.now) ≡ result.now ∷ drop (i + 1) (map (λ s. s.items) scripts.now) }
+    ensures there { slice_get (map (λ s. s.items) scripts.now) i ≡ Some result.now }
 {
     &scripts[i]
 }
 
 /// The lines of a thread's calls.
-pub(crate) fn group_at<'b, 'a>(groups: &'b [Vec<&'a [u8]>], i: usize) -> &'b [&'a [u8]]
+pub(crate) fn group_at<'b, 'a>(groups: &'b [Vec<CallLine<'a>>], i: usize) -> &'b [CallLine<'a>]
     requires { i < length groups.now }
-    ensures { drop i (as_groups groups.now) ≡ map (λ l. l.now) result.now ∷ drop (i + 1) (as_groups groups.now) }
+    ensures rest { drop i (as_groups groups.now) ≡ map (λ l. l.line.now) result.now ∷ drop (i + 1) (as_groups groups.now) }
+    ensures there { slice_get (map (λ g. g.items) groups.now) i ≡ Some result.now }
 {
     &groups[i]
 }

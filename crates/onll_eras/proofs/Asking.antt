@@ -6,8 +6,7 @@ use Rattle.std.specs.List.{AllByRecursion}
 use Rattle.onll_areas.specs.Newest.{area_lines, newest, newest_of}
 use Rattle.onll_checkpoint.specs.Checkpoint.{CheckpointState}
 use Rattle.onll_checkpoint.specs.Grammar.{checkpoint_in}
-use Rattle.onll_merge.specs.declared.fault.StateFault.{StateFault}
-use Rattle.onll_merge.specs.Recovered.{Recovered, expected_heads, state_recovered}
+use Rattle.onll_merge.specs.Recovered.{Recovered}
 use Rattle.onll_model.specs.Trace.{state_after}
 use Rattle.onll_outside.specs.Views.{StoreView}
 use Rattle.onll_text.specs.declared.any_object.AnyObject.{AnyObject}
@@ -16,7 +15,7 @@ use Rattle.onll_text.specs.Kinds.{ObjectKind, kind_at, on_object}
 use Rattle.onll_text.proofs.EachKind.{by_kind}
 use Rattle.onll_task.specs.declared.answer.Stop.{Stop}
 use Rattle.onll_task.specs.Doing.{Task, Stage, after_stage, Fulfils, DoesStage, BeginsBy}
-use Rattle.onll_task.specs.Images.{images_stage}
+use Rattle.onll_task.specs.Recovering.{recovery_stage}
 use Rattle.onll_task.specs.Job.{Read}
 use Rattle.onll_task.proofs.Onwards.{goes_after, stay_more}
 use Rattle.onll_task.proofs.Sequences.{Named, but_wider}
@@ -82,15 +81,11 @@ even_stops ckpt s first = record {
 -- ---- what logs gave
 module _ {A : Type 0} (names : List (List ℕ)) (store after : StoreView) (files : EraNames) (threads : ℕ) (era : NewestEra) (k : ObjectKind) (s state : k.State) (r : Recovered)
     (result : Result (Vec ℕ A) Stop) where
-  pub gave_does : (asked : Asked) (found : Result Recovered StateFault) → found ≡ Ok r → state ≡ state_after k.means s r.nodes
-      → Fulfils names store after (with_recovered asked files threads era k state r) result
-      → Fulfils names store after (next_by asked files threads era.newest.now (era_found era) k s found) result
-  gave_does asks.Restore found e is h =
-      subst (λ (x : Result Recovered StateFault). Fulfils names store after (next_by asks.Restore files threads era.newest.now (era_found era) k s x) result) (sym e)
-      (subst (λ (t : k.State). Fulfils names store after (restored_with era.newest.now (era_found era) k t r) result) is h)
-  gave_does asks.Checkpoint found e is h =
-      subst (λ (x : Result Recovered StateFault). Fulfils names store after (next_by asks.Checkpoint files threads era.newest.now (era_found era) k s x) result) (sym e)
-      (subst (λ (t : k.State). Fulfils names store after (checkpoint_with files.ckpt threads (era_found era) k t (length r.nodes)) result) is h)
+  pub gave_does : (asked : Asked) → state ≡ state_after k.means s r.nodes → Fulfils names store after (with_recovered asked files threads era k state r) result
+      → Fulfils names store after (next_by asked files threads era.newest.now (era_found era) k s r) result
+  gave_does asks.Restore is h = subst (λ (t : k.State). Fulfils names store after (restored_with era.newest.now (era_found era) k t r) result) is h
+  gave_does asks.Checkpoint is h =
+      subst (λ (t : k.State). Fulfils names store after (checkpoint_with files.ckpt threads (era_found era) k t (length r.nodes)) result) is h
 
 -- ---- the files of both areas
 left_of : (P : List ℕ → Type 0) (xs ys : List (List ℕ)) → AllByRecursion P (xs ++ ys) → AllByRecursion P xs
@@ -121,8 +116,7 @@ begins_wider named b = record { goes = b.goes; gives = b.gives; stops = b.stops;
 -- ---- the newest era
 -- the logs of an era are recovered over this state
 abbrev pub era_over : EraNext → Option CheckpointState → Era → ℕ → (k : ObjectKind) → k.State → Task
-era_over next from era threads k s = after_stage (images_stage era.logs threads)
-    (λ images. next from era k s (state_recovered k.means (expected_heads k.code era.text images) images))
+era_over next from era threads k s = after_stage (recovery_stage k era.text era.logs threads) (next from era k s)
 
 -- the era of this checkpoint, with this text, this file and these logs
 abbrev pub era_by : Option CheckpointState → (text source logs : List ℕ) → Era

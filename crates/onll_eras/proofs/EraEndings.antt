@@ -9,7 +9,7 @@ use Rattle.onll_log.specs.ImageFile.{image_lines}
 use Rattle.onll_checkpoint.specs.Grammar.{checkpoint_image}
 use Rattle.onll_checkpoint.specs.Text.{lines_for}
 use Rattle.onll_merge.specs.declared.fault.StateFault.{StateFault}
-use Rattle.onll_merge.specs.Recovered.{Recovered, expected_heads, state_recovered}
+use Rattle.onll_merge.specs.Recovered.{Recovered}
 use Rattle.onll_model.specs.Trace.{state_after}
 use Rattle.onll_text.specs.declared.any_object.AnyObject.{AnyObject}
 use Rattle.onll_text.specs.declared.any_object.Kind.{Kind}
@@ -29,17 +29,18 @@ use Rattle.onll_task.specs.declared.ending.Ending.{Ending}
 use Rattle.onll_task.specs.declared.ending.Ending.TheVariants.{Done, Refused, BadLog, WriteFault, Faulty}
 use Rattle.onll_task.specs.Doing.{Task, after_stage, report_task, say_task, assured_stage, lines_stage, each_job}
 use Rattle.onll_open.specs.Names.{log_name, log_names}
-use Rattle.onll_task.specs.Images.{images_stage}
+use Rattle.onll_task.specs.Recovering.{recovery_of}
 use Rattle.onll_task.specs.Job.{Job, Say, Read, Write, Keep, JobEnds, on_value}
 use Rattle.onll_task.specs.Keeps.{KeepStops}
 use Rattle.onll_task.specs.Reading.{CannotRead}
-use Rattle.onll_task.proofs.ImageFiles.{reading_images_never}
 use Rattle.onll_task.proofs.Jobs.{Never, IsRare, reading_whole_never}
+use Rattle.onll_task.proofs.Recovering.{recovery_never}
 use Rattle.onll_eras.specs.EraJob.{EraNext, areas_work, era_task, on_started, started, with_newest, either_task, restored_task, restore_work, checkpoint_task, checkpoint_work, keeping_headers, begun_stage, header_said, area_said, has_next, checkpoint_after, area_of}
 use Rattle.onll_eras.specs.EraReports.{at_end_text, RestoreData, RestoreReads, newest_in, restore_lines, CheckpointData, CheckpointReads, checkpoint_lines}
 use Rattle.onll_eras.specs.EndingLaws.{HasFenceFault, FenceFaultLaw, HasFileFault, FileFaultLaw}
 use Rattle.onll_eras.specs.Eras.{Era, era_of}
 use Rattle.onll_eras.specs.Names.{EraNames, area_name, text_name}
+use Rattle.onll_eras.proofs.EraReads.{Given, Onward, OnObject}
 
 -- ---- endings that no file gives
 -- one task or the other
@@ -51,22 +52,16 @@ module _ (ending : Ending) (rare : IsRare ending) where
   -- what goes on with what an era's logs give never ends so
   abbrev NextNever : EraNext → Type 0
   NextNever next = (from : Option CheckpointState) (era : Era) (kind : Kind) (s : (kind_at kind).State)
-      (r : Result Recovered StateFault) → Never ending (next from era (kind_at kind) s r).job
+      (r : Recovered) → Never ending (next from era (kind_at kind) s r).job
 
   logs_never : (next : EraNext) → NextNever next → (from : Option CheckpointState) (era : Era) (threads : ℕ) (object : AnyObject)
-      → Never ending (on_kind (λ kind s. after_stage (images_stage era.logs threads)
-      (λ images. next from era (kind_at kind) s (state_recovered (kind_at kind).means (expected_heads (kind_at kind).code era.text images) images))) object).job
+      → Never ending (on_kind (λ kind s. OnObject next threads from era (kind_at kind) s) object).job
   logs_never next never from era threads object =
-      each_kind {A = Task} (λ kind s. after_stage (images_stage era.logs threads)
-      (λ images. next from era (kind_at kind) s (state_recovered (kind_at kind).means (expected_heads (kind_at kind).code era.text images) images)))
-      (λ task. Never ending task.job)
-      (λ kind s. reading_images_never ending era.logs threads 0
-      (λ images. (next from era (kind_at kind) s (state_recovered (kind_at kind).means (expected_heads (kind_at kind).code era.text images) images)).job)
-      (λ images. never from era kind s (state_recovered (kind_at kind).means (expected_heads (kind_at kind).code era.text images) images))) object
+      each_kind {A = Task} (λ kind s. OnObject next threads from era (kind_at kind) s) (λ task. Never ending task.job)
+      (λ kind s. recovery_never (λ r. (next from era (kind_at kind) s r).job) ending rare (kind_at kind) era.text era.logs threads (never from era kind s)) object
 
   started_never : (next : EraNext) → NextNever next → (from : Option CheckpointState) (era : Era) (threads : ℕ) (r : Result AnyObject Refusal)
-      → Never ending (on_started era r (λ k s. after_stage (images_stage era.logs threads)
-      (λ images. next from era k s (state_recovered k.means (expected_heads k.code era.text images) images)))).job
+      → Never ending (on_started era r (λ k s. OnObject next threads from era k s)).job
   started_never next never from era threads (Ok object) = logs_never next never from era threads object
   started_never next never from era threads (Err refusal) = λ e. subst IsRare (sym e) rare
 
@@ -81,8 +76,7 @@ module _ (ending : Ending) (rare : IsRare ending) where
   areas_never ckpt = λ e. subst IsRare (sym e) rare
 
   restored_never : NextNever restored_task
-  restored_never from era kind s (Err fault) = λ e. subst IsRare (sym e) rare
-  restored_never from era kind s (Ok r) = let k = kind_at kind in
+  restored_never from era kind s r = let k = kind_at kind in
       let said : RestoreData k.State = record { from = newest_in from; logs = data_with r (state_after k.means s r.nodes) } in
       either_says (λ task. Never ending task.job) (nat_lt (era.place + length r.nodes) (2 ^ 64))
       (report_task (flat_map line_text (restore_lines k.means k.wording said))
@@ -98,8 +92,7 @@ module _ (ending : Ending) (rare : IsRare ending) where
   headers_never other logs code text threads t (suc n) next never = (other, headers_never other logs code text threads (suc t) n next never)
 
   checkpoint_next_never : (ending ≡ Faulty → ⊥) → (ckpt : List ℕ) (threads : ℕ) → NextNever (checkpoint_task ckpt threads)
-  checkpoint_next_never other ckpt threads from era kind s (Err fault) = λ e. subst IsRare (sym e) rare
-  checkpoint_next_never other ckpt threads from era kind s (Ok r) = let k = kind_at kind in
+  checkpoint_next_never other ckpt threads from era kind s r = let k = kind_at kind in
       let state = state_after k.means s r.nodes in
       let lines = k.wording.state_lines state in
       let c = checkpoint_after era (length r.nodes) lines in
@@ -119,14 +112,14 @@ module _ (ending : Ending) (rare : IsRare ending) where
 
 -- ---- endings that no file which is read gives
 module _ (store after : StoreView) (ending : Ending) (text : List ℕ)
-    (read : (name : List ℕ) → CannotRead store after name ending text → ⊥) (accepted : ending ≡ Refused → ⊥) where
+    (read : (name : List ℕ) → CannotRead store after name ending text → ⊥) (accepted : ending ≡ Refused → ⊥) (good : ending ≡ BadLog → ⊥) where
   -- a job over an era that ends so went on with what the logs of some era gave
   record AtNext (next : EraNext) : Type 0 where
     from : Option CheckpointState
     era : Era
     kind : Kind
     s : (kind_at kind).State
-    r : Result Recovered StateFault
+    r : Recovered
     ends : JobEnds store after (next from era (kind_at kind) s r).job ending text
 
   at_images : {A : Type 0} (names : List (List ℕ)) (next : List (List (List ℕ)) → Job)
@@ -137,21 +130,20 @@ module _ (store after : StoreView) (ending : Ending) (text : List ℕ)
   at_images (name ∷ names) next f (inr h) =
       at_images names (λ images. next (image_lines h.0 ∷ images)) (λ images. f (image_lines h.0 ∷ images)) h.1.1
 
+  given_reach : (next : EraNext) (from : Option CheckpointState) (era : Era) (kind : Kind) (s : (kind_at kind).State) (given : Result Recovered StateFault)
+      → JobEnds store after (Given next from era (kind_at kind) s given) ending text → AtNext next
+  given_reach next from era kind s (Ok r) h = record { from = from; era = era; kind = kind; s = s; r = r; ends = h }
+  given_reach next from era kind s (Err fault) h = absurd (good h.0)
+
   logs_reach : (next : EraNext) (from : Option CheckpointState) (era : Era) (threads : ℕ) (object : AnyObject)
-      → JobEnds store after (on_kind (λ kind s. after_stage (images_stage era.logs threads)
-      (λ images. next from era (kind_at kind) s (state_recovered (kind_at kind).means (expected_heads (kind_at kind).code era.text images) images))) object).job ending text
-      → AtNext next
+      → JobEnds store after (on_kind (λ kind s. OnObject next threads from era (kind_at kind) s) object).job ending text → AtNext next
   logs_reach next from era threads object =
-      each_kind {A = Task} (λ kind s. after_stage (images_stage era.logs threads)
-      (λ images. next from era (kind_at kind) s (state_recovered (kind_at kind).means (expected_heads (kind_at kind).code era.text images) images)))
-      (λ task. JobEnds store after task.job ending text → AtNext next)
-      (λ kind s. at_images (log_names era.logs 0 threads)
-      (λ images. (next from era (kind_at kind) s (state_recovered (kind_at kind).means (expected_heads (kind_at kind).code era.text images) images)).job)
-      (λ images h. record { from = from; era = era; kind = kind; s = s; r = state_recovered (kind_at kind).means (expected_heads (kind_at kind).code era.text images) images; ends = h })) object
+      each_kind {A = Task} (λ kind s. OnObject next threads from era (kind_at kind) s) (λ task. JobEnds store after task.job ending text → AtNext next)
+      (λ kind s. at_images (log_names era.logs 0 threads) (λ images. Onward next from era (kind_at kind) s images)
+      (λ images. given_reach next from era kind s (recovery_of (kind_at kind) era.text images))) object
 
   started_reach : (next : EraNext) (from : Option CheckpointState) (era : Era) (threads : ℕ) (r : Result AnyObject Refusal)
-      → JobEnds store after (on_started era r (λ k s. after_stage (images_stage era.logs threads)
-      (λ images. next from era k s (state_recovered k.means (expected_heads k.code era.text images) images)))).job ending text → AtNext next
+      → JobEnds store after (on_started era r (λ k s. OnObject next threads from era k s)).job ending text → AtNext next
   started_reach next from era threads (Ok object) h = logs_reach next from era threads object h
   started_reach next from era threads (Err refusal) h = absurd (accepted h.0)
 
@@ -251,11 +243,10 @@ module _ (store after : StoreView) (said : List ℕ) (ckpt : List ℕ) (code thr
   begun_file = headers_file after said (area_name ckpt (area_of c)) code c.text threads last store 0 threads area_file
 
 module _ (store after : StoreView) (ckpt : List ℕ) (threads : ℕ) (said : List ℕ) (from : Option CheckpointState) (era : Era) (kind : Kind) (s : (kind_at kind).State) where
-  at_next : (ending : Ending) (A : Type 0) → (ending ≡ BadLog → ⊥) → (r : Result Recovered StateFault)
+  at_next : (ending : Ending) (A : Type 0) → (ending ≡ BadLog → ⊥) → (r : Recovered)
       → ((c : CheckpointState) (report : List ℕ) → JobEnds store after ((begun_stage ckpt (kind_at kind).code threads c).job (λ _. Say Done report)) ending said → A)
       → JobEnds store after (checkpoint_task ckpt threads from era (kind_at kind) s r).job ending said → A
-  at_next ending A good (Err fault) f = λ h. absurd (good h.0)
-  at_next ending A good (Ok r) f = let k = kind_at kind in
+  at_next ending A good r f = let k = kind_at kind in
       let state = state_after k.means s r.nodes in
       let lines = k.wording.state_lines state in
       let c = checkpoint_after era (length r.nodes) lines in
@@ -268,12 +259,12 @@ module _ (store after : StoreView) (ckpt : List ℕ) (threads : ℕ) (said : Lis
 
 pub fence_fault : FenceFaultLaw
 fence_fault store after names threads said h =
-    let at = newest_reach store after Faulty said (λ name d. d) (λ e. cc e) names threads (checkpoint_task names.ckpt threads) h in
+    let at = newest_reach store after Faulty said (λ name d. d) (λ e. cc e) (λ e. cc e) names threads (checkpoint_task names.ckpt threads) h in
     at_next store after names.ckpt threads said at.from at.era at.kind at.s Faulty (HasFenceFault store after threads said) (λ e. cc e) at.r
     (λ c report. begun_fence store after said names.ckpt (kind_at at.kind).code threads c report) at.ends
 
 pub file_fault : FileFaultLaw
 file_fault store after names threads said h =
-    let at = newest_reach store after WriteFault said (λ name d. d) (λ e. cc e) names threads (checkpoint_task names.ckpt threads) h in
+    let at = newest_reach store after WriteFault said (λ name d. d) (λ e. cc e) (λ e. cc e) names threads (checkpoint_task names.ckpt threads) h in
     at_next store after names.ckpt threads said at.from at.era at.kind at.s WriteFault (HasFileFault store after said) (λ e. cc e) at.r
     (λ c report. begun_file store after said names.ckpt (kind_at at.kind).code threads c report) at.ends

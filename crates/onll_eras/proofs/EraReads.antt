@@ -2,7 +2,8 @@
 
 use Rattle.std.proofs.Common.{ℕ, zero, suc, ◌≡◌, Bool, true, List, [], ◌∷◌, length, refl, sym, ap, subst, ◌⊎◌, inl, inr, ⊎_elim, Ok, Err, Result, Option}
 use Rattle.onll_log.specs.ImageFile.{image_lines}
-use Rattle.onll_merge.specs.Recovered.{expected_heads, state_recovered}
+use Rattle.onll_merge.specs.declared.fault.StateFault.{StateFault}
+use Rattle.onll_merge.specs.Recovered.{Recovered}
 use Rattle.onll_text.specs.declared.any_object.AnyObject.{AnyObject}
 use Rattle.onll_text.specs.declared.any_object.Kind.{Kind}
 use Rattle.onll_text.specs.Refusal.{Refusal}
@@ -12,7 +13,7 @@ use Rattle.onll_outside.specs.Views.{StoreView}
 use Rattle.onll_task.specs.declared.ending.Ending.{Ending}
 use Rattle.onll_task.specs.declared.ending.Ending.TheVariants.{Done, Refused}
 use Rattle.onll_open.specs.Names.{log_name, log_names}
-use Rattle.onll_task.specs.Images.{images_stage}
+use Rattle.onll_task.specs.Recovering.{on_recovery, recovery_of, recovery_stage}
 use Rattle.onll_task.specs.Reading.{FileIsTold}
 use Rattle.onll_task.specs.Writing.{FilesStay}
 use Rattle.onll_task.specs.Job.{Job, Read, JobCut, JobEnds, DecidesWhere, on_value}
@@ -26,14 +27,17 @@ use Rattle.onll_eras.specs.EraJob.{EraNext, started, on_started, era_task, with_
 use Rattle.onll_eras.specs.Restored.{TellLogs, RestoredTo, Restores, era_in, newest_by}
 use Rattle.onll_eras.proofs.EachObject.{at_object, to_object, each_object, job_of_kind, job_of_object}
 
--- what goes on with the images of an era's logs
+-- what goes on with what an era's logs give
+abbrev pub Given : EraNext → Option CheckpointState → Era → (k : ObjectKind) → k.State → Result Recovered StateFault → Job
+Given next from era k s given = on_recovery (λ r. (next from era k s r).job) given
+
+-- what goes on with their images
 abbrev pub Onward : EraNext → Option CheckpointState → Era → (k : ObjectKind) → k.State → List (List (List ℕ)) → Job
-Onward next from era k s images = (next from era k s (state_recovered k.means (expected_heads k.code era.text images) images)).job
+Onward next from era k s images = Given next from era k s (recovery_of k era.text images)
 
 -- the task over an object of the era
 abbrev pub OnObject : EraNext → (threads : ℕ) → Option CheckpointState → Era → (k : ObjectKind) → k.State → Task
-OnObject next threads from era k s =
-    after_stage (images_stage era.logs threads) (λ images. next from era k s (state_recovered k.means (expected_heads k.code era.text images) images))
+OnObject next threads from era k s = after_stage (recovery_stage k era.text era.logs threads) (next from era k s)
 
 -- the job after INIT was read, and after the area of even numbers too, and after both
 abbrev pub after_odd : EraNames → (threads : ℕ) → EraNext → List ℕ → AnyObject → (even odd : List ℕ) → Job

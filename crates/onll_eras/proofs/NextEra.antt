@@ -9,11 +9,12 @@ use Rattle.onll_words.specs.Texts.{line_text}
 use Rattle.onll_model.specs.Trace.{state_after}
 use Rattle.onll_log.specs.Head.{head_for, head_line}
 use Rattle.onll_merge.specs.declared.fault.StateFault.{StateFault}
-use Rattle.onll_merge.specs.Recovered.{Recovered, expected_heads, state_recovered}
+use Rattle.onll_merge.specs.Recovered.{Recovered}
 use Rattle.onll_text.specs.declared.any_object.AnyObject.{AnyObject}
 use Rattle.onll_text.specs.declared.any_object.Kind.{Kind}
 use Rattle.onll_text.specs.Init.{object_at}
-use Rattle.onll_text.specs.Kinds.{ObjectKind, calls_of, kind_at, on_object}
+use Rattle.onll_text.specs.CallKind.{calls_of}
+use Rattle.onll_text.specs.Kinds.{ObjectKind, kind_at, on_object}
 use Rattle.onll_text.specs.PrintsBack.{prints_back, state_text}
 use Rattle.onll_text.specs.Reports.{SaysOnly}
 use Rattle.onll_text.proofs.EachKind.{known}
@@ -24,6 +25,7 @@ use Rattle.onll_task.specs.declared.ending.Ending.{Ending}
 use Rattle.onll_task.specs.declared.ending.Ending.TheVariants.{Done, BadLog}
 use Rattle.onll_open.specs.Names.{log_name}
 use Rattle.onll_task.specs.Writing.{FilesStay, AllButStay, written}
+use Rattle.onll_task.specs.Recovering.{recovery_of}
 use Rattle.onll_task.specs.Job.{Job, Say, Write, Keep, JobCut, JobEnds, DecidesWhere}
 use Rattle.onll_task.specs.Doing.{Task, after_stage, assured_stage, report_task, say_task}
 use Rattle.onll_task.proofs.Jobs.{decided_where}
@@ -39,7 +41,7 @@ use Rattle.onll_eras.specs.Restored.{RestoredTo, Restores, era_in, newest_by}
 use Rattle.onll_eras.specs.Begun.{AreNamesApart, IsPrinted, IsEraAfter, IsBegunEra, LeavesEra}
 use Rattle.onll_eras.specs.Laws.{checkpoint_job, HasBegunNext}
 use Rattle.onll_eras.proofs.EachObject.{at_object, to_object, each_object, both_objects}
-use Rattle.onll_eras.proofs.EraReads.{Onward, ends_read, restores_of, decides_read, cut_read}
+use Rattle.onll_eras.proofs.EraReads.{Given, Onward, ends_read, restores_of, decides_read, cut_read}
 use Rattle.onll_eras.proofs.BegunFiles.{begun_leaves, begun_ends}
 use Rattle.onll_eras.proofs.StateKept.{keeps_era, next_era}
 
@@ -136,7 +138,7 @@ module _ (names : EraNames) (threads : ℕ) (few : threads ≤ 16) (from : Optio
 
     kind_cut : JobCut store after (Onward (checkpoint_task names.ckpt threads) from era (kind_at kind) s images) → Left
     kind_cut cut = task_cut (has_next era (length h.recovered.nodes)) refl
-        (subst (λ (v : Result Recovered StateFault). JobCut store after (checkpoint_task names.ckpt threads from era (kind_at kind) s v).job) h.gives cut)
+        (subst (λ (v : Result Recovered StateFault). JobCut store after (Given (checkpoint_task names.ckpt threads) from era (kind_at kind) s v)) h.gives cut)
 
 pub checkpoint_cut : (store after : StoreView) (names : EraNames) (threads place : ℕ) (text : List ℕ) → store.tells ≡ true → 1 ≤ threads → threads ≤ 16
     → (r : Restores store names threads place text) → AreNamesApart names (next_area (era_in r)) threads
@@ -168,7 +170,7 @@ record HasNext (store after : StoreView) (names : EraNames) (threads : ℕ) (era
 module _ (names : EraNames) (threads : ℕ) (few : threads ≤ 16) (from : Option CheckpointState) (era : Era) (images : List (List (List ℕ))) (store after : StoreView) (tells : store.tells ≡ true)
     (said : List ℕ) (kind : Kind) (s : (kind_at kind).State) where
   abbrev given : Result Recovered StateFault
-  given = state_recovered (kind_at kind).means (expected_heads (kind_at kind).code era.text images) images
+  given = recovery_of (kind_at kind) era.text images
 
   abbrev Has : Type 0
   Has = HasNext store after names threads era images said (object_at kind s)
@@ -189,7 +191,7 @@ module _ (names : EraNames) (threads : ℕ) (few : threads ≤ 16) (from : Optio
         next = next_is kind era s r t h.0 after names.ckpt threads ends.1;
       }
 
-  by_result : (v : Result Recovered StateFault) → given ≡ v → JobEnds store after (checkpoint_task names.ckpt threads from era (kind_at kind) s v).job Done said → Has
+  by_result : (v : Result Recovered StateFault) → given ≡ v → JobEnds store after (Given (checkpoint_task names.ckpt threads) from era (kind_at kind) s v) Done said → Has
   by_result (Err fault) e h = absurd (let no : Done ≡ BadLog = h.0 in (cc))
   by_result (Ok r) e h = task_done r (has_next era (length r.nodes)) e refl h
 
@@ -238,7 +240,7 @@ kind_decides store names threads from era images place text few kind s h =
     headers_decide store (area_name names.ckpt (area_of c)) (kind_at kind).code c.text threads 0 threads
     (Write (text_name names.ckpt (area_of c)) c.text (Keep (area_name names.ckpt (area_of c)) (checkpoint_image c (lines_for (length c.text))) 2 (area_said (area_of c)) (Say Done (report_of (kind_at kind) era s r)))) said
     (λ mid. (refl, (refl, report))) in
-    subst (λ (v : Result Recovered StateFault). DecidesWhere true store (checkpoint_task names.ckpt threads from era (kind_at kind) s v).job Done said) (sym h.gives)
+    subst (λ (v : Result Recovered StateFault). DecidesWhere true store (Given (checkpoint_task names.ckpt threads) from era (kind_at kind) s v) Done said) (sym h.gives)
     (subst (λ (b : Bool). DecidesWhere true store (task_by b names.ckpt threads era (kind_at kind) s r).job Done said) (sym left) begins)
 
 pub checkpoint_is_done : (store after : StoreView) (names : EraNames) (threads place : ℕ) (text : List ℕ) (ending : Ending) (said : List ℕ)

@@ -10,7 +10,7 @@ use Rattle.onll_words.specs.Texts.{line_text}
 use Rattle.onll_model.specs.Trace.{state_after}
 use Rattle.onll_log.specs.ImageFile.{image_lines}
 use Rattle.onll_merge.specs.declared.fault.StateFault.{StateFault}
-use Rattle.onll_merge.specs.Recovered.{Recovered, expected_heads, state_recovered}
+use Rattle.onll_merge.specs.Recovered.{Recovered}
 use Rattle.onll_text.specs.declared.any_object.AnyObject.{AnyObject}
 use Rattle.onll_text.specs.declared.any_object.Kind.{Kind}
 use Rattle.onll_text.specs.Init.{object_at, init_of}
@@ -23,6 +23,7 @@ use Rattle.onll_task.specs.declared.ending.Ending.TheVariants.{Done, BadLog}
 use Rattle.onll_open.specs.Names.{log_name}
 use Rattle.onll_task.specs.Reading.{FileIsTold}
 use Rattle.onll_task.specs.Job.{DecidesWhere, JobEnds}
+use Rattle.onll_task.specs.Recovering.{recovery_of}
 use Rattle.onll_task.specs.Doing.{Task, report_task, say_task}
 use Rattle.onll_checkpoint.specs.Checkpoint.{CheckpointState}
 use Rattle.onll_areas.specs.Newest.{newest}
@@ -33,7 +34,7 @@ use Rattle.onll_eras.specs.EraJob.{started, either_task, restored_task}
 use Rattle.onll_eras.specs.Restored.{TellLogs, RestoredTo, Restores, era_in, newest_by}
 use Rattle.onll_eras.specs.Laws.{restore_job, SaysPlace, DecidesRestore, PrintsWhatIs}
 use Rattle.onll_eras.proofs.EachObject.{at_object, to_object, both_objects}
-use Rattle.onll_eras.proofs.EraReads.{Onward, ends_read, restores_of, decides_read}
+use Rattle.onll_eras.proofs.EraReads.{Given, Onward, ends_read, restores_of, decides_read}
 
 -- ---- the report
 place_in_is : (names : EraNames) (bytes : List ℕ) (from : Option CheckpointState) → place_in (newest_in from) ≡ (era_of names bytes from).place
@@ -78,12 +79,12 @@ says_it store names bytes from images place text kind s h =
     let r : Recovered = h.recovered in
     let within : nat_lt (era.place + length r.nodes) (2 ^ 64) ≡ true = lt_test (era.place + length r.nodes) (2 ^ 64) (let is = h.place_is in let fits = h.within in omega (arith, is, fits)) in
     let said : List ℕ = report_of k from s r in
-    let chosen : DecidesWhere false store (restored_task from era k s (Ok r)).job Done said =
+    let chosen : DecidesWhere false store (Given restored_task from era k s (Ok r)) Done said =
     subst (λ (b : Bool). DecidesWhere false store (restored_by b from k s r).job Done said) (sym within) (refl, refl) in
     record {
       said = said;
       decides = to_object (λ k s. DecidesWhere false store (Onward restored_task from era k s images) Done said) kind s
-          (subst (λ (v : Result Recovered StateFault). DecidesWhere false store (restored_task from era (kind_at kind) s v).job Done said) (sym h.gives) chosen);
+          (subst (λ (v : Result Recovered StateFault). DecidesWhere false store (Given restored_task from era (kind_at kind) s v) Done said) (sym h.gives) chosen);
       place_said = record {
         front = found_lines k.means k.wording (said_with k from s r);
         says = report_is k names bytes from s r
@@ -110,7 +111,7 @@ module _ (store after : StoreView) (names : EraNames) (bytes said : List ℕ) (f
   era = era_of names bytes from
 
   abbrev given : Result Recovered StateFault
-  given = state_recovered (kind_at kind).means (expected_heads (kind_at kind).code era.text images) images
+  given = recovery_of (kind_at kind) era.text images
 
   in_range : (r : Recovered) (b : Bool) → given ≡ Ok r → nat_lt (era.place + length r.nodes) (2 ^ 64) ≡ b
       → JobEnds store after (restored_by b from (kind_at kind) s r).job Done said
@@ -130,7 +131,7 @@ module _ (store after : StoreView) (names : EraNames) (bytes said : List ℕ) (f
         };
       }
 
-  by_result : (v : Result Recovered StateFault) → given ≡ v → JobEnds store after (restored_task from era (kind_at kind) s v).job Done said → Printed from era images said (object_at kind s)
+  by_result : (v : Result Recovered StateFault) → given ≡ v → JobEnds store after (Given restored_task from era (kind_at kind) s v) Done said → Printed from era images said (object_at kind s)
   by_result (Err fault) e h = absurd (let no : Done ≡ BadLog = h.0 in (cc))
   by_result (Ok r) e h = in_range r (nat_lt (era.place + length r.nodes) (2 ^ 64)) e refl h
 
@@ -176,7 +177,7 @@ restored_once era images place other text more object g h =
     each : (kind : Kind) (s : (kind_at kind).State) → RestoredTo (kind_at kind) era s images place text × RestoredTo (kind_at kind) era s images other more → (place ≡ other) × (text ≡ more)
     each kind s both =
         let same : both.0.recovered ≡ both.1.recovered =
-        ok_once both.0.recovered both.1.recovered (state_recovered (kind_at kind).means (expected_heads (kind_at kind).code era.text images) images) both.0.gives both.1.gives in (
+        ok_once both.0.recovered both.1.recovered (recovery_of (kind_at kind) era.text images) both.0.gives both.1.gives in (
           both.0.place_is ∙ (ap (λ (r : Recovered). era.place + length r.nodes) same ∙ sym both.1.place_is),
           both.0.state ∙ (ap (λ (r : Recovered). state_text (kind_at kind).wording (state_after (kind_at kind).means s r.nodes)) same ∙ sym both.1.state),
         )

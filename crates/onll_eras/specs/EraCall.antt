@@ -3,13 +3,13 @@
 use Rattle.std.specs.Prelude.{ℕ, List, Result, length}
 use Rattle.std.specs.declared.vec.Vec.{Vec}
 use Rattle.onll_areas.specs.Newest.{newest}
-use Rattle.onll_merge.specs.Recovered.{Recovered, expected_heads, state_recovered}
+use Rattle.onll_merge.specs.Recovered.{Recovered}
 use Rattle.onll_outside.specs.Views.{StoreView}
 use Rattle.onll_text.specs.declared.any_object.AnyObject.{AnyObject}
 use Rattle.onll_text.specs.Kinds.{ObjectKind}
 use Rattle.onll_task.specs.declared.answer.Stop.{Stop}
 use Rattle.onll_task.specs.Doing.{Task, Work, Fulfils, after_stage}
-use Rattle.onll_task.specs.Images.{images_stage}
+use Rattle.onll_task.specs.Recovering.{recovery_stage}
 use Rattle.onll_eras.specs.declared.era.Asked.{Asked}
 use Rattle.onll_eras.specs.declared.era.Asked.TheVariants as asks
 use Rattle.onll_eras.specs.declared.era.EraCall.{EraCall}
@@ -56,9 +56,8 @@ recovered_by call era k state r = with_recovered call.asked (names_of call.files
 
 -- the logs of the era are recovered over this state
 abbrev pub found_task : EraCall → NewestEra → (k : ObjectKind) → k.State → Task
-found_task call era k s = after_stage (images_stage era.logs.now call.threads)
-    (λ images. call_next call era.newest.now (era_found era) k s
-    (state_recovered k.means (expected_heads k.code era.text.now images) images))
+found_task call era k s =
+    after_stage (recovery_stage k era.text.now era.logs.now call.threads) (call_next call era.newest.now (era_found era) k s)
 
 -- what a function does over a state of a kind
 pub record DoesFound {A : Type 0} (call : EraCall) (era : NewestEra) (k : ObjectKind) (s : k.State) (store after : StoreView)

@@ -5,8 +5,7 @@ use Rattle.std.specs.List.{flat_map}
 use Rattle.onll_words.specs.Texts.{line_text}
 use Rattle.onll_model.specs.Trace.{state_after}
 use Rattle.onll_log.specs.Head.{head_line, head_for}
-use Rattle.onll_merge.specs.declared.fault.StateFault.{StateFault}
-use Rattle.onll_merge.specs.Recovered.{Recovered, expected_heads, state_recovered}
+use Rattle.onll_merge.specs.Recovered.{Recovered}
 use Rattle.onll_text.specs.declared.any_object.AnyObject.{AnyObject}
 use Rattle.onll_text.specs.Refusal.{Refusal}
 use Rattle.onll_text.specs.Init.{init_of}
@@ -19,11 +18,10 @@ use Rattle.onll_task.specs.declared.ending.Ending.TheVariants.{Refused, BadLog}
 use Rattle.onll_text.specs.Lines.{fence_line}
 use Rattle.onll_task.specs.Printed.{refusal_text}
 use Rattle.onll_open.specs.Names.{log_name, log_names}
-use Rattle.onll_task.specs.Images.{images_stage}
+use Rattle.onll_task.specs.Recovering.{recovery_stage}
 use Rattle.onll_task.specs.Job.{Job, Read, Keep}
 use Rattle.onll_task.specs.Doing.{Task, Work, Stage, after_stage, whole_stage, report_task, say_task, assured_stage, keep_stage, write_stage, then_stage}
 use Rattle.onll_task.specs.RecoverySaid.{data_with}
-use Rattle.onll_task.specs.Faults.{fault_line}
 use Rattle.onll_checkpoint.specs.Checkpoint.{CheckpointState}
 use Rattle.onll_checkpoint.specs.Text.{lines_for}
 use Rattle.onll_checkpoint.specs.Grammar.{checkpoint_image}
@@ -72,14 +70,13 @@ on_started era (Err refusal) next = say_task Refused (refusal_text era.source re
 
 -- what the logs of an era give goes on
 abbrev pub EraNext : Type 1
-EraNext = Option CheckpointState → Era → (k : ObjectKind) → k.State → Result Recovered StateFault → Task
+EraNext = Option CheckpointState → Era → (k : ObjectKind) → k.State → Recovered → Task
 
 -- the logs of the era of this checkpoint are recovered over its object
 abbrev pub era_task : EraNames → (bytes : List ℕ) → ℕ → AnyObject → Option CheckpointState → EraNext → Task
 era_task names bytes threads first from next =
     let era = era_of names bytes from in
-    on_started era (started first from) (λ k s. after_stage (images_stage era.logs threads)
-    (λ images. next from era k s (state_recovered k.means (expected_heads k.code era.text images) images)))
+    on_started era (started first from) (λ k s. after_stage (recovery_stage k era.text era.logs threads) (next from era k s))
 
 -- the initial state, the areas and then the logs of the newest era are read
 abbrev pub with_newest : EraNames → ℕ → EraNext → Task
@@ -102,10 +99,9 @@ restored_with from era k state r =
     (λ text. SaysOnly (restore_lines k.means k.wording) (RestoreReads k.means k.wording) text said))
     (say_task BadLog at_end_text)
 
--- the report of a restoration, or why there is none
+-- the report of a restoration
 abbrev pub restored_task : EraNext
-restored_task from era k s (Err fault) = say_task BadLog (fault_line fault)
-restored_task from era k s (Ok r) = restored_with from era k (state_after k.means s r.nodes) r
+restored_task from era k s r = restored_with from era k (state_after k.means s r.nodes) r
 
 abbrev pub restore_work : EraNames → ℕ → Work
 restore_work names threads = record { task = with_newest names threads restored_task; writes = [] }
@@ -166,10 +162,9 @@ checkpoint_with ckpt threads era k state nodes =
     (begun_task ckpt threads k state (checkpoint_after era nodes (k.wording.state_lines state)))
     (say_task BadLog at_end_text)
 
--- the next era begins with what the logs of this one gave, or it is said why not
+-- the next era begins with what the logs of this one gave
 abbrev pub checkpoint_task : (ckpt : List ℕ) → ℕ → EraNext
-checkpoint_task ckpt threads from era k s (Err fault) = say_task BadLog (fault_line fault)
-checkpoint_task ckpt threads from era k s (Ok r) =
+checkpoint_task ckpt threads from era k s r =
     checkpoint_with ckpt threads era k (state_after k.means s r.nodes) (length r.nodes)
 
 -- the files that it may write: those of the era of either area

@@ -5,13 +5,14 @@ use Rattle.std.specs.List.{flat_map}
 use Rattle.onll_words.specs.Texts.{line_text}
 use Rattle.onll_model.specs.Trace.{state_after}
 use Rattle.onll_log.specs.ImageFile.{image_lines}
-use Rattle.onll_merge.specs.Recovered.{Recovered, expected_heads, state_recovered}
+use Rattle.onll_merge.specs.Recovered.{Recovered}
 use Rattle.onll_text.specs.declared.any_object.AnyObject.{AnyObject}
 use Rattle.onll_text.specs.Init.{init_of}
 use Rattle.onll_text.specs.Kinds.{ObjectKind, on_object}
 use Rattle.onll_outside.specs.Views.{StoreView}
 use Rattle.onll_open.specs.Names.{log_name}
 use Rattle.onll_task.specs.Reading.{FileIsTold}
+use Rattle.onll_task.specs.Recovering.{recovery_of}
 use Rattle.onll_areas.specs.Newest.{newest}
 use Rattle.onll_checkpoint.specs.Checkpoint.{CheckpointState}
 use Rattle.onll_eras.specs.EraJob.{started}
@@ -33,7 +34,7 @@ TellLogs store logs t (image ∷ images) = TellsLines store (log_name logs t) im
 pub record RestoredTo (k : ObjectKind) (era : Era) (s : k.State) (images : List (List (List ℕ))) (place : ℕ) (text : List ℕ)
     : Type 0 where
   pub recovered : Recovered
-  pub gives : state_recovered k.means (expected_heads k.code era.text images) images ≡ Ok recovered
+  pub gives : recovery_of k era.text images ≡ Ok recovered
   pub place_is : place ≡ era.place + length recovered.nodes
   pub within : place < 2 ^ 64
   pub state : text ≡ flat_map line_text (k.wording.state_lines (state_after k.means s recovered.nodes))

@@ -1,9 +1,9 @@
 //! What leads to the newest era: the initial state, both areas, the object of the era's text and its logs are read, in this order.
 
-ghost use Rattle.std.specs.Prelude.{[], ◌∷◌, ◌≡◌, ◌≤◌, ◌⊎◌, length, true, IfOk, OnOk, MatchResult, Ok, Err};
+ghost use Rattle.std.specs.Prelude.{[], ◌≡◌, ◌≤◌};
 ghost use Rattle.onll_model.specs.Limits.{most_threads};
 ghost use Rattle.onll_model.specs.Recovered.{operations_front};
-ghost use Rattle.onll_merge.specs.Recovered.{recovered_in, expected_heads, state_recovered};
+ghost use Rattle.onll_merge.specs.Recovered.{recovered_in};
 ghost use Rattle.onll_text.specs.Init.{init_of};
 ghost use Rattle.onll_text.specs.Kinds.{kind_by, on_object};
 ghost use Rattle.onll_areas.specs.Newest.{newest};
@@ -20,11 +20,10 @@ use crate::names::EraFiles;
 use crate::restoring::restored;
 use onll_areas::{newest, read_area};
 use onll_checkpoint::Checkpoint;
-use onll_log::TestedImage;
-use onll_merge::{Recovery, StateFault, expected_heads};
+use onll_merge::Recovery;
 use onll_open::log_name;
 use onll_outside::{OutsideFault, Store};
-use onll_task::{InitText, Stop, bad_logs, init_file, read_images, recover_tested};
+use onll_task::{InitText, Stop, init_file, recover_files};
 use onll_text::{AnyObject, TextFault, Texted, read_init, with_object};
 use std::alloc::Global;
 
@@ -50,30 +49,6 @@ fn over_recovery<O: Texted, S: Store>(
     }
 }
 
-/// What is asked of what these images give, over the era's object.
-fn over_images<O: Texted, S: Store>(
-    alloc: Global,
-    object: &mut O,
-    images: &[TestedImage<'_>],
-    era: NewestEra<'_>,
-    call: EraCall<'_>,
-    store: &mut S,
-) -> Result<Vec<u8>, Stop>
-    requires images { (1 ≤ length images.now) × (length images.now ≤ most_threads) }
-    requires few { call.threads ≤ most_threads }
-    ensures { let k = kind_by O.means O.wording O.CODE in
-        let found = state_recovered k.means (expected_heads k.code era.entry.text.now images.now) images.now in
-        Fulfils (call_work call.entry).writes (S.seen store.old) (S.seen store.new)
-        (call_next call.entry era.entry.newest.now (era_found era.entry) k object.old found) result }
-{
-    let heads = expected_heads(alloc, O::CODE, era.text, images)?;
-    match recover_tested(alloc, object, &heads, images) {
-        Ok(recovery) => over_recovery(alloc, object, &recovery, era, call, store),
-        Err(StateFault::NoMemory) => Err(Stop::NoMemory),
-        Err(fault) => Err(bad_logs(alloc, fault)),
-    }
-}
-
 /// What is asked of the era's logs, over its object.
 fn over_one<O: Texted + Drop, S: Store>(
     alloc: Global,
@@ -86,8 +61,8 @@ fn over_one<O: Texted + Drop, S: Store>(
     ensures { let k = kind_by O.means O.wording O.CODE in
         DoesFound call.entry era.entry k object (S.seen store.old) (S.seen store.new) result }
 {
-    match read_images(alloc, era.logs, call.threads, store) {
-        Ok(images) => over_images(alloc, &mut object, &images.images, era, call, store),
+    match recover_files(alloc, &mut object, era.text, era.logs, call.threads, store) {
+        Ok(recovery) => over_recovery(alloc, &object, &recovery, era, call, store),
         Err(stop) => Err(stop),
     }
 }

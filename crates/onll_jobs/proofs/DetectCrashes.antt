@@ -10,10 +10,8 @@ use Rattle.onll_model.specs.declared.call.Call.TheVariants.{Update}
 use Rattle.onll_model.specs.declared.call.CallEnd.TheVariants.{Answered}
 use Rattle.onll_model.specs.declared.node.Node.{Node}
 use Rattle.onll_model.specs.Legal.{IsLegal}
-use Rattle.onll_model.specs.Object.{Behaviour}
-use Rattle.onll_merge.specs.declared.fault.StateFault.{StateFault}
 use Rattle.onll_merge.specs.Merge.{top_of}
-use Rattle.onll_merge.specs.Recovered.{Recovered, recovered_with, expected_heads, state_recovered}
+use Rattle.onll_merge.specs.Recovered.{Recovered, recovered_with}
 use Rattle.onll_merge.proofs.Backs.{merge-back}
 use Rattle.onll_start.specs.Heads.{created_heads}
 use Rattle.onll_core.specs.Core.{CoreState}
@@ -28,7 +26,6 @@ use Rattle.onll_text.specs.Init.{init_of}
 use Rattle.onll_text.specs.Kinds.{ObjectKind, kind_at}
 use Rattle.onll_text.specs.Lines.{call_line, recovered_line}
 use Rattle.onll_text.specs.Refusal.{Refusal}
-use Rattle.onll_text.specs.Wording.{Wording}
 use Rattle.onll_text.proofs.EachKind.{kind_goes}
 use Rattle.onll_outside.specs.Views.{StoreView}
 use Rattle.onll_task.specs.declared.ending.Ending.TheVariants.{Done}
@@ -38,7 +35,9 @@ use Rattle.onll_open.specs.Names.{log_names}
 use Rattle.onll_task.specs.Job.{Job, Threads, Decides, on_value}
 use Rattle.onll_task.specs.Printed.{exit_status}
 use Rattle.onll_task.specs.Reading.{FileIsTold}
-use Rattle.onll_recovery.specs.DetectJob.{scripts_lines, detect_lines, stranger_to, nodes_task, detected_task, outcomes_task, detect_images_task, detect_task}
+use Rattle.onll_task.specs.Recovering.{on_recovery, recovery_of}
+use Rattle.onll_task.proofs.Recovering.{recovery_decides}
+use Rattle.onll_recovery.specs.DetectJob.{scripts_lines, detect_lines, stranger_to, nodes_task, detected_task, detect_logs_task, detect_task}
 use Rattle.onll_jobs.specs.Command.{Detect, form_of}
 use Rattle.onll_jobs.specs.DetectPromises.{IsLeftByFirst, TellsLeft, TellsCrashes}
 use Rattle.onll_jobs.specs.Over.{DetectOver, over_task, object_task, over_work}
@@ -51,13 +50,17 @@ use Rattle.onll_jobs.proofs.DetectedNodes.{front_all}
 use Rattle.onll_jobs.proofs.ExitCauses.{decided_exactly}
 use Rattle.onll_jobs.proofs.RecoverCrashes.{decides_images}
 
-detected_decides : {State Op Query Reply : Type 0} (b : Behaviour State Op Query Reply) (w : Wording State Op Query Reply) (store : StoreView) (s : State)
-    (scripts : List (List (Call State Op Query Reply))) (found : Result Recovered StateFault) (r : Recovered) → found ≡ Ok r → stranger_to b scripts r.nodes ≡ None
-    → Decides store (detected_task b w s scripts found).job Done (flat_map line_text (detect_lines w (table_of b s r.nodes) scripts (length r.nodes)))
-detected_decides b w store s scripts found r e none =
-    let text = flat_map line_text (detect_lines w (table_of b s r.nodes) scripts (length r.nodes)) in
-    subst (λ (x : Result Recovered StateFault). Decides store (detected_task b w s scripts x).job Done text) (sym e)
-    (subst (λ (x : Option ℕ). Decides store (nodes_task b w s scripts r.nodes x).job Done text) (sym none) (refl, refl))
+-- how `detect` goes on with these images
+abbrev with_images : (k : ObjectKind) → List ℕ → k.State → List (List (Call k.State k.Op k.Query k.Reply)) → List (List (List ℕ)) → Job
+with_images k init s scripts images = on_recovery (λ r. (detected_task k s scripts r).job) (recovery_of k init images)
+
+images_tell : (k : ObjectKind) (init : List ℕ) (store : StoreView) (s : k.State) (scripts : List (List (Call k.State k.Op k.Query k.Reply))) (images : List (List (List ℕ))) (r : Recovered)
+    → recovery_of k init images ≡ Ok r → stranger_to k.means scripts r.nodes ≡ None
+    → Decides store (with_images k init s scripts images) Done (flat_map line_text (detect_lines k.wording (table_of k.means s r.nodes) scripts (length r.nodes)))
+images_tell k init store s scripts images r e none =
+    let text = flat_map line_text (detect_lines k.wording (table_of k.means s r.nodes) scripts (length r.nodes)) in
+    recovery_decides (λ r. (detected_task k s scripts r).job) store (recovery_of k init images) r Done text e
+    (subst (λ (x : Option ℕ). Decides store (nodes_task k.means k.wording s scripts r.nodes x).job Done text) (sym none) (refl, refl))
 
 -- the call says what the told files decide
 module _ (seen : Seen) (x : Exit) (says : ExitSays seen x) (init logs bytes : List ℕ) (names : List (List ℕ)) (object : AnyObject)
@@ -119,10 +122,10 @@ module _ (seen : Seen) (x : Exit) (says : ExitSays seen x) (init logs bytes : Li
         let ran : map script_of core.threads ≡ scripts = same_scripts ∙ first.ran in
         let strange : stranger_to b scripts nodes ≡ None =
         subst (λ (calls : List (List (Call k.State k.Op k.Query k.Reply))). stranger_to b calls nodes ≡ None) ran (none_strange b s core nodes kept_nodes) in
-        let goes : List (List (List ℕ)) → Job = λ images. (outcomes_task k bytes s scripts images).job in
+        let goes : List (List (List ℕ)) → Job = with_images k bytes s scripts in
         let many : length left.images ≡ length scripts =
         left_many k bytes s seen.store logs (length names) left ∙ (sym left.many ∙ ap length first.ran) in
-        let recovered = detected_decides b w seen.store s scripts (state_recovered b (expected_heads k.code bytes left.images) left.images) r held.recovered strange in
+        let recovered = images_tell k bytes seen.store s scripts left.images r held.recovered strange in
         let read = subst (λ (n : ℕ). Decides seen.store (each_job lines_stage (log_names logs 0 n) goes) Done text) many
         (decides_images seen.store logs 0 left.images goes Done text left.files recovered) in
         record {
@@ -135,7 +138,7 @@ module _ (seen : Seen) (x : Exit) (says : ExitSays seen x) (init logs bytes : Li
               (subst (λ (calls : List (List (Call k.State k.Op k.Query k.Reply))). Contains (scripts_lines w table 0 calls) line) ran
               (returned_told b s core nodes kept_nodes t th at i op q call is w));
           says = say text
-              (decides_scripts Done text w seen.store names scripts (λ scripts. (detect_images_task k bytes s logs scripts).job) first.tell read);
+              (decides_scripts Done text w seen.store names scripts (λ scripts. (detect_logs_task k bytes s logs scripts).job) first.tell read);
         }
 
 pub tells_crashes : (seen : Seen) (x : Exit) → ExitSays seen x → TellsCrashes seen (exit_status x)

@@ -1,11 +1,10 @@
 -- How `detect` ends where each file is read and no text is refused: it is done, or the logs are bad.
 
-use Rattle.std.proofs.Common.{ℕ, List, ◌≡◌, ◌⊎◌, inl, inr, length, Option, Some, None, Result, Ok, Err, subst}
+use Rattle.std.proofs.Common.{ℕ, List, ◌≡◌, ◌⊎◌, inl, inr, ⊎_elim, length, Option, Some, None, subst}
 use Rattle.onll_model.specs.declared.call.Call.{Call}
 use Rattle.onll_model.specs.declared.node.Node.{Node}
 use Rattle.onll_model.specs.Object.{Behaviour}
-use Rattle.onll_merge.specs.declared.fault.StateFault.{StateFault}
-use Rattle.onll_merge.specs.Recovered.{Recovered, expected_heads, state_recovered}
+use Rattle.onll_merge.specs.Recovered.{Recovered}
 use Rattle.onll_text.specs.Init.{init_of}
 use Rattle.onll_text.specs.Kinds.{ObjectKind, kind_at}
 use Rattle.onll_text.specs.Wording.{Wording}
@@ -15,8 +14,10 @@ use Rattle.onll_task.specs.declared.ending.Ending.{Ending}
 use Rattle.onll_task.specs.declared.ending.Ending.TheVariants.{Done, Usage, BadLog, Faulty, Judged}
 use Rattle.onll_task.specs.Doing.{Task}
 use Rattle.onll_open.specs.Names.{log_names}
-use Rattle.onll_task.specs.Job.{JobEnds, Threads}
-use Rattle.onll_recovery.specs.DetectJob.{stranger_to, nodes_task, detected_task, outcomes_task, detect_images_task, detect_task}
+use Rattle.onll_task.specs.Job.{Job, JobEnds, Threads}
+use Rattle.onll_task.specs.Recovering.{on_recovery, recovery_of}
+use Rattle.onll_task.proofs.Recovering.{recovery_ends}
+use Rattle.onll_recovery.specs.DetectJob.{stranger_to, nodes_task, detected_task, detect_logs_task, detect_task}
 use Rattle.onll_jobs.specs.Command.{Detect, form_of}
 use Rattle.onll_jobs.specs.Over.{DetectOver, over_task, object_task}
 use Rattle.onll_jobs.specs.Says.{job_of, PutWhole}
@@ -31,19 +32,15 @@ module _ (after : StoreView) (ending : Ending) (text : List ℕ) (said : IsSaid 
     nodes_said nodes None h = inl h.0
     nodes_said nodes (Some place) h = inr h.0
 
-    detected_said : (found : Result Recovered StateFault) → JobEnds store after (detected_task b w s scripts found).job ending text
-        → (ending ≡ Done) ⊎ (ending ≡ BadLog)
-    detected_said (Ok r) h = nodes_said r.nodes (stranger_to b scripts r.nodes) h
-    detected_said (Err fault) h = inr h.0
-
   detect_said : (k : ObjectKind) (store : StoreView) (init logs : List ℕ) (names : List (List ℕ)) (s : k.State)
       → JobEnds store after (detect_task k init logs names s).job ending text → (ending ≡ Done) ⊎ (ending ≡ BadLog)
   detect_said k store init logs names s h =
-      let read = scripts_end after ending text (said_read ending said) k.wording store names (λ scripts. (detect_images_task k init s logs scripts).job) h in
+      let read = scripts_end after ending text (said_read ending said) k.wording store names (λ scripts. (detect_logs_task k init s logs scripts).job) h in
       let scripts = read.scripts in
-      let taken = images_read after ending text (said_read ending said).0 store (log_names logs 0 (length scripts))
-      (λ images. (outcomes_task k init s scripts images).job) read.ends in
-      detected_said k.means k.wording store s scripts (state_recovered k.means (expected_heads k.code init taken.images) taken.images) taken.ends
+      let goes : Recovered → Job = λ r. (detected_task k s scripts r).job in
+      let taken = images_read after ending text (said_read ending said).0 store (log_names logs 0 (length scripts)) (λ images. on_recovery goes (recovery_of k init images)) read.ends in
+      ⊎_elim (λ (bad : ending ≡ BadLog). inr bad) (λ on. nodes_said k.means k.wording store s scripts on.0.nodes (stranger_to k.means scripts on.0.nodes) on.2)
+      (recovery_ends goes store after (recovery_of k init taken.images) ending text taken.ends)
 
 done_or_bad : (ending : Ending) → (ending ≡ Done → ⊥) → (ending ≡ BadLog → ⊥) → (ending ≡ Done) ⊎ (ending ≡ BadLog) → ⊥
 done_or_bad ending f g (inl e) = f e

@@ -1,7 +1,7 @@
 -- What an exit says by its status, and how calls never end: only words of no form get the usage text, only a run, anew or
 -- going on, and a checkpoint a fault line, and only an audit a wrong line.
 
-use Rattle.std.proofs.Common.{ℕ, zero, suc, List, ◌≡◌, ◌⊎◌, inl, inr, Option, Some, None, Result, Ok, Err, refl, sym, ap, ◌∙◌, subst, arith}
+use Rattle.std.proofs.Common.{ℕ, zero, suc, List, ◌≡◌, ◌⊎◌, inl, inr, Option, Some, None, refl, sym, ap, ◌∙◌, subst, arith}
 use Rattle.onll_outside.specs.Views.{Puts}
 use Rattle.onll_model.specs.declared.call.Call.{Call}
 use Rattle.onll_model.specs.Object.{Behaviour}
@@ -22,9 +22,7 @@ use Rattle.onll_task.specs.Job.{Say, Threads, JobEnds, Decides}
 use Rattle.onll_log.specs.Grammar.{Content, content_of}
 use Rattle.onll_log.specs.ImageFile.{image_lines}
 use Rattle.onll_jobs.specs.ShowJob.{shown_task}
-use Rattle.onll_merge.specs.declared.fault.StateFault.{StateFault}
-use Rattle.onll_merge.specs.Recovered.{Recovered, expected_heads, state_recovered}
-use Rattle.onll_recovery.specs.RecoverJob.{recovered_task, images_task}
+use Rattle.onll_recovery.specs.RecoverJob.{recovered_task}
 use Rattle.onll_jobs.specs.FoldJob.{script_task}
 use Rattle.onll_jobs.specs.Exits.{PutExits}
 use Rattle.onll_jobs.specs.Says.{job_of, AllowsEnding, PutWhole, OutOfMemory, SinkFailed, ExitSays, NothingFailed, NoneRose, SaysThis}
@@ -32,7 +30,7 @@ use Rattle.onll_task.specs.Doing.{Task}
 use Rattle.onll_jobs.specs.Over.{OverForm, FoldOver, RecoverOver, ReplayOver, AgainOver, ResumeOver, RunOver, DetectOver, FollowOver, AuditOver, over_task, object_task, over_work}
 use Rattle.onll_task.proofs.Onwards.{ends_cut}
 use Rattle.onll_task.proofs.Jobs.{Never, TellsFault, nothing_failed, decided, IsRare, never_says, reading_never, reading_whole_never}
-use Rattle.onll_task.proofs.ImageFiles.{reading_images_never}
+use Rattle.onll_task.proofs.Recovering.{recovery_never}
 use Rattle.onll_text.proofs.EachKind.{each_kind}
 use Rattle.onll_jobs.proofs.AgainEnds.{again_not_usage, again_not_faulty, again_not_judged}
 use Rattle.onll_jobs.proofs.AuditEnds.{audit_not_usage, audit_not_faulty}
@@ -118,10 +116,6 @@ module _ (ending : Ending) (rare : IsRare ending) where
   content_never None = λ e. subst IsRare (sym e) rare
   content_never (Some content) = λ e. subst IsRare (sym e) rare
 
-  recovered_never : {State Op Query Reply : Type 0} (b : Behaviour State Op Query Reply) (w : Wording State Op Query Reply) (s : State) (r : Result Recovered StateFault) → Never ending (recovered_task b w s r).job
-  recovered_never b w s (Ok r) = λ e. subst IsRare (sym e) rare
-  recovered_never b w s (Err fault) = λ e. subst IsRare (sym e) rare
-
   -- what never ends so over any object never ends so
   over_never : (init : List ℕ) (over : OverForm) → ((kind : Kind) (bytes : List ℕ) (s : (kind_at kind).State) → Never ending (over_task over (kind_at kind) (Threads kind) bytes s).job)
       → Never ending (over_work init over).task.job
@@ -159,8 +153,7 @@ module _ (w : Seen) where
       (λ ending rare kind bytes s. report_never ending rare (kind_at kind).means (kind_at kind).wording s script)
   form_ends (Show image) e = plain_ends (Show image) e (λ ending rare bytes. content_never ending rare (content_of (image_lines bytes)))
   form_ends (OverInit init (RecoverOver logs threads)) e = plain_over init (RecoverOver logs threads) e
-      (λ ending rare kind bytes s. reading_images_never ending logs threads 0 (λ images. (images_task (kind_at kind) bytes s images).job)
-      (λ images. recovered_never ending rare (kind_at kind).means (kind_at kind).wording s (state_recovered (kind_at kind).means (expected_heads (kind_at kind).code bytes images) images)))
+      (λ ending rare kind bytes s. recovery_never (λ r. (recovered_task (kind_at kind) s r).job) ending rare (kind_at kind) bytes logs threads (λ r e. subst IsRare (sym e) rare))
   form_ends (OverInit init (ReplayOver schedule logs scripts)) e = record {
     usage = replay_not_usage w init schedule logs scripts e;
     judged = λ h. absurd (replay_not_judged w init schedule logs scripts e h);

@@ -1,16 +1,13 @@
 use Rattle.std.proofs.Common.{ℕ, suc, List, [], ◌∷◌, ◌≡◌, length, Result, Ok, refl, sym, subst, Some}
-use Rattle.onll_model.specs.Object.{Behaviour}
 use Rattle.onll_log.specs.ImageFile.{image_lines}
 use Rattle.onll_text.specs.declared.any_object.AnyObject.{AnyObject}
 use Rattle.onll_text.specs.Refusal.{Refusal}
-use Rattle.onll_text.specs.Wording.{Wording}
 use Rattle.onll_text.specs.Init.{init_of}
 use Rattle.onll_text.specs.Kinds.{ObjectKind, kind_at}
 use Rattle.onll_outside.specs.Views.{StoreView}
 use Rattle.onll_task.specs.declared.ending.Ending.{Ending}
 use Rattle.onll_task.specs.declared.ending.Ending.TheVariants.{Done}
 use Rattle.onll_task.specs.declared.ending.Exit.{Exit}
-use Rattle.onll_merge.specs.declared.fault.StateFault.{StateFault}
 use Rattle.onll_task.specs.Reading.{FileIsTold}
 use Rattle.onll_task.specs.Job.{Job, Threads, Decides, on_value}
 use Rattle.onll_open.specs.Names.{log_names}
@@ -19,12 +16,14 @@ use Rattle.onll_jobs.specs.Seen.{Seen}
 use Rattle.onll_jobs.specs.Command.{form_of, Recover}
 use Rattle.onll_task.specs.Printed.{exit_status}
 use Rattle.onll_jobs.specs.Says.{job_of, ExitSays, NoneRose, SaysThis}
-use Rattle.onll_recovery.specs.RecoverJob.{recover_report, recovered_task, images_task, logs_task}
-use Rattle.onll_merge.specs.Recovered.{Recovered, recovered_with, expected_heads, state_recovered}
+use Rattle.onll_recovery.specs.RecoverJob.{recover_report, recovered_task, recover_task}
+use Rattle.onll_merge.specs.Recovered.{Recovered, recovered_with}
 use Rattle.onll_eras.specs.Restored.{TellLogs}
 use Rattle.onll_jobs.specs.Durable.{AreLeftFiles, RecoversLeft, RecoversCrashes}
 use Rattle.onll_jobs.specs.Over.{RecoverOver, over_task, object_task, over_work}
 use Rattle.onll_task.specs.Doing.{Task}
+use Rattle.onll_task.specs.Recovering.{on_recovery, recovery_of}
+use Rattle.onll_task.proofs.Recovering.{recovery_decides}
 use Rattle.onll_text.proofs.EachKind.{kind_goes}
 use Rattle.onll_jobs.proofs.CrashLeft.{left_many, left_images}
 use Rattle.onll_jobs.proofs.ExitCauses.{decided_exactly}
@@ -44,9 +43,14 @@ decides_images store logs i (image ∷ images) next ending text told d =
       ),
     )
 
-pub recovered_decides : {State Op Query Reply : Type 0} (b : Behaviour State Op Query Reply) (w : Wording State Op Query Reply) (store : StoreView) (s : State) (recovered : Result Recovered StateFault) (r : Recovered) → recovered ≡ Ok r
-    → Decides store (recovered_task b w s recovered).job Done (recover_report b w s r)
-recovered_decides b w store s recovered r e = subst (λ (x : Result Recovered StateFault). Decides store (recovered_task b w s x).job Done (recover_report b w s r)) (sym e) (refl, refl)
+-- how a recovery goes on with these images
+abbrev pub with_images : (k : ObjectKind) → List ℕ → k.State → List (List (List ℕ)) → Job
+with_images k init s images = on_recovery (λ r. (recovered_task k s r).job) (recovery_of k init images)
+
+pub images_decide : (k : ObjectKind) (init : List ℕ) (store : StoreView) (s : k.State) (images : List (List (List ℕ))) (r : Recovered) → recovery_of k init images ≡ Ok r
+    → Decides store (with_images k init s images) Done (recover_report k.means k.wording s r)
+images_decide k init store s images r e =
+    recovery_decides (λ r. (recovered_task k s r).job) store (recovery_of k init images) r Done (recover_report k.means k.wording s r) e (refl, refl)
 
 -- the call says what the told files decide
 module _ (seen : Seen) (x : Exit) (says : ExitSays seen x) (init logs bytes : List ℕ) (threads : ℕ) (object : AnyObject)
@@ -60,7 +64,7 @@ module _ (seen : Seen) (x : Exit) (says : ExitSays seen x) (init logs bytes : Li
       decided_exactly seen x Done text (subst (λ f. Decides seen.store (job_of f) Done text) (sym form) job) none says
 
   left_recovers : (k : ObjectKind) (s : k.State)
-      → ((text : List ℕ) → Decides seen.store (logs_task k bytes logs threads s).job Done text → SaysThis seen (exit_status x) Done text)
+      → ((text : List ℕ) → Decides seen.store (recover_task k bytes logs threads s).job Done text → SaysThis seen (exit_status x) Done text)
       → (left : AreLeftFiles k bytes s seen.store logs threads) → RecoversLeft k bytes s seen (exit_status x) logs threads left
   left_recovers k s say left =
       let b = k.means in
@@ -68,11 +72,11 @@ module _ (seen : Seen) (x : Exit) (says : ExitSays seen x) (init logs bytes : Li
       let held = left_images k bytes s seen.store logs threads left in
       let leaves = held.leaves in
       let r : Recovered = recovered_with leaves.all.recovers.logs leaves.all.recovers.nodes in
-      let recovered = recovered_decides b w seen.store s (state_recovered b (expected_heads k.code bytes left.images) left.images) r held.recovered in
+      let recovered = images_decide k bytes seen.store s left.images r held.recovered in
       record {
         leaves = leaves;
-        says = say (recover_report b w s r) (subst (λ (n : ℕ). Decides seen.store (each_job lines_stage (log_names logs 0 n) (λ images. (images_task k bytes s images).job)) Done (recover_report b w s r)) (left_many k bytes s seen.store logs threads left)
-            (decides_images seen.store logs 0 left.images (λ images. (images_task k bytes s images).job) Done (recover_report b w s r) left.files recovered));
+        says = say (recover_report b w s r) (subst (λ (n : ℕ). Decides seen.store (each_job lines_stage (log_names logs 0 n) (with_images k bytes s)) Done (recover_report b w s r)) (left_many k bytes s seen.store logs threads left)
+            (decides_images seen.store logs 0 left.images (with_images k bytes s) Done (recover_report b w s r) left.files recovered));
       }
 
 pub recovers_crashes : (seen : Seen) (x : Exit) → ExitSays seen x → RecoversCrashes seen (exit_status x)

@@ -34,7 +34,7 @@ use Rattle.onll_task.specs.Job.{Threads, Decides}
 use Rattle.onll_task.specs.Printed.{exit_status}
 use Rattle.onll_task.specs.Running.{RunPlan, FileHoldsLog, HoldsLogs, broken_threads}
 use Rattle.onll_task.proofs.FileLines.{image_lines-image_bytes, mixed_fit, fenced_fit}
-use Rattle.onll_recovery.specs.RecoverJob.{recover_report, images_task}
+use Rattle.onll_recovery.specs.RecoverJob.{recover_report}
 use Rattle.onll_recovery.proofs.Resumes.{found_is}
 use Rattle.onll_recovery.proofs.Crashes.{format_by, format_tested, HaveFormat2, AreFormat2, format_is, heads_have_format, heads_expected, take_operations}
 use Rattle.onll_task.proofs.OperationRows.{recovered_is}
@@ -48,7 +48,7 @@ use Rattle.onll_jobs.specs.Says.{ExitSays, SaysThis}
 use Rattle.onll_jobs.specs.Seen.{Seen}
 use Rattle.onll_jobs.proofs.SaidEnds.{known_many}
 use Rattle.onll_text.proofs.EachKind.{kind_goes}
-use Rattle.onll_jobs.proofs.RecoverCrashes.{decides_images, recovered_decides, object_says}
+use Rattle.onll_jobs.proofs.RecoverCrashes.{decides_images, images_decide, object_says, with_images}
 
 -- ---- the format of an image
 word_of_format : (image : List (List ℕ)) → format_in image ≡ 2 → word_at image 0 1 ≡ 2
@@ -257,19 +257,19 @@ module _ (seen : Seen) (init logs : List ℕ) (threads : ℕ) (k : ObjectKind) (
 
   -- ---- the call
   run_recovers : (x : Exit)
-      → ((text : List ℕ) → Decides seen.store (each_job lines_stage (log_names logs 0 threads) (λ images. (images_task k init s images).job)) Done text → SaysThis seen (exit_status x) Done text)
+      → ((text : List ℕ) → Decides seen.store (each_job lines_stage (log_names logs 0 threads) (with_images k init s)) Done text → SaysThis seen (exit_status x) Done text)
       → RecoversRun k init s seen (exit_status x) logs threads left
   run_recovers x say =
       let r : Recovered = recovered_with recovers.logs recovers.nodes in
-      let recovered = recovered_decides k.means k.wording seen.store s (state_recovered k.means (expected_heads k.code init files.images) files.images) r is_recovered in
+      let recovered = images_decide k init seen.store s files.images r is_recovered in
       record {
         images = files.images;
         files = files.tell;
         recovers = recovers;
         whole = whole;
         says = say (recover_report k.means k.wording s r)
-            (subst (λ (n : ℕ). Decides seen.store (each_job lines_stage (log_names logs 0 n) (λ images. (images_task k init s images).job)) Done (recover_report k.means k.wording s r)) images_many
-            (decides_images seen.store logs 0 files.images (λ images. (images_task k init s images).job) Done (recover_report k.means k.wording s r) files.tell recovered));
+            (subst (λ (n : ℕ). Decides seen.store (each_job lines_stage (log_names logs 0 n) (with_images k init s)) Done (recover_report k.means k.wording s r)) images_many
+            (decides_images seen.store logs 0 files.images (with_images k init s) Done (recover_report k.means k.wording s r) files.tell recovered));
       }
 
 pub recovers_runs : (seen : Seen) (x : Exit) → ExitSays seen x → RecoversRuns seen (exit_status x)

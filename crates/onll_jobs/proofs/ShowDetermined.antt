@@ -9,7 +9,7 @@ use Rattle.onll_model.specs.Segment.{Segment}
 use Rattle.onll_log.specs.declared.head.LogHead.{LogHead}
 use Rattle.onll_log.specs.Grammar.{Content, used_by}
 use Rattle.onll_text.specs.Reports.{SaysOnly}
-use Rattle.onll_text.specs.Kinds.{object_name}
+use Rattle.onll_text.specs.Init.{object_name}
 use Rattle.onll_text.proofs.EachKind.{object_name_determined}
 use Rattle.onll_text.proofs.Determined.{says_only}
 use Rattle.onll_jobs.specs.ShowJob.{head_line, row_line, row_lines, entry_words, entry_lines, entries_lines, count_words, content_lines, show_report}

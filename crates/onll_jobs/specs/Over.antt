@@ -17,7 +17,7 @@ use Rattle.onll_task.specs.Standing.{StandsForRuns}
 use Rattle.onll_jobs.specs.AuditJob.{audit_task}
 use Rattle.onll_jobs.specs.FoldJob.{script_task}
 use Rattle.onll_open.specs.Names.{log_names}
-use Rattle.onll_recovery.specs.RecoverJob.{logs_task}
+use Rattle.onll_recovery.specs.RecoverJob.{recover_task}
 use Rattle.onll_recovery.specs.ReplayJob.{scripts_task}
 use Rattle.onll_recovery.specs.AgainJob.{again_task}
 use Rattle.onll_recovery.specs.DetectJob.{detect_task}
@@ -80,7 +80,7 @@ OverFits (overs.Audit report scripts) = (1 ≤ length scripts.now) × (length sc
 -- the task over a state of this kind, which these bytes say; a part of its job that runs scripts on threads is made so
 abbrev pub over_task : OverForm → (k : ObjectKind) → (RunPlan k → (RunLeft k → Job) → Job) → List ℕ → k.State → Task
 over_task (FoldOver script) k threads init s = script_task k.means k.wording s script
-over_task (RecoverOver logs count) k threads init s = logs_task k init logs count s
+over_task (RecoverOver logs count) k threads init s = recover_task k init logs count s
 over_task (ReplayOver schedule logs names) k threads init s = scripts_task k init schedule logs names s
 over_task (AgainOver schedule logs names) k threads init s = again_task k init schedule logs names s
 over_task (ResumeOver logs names) k threads init s = resume_task k threads init logs names s

@@ -8,7 +8,7 @@ use Rattle.onll_model.specs.declared.node.Node.{Node}
 use Rattle.onll_model.specs.Segment.{Segment}
 use Rattle.onll_log.specs.declared.head.LogHead.{LogHead}
 use Rattle.onll_log.specs.Grammar.{Content, content_of, used_by}
-use Rattle.onll_text.specs.Kinds.{object_name}
+use Rattle.onll_text.specs.Init.{object_name}
 use Rattle.onll_text.specs.Reports.{SaysOnly}
 use Rattle.onll_task.specs.declared.ending.Ending.TheVariants.{BadLog}
 use Rattle.onll_task.specs.Doing.{Task, Work, after_stage, report_task, say_task, lines_stage}

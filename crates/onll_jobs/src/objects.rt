@@ -8,7 +8,7 @@ ghost use Rattle.onll_jobs.specs.Over.{over_in, is_over, OverFits, DoesOver, ove
 use crate::{audit, fold};
 use onll_model::MOST_THREADS;
 use onll_outside::{Gate, Store};
-use onll_recovery::{PlayTexts, again_on, detect_on, recover_files, replay_on};
+use onll_recovery::{PlayTexts, again_on, detect_on, recover_on, replay_on};
 use onll_run::Surroundings;
 use onll_runner::{resume_on, run_on};
 use onll_shipping::{LONGEST_PIECE, StreamFile, follow_on};
@@ -101,7 +101,7 @@ fn over_one<R: Threads + Wait + Sync, O: Texted + Drop + Send + Sync, S: Store, 
     match over {
         Over::Fold { script } => fold::fold_object(alloc, &mut object, script, store),
         Over::Recover { logs, threads } => {
-            recover_files(alloc, &mut object, init, logs, threads, store)
+            recover_on(alloc, &mut object, init, logs, threads, store)
         }
         Over::Replay {
             schedule,

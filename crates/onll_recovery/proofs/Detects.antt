@@ -1,6 +1,6 @@
 -- What became of the updates of scripts, part after part.
 
-use Rattle.std.proofs.Common.{ℕ, zero, suc, Bool, true, false, List, [], ◌∷◌, ◌++◌, ◌≡◌, ◌+◌, ◌<◌, ◌≤◌, length, map, drop, get_or, slice_get, Option, Some, None, Result, Ok, Err, refl, sym, ap, ◌∙◌, subst, arith, codes, decimal, Vec, cond}
+use Rattle.std.proofs.Common.{ℕ, zero, suc, Bool, true, false, List, [], ◌∷◌, ◌++◌, ◌≡◌, ◌+◌, ◌<◌, ◌≤◌, length, map, drop, get_or, slice_get, Option, Some, None, refl, sym, ap, ◌∙◌, arith, codes, decimal, Vec, cond}
 use Rattle.std.proofs.lemmas.List.{drop_more, append-nil, length-map}
 use Rattle.std.proofs.lemmas.List.Concat.{flat_map-append}
 use Rattle.std.specs.List.{AllByRecursion, flat_map}
@@ -12,15 +12,6 @@ use Rattle.onll_model.specs.declared.call.Call.{Call}
 use Rattle.onll_model.specs.declared.call.Call.TheVariants.{Update, Ask}
 use Rattle.onll_model.specs.Calls.{updates_in}
 use Rattle.onll_model.specs.Object.{Behaviour}
-use Rattle.onll_model.specs.Trace.{IsNumbered}
-use Rattle.onll_log.specs.declared.head.LogHead.{LogHead}
-use Rattle.onll_log.specs.Grammar.{Content}
-use Rattle.onll_merge.specs.declared.fault.RecoverFault.{RecoverFault}
-use Rattle.onll_merge.specs.declared.fault.ImagesFault.{ImagesFault}
-use Rattle.onll_merge.specs.declared.fault.StateFault.{StateFault}
-use Rattle.onll_merge.specs.Merge.{merge}
-use Rattle.onll_merge.specs.Recovered.{Recovered, contents_from, merged, with_logs, with_operations, state_recovered}
-use Rattle.onll_merge.proofs.Backs.{merge-back}
 use Rattle.onll_detect.specs.declared.outcome.Outcome.TheVariants.{Lost}
 use Rattle.onll_detect.specs.Outcomes.{Table, numbered_in}
 use Rattle.onll_text.specs.Bytes.{begins_line, with_words, with_lines}
@@ -29,32 +20,6 @@ use Rattle.onll_text.proofs.Appending.{with_words-append, with_words-line, with_
 use Rattle.onll_text.proofs.LineWords.{AreWords-append}
 use Rattle.onll_text.specs.Lines.{recovered_line}
 use Rattle.onll_recovery.specs.DetectJob.{outcome_line, update_lines, scripts_lines, detect_lines, update_rows, is_row, is_in_script, stranger, stranger_line}
-
--- ---- what is recovered is numbered
-of_operations : {State Op Query Reply : Type 0} (b : Behaviour State Op Query Reply) (q r : Recovered) (test : Bool) (fault : StateFault)
-    → cond {A = Result Recovered StateFault} test (Ok q) (Err fault) ≡ Ok r → q ≡ r
-of_operations b q r true fault e = (cc)
-of_operations b q r false fault e = absurd (cc)
-
-of_nodes : (heads : List LogHead) (logs : List Content) (m : Result (List Node) RecoverFault) (r : Recovered) → merge heads logs ≡ m
-    → with_logs logs m ≡ Ok r → IsNumbered r.nodes
-of_nodes heads logs (Ok nodes) r e f =
-    let same : nodes ≡ r.nodes = (cc) in subst IsNumbered same (merge-back nodes heads logs e).numbered
-of_nodes heads logs (Err fault) r e f = absurd (cc)
-
-of_merged : (heads : List LogHead) (contents : Result (List Content) ImagesFault) (r : Recovered) → merged heads contents ≡ Ok r → IsNumbered r.nodes
-of_merged heads (Ok logs) r e = of_nodes heads logs (merge heads logs) r refl e
-of_merged heads (Err fault) r e = absurd (cc)
-
-of_state : {State Op Query Reply : Type 0} (b : Behaviour State Op Query Reply) (heads : List LogHead) (contents : Result (List Content) ImagesFault)
-    (found : Result Recovered ImagesFault) (r : Recovered) → merged heads contents ≡ found → with_operations b found ≡ Ok r → IsNumbered r.nodes
-of_state b heads contents (Ok q) r e f =
-    let same : q ≡ r = of_operations b q r _ _ f in of_merged heads contents r (e ∙ ap (λ (x : Recovered). let y : Result Recovered ImagesFault = Ok x in y) same)
-of_state b heads contents (Err fault) r e f = absurd (cc)
-
-pub recovered_numbered : {State Op Query Reply : Type 0} (b : Behaviour State Op Query Reply) (heads : List LogHead) (images : List (List (List ℕ)))
-    (r : Recovered) → state_recovered b heads images ≡ Ok r → IsNumbered r.nodes
-recovered_numbered b heads images r e = of_state b heads (contents_from 0 images) (merged heads (contents_from 0 images)) r refl e
 
 -- ---- nodes of the scripts' threads
 get_within : {A : Type 0} (xs : List A) (i : ℕ) (x : A) → slice_get xs i ≡ Some x → i < length xs

@@ -42,7 +42,6 @@ use Rattle.onll_task.specs.Images.{AllDecide}
 use Rattle.onll_task.specs.Doing.{Fulfils}
 use Rattle.onll_recovery.specs.ReplayJob.{crash_task}
 use Rattle.onll_recovery.specs.AgainJob.{resumed_task}
-use Rattle.onll_task.specs.NotResumed.{resume_text}
 use Rattle.onll_recovery.proofs.Crashes.{AreFormat2, head_format, contents_are, images_recover}
 use Rattle.onll_task.proofs.OperationRows.{front_is}
 use Rattle.onll_task.proofs.Standing.{contents_stand}

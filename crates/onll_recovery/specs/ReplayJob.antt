@@ -56,20 +56,10 @@ fenced_lines t (log ∷ logs) (th ∷ ths) =
     log_line t log.entries log.lines (Some (fences_of th)) ∷ fenced_lines (t + 1) logs ths
 fenced_lines t logs ths = []
 
--- the lines of the core's calls and trace
-abbrev pub run_lines : {State Op Query Reply : Type 0} → Behaviour State Op Query Reply → Wording State Op Query Reply
-    → CoreState State Op Query Reply → List (List (List ℕ))
-run_lines b w c = begun_lines w 0 c.threads ++ (trace_line (length c.trace) ∷ flagged_lines b w 0 c.trace c.flags)
-
 -- the lines of the crash, of the logs, and of this state, which is recovered
 abbrev pub crash_lines : {State Op Query Reply : Type 0} → Wording State Op Query Reply → CoreState State Op Query Reply
     → ℕ → Recovered → State → List (List (List ℕ))
 crash_lines w c keep r s = crash_line keep ∷ (fenced_lines 0 r.logs c.threads ++ (recovered_line (length r.nodes) ∷ state_lines w s))
-
-abbrev pub replay_report : {State Op Query Reply : Type 0} → Behaviour State Op Query Reply
-    → Wording State Op Query Reply → Option ℕ → CoreState State Op Query Reply → ℕ → Recovered → List ℕ
-replay_report b w resumed c keep r =
-    flat_map line_text (resumed_lines resumed ++ (run_lines b w c ++ crash_lines w c keep r (state_after b c.initial r.nodes)))
 
 -- ---- what the report says
 -- what a report of threads says: how many nodes they go on from, where they do, what became of the calls of each, the trace with
@@ -83,29 +73,6 @@ pub record CrashedRunData (State Op Query Reply : Type 0) : Type 0 where
   pub logs : List LogData
   pub recovered : ℕ
   pub state : State
-
--- the lines of all of it, for these scripts
-abbrev pub run_data_lines : {State Op Query Reply : Type 0} → Behaviour State Op Query Reply
-    → Wording State Op Query Reply → List (List (Call State Op Query Reply)) → CrashedRunData State Op Query Reply
-    → List (List (List ℕ))
-run_data_lines b w scripts said =
-    resumed_lines said.resumed
-    ++ ((thread_lines w 0 scripts said.ends ++ (trace_line (length said.nodes) ∷ flagged_lines b w 0 said.nodes said.flags))
-    ++ (crash_line said.keep ∷ (counted_lines 0 said.logs ++ (recovered_line said.recovered ∷ state_lines w said.state))))
-
--- all that is said of these scripts' run reads back
-pub record CrashedRunReads {State Op Query Reply : Type 0} (b : Behaviour State Op Query Reply)
-    (w : Wording State Op Query Reply) (scripts : List (List (Call State Op Query Reply)))
-    (said : CrashedRunData State Op Query Reply) : Type 0 where
-  pub threads : length scripts ≤ 2 ^ 64
-  pub resumed : IfSome said.resumed (λ nodes. nodes < 2 ^ 64)
-  pub ends : EachReads w scripts said.ends
-  pub nodes : All (NodeReads b w) said.nodes
-  pub flags : length said.flags ≡ length said.nodes
-  pub keep : said.keep < 2 ^ 64
-  pub logs : All LogReads said.logs
-  pub recovered : said.recovered < 2 ^ 64
-  pub state : StateReads w said.state
 
 -- the counts of logs and of their threads' devices
 abbrev pub counts_of : {State Op Query Reply : Type 0} → List LogCounts → List (CoreThread State Op Query Reply) → List LogData
@@ -127,19 +94,47 @@ replay_data b resumed c keep r = record {
   state = state_after b c.initial r.nodes;
 }
 
--- ---- the work
--- the run of these scripts, its crash, and what was recovered are reported: the report says that, and nothing else
-abbrev pub run_task : {State Op Query Reply : Type 0} → Behaviour State Op Query Reply → Wording State Op Query Reply
-    → Option ℕ → List (List (Call State Op Query Reply)) → CoreState State Op Query Reply → ℕ → Result Recovered StateFault → Task
-run_task b w resumed scripts c keep (Ok r) = report_task (replay_report b w resumed c keep r)
-    (λ text. SaysOnly (run_data_lines b w scripts) (CrashedRunReads b w scripts) text (replay_data b resumed c keep r))
-run_task b w resumed scripts c keep (Err fault) = say_task BadLog (fault_line fault)
+module _ {State Op Query Reply : Type 0} (b : Behaviour State Op Query Reply) (w : Wording State Op Query Reply) where
+  -- the lines of the core's calls and trace
+  abbrev pub run_lines : CoreState State Op Query Reply → List (List (List ℕ))
+  run_lines c = begun_lines w 0 c.threads ++ (trace_line (length c.trace) ∷ flagged_lines b w 0 c.trace c.flags)
 
--- a core crashes: its images are written, and then recovered as logs with its heads
-abbrev pub crash_task : {State Op Query Reply : Type 0} → Behaviour State Op Query Reply → Wording State Op Query Reply
-    → List ℕ → Option ℕ → List (List (Call State Op Query Reply)) → CoreState State Op Query Reply → ℕ → Task
-crash_task b w logs resumed scripts c keep = after_stage (writing_stage logs (images_of keep c.threads))
-    (λ _. run_task b w resumed scripts c keep (state_recovered b (heads_of c.threads) (images_of keep c.threads)))
+  abbrev pub replay_report : Option ℕ → CoreState State Op Query Reply → ℕ → Recovered → List ℕ
+  replay_report resumed c keep r =
+      flat_map line_text (resumed_lines resumed ++ (run_lines c ++ crash_lines w c keep r (state_after b c.initial r.nodes)))
+
+  -- the lines of all that is said, for these scripts
+  abbrev pub run_data_lines : List (List (Call State Op Query Reply)) → CrashedRunData State Op Query Reply → List (List (List ℕ))
+  run_data_lines scripts said =
+      resumed_lines said.resumed
+      ++ ((thread_lines w 0 scripts said.ends ++ (trace_line (length said.nodes) ∷ flagged_lines b w 0 said.nodes said.flags))
+      ++ (crash_line said.keep ∷ (counted_lines 0 said.logs ++ (recovered_line said.recovered ∷ state_lines w said.state))))
+
+  -- all that is said of these scripts' run reads back
+  pub record CrashedRunReads (scripts : List (List (Call State Op Query Reply))) (said : CrashedRunData State Op Query Reply)
+      : Type 0 where
+    pub threads : length scripts ≤ 2 ^ 64
+    pub resumed : IfSome said.resumed (λ nodes. nodes < 2 ^ 64)
+    pub ends : EachReads w scripts said.ends
+    pub nodes : All (NodeReads b w) said.nodes
+    pub flags : length said.flags ≡ length said.nodes
+    pub keep : said.keep < 2 ^ 64
+    pub logs : All LogReads said.logs
+    pub recovered : said.recovered < 2 ^ 64
+    pub state : StateReads w said.state
+
+  -- ---- the work
+  -- the run of these scripts, its crash, and what was recovered are reported: the report says that, and nothing else
+  abbrev pub run_task : Option ℕ → List (List (Call State Op Query Reply)) → CoreState State Op Query Reply → ℕ
+      → Result Recovered StateFault → Task
+  run_task resumed scripts c keep (Ok r) = report_task (replay_report resumed c keep r)
+      (λ text. SaysOnly (run_data_lines scripts) (CrashedRunReads scripts) text (replay_data b resumed c keep r))
+  run_task resumed scripts c keep (Err fault) = say_task BadLog (fault_line fault)
+
+  -- a core crashes: its images are written, and then recovered as logs with its heads
+  abbrev pub crash_task : List ℕ → Option ℕ → List (List (Call State Op Query Reply)) → CoreState State Op Query Reply → ℕ → Task
+  crash_task logs resumed scripts c keep = after_stage (writing_stage logs (images_of keep c.threads))
+      (λ _. run_task resumed scripts c keep (state_recovered b (heads_of c.threads) (images_of keep c.threads)))
 
 -- the schedule of these scripts is read and played, and the core crashes
 abbrev pub schedule_task : (k : ObjectKind) → List ℕ → k.State → (schedule logs : List ℕ)

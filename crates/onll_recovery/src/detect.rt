@@ -7,21 +7,18 @@ ghost use Rattle.onll_model.specs.Limits.{most_threads};
 ghost use Rattle.onll_model.specs.Recovered.{operations_front};
 ghost use Rattle.onll_model.specs.Trace.{IsNumbered};
 ghost use Rattle.onll_words.specs.Texts.{line_text};
-ghost use Rattle.onll_merge.specs.Recovered.{state_recovered};
 ghost use Rattle.onll_detect.specs.Outcomes.{table_of, numbered_in};
 ghost use Rattle.onll_outside.specs.Views.{StoreView};
 ghost use Rattle.onll_text.specs.Bytes.{begins_line, with_lines};
 ghost use Rattle.onll_text.specs.Kinds.{kind_by};
 ghost use Rattle.onll_task.specs.Doing.{Fulfils};
 ghost use Rattle.onll_task.specs.Stop.{StopSays};
-ghost use Rattle.onll_recovery.specs.DetectJob.{outcome_line, update_lines, scripts_lines, detect_lines, update_rows, is_in_script, stranger, stranger_to, stranger_line, lines_task, nodes_task, detected_task, outcomes_task, detect_images_task, detect_task};
+ghost use Rattle.onll_recovery.specs.DetectJob.{outcome_line, update_lines, scripts_lines, detect_lines, update_rows, is_in_script, stranger, stranger_to, stranger_line, lines_task, nodes_task, detect_logs_task, detect_task};
 
 use onll_detect::{DetectFault, Outcome, Outcomes};
-use onll_log::{LogHead, TestedImage};
-use onll_merge::{StateFault, expected_heads};
 use onll_model::{Call, CallEnd, Node, Object};
 use onll_outside::Store;
-use onll_task::{Ending, Stop, bad_logs, put_count, read_images, recover_tested, script_files};
+use onll_task::{Ending, Stop, put_count, recover_files, script_files};
 use onll_text::{Piece, Report, Texted};
 use onll_words::{NoMemory, OpRow};
 use std::alloc::{AllocError, Global};
@@ -285,47 +282,7 @@ fn detect_nodes<O: Texted + Drop>(
     }
 }
 
-/// What is said of images, as logs with these heads.
-fn detect_with<O: Texted + Drop>(
-    alloc: Global,
-    object: O,
-    heads: &[LogHead],
-    scripts: &[Vec<Call<O>>],
-    images: &[TestedImage<'_>],
-) -> Result<Vec<u8>, Stop>
-    requires few { length scripts.now ≤ most_threads }
-    requires heads { length heads.now ≡ length images.now }
-    ensures { let calls = map (λ script. script.items) scripts.now in
-        let task = detected_task O.means O.wording object calls (state_recovered O.means heads.now images.now) in
-        (store : StoreView) → Fulfils [] store store task result }
-{
-    let mut recovered = object.copy(alloc)?;
-    match recover_tested(alloc, &mut recovered, heads, images) {
-        Ok(recovery) => detect_nodes(alloc, object, scripts, &recovery.nodes),
-        Err(StateFault::NoMemory) => Err(Stop::NoMemory),
-        Err(fault) => Err(bad_logs(alloc, fault)),
-    }
-}
-
-/// What is said of images, over the object from these bytes of an initial state.
-fn detect_images<O: Texted + Drop>(
-    alloc: Global,
-    object: O,
-    init: &[u8],
-    scripts: &[Vec<Call<O>>],
-    images: &[TestedImage<'_>],
-) -> Result<Vec<u8>, Stop>
-    requires few { length scripts.now ≤ most_threads }
-    requires images { length images.now ≤ most_threads }
-    ensures { let calls = map (λ script. script.items) scripts.now in
-        let task = outcomes_task (kind_by O.means O.wording O.CODE) init.now object calls images.now in
-        (store : StoreView) → Fulfils [] store store task result }
-{
-    let heads = expected_heads(alloc, O::CODE, init, images)?;
-    detect_with(alloc, object, &heads, scripts, images)
-}
-
-/// Reads the images of the logs of these scripts' threads, and says what they give.
+/// Says what the logs of these scripts' threads give of the updates.
 fn detect_scripts<O: Texted + Drop, S: Store>(
     alloc: Global,
     object: O,
@@ -336,11 +293,19 @@ fn detect_scripts<O: Texted + Drop, S: Store>(
 ) -> Result<Vec<u8>, Stop>
     requires { length scripts.now ≤ most_threads }
     ensures { let calls = map (λ script. script.items) scripts.now in
-        let task = detect_images_task (kind_by O.means O.wording O.CODE) init.now object logs.now calls in
+        let task = detect_logs_task (kind_by O.means O.wording O.CODE) init.now object logs.now calls in
         Fulfils [] (S.seen store.old) (S.seen store.new) task result }
 {
-    match read_images(alloc, logs, scripts.len() as u64, store) {
-        Ok(images) => detect_images(alloc, object, init, scripts, &images.images),
+    let mut recovered = object.copy(alloc)?;
+    match recover_files(
+        alloc,
+        &mut recovered,
+        init,
+        logs,
+        scripts.len() as u64,
+        store,
+    ) {
+        Ok(recovery) => detect_nodes(alloc, object, scripts, &recovery.nodes),
         Err(stop) => Err(stop),
     }
 }

@@ -11,5 +11,5 @@ mod replay;
 pub use again::again_on;
 pub use detect::detect_on;
 pub use playing::PlayTexts;
-pub use recover::recover_files;
+pub use recover::recover_on;
 pub use replay::replay_on;

@@ -1,25 +1,23 @@
 //! The command `recover`: the trace and the state that the logs of one run give.
 
-ghost use Rattle.std.specs.Prelude.{[], ◌≡◌, ◌≤◌, length, true, IfOk, OnOk, Ok, Err, ◌<◌, All};
+ghost use Rattle.std.specs.Prelude.{[], ◌≡◌, ◌≤◌, true, IfOk, OnOk, All};
 ghost use Rattle.onll_model.specs.Limits.{most_threads};
 ghost use Rattle.std.specs.List.{flat_map};
 ghost use Rattle.onll_words.specs.Texts.{line_text};
 ghost use Rattle.onll_model.specs.Recovered.{operations_front};
-ghost use Rattle.onll_merge.specs.Recovered.{recovered_in, state_recovered};
+ghost use Rattle.onll_merge.specs.Recovered.{recovered_in};
 ghost use Rattle.onll_text.specs.Bytes.{begins_line, with_lines};
 ghost use Rattle.onll_text.specs.Lines.{node_lines, state_lines};
 ghost use Rattle.onll_text.specs.Reports.{NodeReads, StateReads};
 ghost use Rattle.onll_task.specs.Doing.{Fulfils};
-ghost use Rattle.onll_outside.specs.Views.{StoreView};
 ghost use Rattle.onll_text.specs.Kinds.{kind_by};
-ghost use Rattle.onll_recovery.specs.RecoverJob.{lines_with, recovered_task, images_task, logs_task};
+ghost use Rattle.onll_recovery.specs.RecoverJob.{lines_with, recover_task};
 ghost use Rattle.onll_task.specs.RecoverySaid.{RecoverReads, data_with};
 
-use onll_log::{LogHead, TestedImage};
-use onll_merge::{Recovery, StateFault, expected_heads};
+use onll_merge::Recovery;
 use onll_model::Node;
 use onll_outside::Store;
-use onll_task::{Stop, bad_logs, put_count, put_logs, put_nodes, read_images, recover_tested};
+use onll_task::{Stop, put_count, put_logs, put_nodes, recover_files};
 use onll_text::{Report, Texted};
 use onll_words::NoMemory;
 use std::alloc::Global;
@@ -51,41 +49,8 @@ fn report<O: Texted>(alloc: Global, object: &O, recovery: &Recovery) -> Result<V
     Ok(out.into_bytes())
 }
 
-/// What is said of images over the object, as logs with these heads.
-fn recover_with<O: Texted>(
-    alloc: Global,
-    object: &mut O,
-    heads: &[LogHead],
-    images: &[TestedImage<'_>],
-) -> Result<Vec<u8>, Stop>
-    requires { length heads.now ≡ length images.now }
-    ensures { let task = recovered_task O.means O.wording object.old (state_recovered O.means heads.now images.now) in
-        (store : StoreView) → Fulfils [] store store task result }
-{
-    match recover_tested(alloc, object, heads, images) {
-        Ok(recovery) => Ok(report(alloc, object, &recovery)?),
-        Err(StateFault::NoMemory) => Err(Stop::NoMemory),
-        Err(fault) => Err(bad_logs(alloc, fault)),
-    }
-}
-
-/// What is said of images, over the object from these bytes of an initial state.
-fn recover_on<O: Texted>(
-    alloc: Global,
-    object: &mut O,
-    init: &[u8],
-    images: &[TestedImage<'_>],
-) -> Result<Vec<u8>, Stop>
-    requires { (1 ≤ length images.now) × (length images.now ≤ most_threads) }
-    ensures { let task = images_task (kind_by O.means O.wording O.CODE) init.now object.old images.now in
-        (store : StoreView) → Fulfils [] store store task result }
-{
-    let heads = expected_heads(alloc, O::CODE, init, images)?;
-    recover_with(alloc, object, &heads, images)
-}
-
-/// Recovers an object, whose initial state these bytes say, from the images of the logs of so many threads.
-pub fn recover_files<O: Texted, S: Store>(
+/// Recovers an object, whose initial state these bytes say, from the images of the logs of so many threads, and says what they give.
+pub fn recover_on<O: Texted, S: Store>(
     alloc: Global,
     object: &mut O,
     init: &[u8],
@@ -94,11 +59,11 @@ pub fn recover_files<O: Texted, S: Store>(
     store: &mut S,
 ) -> Result<Vec<u8>, Stop>
     requires { (1 ≤ threads) × (threads ≤ most_threads) }
-    ensures { let task = logs_task (kind_by O.means O.wording O.CODE) init.now logs.now threads object.old in
+    ensures { let task = recover_task (kind_by O.means O.wording O.CODE) init.now logs.now threads object.old in
         Fulfils [] (S.seen store.old) (S.seen store.new) task result }
 {
-    match read_images(alloc, logs, threads, store) {
-        Ok(images) => recover_on(alloc, object, init, &images.images),
+    match recover_files(alloc, object, init, logs, threads, store) {
+        Ok(recovery) => Ok(report(alloc, object, &recovery)?),
         Err(stop) => Err(stop),
     }
 }

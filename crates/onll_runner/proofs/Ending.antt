@@ -1,11 +1,9 @@
 -- What a run left is kept, and its report is said.
 
-use Rattle.std.proofs.Common.{Vec, Global, ℕ, zero, suc, true, List, [], ◌∷◌, ◌≡◌, ◌<◌, ◌≤◌, ◌+◌, ◌*◌, inl, inr, length, map, Result, Ok, Err, is_some, refl, sym, ap, ◌∙◌, subst, arith}
+use Rattle.std.proofs.Common.{Vec, Global, ℕ, zero, suc, true, List, [], ◌∷◌, ◌≡◌, ◌<◌, ◌≤◌, ◌+◌, ◌*◌, inl, inr, length, map, Ok, Err, is_some, refl, sym, ap, ◌∙◌, subst, arith}
 use Rattle.std.specs.List.{All, AllByRecursion}
-use Rattle.std.specs.Result.{IsErrAnd}
 use Rattle.std.proofs.lemmas.List.{length-map}
 use Rattle.std.proofs.lemmas.List.Elements.{All-head, All-tail}
-use Rattle.std.proofs.lemmas.Result.{err_from_is_err_and}
 use Rattle.onll_model.specs.declared.call.CallEnd.{CallEnd}
 use Rattle.onll_pmem.specs.Laws.{SameLaw}
 use Rattle.onll_pmem.specs.Pmem.{DeviceView}
@@ -34,7 +32,7 @@ use Rattle.onll_outside.specs.declared.OutsideFault.{OutsideFault}
 use Rattle.onll_outside.specs.declared.OutsideFault.TheVariants as outside
 use Rattle.onll_outside.specs.declared.store.FaultKind.TheVariants as kinds
 use Rattle.onll_task.specs.Stop.{StopSays}
-use Rattle.onll_runner.specs.Devices.{SaysLog, SaysKept, DeviceFails}
+use Rattle.onll_runner.specs.Devices.{SaysKept, DeviceFails}
 use Rattle.onll_runner.specs.RunReport.{plan_report}
 use Rattle.onll_runner.specs.RunEnds.{IsStored, IsStoredTo, IsAsBefore, RunHasEnded}
 use Rattle.onll_runner.proofs.Keeping.{kept_logs, held_to, kept_befores, kept_many, faults_sum, fences_sum}

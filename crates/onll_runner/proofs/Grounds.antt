@@ -1,6 +1,6 @@
 -- What scripts are run over: devices of it can be run over, and what was run over them has done its task.
 
-use Rattle.std.proofs.Common.{Vec, ℕ, suc, Bool, List, [], ◌∷◌, ◌≡◌, ◌+◌, ◌*◌, ◌≤◌, length, map, IsSome, Some, Result, Ok, Err, is_some, refl, sym, ap, ◌∙◌, subst, arith}
+use Rattle.std.proofs.Common.{Vec, ℕ, Bool, List, [], ◌∷◌, ◌≡◌, ◌*◌, ◌≤◌, length, map, IsSome, Some, Result, Ok, Err, refl, sym, ap, ◌∙◌, subst, arith}
 use Rattle.std.specs.List.{AllByRecursion, All}
 use Rattle.std.proofs.lemmas.List.{length-map}
 use Rattle.std.proofs.lemmas.List.Elements.{All-from_recursion, recursion_from_All}
@@ -15,7 +15,7 @@ use Rattle.onll_merge.specs.Merge.{merge}
 use Rattle.onll_merge.specs.Recovered.{Recovered, log_counts}
 use Rattle.onll_merge.proofs.Backs.{merge-back}
 use Rattle.onll_outside.specs.Views.{StoreView}
-use Rattle.onll_run.specs.Left.{LogLeft, ScriptPlan}
+use Rattle.onll_run.specs.Left.{LogLeft}
 use Rattle.onll_run.specs.Ran.{CanRun, going_on}
 use Rattle.onll_open.specs.declared.fault.DeviceFault.{DeviceFault}
 use Rattle.onll_open.specs.Devices.{AreReopened, AreHeld, AreWithin, HaveHeadLines, IsDeviceOf, NoneCounted, fronts_by}

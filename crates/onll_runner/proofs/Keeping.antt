@@ -8,7 +8,7 @@ use Rattle.onll_pmem.specs.Laws.{SameLaw}
 use Rattle.onll_pmem.specs.Pmem.{DeviceView, Told, ToldSettled}
 use Rattle.onll_log.specs.Log.{LogState}
 use Rattle.onll_model.specs.declared.call.CallEnd.{CallEnd}
-use Rattle.onll_outside.specs.Views.{StoreView, HoldsImageOf, KeepsDevice, MayKeep, counted, image_bytes, one_fault, fault_of, fences_in}
+use Rattle.onll_outside.specs.Views.{StoreView, HoldsImageOf, KeepsDevice, MayKeep, image_bytes, one_fault, fault_of, fences_in}
 use Rattle.onll_run.specs.Outcomes.{failed_in, fault_in}
 use Rattle.onll_log.specs.Grammar.{Content}
 use Rattle.onll_run.specs.Left.{LogLeft, begun_logs, fenced_in}

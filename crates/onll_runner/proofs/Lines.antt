@@ -1,12 +1,12 @@
 -- How many lines devices have over which scripts are run, and what their files are.
 
-use Rattle.std.proofs.Common.{ℕ, zero, suc, Bool, true, false, List, [], ◌∷◌, ◌≡◌, ◌+◌, ◌*◌, ◌≤◌, max, length, map, replicate, Option, Some, None, is_some, refl, sym, ap, ◌∙◌, subst, arith}
+use Rattle.std.proofs.Common.{ℕ, suc, true, false, List, [], ◌∷◌, ◌≡◌, ◌+◌, ◌*◌, ◌≤◌, max, length, map, replicate, Option, Some, None, is_some, refl, sym, ap, ◌∙◌, subst, arith}
 use Rattle.std.specs.List.{AllByRecursion}
 use Rattle.onll_model.specs.declared.call.Call.{Call}
 use Rattle.onll_model.specs.Calls.{updates_in}
 use Rattle.onll_pmem.specs.Pmem.{DeviceView}
 use Rattle.onll_log.specs.declared.head.LogHead.{LogHead}
-use Rattle.onll_log.specs.Grammar.{Content, content_of, used_by}
+use Rattle.onll_log.specs.Grammar.{Content, used_by}
 use Rattle.onll_log.specs.ImageFile.{longest_image}
 use Rattle.onll_merge.specs.declared.counts.LogCounts.{LogCounts}
 use Rattle.onll_merge.specs.Recovered.{log_counts}

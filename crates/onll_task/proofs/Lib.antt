@@ -9,6 +9,8 @@ pub mod Onwards
 pub mod OperationRows
 pub mod PrintedReads
 pub mod RecoverSteps
+pub mod RecoveredNumbers
+pub mod Recovering
 pub mod RunRecovers
 pub mod Runs
 pub mod Sequences

@@ -66,7 +66,7 @@ StopsSo-on store mid after job next (Says ending text) on h = (h.0, on.ends afte
 StopsSo-on store mid after job next NoMemory on h = on.cut after h
 
 -- no file changed, and this is said; or memory could not be had
-says_stops : (store after : StoreView) (job : Job) (s : Stop) (P : Ending → List ℕ → Type 0) → FilesStay store after
+pub says_stops : (store after : StoreView) (job : Job) (s : Stop) (P : Ending → List ℕ → Type 0) → FilesStay store after
     → ((ending : Ending) (text : List ℕ) → P ending text → (ending ≡ Done → ⊥) × JobEnds store after job ending text) → StopSays s P → StopsSo store after job s
 says_stops store after job (Says ending text) P same f h = f ending text.items h
 says_stops store after job NoMemory P same f h = stay_cut store after job same

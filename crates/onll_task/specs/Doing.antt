@@ -86,6 +86,13 @@ assured_stage b = record { job = λ (next : Unit {0} → Job). Assured b (next t
 abbrev pub then_stage : Stage (Unit {0}) → Stage (Unit {0}) → Stage (Unit {0})
 then_stage first last = record { job = λ (next : Unit {0} → Job). first.job (λ _. last.job next); known = λ _ _. Unit {0} }
 
+-- a stage, and then the one that its value makes
+abbrev pub onto_stage : {X Y : Type 0} → Stage X → (X → Stage Y) → Stage Y
+onto_stage {X} {Y} first last = record {
+  job = λ (next : Y → Job). first.job (λ (value : X). (last value).job next);
+  known = λ store y. (value : X) × first.known store value × (last value).known store y;
+}
+
 -- ---- one stage after the other
 abbrev pub each_job : {A X : Type 0} → (A → Stage X) → List A → (List X → Job) → Job
 each_job stage [] next = next []

@@ -7,6 +7,7 @@ pub mod Keeps
 pub mod NotResumed
 pub mod Printed
 pub mod Reading
+pub mod Recovering
 pub mod RecoverySaid
 pub mod RunLogs
 pub mod RunSaid

@@ -17,7 +17,7 @@ pub use ending::{Ending, Exit};
 pub use faults::{bad_logs, not_resumed};
 pub use images::{KeptImages, into_lines, read_images, write_image};
 pub use nodes::{put_count, put_logs, put_nodes, put_resumed};
-pub use recovered::{recover_logs, recover_tested};
+pub use recovered::{recover_files, recover_logs, recover_tested};
 pub use texts::{
     InitText, image_file, init_file, read_bytes, read_lines, schedule_file, script_file,
     script_files, write_bytes,

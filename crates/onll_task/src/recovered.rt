@@ -1,22 +1,32 @@
 //! Logs recovered, from the images that were read, or from what a run left.
 
-ghost use Rattle.std.specs.Prelude.{◌≡◌, ◌⊎◌, length, map, IfOk, OnOk, MatchResult, Ok, Err, All, Some, List};
+ghost use Rattle.std.specs.Prelude.{[], ◌≡◌, ◌≤◌, ◌⊎◌, length, map, IfOk, OnOk, MatchResult, Ok, Err, All, Some, List};
 ghost use Rattle.std.specs.List.{AllByRecursion};
 ghost use Rattle.onll_model.specs.declared.node.Node.{Node as SomeNode};
+ghost use Rattle.onll_model.specs.Limits.{most_threads};
 ghost use Rattle.onll_model.specs.Recovered.{operations_front};
-ghost use Rattle.onll_model.specs.Trace.{state_after};
+ghost use Rattle.onll_model.specs.Trace.{IsNumbered, state_after};
 ghost use Rattle.onll_log.specs.Grammar.{content_of};
 ghost use Rattle.onll_merge.specs.declared.fault.StateFault.TheVariants.{NoMemory as OutOfMemory};
 ghost use Rattle.onll_merge.specs.Recovered.{log_counts, recovered_in, state_recovered};
 ghost use Rattle.onll_run.specs.Left.{content_in};
 ghost use Rattle.onll_run.specs.Ended.{log_left};
 ghost use Rattle.onll_outside.specs.LineFiles.{IsWholeLine};
+ghost use Rattle.onll_outside.specs.Views.{StoreView};
+ghost use Rattle.onll_text.specs.Kinds.{kind_by};
+ghost use Rattle.onll_task.specs.Doing.{DoesStage};
+ghost use Rattle.onll_task.specs.Recovering.{recovery_of, given_stage, recovery_stage};
 ghost use Rattle.onll_task.specs.RunLogs.{LogsOfRun};
 
+use crate::answer::Stop;
+use crate::faults::bad_logs;
+use crate::images::read_images;
 use onll_log::{LogHead, TestedImage, ThreadLog};
-use onll_merge::{Recovery, StateFault, recover_state};
+use onll_merge::{Recovery, StateFault, expected_heads, recover_state};
 use onll_model::Object;
+use onll_outside::Store;
 use onll_pmem::Pmem;
+use onll_text::Texted;
 use onll_words::{Line, NoMemory};
 use std::alloc::Global;
 
@@ -35,6 +45,51 @@ pub fn recover_tested<O: Object>(
     ensures state { IfOk result (λ r. object.new ≡ state_after O.means object.old r.nodes.items) }
 {
     recover_state(alloc, object, heads, images)
+}
+
+/// What these images give over an object, whose initial state these bytes say.
+fn recover_kept<O: Texted>(
+    alloc: Global,
+    object: &mut O,
+    init: &[u8],
+    images: &[TestedImage<'_>],
+) -> Result<Recovery, Stop>
+    requires { length images.now ≤ most_threads }
+    ensures given { let given = recovery_of (kind_by O.means O.wording O.CODE) init.now images.now in
+        (store : StoreView) → DoesStage [] store store (given_stage given) (λ r. recovered_in r) result }
+    ensures numbered { IfOk result (λ r. IsNumbered r.nodes.items) }
+    ensures rows { IfOk result (λ r. operations_front O.means r.nodes.items ≡ r.nodes.items) }
+    ensures state { IfOk result (λ r. object.new ≡ state_after O.means object.old r.nodes.items) }
+{
+    let heads = expected_heads(alloc, O::CODE, init, images)?;
+    match recover_tested(alloc, object, &heads, images) {
+        Ok(recovery) => Ok(recovery),
+        Err(StateFault::NoMemory) => Err(Stop::NoMemory),
+        Err(fault) => Err(bad_logs(alloc, fault)),
+    }
+}
+
+/// Recovers an object, whose initial state these bytes say, from the files of the logs of so many threads of one run: the object is after
+/// the trace. It stops at the first file that can't be read, and where the logs give no trace.
+pub fn recover_files<O: Texted, S: Store>(
+    alloc: Global,
+    object: &mut O,
+    init: &[u8],
+    logs: &str,
+    threads: u64,
+    store: &mut S,
+) -> Result<Recovery, Stop>
+    requires { threads ≤ most_threads }
+    ensures stage { let stage = recovery_stage (kind_by O.means O.wording O.CODE) init.now logs.now threads in
+        DoesStage [] (S.seen store.old) (S.seen store.new) stage (λ r. recovered_in r) result }
+    ensures numbered { IfOk result (λ r. IsNumbered r.nodes.items) }
+    ensures rows { IfOk result (λ r. operations_front O.means r.nodes.items ≡ r.nodes.items) }
+    ensures state { IfOk result (λ r. object.new ≡ state_after O.means object.old r.nodes.items) }
+{
+    match read_images(alloc, logs, threads, store) {
+        Ok(kept) => recover_kept(alloc, object, init, &kept.images),
+        Err(stop) => Err(stop),
+    }
 }
 
 /// A line has eight words of 64 bits.

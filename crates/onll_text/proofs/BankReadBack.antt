@@ -12,8 +12,8 @@ use Rattle.onll_text.specs.declared.any_object.AnyObject.TheVariants as objects
 use Rattle.onll_text.specs.declared.any_object.Kind.TheVariants as kinds
 use Rattle.onll_text.specs.Refusal.{Refusal, ◌>>=◌, only_if, at_line}
 use Rattle.onll_text.specs.BankText.{Accounts, is_marked, is_named, account_line, account_lines, with_account, with_account_line}
-use Rattle.onll_text.specs.BankLaws.{bank_is_short}
-use Rattle.onll_text.specs.BankWording.{bank_wording, state_in_lines}
+use Rattle.onll_text.specs.BankLaws.{bank_in_lines, bank_is_short}
+use Rattle.onll_text.specs.CallKind.{bank_wording}
 use Rattle.onll_text.specs.Init.{head_of}
 use Rattle.onll_text.specs.Making.{after_lines}
 use Rattle.onll_text.specs.ReadBack.{ReadsBack}
@@ -123,5 +123,5 @@ after_lines-accounts k done marks (x ∷ xs) e few fits =
 -- what is printed of a bank reads as that bank
 pub bank_reads_back : (s : List ℕ) → IsBank s → ReadsBack bank_wording objects.Bank s
 bank_reads_back s h =
-    init_of-flat_map (codes "bank" ∷ decimal (length s) ∷ []) (account_lines 0 s) (record { kind = kinds.Bank; capacity = length s }) (state_in_lines s) (within_text (bank_is_short s h)) (head_of-bank (length s) h.least h.greatest)
+    init_of-flat_map (codes "bank" ∷ decimal (length s) ∷ []) (account_lines 0 s) (record { kind = kinds.Bank; capacity = length s }) (bank_in_lines s) (within_text (bank_is_short s h)) (head_of-bank (length s) h.least h.greatest)
     ∙ after_lines-accounts 2 [] [] s refl (from_zero (length s) h.greatest) (omega (arith, h.total))

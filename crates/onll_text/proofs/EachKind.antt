@@ -9,8 +9,9 @@ use Rattle.std.proofs.Math.Bool.{or-true}
 use Rattle.onll_words.specs.Texts.{IsWord, is_empty, is_word_byte}
 use Rattle.onll_text.specs.declared.any_object.Kind.{Kind}
 use Rattle.onll_text.specs.declared.any_object.AnyObject.{AnyObject}
-use Rattle.onll_text.specs.Init.{named_kinds, object_at, by_object, kind_and_state, on_kind}
-use Rattle.onll_text.specs.Kinds.{ObjectKind, calls_of, kind_at, on_object, name_in, object_name}
+use Rattle.onll_text.specs.Init.{named_kinds, name_in, object_name, object_at, by_object, kind_and_state, kind_and_state_at, on_kind}
+use Rattle.onll_text.specs.Kinds.{ObjectKind, kind_at, on_object}
+use Rattle.onll_text.specs.CallKind.{calls_of}
 
 -- ---- each kind
 -- the code of this kind is that of a kind of the list
@@ -29,12 +30,12 @@ by_kind f object = grind arith
 -- an object is that of its kind and its state
 pub same_object : (object : AnyObject) → object_at (kind_and_state object).0 (kind_and_state object).1 ≡ object
 same_object object =
-    by_object (λ (o : AnyObject). object_at (kind_and_state o).0 (kind_and_state o).1 ≡ o) (λ kind s. ap (λ of. object_at of.0 of.1) ((calls_of kind).at s)) object
+    by_object (λ (o : AnyObject). object_at (kind_and_state o).0 (kind_and_state o).1 ≡ o) (λ kind s. ap (λ of. object_at of.0 of.1) (kind_and_state_at kind s)) object
 
 -- what is said of the object of a kind and a state is said of these
 pub on_kind_at {ℓ} : {A : Type ℓ} (f : (kind : Kind) → (kind_at kind).State → A) (kind : Kind) (s : (kind_at kind).State)
     → on_kind f (object_at kind s) ≡ f kind s
-on_kind_at f kind s = by_kind f (object_at kind s) ∙ ap (λ of. f of.0 of.1) ((calls_of kind).at s)
+on_kind_at f kind s = by_kind f (object_at kind s) ∙ ap (λ of. f of.0 of.1) (kind_and_state_at kind s)
 
 -- what holds of what is said of each kind holds of what is said of an object
 pub each_kind {ℓ} : {A : Type ℓ} (f : (kind : Kind) → (kind_at kind).State → A) (P : A → Type 0)

@@ -6,8 +6,7 @@ use Rattle.std.proofs.lemmas.List.{drop_more}
 use Rattle.std.proofs.lemmas.Bool.Decides.{nat_tests}
 use Rattle.onll_text.specs.declared.any_object.Kind.{Kind}
 use Rattle.onll_text.specs.declared.reason.Reason.{Reason}
-use Rattle.onll_text.specs.Init.{kind_in}
-use Rattle.onll_text.specs.Kinds.{name_in}
+use Rattle.onll_text.specs.Init.{kind_in, name_in}
 
 module _ {K : Type 0} (f : K → Kind × List ℕ) (items : List K) (i : ℕ) (other : K) (within : i < length items) where
   -- its name is not the word

@@ -12,8 +12,8 @@ use Rattle.onll_text.specs.declared.any_object.AnyObject.TheVariants as objects
 use Rattle.onll_text.specs.declared.any_object.Kind.TheVariants as kinds
 use Rattle.onll_text.specs.Refusal.{Refusal, ◌>>=◌, only_if, at_line}
 use Rattle.onll_text.specs.QueueText.{item_line, item_lines, with_item, with_item_line}
-use Rattle.onll_text.specs.QueueLaws.{queue_is_short}
-use Rattle.onll_text.specs.QueueWording.{queue_wording, state_in_lines}
+use Rattle.onll_text.specs.QueueLaws.{queue_in_lines, queue_is_short}
+use Rattle.onll_text.specs.CallKind.{queue_wording}
 use Rattle.onll_text.specs.Init.{head_of}
 use Rattle.onll_text.specs.Making.{after_lines}
 use Rattle.onll_text.specs.ReadBack.{ReadsBack}
@@ -63,5 +63,5 @@ after_lines-items k done (x ∷ rest) n words h =
 -- what is printed of a queue reads as that queue
 pub queue_reads_back : (s : Items) → IsQueue s → ReadsBack queue_wording objects.Queue s
 queue_reads_back s h =
-    init_of-flat_map (codes "queue" ∷ decimal s.room ∷ []) (item_lines s.items) (record { kind = kinds.Queue; capacity = s.room }) (state_in_lines s) (within_text (queue_is_short s h)) (head_of-queue s.room h.least_room h.greatest_room)
+    init_of-flat_map (codes "queue" ∷ decimal s.room ∷ []) (item_lines s.items) (record { kind = kinds.Queue; capacity = s.room }) (queue_in_lines s) (within_text (queue_is_short s h)) (head_of-queue s.room h.least_room h.greatest_room)
     ∙ ap (λ (v : Result Items Refusal). v >>= λ items. Ok (objects.Queue items)) (after_lines-items 2 [] s.items s.room h.numbers (omega (arith, h.fits)))

@@ -1,6 +1,6 @@
 -- The grammar of initial states, and the kinds of object that begin them.
 
-use Rattle.std.specs.Prelude.{ℕ, List, [], ◌∷◌, Result, Ok, Err, if◌then◌else◌, codes, nat_le, ◌&&◌}
+use Rattle.std.specs.Prelude.{ℕ, ◌≡◌, ◌+◌, ◌==◌, List, [], ◌∷◌, Option, None, Result, Ok, Err, if◌then◌else◌, codes, nat_le, ◌&&◌, refl}
 use Rattle.std.specs.Str.{bytes_eq}
 use Rattle.onll_model.specs.Limits.{most_elements}
 use Rattle.onll_words.specs.Texts.{Numbered, words_of, meaningful_lines}
@@ -38,6 +38,15 @@ kind_in (k ∷ more) word = if bytes_eq word k.1 then Ok k.0 else kind_in more w
 abbrev pub kind_of : List ℕ → Result Kind Reason
 kind_of word = kind_in named_kinds word
 
+-- the name of the object of this code, where these kinds have the codes from `first` on
+abbrev pub name_in : List (Kind × List ℕ) → ℕ → ℕ → List ℕ
+name_in [] first code = codes "unknown"
+name_in (k ∷ more) first code = if code == first then k.1 else name_in more (first + 1) code
+
+-- the name of the object of this code
+abbrev pub object_name : ℕ → List ℕ
+object_name code = name_in named_kinds 1 code
+
 -- the capacity of an object
 abbrev pub capacity_of : List (List ℕ) → Result ℕ Reason
 capacity_of args = one_number args >>= λ n. only_if (nat_le 1 n && nat_le n most_elements) OutOfRange n
@@ -74,6 +83,13 @@ on_kind {A = A} say object = by_object (λ _. A) say object
 abbrev pub kind_and_state : AnyObject → (kind : Kind) × (states_of kind).State
 kind_and_state object = on_kind (λ kind s. (kind, s)) object
 
+-- the object of a kind and a state is of this kind, in this state
+pub kind_and_state_at : (kind : Kind) (s : (states_of kind).State) → kind_and_state (object_at kind s) ≡ (kind, s)
+kind_and_state_at kinds.Bank s = refl
+kind_and_state_at kinds.Map s = refl
+kind_and_state_at kinds.Queue s = refl
+kind_and_state_at kinds.Lease s = refl
+
 -- the object of this kind and capacity, with further lines
 abbrev pub object_of : Kind → ℕ → List Numbered → Result AnyObject Refusal
 object_of kind capacity lines = after_lines (states_of kind).with_line ((states_of kind).begun capacity) lines
@@ -86,3 +102,12 @@ init_of_lines (l ∷ lines) = at_line l.number (head_of (words_of l.line)) >>= �
 -- the initial state of a text, or why the text is none
 abbrev pub init_of : List ℕ → Result AnyObject Refusal
 init_of text = if is_too_long text then Err (refused 0 TooLong) else init_of_lines (meaningful_lines text)
+
+-- the state that was read, where it is one of this kind of object
+abbrev pub state_in : (kind : Kind) → Result AnyObject Refusal → Option (states_of kind).State
+state_in kind (Ok object) = (states_of kind).state object
+state_in kind (Err refusal) = None
+
+-- the state of this kind that a text says
+abbrev pub state_said : (kind : Kind) → List ℕ → Option (states_of kind).State
+state_said kind text = state_in kind (init_of text)

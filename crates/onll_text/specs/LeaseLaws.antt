@@ -1,133 +1,77 @@
--- What was read of a lease table: its calls and replies read again where they are printed, and are short there; its state is a table.
+-- What was read of a lease table reads again where it is printed, and is short there, and its state is a table; how a table is written.
 
-use Rattle.std.proofs.Common.{ℕ, Bool, true, false, List, [], ◌∷◌, ◌++◌, ◌≡◌, ◌+◌, ◌*◌, ◌^◌, ◌<◌, ◌≤◌, ◌==◌, ◌&&◌, nat_lt, cond, length, length-append, length-set, decimal, codes, replicate, slice_set, All, refl, ap, ◌∙◌, arith, Ok, Err, Result, IfOk}
+use Rattle.std.proofs.Common.{ℕ, Bool, true, false, List, [], ◌∷◌, ◌++◌, ◌≡◌, ◌+◌, ◌*◌, ◌<◌, ◌≤◌, ◌==◌, ◌&&◌, nat_lt, cond, length, length-append, length-set, codes, replicate, slice_set, All, refl, arith, Option, Some, None, Ok, Err, IfOk}
 use Rattle.std.specs.List.{flat_map}
 use Rattle.std.specs.Str.{bytes_eq}
 use Rattle.std.proofs.lemmas.List.{length-replicate}
 use Rattle.std.proofs.lemmas.List.Elements.{All-head, All-tail, All-set, All-replicate}
 use Rattle.std.proofs.lemmas.Bool.Decides.{nat_tests}
-use Rattle.onll_words.specs.Texts.{joined, line_text}
+use Rattle.std.proofs.lemmas.Result.{IfOk-at_ok}
+use Rattle.onll_words.specs.Texts.{joined, line_text, AreWords, AreMeaningful}
+use Rattle.onll_words.proofs.Decimals.{number_of-decimal, number_of_fits, IsWord-decimal}
 use Rattle.onll_model.specs.declared.call.Call.TheVariants.{Update, Ask}
 use Rattle.onll_lease.specs.declared.entry.LeaseEntry.{LeaseEntry}
+use Rattle.onll_lease.specs.declared.operation.LeaseOp.{LeaseOp}
 use Rattle.onll_lease.specs.declared.operation.LeaseOp.TheVariants.{Grant, Renew, Release}
+use Rattle.onll_lease.specs.declared.operation.LeaseQuery.{LeaseQuery}
 use Rattle.onll_lease.specs.declared.operation.LeaseQuery.TheVariants.{Holder}
 use Rattle.onll_lease.specs.declared.operation.LeaseReply.{LeaseReply}
-use Rattle.onll_lease.specs.declared.operation.LeaseReply.TheVariants.{NoResource, HeldUntil, Late, Spent, Granted, Renewed, Stale, Released, HeldBy, Free}
 use Rattle.onll_lease.specs.Entry.{IsEntry, OfNumbers, no_lease}
-use Rattle.onll_lease.specs.Lease.{IsLease, entry_at}
+use Rattle.onll_lease.specs.Lease.{IsLease}
+use Rattle.onll_text.specs.declared.any_object.AnyObject.{AnyObject}
 use Rattle.onll_text.specs.declared.any_object.AnyObject.TheVariants as objects
-use Rattle.onll_text.specs.declared.reason.Reason.{Reason}
-use Rattle.onll_text.specs.declared.reason.Reason.TheVariants.{UnknownWord, OutOfRange, Repeated}
-use Rattle.onll_text.specs.Refusal.{◌>>=◌, only_if}
-use Rattle.onll_text.specs.Wording.{longest_state}
-use Rattle.onll_text.specs.Words.{word_as_number, no_word, one_number, four_numbers}
-use Rattle.onll_text.specs.WordsAgain.{IsNumber, AreFour, one_fits, word_fits, four_fit, decimal_next, one_number-decimal, length-decimal, length-joined, if_ok_next, if_ok_either, if_ok_tested, Arguments, no_arguments, number_argument, two_arguments, four_arguments, PrintsAgain, line_again}
+use Rattle.onll_text.specs.declared.reason.Reason.TheVariants.{UnknownWord}
+use Rattle.onll_text.specs.Wording.{longest_words, longest_state, Wording}
+use Rattle.onll_text.specs.WordsAgain.{IsNumber, length-decimal, if_ok_either}
 use Rattle.onll_text.specs.Making.{StateKind}
-use Rattle.onll_text.specs.LeaseText.{LeaseCall, lease_call_of, lease_reply_of, lease_op_words, lease_query_words, lease_reply_words, grant_of, renew_of, release_of, holder_of, until_of, held_by_of, held_line, held_lines, lease_state_lines, entry_of, with_held, with_held_line}
+use Rattle.onll_text.specs.LeaseText.{LeaseCall, lease_call_of, grant_of, renew_of, release_of, holder_of, lease_reply_of, lease_op_words, lease_query_words, lease_reply_words, held_line, held_lines, lease_state_lines, with_held, with_held_line}
 
--- ---- calls
+-- ---- calls and replies
 abbrev pub lease_call_words : LeaseCall → List (List ℕ)
 lease_call_words (Update op) = lease_op_words op
 lease_call_words (Ask query) = lease_query_words query
 
-abbrev LeaseCallAgain : LeaseCall → Type 0
-LeaseCallAgain = PrintsAgain lease_call_of lease_call_words
+pub lease_call_in_words : (call : LeaseCall) → AreWords (lease_call_words call)
+lease_call_in_words call = grind (arith, IsWord-decimal)
 
-pub lease_calls_again : (words : List (List ℕ)) → IfOk (lease_call_of words) LeaseCallAgain
-lease_calls_again [] = tt
-lease_calls_again (first ∷ args) =
-    if_ok_either (bytes_eq first (codes "grant")) (grant_of args) _ LeaseCallAgain
-    (line_again lease_call_of lease_call_words four_arguments (codes "grant") (λ n. Update (Grant n.0 n.1 n.2 n.3))
-    (omega arith) (λ n. refl) (λ n. refl) args)
-    (if_ok_either (bytes_eq first (codes "renew")) (renew_of args) _ LeaseCallAgain
-    (line_again lease_call_of lease_call_words four_arguments (codes "renew") (λ n. Update (Renew n.0 n.1 n.2 n.3))
-    (omega arith) (λ n. refl) (λ n. refl) args)
-    (if_ok_either (bytes_eq first (codes "release")) (release_of args) _ LeaseCallAgain
-    (line_again lease_call_of lease_call_words two_arguments (codes "release") (λ n. Update (Release n.0 n.1))
-    (omega arith) (λ n. refl) (λ n. refl) args)
-    (if_ok_either (bytes_eq first (codes "holder")) (holder_of args) (Err UnknownWord) LeaseCallAgain
-    (line_again lease_call_of lease_call_words two_arguments (codes "holder") (λ n. Ask (Holder n.0 n.1))
-    (omega arith) (λ n. refl) (λ n. refl) args)
-    tt)))
+pub lease_reply_in_words : (reply : LeaseReply) → AreWords (lease_reply_words reply)
+lease_reply_in_words reply = grind (arith, IsWord-decimal)
 
--- ---- replies
-pub until_fits : (args : List (List ℕ)) → IfOk (until_of args) IsNumber
-until_fits [] = tt
-until_fits (word ∷ args) = if_ok_either (bytes_eq word (codes "until")) (one_number args) (Err UnknownWord) IsNumber (one_fits args) tt
+-- the numbers of a call have 64 bits
+abbrev LeaseCallFits : LeaseCall → Type 0
+LeaseCallFits (Update (Grant r h now ttl)) = IsNumber r × IsNumber h × IsNumber now × IsNumber ttl
+LeaseCallFits (Update (Renew r t now ttl)) = IsNumber r × IsNumber t × IsNumber now × IsNumber ttl
+LeaseCallFits (Update (Release r t)) = IsNumber r × IsNumber t
+LeaseCallFits (Ask (Holder r now)) = IsNumber r × IsNumber now
 
-pub until_is_short : (u : ℕ) → IsNumber u → length (joined (codes "until" ∷ decimal u ∷ [])) ≤ 100
-until_is_short u h = omega (arith, length-decimal u h)
+lease_calls_fit : (words : List (List ℕ)) → IfOk (lease_call_of words) LeaseCallFits
+lease_calls_fit [] = tt
+lease_calls_fit (first ∷ args) =
+    if_ok_either (bytes_eq first (codes "grant")) (grant_of args) _ LeaseCallFits (grind (arith, number_of_fits))
+    (if_ok_either (bytes_eq first (codes "renew")) (renew_of args) _ LeaseCallFits (grind (arith, number_of_fits))
+    (if_ok_either (bytes_eq first (codes "release")) (release_of args) _ LeaseCallFits (grind (arith, number_of_fits))
+    (if_ok_either (bytes_eq first (codes "holder")) (holder_of args) (Err UnknownWord) LeaseCallFits (grind (arith, number_of_fits)) tt)))
 
--- the words `until U`
-abbrev pub until_argument : Arguments ℕ
-until_argument = record {
-  read = until_of;
-  print = λ u. codes "until" ∷ decimal u ∷ [];
-  Fits = IsNumber;
-  fits = until_fits;
-  again = one_number-decimal;
-  short = until_is_short;
-}
+lease_fits_again : (call : LeaseCall) → LeaseCallFits call → lease_call_of (lease_call_words call) ≡ Ok call
+lease_fits_again call h = grind (arith, number_of-decimal)
 
-abbrev LeaseReplyAgain : LeaseReply → Type 0
-LeaseReplyAgain = PrintsAgain lease_reply_of lease_reply_words
+-- what is printed of a call that was read reads as that call
+pub lease_call_again : (words : List (List ℕ)) (call : LeaseCall) → lease_call_of words ≡ Ok call
+    → lease_call_of (lease_call_words call) ≡ Ok call
+lease_call_again words call e = lease_fits_again call (IfOk-at_ok LeaseCallFits e (lease_calls_fit words))
 
-held_by_again : (h t u : ℕ) → IsNumber h → IsNumber t → IsNumber u → LeaseReplyAgain (HeldBy h t u)
-held_by_again h t u i j k = record {
-  reads =
-      decimal_next h (λ x. word_as_number (decimal t) >>= λ y. until_of (codes "until" ∷ decimal u ∷ []) >>= λ z. Ok (HeldBy x y z)) i
-      ∙ decimal_next t (λ y. until_of (codes "until" ∷ decimal u ∷ []) >>= λ z. Ok (HeldBy h y z)) j
-      ∙ ap (λ (v : Result ℕ Reason). v >>= λ z. Ok (HeldBy h t z)) (one_number-decimal u k);
-  short = omega (
-    arith,
-    length-joined 20 (lease_reply_words (HeldBy h t u))
-        (omega arith, (length-decimal h i, (omega arith, (length-decimal t j, (omega arith, (length-decimal u k, tt)))))),
-  );
-}
+lease_fits_short : (call : LeaseCall) → LeaseCallFits call → length (joined (lease_call_words call)) ≤ longest_words
+lease_fits_short call h = grind (arith, length-decimal, length-append {A = ℕ})
 
-held_bys_again : (args : List (List ℕ)) → IfOk (held_by_of args) LeaseReplyAgain
-held_bys_again (holder ∷ word ∷ token ∷ args) =
-    if_ok_either (bytes_eq word (codes "token")) _ (Err UnknownWord) LeaseReplyAgain
-    (if_ok_next (word_as_number holder) (λ h. word_as_number token >>= λ t. until_of args >>= λ u. Ok (HeldBy h t u)) IsNumber
-    LeaseReplyAgain (word_fits holder) (λ h i.
-    if_ok_next (word_as_number token) (λ t. until_of args >>= λ u. Ok (HeldBy h t u)) IsNumber LeaseReplyAgain (word_fits token) (λ t j.
-    if_ok_next (until_of args) (λ u. Ok (HeldBy h t u)) IsNumber LeaseReplyAgain (until_fits args) (λ u k. held_by_again h t u i j k))))
-    tt
-held_bys_again _ = tt
+-- what is printed of a call that reads as it is short
+pub lease_call_short : (call : LeaseCall) → lease_call_of (lease_call_words call) ≡ Ok call
+    → length (joined (lease_call_words call)) ≤ longest_words
+lease_call_short call e = lease_fits_short call (IfOk-at_ok LeaseCallFits e (lease_calls_fit (lease_call_words call)))
 
-pub lease_replies_again : (words : List (List ℕ)) → IfOk (lease_reply_of words) LeaseReplyAgain
-lease_replies_again [] = tt
-lease_replies_again (first ∷ args) =
-    if_ok_either (bytes_eq first (codes "no-resource")) (no_word args >>= λ none. Ok NoResource) _ LeaseReplyAgain
-    (line_again lease_reply_of lease_reply_words no_arguments (codes "no-resource") (λ none. NoResource)
-    (omega arith) (λ n. refl) (λ n. refl) args)
-    (if_ok_either (bytes_eq first (codes "held")) (until_of args >>= λ u. Ok (HeldUntil u)) _ LeaseReplyAgain
-    (line_again lease_reply_of lease_reply_words until_argument (codes "held") (λ u. HeldUntil u)
-    (omega arith) (λ n. refl) (λ n. refl) args)
-    (if_ok_either (bytes_eq first (codes "late")) (no_word args >>= λ none. Ok Late) _ LeaseReplyAgain
-    (line_again lease_reply_of lease_reply_words no_arguments (codes "late") (λ none. Late)
-    (omega arith) (λ n. refl) (λ n. refl) args)
-    (if_ok_either (bytes_eq first (codes "spent")) (no_word args >>= λ none. Ok Spent) _ LeaseReplyAgain
-    (line_again lease_reply_of lease_reply_words no_arguments (codes "spent") (λ none. Spent)
-    (omega arith) (λ n. refl) (λ n. refl) args)
-    (if_ok_either (bytes_eq first (codes "granted")) (one_number args >>= λ t. Ok (Granted t)) _ LeaseReplyAgain
-    (line_again lease_reply_of lease_reply_words number_argument (codes "granted") (λ t. Granted t)
-    (omega arith) (λ n. refl) (λ n. refl) args)
-    (if_ok_either (bytes_eq first (codes "renewed")) (one_number args >>= λ u. Ok (Renewed u)) _ LeaseReplyAgain
-    (line_again lease_reply_of lease_reply_words number_argument (codes "renewed") (λ u. Renewed u)
-    (omega arith) (λ n. refl) (λ n. refl) args)
-    (if_ok_either (bytes_eq first (codes "stale")) (no_word args >>= λ none. Ok Stale) _ LeaseReplyAgain
-    (line_again lease_reply_of lease_reply_words no_arguments (codes "stale") (λ none. Stale)
-    (omega arith) (λ n. refl) (λ n. refl) args)
-    (if_ok_either (bytes_eq first (codes "released")) (no_word args >>= λ none. Ok Released) _ LeaseReplyAgain
-    (line_again lease_reply_of lease_reply_words no_arguments (codes "released") (λ none. Released)
-    (omega arith) (λ n. refl) (λ n. refl) args)
-    (if_ok_either (bytes_eq first (codes "by")) (held_by_of args) _ LeaseReplyAgain
-    (held_bys_again args)
-    (if_ok_either (bytes_eq first (codes "free")) (no_word args >>= λ none. Ok Free) (Err UnknownWord) LeaseReplyAgain
-    (line_again lease_reply_of lease_reply_words no_arguments (codes "free") (λ none. Free)
-    (omega arith) (λ n. refl) (λ n. refl) args)
-    tt)))))))))
+-- so is what is printed of a reply
+pub lease_reply_short : (reply : LeaseReply) → lease_reply_of (lease_reply_words reply) ≡ Ok reply
+    → length (joined (lease_reply_words reply)) ≤ longest_words
+lease_reply_short reply e = grind (arith, number_of_fits, length-decimal, length-append {A = ℕ})
 
 -- ---- states
 -- a table with one resource's entry, whose token was given
@@ -145,20 +89,10 @@ held_is_lease s r e h numbers test =
     }
 
 held_keeps : (made : List LeaseEntry) (r : ℕ) (e : LeaseEntry) → IsLease made → OfNumbers e → IfOk (with_held made r e) IsLease
-held_keeps made r e h numbers =
-    let test : Bool = nat_lt r (length made) && nat_lt 0 e.token in
-    let Here : List LeaseEntry → Type 0 = λ m. IsLease m × ((nat_lt r (length m) && nat_lt 0 e.token) ≡ true) in
-    if_ok_next (only_if test OutOfRange made) (λ m. only_if ((entry_at m r).token == 0) Repeated (slice_set m r e)) Here IsLease
-    (if_ok_tested test OutOfRange made Here (λ here. (h, here)))
-    (λ m k. if_ok_tested ((entry_at m r).token == 0) Repeated (slice_set m r e) IsLease (λ none. held_is_lease m r e k.0 numbers k.1))
+held_keeps made r e h numbers = grind (arith, held_is_lease)
 
 pub held_line_keeps : (made : List LeaseEntry) (words : List (List ℕ)) → IsLease made → IfOk (with_held_line made words) IsLease
-held_line_keeps made [] h = tt
-held_line_keeps made (first ∷ args) h =
-    if_ok_either (bytes_eq first (codes "held")) (four_numbers args >>= λ n. with_held made n.0 (entry_of n.1 n.2 n.3))
-    (Err UnknownWord) IsLease
-    (if_ok_next (four_numbers args) (λ n. with_held made n.0 (entry_of n.1 n.2 n.3)) AreFour IsLease (four_fit args)
-    (λ n k. held_keeps made n.0 (entry_of n.1 n.2 n.3) h (record { token = k.1; holder = k.2; until = k.3 }))) tt
+held_line_keeps made words h = grind (arith, held_keeps, number_of_fits)
 
 -- resources that were never granted
 pub none_is_lease : (n : ℕ) → 1 ≤ n → n ≤ 4096 → IsLease (replicate n no_lease)
@@ -169,11 +103,21 @@ none_is_lease n least greatest = record {
   greatest = omega (arith, length-replicate {A = LeaseEntry} n no_lease);
 }
 
+-- the state of an object, where it is a lease table
+abbrev pub lease_in : AnyObject → Option (List LeaseEntry)
+lease_in (objects.Lease s) = Some s
+lease_in _ = None
+
+pub is_lease : (any : AnyObject) (s : List LeaseEntry) → lease_in any ≡ Some s → any ≡ objects.Lease s
+is_lease any s e = grind arith
+
 -- the states of a lease table
 abbrev pub lease_states : StateKind
 lease_states = record {
   State = List LeaseEntry;
   object = objects.Lease;
+  state = lease_in;
+  is_object = is_lease;
   Making = List LeaseEntry;
   begun = λ capacity. replicate capacity no_lease;
   with_line = with_held_line;
@@ -183,20 +127,22 @@ lease_states = record {
   line_keeps = held_line_keeps;
 }
 
+-- one resource's line, or none, before further lines
+one_in_lines : (b : Bool) (r : ℕ) (e : LeaseEntry) (lines : List (List (List ℕ))) → AreMeaningful lines
+    → AreMeaningful (cond b [] (held_line r e ∷ []) ++ lines)
+one_in_lines true r e lines h = h
+one_in_lines false r e lines h = search (IsWord-decimal, h)
+
+held_in_lines : (r : ℕ) (entries : List LeaseEntry) → AreMeaningful (held_lines r entries)
+held_in_lines r [] = tt
+held_in_lines r (e ∷ entries) = one_in_lines (e.token == 0) r e (held_lines (r + 1) entries) (held_in_lines (r + 1) entries)
+
+pub lease_in_lines : (s : List LeaseEntry) → AreMeaningful (lease_state_lines s)
+lease_in_lines s = search (IsWord-decimal, held_in_lines)
+
 -- the lines of a table are short
-length-held_line : (r : ℕ) (e : LeaseEntry) → r < 2 ^ 64 → OfNumbers e → length (line_text (held_line r e)) ≤ 89
-length-held_line r e h n =
-    omega (
-      arith,
-      length-append (decimal r) (32 ∷ (decimal e.token ++ 32 ∷ (decimal e.holder ++ 32 ∷ decimal e.until))),
-      length-append (decimal e.token) (32 ∷ (decimal e.holder ++ 32 ∷ decimal e.until)),
-      length-append (decimal e.holder) (32 ∷ decimal e.until),
-      length-append (decimal r ++ 32 ∷ (decimal e.token ++ 32 ∷ (decimal e.holder ++ 32 ∷ decimal e.until))) (10 ∷ []),
-      length-decimal r h,
-      length-decimal e.token n.token,
-      length-decimal e.holder n.holder,
-      length-decimal e.until n.until,
-    )
+length-held_line : (r : ℕ) (e : LeaseEntry) → IsNumber r → OfNumbers e → length (line_text (held_line r e)) ≤ 89
+length-held_line r e h n = grind (arith, length-append {A = ℕ}, length-decimal)
 
 -- the lines of one resource, or none, before those of the rest
 length-one : (b : Bool) (r : ℕ) (e : LeaseEntry) (rest : List (List (List ℕ))) → length (line_text (held_line r e)) ≤ 89
@@ -213,19 +159,34 @@ length-held_lines r (e ∷ es) h n =
     let one : length (line_text (held_line r e)) ≤ 89 = length-held_line r e (omega arith) (All-head OfNumbers e es n) in
     omega (arith, length-one (e.token == 0) r e (held_lines (r + 1) es) one)
 
-within_word : (n : ℕ) → n ≤ 4096 → n < 2 ^ 64
-within_word n h = omega arith
-
-from_zero : (n : ℕ) → n ≤ 4096 → 0 + n ≤ 4096
-from_zero n h = omega arith
-
 -- so is all that is printed of a lease table
 pub lease_is_short : (s : List LeaseEntry) → IsLease s → length (flat_map line_text (lease_state_lines s)) ≤ longest_state
-lease_is_short s h =
-    omega (
-      arith,
-      length-append (line_text (codes "lease" ∷ decimal (length s) ∷ [])) (flat_map line_text (held_lines 0 s)),
-      length-append (decimal (length s)) (10 ∷ []),
-      length-decimal (length s) (within_word (length s) h.greatest),
-      length-held_lines 0 s (from_zero (length s) h.greatest) h.numbers,
-    )
+lease_is_short s h = grind (arith, length-append {A = ℕ}, length-decimal, length-held_lines)
+
+-- how a lease table is written, where this reads its states
+abbrev pub lease_wording_by : (state_of : List ℕ → Option (List LeaseEntry))
+    → ((text : List ℕ) (s : List LeaseEntry) → state_of text ≡ Some s → IsLease s) → Wording (List LeaseEntry) LeaseOp LeaseQuery LeaseReply
+lease_wording_by state_of valid = record {
+  call_of = lease_call_of;
+  reply_of = lease_reply_of;
+  state_of = state_of;
+  op_words = lease_op_words;
+  query_words = lease_query_words;
+  reply_words = lease_reply_words;
+  state_lines = lease_state_lines;
+  op_in_words = λ op. lease_call_in_words (Update op);
+  query_in_words = λ query. lease_call_in_words (Ask query);
+  reply_in_words = lease_reply_in_words;
+  state_in_lines = lease_in_lines;
+  ordered_is_no_reply = refl;
+  fence_failed_is_no_reply = refl;
+  broken_is_no_reply = refl;
+  no_words_are_no_call = refl;
+  no_words_are_no_reply = refl;
+  op_reads_again = λ words op e. lease_call_again words (Update op) e;
+  query_reads_again = λ words query e. lease_call_again words (Ask query) e;
+  op_is_short = λ op e. lease_call_short (Update op) e;
+  query_is_short = λ query e. lease_call_short (Ask query) e;
+  reply_is_short = lease_reply_short;
+  state_is_short = λ s e. lease_is_short s (valid (flat_map line_text (lease_state_lines s)) s e);
+}

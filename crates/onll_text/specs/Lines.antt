@@ -12,37 +12,6 @@ use Rattle.onll_text.specs.Wording.{Wording}
 abbrev pub at_words : ℕ → List (List ℕ)
 at_words place = codes "at" ∷ decimal place ∷ []
 
-abbrev pub call_words : {State Op Query Reply : Type 0} → Wording State Op Query Reply → Call State Op Query Reply → List (List ℕ)
-call_words w (Update op) = w.op_words op
-call_words w (Ask query) = w.query_words query
-
--- what became of a call
-abbrev pub end_words : {State Op Query Reply : Type 0} → Wording State Op Query Reply → CallEnd State Op Query Reply → List (List ℕ)
-end_words w (Answered reply place) = w.reply_words reply ++ at_words place
-end_words w Running = codes "running" ∷ []
-end_words w (Ordered place) = codes "ordered" ∷ at_words place
-end_words w (FenceFailed place) = codes "fence" ∷ codes "failed" ∷ at_words place
-end_words w (Broken place) = codes "broken" ∷ at_words place
-
--- call number k of a thread: `call T K CALL -> ..`
-abbrev pub call_line : {State Op Query Reply : Type 0} → Wording State Op Query Reply → ℕ → ℕ
-    → Call State Op Query Reply → CallEnd State Op Query Reply → List (List ℕ)
-call_line w thread number call end =
-    codes "call" ∷ decimal thread ∷ decimal number ∷ (call_words w call ++ codes "->" ∷ end_words w end)
-
--- the line of each outcome, the first of them of call number k + 1
-abbrev pub call_lines : {State Op Query Reply : Type 0} → Wording State Op Query Reply → ℕ → ℕ
-    → List (Call State Op Query Reply) → List (CallEnd State Op Query Reply) → List (List (List ℕ))
-call_lines w thread k calls [] = []
-call_lines w thread k [] ends = []
-call_lines w thread k (c ∷ calls) (e ∷ ends) = call_line w thread (k + 1) c e ∷ call_lines w thread (k + 1) calls ends
-
--- the lines of the calls of each thread, from thread t on
-abbrev pub thread_lines : {State Op Query Reply : Type 0} → Wording State Op Query Reply → ℕ
-    → List (List (Call State Op Query Reply)) → List (List (CallEnd State Op Query Reply)) → List (List (List ℕ))
-thread_lines w t (script ∷ scripts) (ends ∷ more) = call_lines w t 0 script ends ++ thread_lines w (t + 1) scripts more
-thread_lines w t scripts ends = []
-
 abbrev pub trace_line : ℕ → List (List ℕ)
 trace_line count = codes "trace" ∷ decimal count ∷ []
 
@@ -51,28 +20,60 @@ flag_words None = []
 flag_words (Some true) = codes "set" ∷ []
 flag_words (Some false) = codes "unset" ∷ []
 
--- the words of a row's operation; a row of no operation has none
-abbrev pub row_words : {State Op Query Reply : Type 0} → Wording State Op Query Reply → Option Op → List (List ℕ)
-row_words w None = []
-row_words w (Some op) = w.op_words op
+module _ {State Op Query Reply : Type 0} (w : Wording State Op Query Reply) where
+  abbrev pub call_words : Call State Op Query Reply → List (List ℕ)
+  call_words (Update op) = w.op_words op
+  call_words (Ask query) = w.query_words query
 
--- the node at a place, with its flag where there is one: `node P T N CALL`
-abbrev pub node_line : {State Op Query Reply : Type 0} → Behaviour State Op Query Reply → Wording State Op Query Reply
-    → ℕ → Node → Option Bool → List (List ℕ)
-node_line b w place node flag =
-    codes "node" ∷ decimal place ∷ decimal node.thread ∷ decimal node.number ∷ (flag_words flag ++ row_words w (b.op_at node.row))
+  -- what became of a call
+  abbrev pub end_words : CallEnd State Op Query Reply → List (List ℕ)
+  end_words (Answered reply place) = w.reply_words reply ++ at_words place
+  end_words Running = codes "running" ∷ []
+  end_words (Ordered place) = codes "ordered" ∷ at_words place
+  end_words (FenceFailed place) = codes "fence" ∷ codes "failed" ∷ at_words place
+  end_words (Broken place) = codes "broken" ∷ at_words place
 
--- the line of each node, the first of them at place p + 1, without flags
-abbrev pub node_lines : {State Op Query Reply : Type 0} → Behaviour State Op Query Reply → Wording State Op Query Reply
-    → ℕ → List Node → List (List (List ℕ))
-node_lines b w p [] = []
-node_lines b w p (n ∷ nodes) = node_line b w (p + 1) n None ∷ node_lines b w (p + 1) nodes
+  -- call number k of a thread: `call T K CALL -> ..`
+  abbrev pub call_line : ℕ → ℕ → Call State Op Query Reply → CallEnd State Op Query Reply → List (List ℕ)
+  call_line thread number call end =
+      codes "call" ∷ decimal thread ∷ decimal number ∷ (call_words call ++ codes "->" ∷ end_words end)
 
--- the line of each node with its flag, the first of them at place p + 1
-abbrev pub flagged_lines : {State Op Query Reply : Type 0} → Behaviour State Op Query Reply
-    → Wording State Op Query Reply → ℕ → List Node → List Bool → List (List (List ℕ))
-flagged_lines b w p (n ∷ nodes) (flag ∷ flags) = node_line b w (p + 1) n (Some flag) ∷ flagged_lines b w (p + 1) nodes flags
-flagged_lines b w p nodes flags = []
+  -- the line of each outcome, the first of them of call number k + 1
+  abbrev pub call_lines : ℕ → ℕ → List (Call State Op Query Reply) → List (CallEnd State Op Query Reply) → List (List (List ℕ))
+  call_lines thread k calls [] = []
+  call_lines thread k [] ends = []
+  call_lines thread k (c ∷ calls) (e ∷ ends) = call_line thread (k + 1) c e ∷ call_lines thread (k + 1) calls ends
+
+  -- the lines of the calls of each thread, from thread t on
+  abbrev pub thread_lines : ℕ → List (List (Call State Op Query Reply)) → List (List (CallEnd State Op Query Reply))
+      → List (List (List ℕ))
+  thread_lines t (script ∷ scripts) (ends ∷ more) = call_lines t 0 script ends ++ thread_lines (t + 1) scripts more
+  thread_lines t scripts ends = []
+
+  -- the words of a row's operation; a row of no operation has none
+  abbrev pub row_words : Option Op → List (List ℕ)
+  row_words None = []
+  row_words (Some op) = w.op_words op
+
+  -- the line `state`, and the state
+  abbrev pub state_lines : State → List (List (List ℕ))
+  state_lines state = (codes "state" ∷ []) ∷ w.state_lines state
+
+module _ {State Op Query Reply : Type 0} (b : Behaviour State Op Query Reply) (w : Wording State Op Query Reply) where
+  -- the node at a place, with its flag where there is one: `node P T N CALL`
+  abbrev pub node_line : ℕ → Node → Option Bool → List (List ℕ)
+  node_line place node flag =
+      codes "node" ∷ decimal place ∷ decimal node.thread ∷ decimal node.number ∷ (flag_words flag ++ row_words w (b.op_at node.row))
+
+  -- the line of each node, the first of them at place p + 1, without flags
+  abbrev pub node_lines : ℕ → List Node → List (List (List ℕ))
+  node_lines p [] = []
+  node_lines p (n ∷ nodes) = node_line (p + 1) n None ∷ node_lines (p + 1) nodes
+
+  -- the line of each node with its flag, the first of them at place p + 1
+  abbrev pub flagged_lines : ℕ → List Node → List Bool → List (List (List ℕ))
+  flagged_lines p (n ∷ nodes) (flag ∷ flags) = node_line (p + 1) n (Some flag) ∷ flagged_lines (p + 1) nodes flags
+  flagged_lines p nodes flags = []
 
 -- the entries, lines and fences of a thread's log
 abbrev pub fence_words : Option ℕ → List (List ℕ)
@@ -101,7 +102,3 @@ recovered_line nodes = codes "recovered" ∷ decimal nodes ∷ []
 -- the line of a fence that failed: of a thread's update at this place, or of its header at place 0
 abbrev pub fence_line : ℕ → ℕ → List (List ℕ)
 fence_line thread place = codes "fault" ∷ codes "thread" ∷ decimal thread ∷ codes "place" ∷ decimal place ∷ []
-
--- the line `state`, and the state
-abbrev pub state_lines : {State Op Query Reply : Type 0} → Wording State Op Query Reply → State → List (List (List ℕ))
-state_lines w state = (codes "state" ∷ []) ∷ w.state_lines state

@@ -27,21 +27,19 @@ abbrev pub counted : {State Op Query Reply : Type 0} → Counts → Call State O
 counted n (Update op) = only_if (nat_lt n.updates most_calls) TooMany (record { updates = n.updates + 1; reads = n.reads })
 counted n (Ask query) = only_if (nat_lt n.reads most_calls) TooMany (record { updates = n.updates; reads = n.reads + 1 })
 
--- the call of a line's words, after so many calls, and how many there are with it
-abbrev pub call_after : {State Op Query Reply : Type 0} → Wording State Op Query Reply → Counts → List (List ℕ)
-    → Result (Call State Op Query Reply × Counts) Reason
-call_after w n words = w.call_of words >>= λ call. counted n call >>= λ m. Ok (call, m)
-
--- the calls of meaningful lines, after so many calls
-abbrev pub calls_in : {State Op Query Reply : Type 0} → Wording State Op Query Reply → Counts → List Numbered
-    → Result (List (Call State Op Query Reply)) Refusal
-calls_in w n [] = Ok []
-calls_in w n (l ∷ lines) = at_line l.number (call_after w n (words_of l.line)) >>= λ c. calls_in w c.1 lines >>= λ calls. Ok (c.0 ∷ calls)
-
 abbrev pub no_calls : Counts
 no_calls = record { updates = 0; reads = 0 }
 
--- the calls of a script, or why its text is none
-abbrev pub script_of : {State Op Query Reply : Type 0} → Wording State Op Query Reply → List ℕ
-    → Result (List (Call State Op Query Reply)) Refusal
-script_of w text = if is_too_long text then Err (refused 0 TooLong) else calls_in w no_calls (meaningful_lines text)
+module _ {State Op Query Reply : Type 0} (w : Wording State Op Query Reply) where
+  -- the call of a line's words, after so many calls, and how many there are with it
+  abbrev pub call_after : Counts → List (List ℕ) → Result (Call State Op Query Reply × Counts) Reason
+  call_after n words = w.call_of words >>= λ call. counted n call >>= λ m. Ok (call, m)
+
+  -- the calls of meaningful lines, after so many calls
+  abbrev pub calls_in : Counts → List Numbered → Result (List (Call State Op Query Reply)) Refusal
+  calls_in n [] = Ok []
+  calls_in n (l ∷ lines) = at_line l.number (call_after n (words_of l.line)) >>= λ c. calls_in c.1 lines >>= λ calls. Ok (c.0 ∷ calls)
+
+  -- the calls of a script, or why its text is none
+  abbrev pub script_of : List ℕ → Result (List (Call State Op Query Reply)) Refusal
+  script_of text = if is_too_long text then Err (refused 0 TooLong) else calls_in no_calls (meaningful_lines text)

@@ -3,8 +3,7 @@
 ghost use Rattle.std.specs.Prelude.{◌≡◌, ◌≤◌, MatchResult, Ok};
 ghost use Rattle.onll_model.specs.Limits.{most_elements};
 ghost use Rattle.onll_text.specs.Refusal.{Fails};
-ghost use Rattle.onll_text.specs.Init.{kind_of, object_of};
-ghost use Rattle.onll_text.specs.Kinds.{object_name};
+ghost use Rattle.onll_text.specs.Init.{kind_of, object_name, object_of};
 
 use crate::bank_init::read_bank;
 use crate::lease::read_lease;

@@ -4,7 +4,7 @@ ghost use Rattle.std.specs.Prelude.{◌≡◌, ◌++◌, true, OnOk};
 ghost use Rattle.onll_words.specs.Texts.{words_of, line_text};
 ghost use Rattle.onll_text.specs.Bytes.{begins_line, with_lines, IsFront};
 ghost use Rattle.onll_text.specs.BankText.{deposit_of, withdraw_of, transfer_of, balance_of, total_of, account_line, account_lines};
-ghost use Rattle.onll_text.specs.BankWording.{bank_wording};
+ghost use Rattle.onll_text.specs.CallKind.{bank_wording};
 ghost use Rattle.onll_text.specs.ReadBack.{ReadsBack};
 ghost use Rattle.onll_text.specs.declared.any_object.AnyObject.TheVariants as objects;
 

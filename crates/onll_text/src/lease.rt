@@ -8,7 +8,7 @@ ghost use Rattle.onll_text.specs.declared.any_object.Kind.TheVariants as kinds;
 ghost use Rattle.onll_words.specs.Texts.{words_of, line_text};
 ghost use Rattle.onll_text.specs.Bytes.{begins_line, with_lines, IsFront};
 ghost use Rattle.onll_text.specs.LeaseText.{grant_of, renew_of, release_of, holder_of, held_line, entry_lines, held_lines, with_held, with_held_line};
-ghost use Rattle.onll_text.specs.LeaseWording.{lease_wording};
+ghost use Rattle.onll_text.specs.CallKind.{lease_wording};
 ghost use Rattle.onll_text.specs.ReadBack.{ReadsBack};
 ghost use Rattle.onll_text.specs.declared.any_object.AnyObject.TheVariants as objects;
 

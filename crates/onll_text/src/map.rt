@@ -8,7 +8,7 @@ ghost use Rattle.onll_text.specs.declared.any_object.Kind.TheVariants as kinds;
 ghost use Rattle.onll_words.specs.Texts.{words_of, line_text};
 ghost use Rattle.onll_text.specs.Bytes.{begins_line, with_lines, IsFront};
 ghost use Rattle.onll_text.specs.MapText.{put_of, del_of, get_of, next_of, count_of, pair_line, pair_lines, with_pair, with_pair_line};
-ghost use Rattle.onll_text.specs.MapWording.{map_wording};
+ghost use Rattle.onll_text.specs.CallKind.{map_wording};
 ghost use Rattle.onll_text.specs.ReadBack.{ReadsBack};
 ghost use Rattle.onll_text.specs.declared.any_object.AnyObject.TheVariants as objects;
 

@@ -8,7 +8,7 @@ ghost use Rattle.onll_text.specs.declared.any_object.Kind.TheVariants as kinds;
 ghost use Rattle.onll_words.specs.Texts.{words_of, line_text};
 ghost use Rattle.onll_text.specs.Bytes.{begins_line, with_lines, IsFront};
 ghost use Rattle.onll_text.specs.QueueText.{push_of, pop_of, front_of, length_of, item_line, item_lines, with_item, with_item_line};
-ghost use Rattle.onll_text.specs.QueueWording.{queue_wording};
+ghost use Rattle.onll_text.specs.CallKind.{queue_wording};
 ghost use Rattle.onll_text.specs.ReadBack.{ReadsBack};
 ghost use Rattle.onll_text.specs.declared.any_object.AnyObject.TheVariants as objects;
 

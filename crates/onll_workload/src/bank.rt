@@ -3,7 +3,7 @@
 ghost use Rattle.std.specs.Prelude.{◌≡◌, IfOk};
 ghost use Rattle.std.specs.List.{flat_map};
 ghost use Rattle.onll_words.specs.Texts.{line_text};
-ghost use Rattle.onll_text.specs.BankWording.{bank_wording};
+ghost use Rattle.onll_text.specs.CallKind.{bank_wording};
 ghost use Rattle.onll_workload.specs.Workload.{first_bank};
 
 use onll_bank::{Bank, BankOp};

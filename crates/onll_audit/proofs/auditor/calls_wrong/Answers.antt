@@ -1,8 +1,9 @@
-use Rattle.std.proofs.Common.{rules, ◌∙◌, ◌++◌, ◌≤◌, sym, ap, List, length, min, map}
+use Rattle.std.proofs.Common.{rules, ◌≡◌, Some, slice_get, subst, ◌∙◌, ◌++◌, ◌≤◌, sym, ap, List, length, min, map}
 use Rattle.std.proofs.lemmas.List.{append-nil}
 use Rattle.std.specs.declared.vec.Vec.{Vec}
 use Rattle.std.specs.declared.alloc.Global.{Global}
 use Rattle.onll_words.specs.declared.line.OpRow.{OpRow}
+use Rattle.onll_audit.specs.declared.groups.CallLine.{CallLine}
 use Rattle.onll_audit.proofs.Calling.{calls_end}
 use Rattle.onll_audit.proofs.Rows.{rows_end}
 use Rattle.onll_audit.proofs.auditor.calls_wrong.Goals as goal
@@ -22,3 +23,11 @@ returns-clause-rows g c =
     ∙ sym (ap (λ (rows : List (List OpRow)). old ++ rows)
     (rows_end g.O.Object.means g.O.Texted.wording _ _ c.loop-i.i c.args.scripts.now c.args.form.now.calls.items le))
     ∙ c.loop-i.invariant.rows
+
+pub thread_wrong-requires-clause-read : goal.thread_wrong-requires-clause-read
+thread_wrong-requires-clause-read g c κs within =
+    let i = c.loop-i.i in
+    let lines = c.group_at-lines.result.now in
+    c.requires.read i c.script_at.result.now lines c.script_at.ensures.there
+    (subst (λ (groups : List (Vec CallLine Global)). slice_get (map (λ (own : Vec CallLine Global). own.items) groups) i ≡ Some lines)
+    c.deref.ensures.value c.group_at-lines.ensures.there)

@@ -7,7 +7,7 @@ abbrev pub invariant-loop-i : goal.invariant-loop-i
 invariant-loop-i g l =
     let b = g.O.Object.means in
     let e = l.evidence in
-    let lines = map (λ x. x.now) l.lines in
+    let lines = map (λ x. x.line.now) l.lines in
     let wrong = thread_wrong b g.O.Texted.wording e.first.now e.nodes.now e.thread e.places.now in
     record {
       whole : wrong l.number no_past l.script lines ≡ wrong (l.number + l.i) l.past (drop l.i l.script) (drop l.i lines);

@@ -6,7 +6,7 @@ pub returns-in-Fold : goal.returns-in-Fold
 returns-in-Fold g c = record { by = λ threads stands. rw c.in-Fold.is c.fold_object.ensures }
 
 pub returns-in-Recover : goal.returns-in-Recover
-returns-in-Recover g c = record { by = λ threads stands. rw c.in-Recover.is c.recover_files.ensures }
+returns-in-Recover g c = record { by = λ threads stands. rw c.in-Recover.is c.recover_on.ensures }
 
 pub returns-in-Replay : goal.returns-in-Replay
 returns-in-Replay g c =

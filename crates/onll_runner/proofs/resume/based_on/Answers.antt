@@ -1,6 +1,5 @@
-use Rattle.std.proofs.Common.{rules, ℕ, List, ◌≡◌, Err, length, map, string_bytes, sym, ap, ◌∙◌, subst}
+use Rattle.std.proofs.Common.{rules, ◌≡◌, Err, length, map, string_bytes, sym, ap, ◌∙◌, subst}
 use Rattle.std.proofs.lemmas.List.{length-map, map-id}
-use Rattle.onll_log.specs.declared.head.LogHead.{LogHead}
 use Rattle.onll_merge.specs.Recovered.{recovered_in}
 use Rattle.onll_log.specs.Head.{AreHeads}
 use Rattle.onll_start.specs.Start.{base_in}

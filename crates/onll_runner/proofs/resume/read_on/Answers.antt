@@ -6,8 +6,8 @@ use Rattle.onll_start.specs.Start.{Found, base_in}
 use Rattle.onll_text.specs.Kinds.{kind_by}
 use Rattle.onll_open.specs.Names.{log_names}
 use Rattle.onll_task.specs.Doing.{Fulfils}
-use Rattle.onll_task.proofs.Stages.{read_does, unread_does, none_does, by_given, by_begins, by_stops}
-use Rattle.onll_runner.specs.ResumeJob.{AreKeptImages, based_task}
+use Rattle.onll_task.proofs.Stages.{read_does, unread_does, by_given, by_begins, by_stops}
+use Rattle.onll_runner.specs.ResumeJob.{based_task}
 use Rattle.onll_runner.proofs.Based.{used_all, long_all, base_stands}
 use Rattle.onll_runner.proofs.resume.read_on.Goals as goal
 

@@ -1,6 +1,6 @@
 use Rattle.std.proofs.Common.{ℕ, List, ◌≡◌, ◌+◌, map, drop, Bor}
 use Rattle.onll_text.specs.declared.any_object.Kind.{Kind}
-use Rattle.onll_text.specs.Kinds.{name_in, object_name}
+use Rattle.onll_text.specs.Init.{name_in, object_name}
 use Rattle.onll_text.proofs.any_object.object_name.Given as goal
 
 abbrev pub invariant-loop-name : goal.invariant-loop-name

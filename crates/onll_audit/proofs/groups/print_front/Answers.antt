@@ -3,7 +3,7 @@ use Rattle.std.proofs.lemmas.Result.{on_ok_weaker}
 use Rattle.onll_text.specs.Bytes.{with_word, with_words}
 use Rattle.onll_text.specs.Lines.{call_words}
 use Rattle.onll_audit.proofs.Printing.{front_call}
-use Rattle.onll_audit.proofs.judge.print_front.Goals as goal
+use Rattle.onll_audit.proofs.groups.print_front.Goals as goal
 
 pub returns : goal.returns
 returns g c =

@@ -13,7 +13,7 @@ use Rattle.onll_text.specs.declared.any_object.Kind.TheVariants as kinds
 use Rattle.onll_text.specs.Refusal.{Refusal, ◌>>=◌, only_if, at_line}
 use Rattle.onll_text.specs.BankText.{Accounts, is_marked, is_named, account_line, account_lines, with_account, with_account_line}
 use Rattle.onll_text.specs.BankLaws.{bank_in_lines, bank_is_short}
-use Rattle.onll_text.specs.CallKind.{bank_wording}
+use Rattle.onll_text.specs.CallKind.{calls_of}
 use Rattle.onll_text.specs.Init.{head_of}
 use Rattle.onll_text.specs.Making.{after_lines}
 use Rattle.onll_text.specs.ReadBack.{ReadsBack}
@@ -121,7 +121,7 @@ after_lines-accounts k done marks (x ∷ xs) e few fits =
     ∙ ap (λ balances. Ok (objects.Bank balances)) (append_assoc done (x ∷ []) xs)
 
 -- what is printed of a bank reads as that bank
-pub bank_reads_back : (s : List ℕ) → IsBank s → ReadsBack bank_wording objects.Bank s
+pub bank_reads_back : (s : List ℕ) → IsBank s → ReadsBack (calls_of kinds.Bank).wording objects.Bank s
 bank_reads_back s h =
     init_of-flat_map (codes "bank" ∷ decimal (length s) ∷ []) (account_lines 0 s) (record { kind = kinds.Bank; capacity = length s }) (bank_in_lines s) (within_text (bank_is_short s h)) (head_of-bank (length s) h.least h.greatest)
     ∙ after_lines-accounts 2 [] [] s refl (from_zero (length s) h.greatest) (omega (arith, h.total))

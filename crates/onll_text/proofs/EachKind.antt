@@ -9,7 +9,8 @@ use Rattle.std.proofs.Math.Bool.{or-true}
 use Rattle.onll_words.specs.Texts.{IsWord, is_empty, is_word_byte}
 use Rattle.onll_text.specs.declared.any_object.Kind.{Kind}
 use Rattle.onll_text.specs.declared.any_object.AnyObject.{AnyObject}
-use Rattle.onll_text.specs.Init.{named_kinds, name_in, object_name, object_at, by_object, kind_and_state, kind_and_state_at, on_kind}
+use Rattle.onll_text.specs.Init.{named_kinds, name_in, object_name, object_at, by_object, kind_and_state, on_kind}
+use Rattle.onll_text.specs.InitLaws.{kind_and_state_at}
 use Rattle.onll_text.specs.Kinds.{ObjectKind, kind_at, on_object}
 use Rattle.onll_text.specs.CallKind.{calls_of}
 

@@ -14,7 +14,7 @@ use Rattle.onll_text.specs.declared.any_object.Kind.TheVariants as kinds
 use Rattle.onll_text.specs.Refusal.{Refusal, ◌>>=◌, only_if, at_line}
 use Rattle.onll_text.specs.LeaseText.{held_line, entry_lines, held_lines, entry_of, with_held, with_held_line}
 use Rattle.onll_text.specs.LeaseLaws.{lease_in_lines, lease_is_short}
-use Rattle.onll_text.specs.CallKind.{lease_wording}
+use Rattle.onll_text.specs.CallKind.{calls_of}
 use Rattle.onll_text.specs.Init.{head_of}
 use Rattle.onll_text.specs.Making.{after_lines}
 use Rattle.onll_text.specs.ReadBack.{ReadsBack}
@@ -122,7 +122,7 @@ after_lines-held k done (e ∷ es) few valid h =
     next_entry k done e (length es) (held_lines (length done + 1) es) (done ++ e ∷ es) (All-head IsEntry e es valid) (All-head OfNumbers e es h) (omega arith) more
 
 -- what is printed of a lease table reads as that table
-pub lease_reads_back : (s : List LeaseEntry) → IsLease s → ReadsBack lease_wording objects.Lease s
+pub lease_reads_back : (s : List LeaseEntry) → IsLease s → ReadsBack (calls_of kinds.Lease).wording objects.Lease s
 lease_reads_back s h =
     init_of-flat_map (codes "lease" ∷ decimal (length s) ∷ []) (held_lines 0 s) (record { kind = kinds.Lease; capacity = length s }) (lease_in_lines s) (within_text (lease_is_short s h)) (head_of-lease (length s) h.least h.greatest)
     ∙ ap (λ (v : Result (List LeaseEntry) Refusal). v >>= λ entries. Ok (objects.Lease entries)) (after_lines-held 2 [] s (from_zero (length s) h.greatest) h.valid h.numbers)

@@ -23,7 +23,7 @@ use Rattle.onll_text.specs.declared.any_object.Kind.TheVariants as kinds
 use Rattle.onll_text.specs.Refusal.{Refusal, ◌>>=◌, only_if, at_line}
 use Rattle.onll_text.specs.MapText.{pair_line, pair_lines, with_pair, with_pair_line}
 use Rattle.onll_text.specs.MapLaws.{map_in_lines, map_is_short}
-use Rattle.onll_text.specs.CallKind.{map_wording}
+use Rattle.onll_text.specs.CallKind.{calls_of}
 use Rattle.onll_text.specs.Init.{head_of}
 use Rattle.onll_text.specs.Making.{after_lines}
 use Rattle.onll_text.specs.ReadBack.{ReadsBack}
@@ -103,7 +103,7 @@ after_lines-pairs k done (pair ∷ rest) n s h =
     ∙ ap (λ (xs : Pairs). Ok (so_far xs n)) whole
 
 -- what is printed of a map reads as that map
-pub map_reads_back : (s : Entries) → IsMap s → ReadsBack map_wording objects.Map s
+pub map_reads_back : (s : Entries) → IsMap s → ReadsBack (calls_of kinds.Map).wording objects.Map s
 map_reads_back s h =
     init_of-flat_map (codes "map" ∷ decimal s.room ∷ []) (pair_lines s.pairs) (record { kind = kinds.Map; capacity = s.room }) (map_in_lines s) (within_text (map_is_short s h)) (head_of-map s.room h.least_room h.greatest_room)
     ∙ ap (λ (v : Result Entries Refusal). v >>= λ entries. Ok (objects.Map entries)) (after_lines-pairs 2 [] s.pairs s.room h.rising (omega (arith, h.fits)))

@@ -13,7 +13,7 @@ use Rattle.onll_text.specs.declared.any_object.Kind.TheVariants as kinds
 use Rattle.onll_text.specs.Refusal.{Refusal, ◌>>=◌, only_if, at_line}
 use Rattle.onll_text.specs.QueueText.{item_line, item_lines, with_item, with_item_line}
 use Rattle.onll_text.specs.QueueLaws.{queue_in_lines, queue_is_short}
-use Rattle.onll_text.specs.CallKind.{queue_wording}
+use Rattle.onll_text.specs.CallKind.{calls_of}
 use Rattle.onll_text.specs.Init.{head_of}
 use Rattle.onll_text.specs.Making.{after_lines}
 use Rattle.onll_text.specs.ReadBack.{ReadsBack}
@@ -61,7 +61,7 @@ after_lines-items k done (x ∷ rest) n words h =
     ∙ ap (λ (xs : List ℕ). Ok (items_in n xs)) (append_assoc done (x ∷ []) rest)
 
 -- what is printed of a queue reads as that queue
-pub queue_reads_back : (s : Items) → IsQueue s → ReadsBack queue_wording objects.Queue s
+pub queue_reads_back : (s : Items) → IsQueue s → ReadsBack (calls_of kinds.Queue).wording objects.Queue s
 queue_reads_back s h =
     init_of-flat_map (codes "queue" ∷ decimal s.room ∷ []) (item_lines s.items) (record { kind = kinds.Queue; capacity = s.room }) (queue_in_lines s) (within_text (queue_is_short s h)) (head_of-queue s.room h.least_room h.greatest_room)
     ∙ ap (λ (v : Result Items Refusal). v >>= λ items. Ok (objects.Queue items)) (after_lines-items 2 [] s.items s.room h.numbers (omega (arith, h.fits)))

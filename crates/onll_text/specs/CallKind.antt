@@ -10,14 +10,11 @@ use Rattle.onll_bank.specs.Object.{bank}
 use Rattle.onll_map.specs.declared.operation.MapOp.{MapOp}
 use Rattle.onll_map.specs.declared.operation.MapQuery.{MapQuery}
 use Rattle.onll_map.specs.declared.operation.MapReply.{MapReply}
-use Rattle.onll_map.specs.Map.{Entries}
 use Rattle.onll_map.specs.Object.{map_object}
 use Rattle.onll_queue.specs.declared.operation.QueueOp.{QueueOp}
 use Rattle.onll_queue.specs.declared.operation.QueueQuery.{QueueQuery}
 use Rattle.onll_queue.specs.declared.operation.QueueReply.{QueueReply}
-use Rattle.onll_queue.specs.Items.{Items}
 use Rattle.onll_queue.specs.Object.{queue}
-use Rattle.onll_lease.specs.declared.entry.LeaseEntry.{LeaseEntry}
 use Rattle.onll_lease.specs.declared.operation.LeaseOp.{LeaseOp}
 use Rattle.onll_lease.specs.declared.operation.LeaseQuery.{LeaseQuery}
 use Rattle.onll_lease.specs.declared.operation.LeaseReply.{LeaseReply}
@@ -45,19 +42,6 @@ pub record CallKind (kind : Kind) : Type 1 where
   pub named : kind_of (object_name code) ≡ Ok kind
   pub says : (text : List ℕ) (s : (states_of kind).State) → wording.state_of text ≡ Some s → init_of text ≡ Ok (object_at kind s)
 
--- how the objects of each kind are written
-abbrev pub bank_wording : Wording (List ℕ) BankOp BankQuery BankReply
-bank_wording = bank_wording_by (state_said kinds.Bank) (said_is_valid kinds.Bank)
-
-abbrev pub map_wording : Wording Entries MapOp MapQuery MapReply
-map_wording = map_wording_by (state_said kinds.Map) (said_is_valid kinds.Map)
-
-abbrev pub queue_wording : Wording Items QueueOp QueueQuery QueueReply
-queue_wording = queue_wording_by (state_said kinds.Queue) (said_is_valid kinds.Queue)
-
-abbrev pub lease_wording : Wording (List LeaseEntry) LeaseOp LeaseQuery LeaseReply
-lease_wording = lease_wording_by (state_said kinds.Lease) (said_is_valid kinds.Lease)
-
 -- the calls of the kind that is named so
 abbrev pub calls_of : (kind : Kind) → CallKind kind
 calls_of kinds.Bank = record {
@@ -65,7 +49,7 @@ calls_of kinds.Bank = record {
   Query = BankQuery;
   Reply = BankReply;
   means = bank;
-  wording = bank_wording;
+  wording = bank_wording_by (state_said kinds.Bank) (said_is_valid kinds.Bank);
   code = 1;
   known = (omega arith, omega arith);
   named = refl;
@@ -76,7 +60,7 @@ calls_of kinds.Map = record {
   Query = MapQuery;
   Reply = MapReply;
   means = map_object;
-  wording = map_wording;
+  wording = map_wording_by (state_said kinds.Map) (said_is_valid kinds.Map);
   code = 2;
   known = (omega arith, omega arith);
   named = refl;
@@ -87,7 +71,7 @@ calls_of kinds.Queue = record {
   Query = QueueQuery;
   Reply = QueueReply;
   means = queue;
-  wording = queue_wording;
+  wording = queue_wording_by (state_said kinds.Queue) (said_is_valid kinds.Queue);
   code = 3;
   known = (omega arith, omega arith);
   named = refl;
@@ -98,7 +82,7 @@ calls_of kinds.Lease = record {
   Query = LeaseQuery;
   Reply = LeaseReply;
   means = lease;
-  wording = lease_wording;
+  wording = lease_wording_by (state_said kinds.Lease) (said_is_valid kinds.Lease);
   code = 4;
   known = (omega arith, omega arith);
   named = refl;

@@ -1,6 +1,6 @@
 -- The grammar of initial states, and the kinds of object that begin them.
 
-use Rattle.std.specs.Prelude.{ℕ, ◌≡◌, ◌+◌, ◌==◌, List, [], ◌∷◌, Option, None, Result, Ok, Err, if◌then◌else◌, codes, nat_le, ◌&&◌, refl}
+use Rattle.std.specs.Prelude.{ℕ, ◌+◌, ◌==◌, List, [], ◌∷◌, Option, None, Result, Ok, Err, if◌then◌else◌, codes, nat_le, ◌&&◌}
 use Rattle.std.specs.Str.{bytes_eq}
 use Rattle.onll_model.specs.Limits.{most_elements}
 use Rattle.onll_words.specs.Texts.{Numbered, words_of, meaningful_lines}
@@ -82,13 +82,6 @@ on_kind {A = A} say object = by_object (λ _. A) say object
 -- an object's kind, by its name, and its state
 abbrev pub kind_and_state : AnyObject → (kind : Kind) × (states_of kind).State
 kind_and_state object = on_kind (λ kind s. (kind, s)) object
-
--- the object of a kind and a state is of this kind, in this state
-pub kind_and_state_at : (kind : Kind) (s : (states_of kind).State) → kind_and_state (object_at kind s) ≡ (kind, s)
-kind_and_state_at kinds.Bank s = refl
-kind_and_state_at kinds.Map s = refl
-kind_and_state_at kinds.Queue s = refl
-kind_and_state_at kinds.Lease s = refl
 
 -- the object of this kind and capacity, with further lines
 abbrev pub object_of : Kind → ℕ → List Numbered → Result AnyObject Refusal

@@ -1,6 +1,7 @@
--- What a text says is an object in a state that its kind may be in.
+-- An object of a kind and a state is taken apart into them, and what a text says is an object in a state that its kind may be in.
 
-use Rattle.std.proofs.Common.{ℕ, List, [], ◌∷◌, ◌≡◌, ◌≤◌, ◌&&◌, nat_le, arith, ap, sym, subst, Some, Result, Ok, Err, IfOk}
+use Rattle.std.proofs.Common.{ℕ, List, [], ◌∷◌, ◌≡◌, ◌≤◌, ◌&&◌, ◌⊎◌, inl, inr, nat_le, arith, rules, ap, sym, subst, Some, Result, Ok, Err, IfOk}
+use Rattle.std.specs.List.{AllByRecursion}
 use Rattle.std.proofs.lemmas.Bool.Decides.{nat_tests}
 use Rattle.std.proofs.lemmas.Result.{IfOk-at_ok}
 use Rattle.onll_words.specs.Texts.{Numbered, words_of, meaningful_lines}
@@ -15,7 +16,33 @@ use Rattle.onll_text.specs.Words.{one_number}
 use Rattle.onll_text.specs.WordsAgain.{if_ok_next, if_ok_either, if_ok_any, if_ok_line}
 use Rattle.onll_text.specs.Script.{is_too_long}
 use Rattle.onll_text.specs.Making.{after_lines}
-use Rattle.onll_text.specs.Init.{kind_of, capacity_of, head_of, states_of, object_at, kind_and_state, kind_and_state_at, object_of, init_of_lines, init_of, state_in, state_said}
+use Rattle.onll_text.specs.Init.{named_kinds, kind_of, capacity_of, head_of, states_of, object_at, kind_and_state, object_of, init_of_lines, init_of, state_in, state_said}
+
+-- the object of each state of this kind is taken apart into the kind and the state
+abbrev IsTakenApart : Kind × List ℕ → Type 0
+IsTakenApart k = (s : (states_of k.0).State) → kind_and_state (object_at k.0 s) ≡ (k.0, s)
+
+each_is_taken_apart : AllByRecursion IsTakenApart named_kinds
+each_is_taken_apart = search rules
+
+-- this kind is one of these
+abbrev IsListed : Kind → List (Kind × List ℕ) → Type 0
+IsListed kind [] = ⊥
+IsListed kind (k ∷ ks) = (kind ≡ k.0) ⊎ IsListed kind ks
+
+is_listed : (kind : Kind) → IsListed kind named_kinds
+is_listed kind = grind arith
+
+listed_is_taken_apart : (kind : Kind) (s : (states_of kind).State) (ks : List (Kind × List ℕ)) → AllByRecursion IsTakenApart ks
+    → IsListed kind ks → kind_and_state (object_at kind s) ≡ (kind, s)
+listed_is_taken_apart kind s [] each listed = absurd listed
+listed_is_taken_apart kind s (k ∷ ks) each (inl e) =
+    subst (λ (of : Kind). (t : (states_of of).State) → kind_and_state (object_at of t) ≡ (of, t)) (sym e) each.0 s
+listed_is_taken_apart kind s (k ∷ ks) each (inr more) = listed_is_taken_apart kind s ks each.1 more
+
+-- the object of a kind and a state is of this kind, in this state
+pub kind_and_state_at : (kind : Kind) (s : (states_of kind).State) → kind_and_state (object_at kind s) ≡ (kind, s)
+kind_and_state_at kind s = listed_is_taken_apart kind s named_kinds each_is_taken_apart (is_listed kind)
 
 -- the state of an object is one that its kind may be in
 abbrev IsAllowed : (kind : Kind) × (states_of kind).State → Type 0

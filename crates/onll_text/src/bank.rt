@@ -4,9 +4,10 @@ ghost use Rattle.std.specs.Prelude.{◌≡◌, ◌++◌, true, OnOk};
 ghost use Rattle.onll_words.specs.Texts.{words_of, line_text};
 ghost use Rattle.onll_text.specs.Bytes.{begins_line, with_lines, IsFront};
 ghost use Rattle.onll_text.specs.BankText.{deposit_of, withdraw_of, transfer_of, balance_of, total_of, account_line, account_lines};
-ghost use Rattle.onll_text.specs.CallKind.{bank_wording};
+ghost use Rattle.onll_text.specs.CallKind.{calls_of};
 ghost use Rattle.onll_text.specs.ReadBack.{ReadsBack};
 ghost use Rattle.onll_text.specs.declared.any_object.AnyObject.TheVariants as objects;
+ghost use Rattle.onll_text.specs.declared.any_object.Kind.TheVariants as kinds;
 
 use crate::reason::Reason;
 use crate::report::{Piece, Report};
@@ -83,13 +84,13 @@ fn put_accounts(bank: &Bank, out: &mut Report) -> Result<(), NoMemory>
 
 /// A law: what is printed of a bank's state reads as that bank. It does nothing when called.
 fn bank_reads_back(bank: &Bank)
-    ensures { ReadsBack bank_wording objects.Bank bank.now }
+    ensures { ReadsBack (calls_of kinds.Bank).wording objects.Bank bank.now }
 {
     bank.consistent();
 }
 
 impl Texted for Bank {
-    ghost wording = { bank_wording };
+    ghost wording = { (calls_of kinds.Bank).wording };
 
     ghost object = { objects.Bank };
 

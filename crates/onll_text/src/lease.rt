@@ -8,7 +8,7 @@ ghost use Rattle.onll_text.specs.declared.any_object.Kind.TheVariants as kinds;
 ghost use Rattle.onll_words.specs.Texts.{words_of, line_text};
 ghost use Rattle.onll_text.specs.Bytes.{begins_line, with_lines, IsFront};
 ghost use Rattle.onll_text.specs.LeaseText.{grant_of, renew_of, release_of, holder_of, held_line, entry_lines, held_lines, with_held, with_held_line};
-ghost use Rattle.onll_text.specs.CallKind.{lease_wording};
+ghost use Rattle.onll_text.specs.CallKind.{calls_of};
 ghost use Rattle.onll_text.specs.ReadBack.{ReadsBack};
 ghost use Rattle.onll_text.specs.declared.any_object.AnyObject.TheVariants as objects;
 
@@ -100,13 +100,13 @@ fn put_table(lease: &Lease, out: &mut Report) -> Result<(), NoMemory>
 
 /// A law: what is printed of a lease table's state reads as that table. It does nothing when called.
 fn lease_reads_back(lease: &Lease)
-    ensures { ReadsBack lease_wording objects.Lease lease.now }
+    ensures { ReadsBack (calls_of kinds.Lease).wording objects.Lease lease.now }
 {
     lease.consistent();
 }
 
 impl Texted for Lease {
-    ghost wording = { lease_wording };
+    ghost wording = { (calls_of kinds.Lease).wording };
 
     ghost object = { objects.Lease };
 

@@ -8,7 +8,7 @@ ghost use Rattle.onll_text.specs.declared.any_object.Kind.TheVariants as kinds;
 ghost use Rattle.onll_words.specs.Texts.{words_of, line_text};
 ghost use Rattle.onll_text.specs.Bytes.{begins_line, with_lines, IsFront};
 ghost use Rattle.onll_text.specs.MapText.{put_of, del_of, get_of, next_of, count_of, pair_line, pair_lines, with_pair, with_pair_line};
-ghost use Rattle.onll_text.specs.CallKind.{map_wording};
+ghost use Rattle.onll_text.specs.CallKind.{calls_of};
 ghost use Rattle.onll_text.specs.ReadBack.{ReadsBack};
 ghost use Rattle.onll_text.specs.declared.any_object.AnyObject.TheVariants as objects;
 
@@ -87,13 +87,13 @@ fn put_pairs(map: &Map, out: &mut Report) -> Result<(), NoMemory>
 
 /// A law: what is printed of a map's state reads as that map. It does nothing when called.
 fn map_reads_back(map: &Map)
-    ensures { ReadsBack map_wording objects.Map map.now }
+    ensures { ReadsBack (calls_of kinds.Map).wording objects.Map map.now }
 {
     map.consistent();
 }
 
 impl Texted for Map {
-    ghost wording = { map_wording };
+    ghost wording = { (calls_of kinds.Map).wording };
 
     ghost object = { objects.Map };
 

@@ -8,7 +8,7 @@ ghost use Rattle.onll_text.specs.declared.any_object.Kind.TheVariants as kinds;
 ghost use Rattle.onll_words.specs.Texts.{words_of, line_text};
 ghost use Rattle.onll_text.specs.Bytes.{begins_line, with_lines, IsFront};
 ghost use Rattle.onll_text.specs.QueueText.{push_of, pop_of, front_of, length_of, item_line, item_lines, with_item, with_item_line};
-ghost use Rattle.onll_text.specs.CallKind.{queue_wording};
+ghost use Rattle.onll_text.specs.CallKind.{calls_of};
 ghost use Rattle.onll_text.specs.ReadBack.{ReadsBack};
 ghost use Rattle.onll_text.specs.declared.any_object.AnyObject.TheVariants as objects;
 
@@ -79,13 +79,13 @@ fn put_items(queue: &Queue, out: &mut Report) -> Result<(), NoMemory>
 
 /// A law: what is printed of a queue's state reads as that queue. It does nothing when called.
 fn queue_reads_back(queue: &Queue)
-    ensures { ReadsBack queue_wording objects.Queue queue.now }
+    ensures { ReadsBack (calls_of kinds.Queue).wording objects.Queue queue.now }
 {
     queue.consistent();
 }
 
 impl Texted for Queue {
-    ghost wording = { queue_wording };
+    ghost wording = { (calls_of kinds.Queue).wording };
 
     ghost object = { objects.Queue };
 

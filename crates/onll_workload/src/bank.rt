@@ -3,7 +3,8 @@
 ghost use Rattle.std.specs.Prelude.{◌≡◌, IfOk};
 ghost use Rattle.std.specs.List.{flat_map};
 ghost use Rattle.onll_words.specs.Texts.{line_text};
-ghost use Rattle.onll_text.specs.CallKind.{bank_wording};
+ghost use Rattle.onll_text.specs.CallKind.{calls_of};
+ghost use Rattle.onll_text.specs.declared.any_object.Kind.TheVariants as kinds;
 ghost use Rattle.onll_workload.specs.Workload.{first_bank};
 
 use onll_bank::{Bank, BankOp};
@@ -31,7 +32,7 @@ pub(crate) fn first_bank(alloc: Global) -> Result<Bank, NoMemory>
 
 /// The bank as it is printed, which reads as it.
 pub(crate) fn text_of(alloc: Global, bank: &Bank) -> Result<Vec<u8>, NoMemory>
-    ensures { IfOk result (λ text. text.items ≡ flat_map line_text (bank_wording.state_lines bank.now)) }
+    ensures { IfOk result (λ text. text.items ≡ flat_map line_text ((calls_of kinds.Bank).wording.state_lines bank.now)) }
 {
     let mut out = Report::new(alloc);
     bank.put_state(&mut out)?;

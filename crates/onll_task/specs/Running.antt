@@ -1,6 +1,6 @@
 -- Scripts run on threads over devices of a store: what is run, what the store keeps of it, and how that may end a call.
 
-use Rattle.std.specs.Prelude.{ℕ, zero, suc, max, ◌+◌, ◌*◌, ◌^◌, ◌<◌, ◌≤◌, ◌≡◌, ◌⊎◌, Bool, true, false, List, [], ◌∷◌, length, take, sum_by, Option, Some, None}
+use Rattle.std.specs.Prelude.{ℕ, zero, suc, max, ◌+◌, ◌*◌, ◌<◌, ◌≤◌, ◌≡◌, ◌⊎◌, Bool, true, false, List, [], ◌∷◌, length, take, sum_by, Option, Some, None}
 use Rattle.std.specs.List.{AllByRecursion}
 use Rattle.onll_words.specs.Texts.{line_text}
 use Rattle.onll_model.specs.declared.call.Call.{Call}

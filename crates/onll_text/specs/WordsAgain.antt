@@ -1,12 +1,12 @@
 -- What was read as a number or a short text reads again where it is printed, and is short there.
 
-use Rattle.std.proofs.Common.{ℕ, Bool, true, false, List, [], ◌∷◌, ◌≡◌, ◌^◌, ◌<◌, ◌≤◌, cond, length, decimal, arith, Result, Ok, Err, IfOk}
+use Rattle.std.proofs.Common.{ℕ, Bool, true, false, [], ◌∷◌, ◌≡◌, ◌^◌, ◌<◌, ◌≤◌, cond, length, decimal, arith, Result, Ok, Err, IfOk}
 use Rattle.std.proofs.lemmas.Fmt.{length-decimal-le}
 use Rattle.onll_words.specs.Short.{ShortText, short_of-bytes}
-use Rattle.onll_words.proofs.Decimals.{number_of-decimal, number_of_fits}
+use Rattle.onll_words.proofs.Decimals.{number_of-decimal}
 use Rattle.onll_text.specs.declared.reason.Reason.{Reason}
 use Rattle.onll_text.specs.Refusal.{◌>>=◌, at_line}
-use Rattle.onll_text.specs.Words.{word_as_number, word_as_short, one_number, two_numbers, three_numbers, four_numbers, two_shorts}
+use Rattle.onll_text.specs.Words.{word_as_number, word_as_short, one_number, two_numbers, four_numbers, two_shorts}
 
 -- ---- what holds of all that a reader accepts
 module _ {A E : Type 0} where
@@ -32,27 +32,6 @@ if_ok_line line (Err e) P h = tt
 -- ---- what is read fits 64 bits
 abbrev pub IsNumber : ℕ → Type 0
 IsNumber n = n < 2 ^ 64
-
-abbrev pub AreTwo : ℕ × ℕ → Type 0
-AreTwo n = IsNumber n.0 × IsNumber n.1
-
-abbrev pub AreThree : ℕ × ℕ × ℕ → Type 0
-AreThree n = IsNumber n.0 × IsNumber n.1 × IsNumber n.2
-
-abbrev pub AreFour : ℕ × ℕ × ℕ × ℕ → Type 0
-AreFour n = IsNumber n.0 × IsNumber n.1 × IsNumber n.2 × IsNumber n.3
-
-pub one_fits : (args : List (List ℕ)) → IfOk (one_number args) IsNumber
-one_fits args = grind (arith, number_of_fits)
-
-pub two_fit : (args : List (List ℕ)) → IfOk (two_numbers args) AreTwo
-two_fit args = grind (arith, number_of_fits)
-
-pub three_fit : (args : List (List ℕ)) → IfOk (three_numbers args) AreThree
-three_fit args = grind (arith, number_of_fits)
-
-pub four_fit : (args : List (List ℕ)) → IfOk (four_numbers args) AreFour
-four_fit args = grind (arith, number_of_fits)
 
 -- ---- numbers that are written in decimal are read back, and so are short texts
 pub decimal_reads : (n : ℕ) → n < 2 ^ 64 → word_as_number (decimal n) ≡ Ok n

@@ -140,9 +140,6 @@ module _ (t : TraceView) (n : ℕ) (q u : SpotView) (post : Post) (r : IsWalking
         over = λ none. let e = alone.0 none in let z = same in (top, top - base_of q, ap (λ (w : Thread). w.activity) (part ∙ ap step (eq-eqb post.place (base_of q + 1) (omega arith))));
       }
 
-pub walk_over : (t : TraceView) (n : ℕ) (q : SpotView) (post : Post) → IsWalking t n q post → post.name ≡ 0 → IsLogging t n q
-walk_over t n q post r none = record { of = r.of; thread = r.thread; free = r.free; bare = r.bare; logs = r.over none }
-
 -- the end of an update
 
 pub may_settle : (t : TraceView) (n : ℕ) (w : SpotView) → IsLogging t n w → (p : ℕ) × (n : ℕ) × (activity_of w ≡ Logging p n)

@@ -51,12 +51,12 @@ use Rattle.onll_jobs.proofs.ExitCauses.{decided_exactly}
 use Rattle.onll_jobs.proofs.RecoverCrashes.{decides_images}
 
 -- how `detect` goes on with these images
-abbrev with_images : (k : ObjectKind) → List ℕ → k.State → List (List (Call k.State k.Op k.Query k.Reply)) → List (List (List ℕ)) → Job
-with_images k init s scripts images = on_recovery (λ r. (detected_task k s scripts r).job) (recovery_of k init images)
+abbrev detect_over : (k : ObjectKind) → List ℕ → k.State → List (List (Call k.State k.Op k.Query k.Reply)) → List (List (List ℕ)) → Job
+detect_over k init s scripts images = on_recovery (λ r. (detected_task k s scripts r).job) (recovery_of k init images)
 
 images_tell : (k : ObjectKind) (init : List ℕ) (store : StoreView) (s : k.State) (scripts : List (List (Call k.State k.Op k.Query k.Reply))) (images : List (List (List ℕ))) (r : Recovered)
     → recovery_of k init images ≡ Ok r → stranger_to k.means scripts r.nodes ≡ None
-    → Decides store (with_images k init s scripts images) Done (flat_map line_text (detect_lines k.wording (table_of k.means s r.nodes) scripts (length r.nodes)))
+    → Decides store (detect_over k init s scripts images) Done (flat_map line_text (detect_lines k.wording (table_of k.means s r.nodes) scripts (length r.nodes)))
 images_tell k init store s scripts images r e none =
     let text = flat_map line_text (detect_lines k.wording (table_of k.means s r.nodes) scripts (length r.nodes)) in
     recovery_decides (λ r. (detected_task k s scripts r).job) store (recovery_of k init images) r Done text e
@@ -122,7 +122,7 @@ module _ (seen : Seen) (x : Exit) (says : ExitSays seen x) (init logs bytes : Li
         let ran : map script_of core.threads ≡ scripts = same_scripts ∙ first.ran in
         let strange : stranger_to b scripts nodes ≡ None =
         subst (λ (calls : List (List (Call k.State k.Op k.Query k.Reply))). stranger_to b calls nodes ≡ None) ran (none_strange b s core nodes kept_nodes) in
-        let goes : List (List (List ℕ)) → Job = with_images k bytes s scripts in
+        let goes : List (List (List ℕ)) → Job = detect_over k bytes s scripts in
         let many : length left.images ≡ length scripts =
         left_many k bytes s seen.store logs (length names) left ∙ (sym left.many ∙ ap length first.ran) in
         let recovered = images_tell k bytes seen.store s scripts left.images r held.recovered strange in

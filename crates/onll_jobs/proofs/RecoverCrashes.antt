@@ -44,11 +44,11 @@ decides_images store logs i (image ∷ images) next ending text told d =
     )
 
 -- how a recovery goes on with these images
-abbrev pub with_images : (k : ObjectKind) → List ℕ → k.State → List (List (List ℕ)) → Job
-with_images k init s images = on_recovery (λ r. (recovered_task k s r).job) (recovery_of k init images)
+abbrev pub recover_over : (k : ObjectKind) → List ℕ → k.State → List (List (List ℕ)) → Job
+recover_over k init s images = on_recovery (λ r. (recovered_task k s r).job) (recovery_of k init images)
 
 pub images_decide : (k : ObjectKind) (init : List ℕ) (store : StoreView) (s : k.State) (images : List (List (List ℕ))) (r : Recovered) → recovery_of k init images ≡ Ok r
-    → Decides store (with_images k init s images) Done (recover_report k.means k.wording s r)
+    → Decides store (recover_over k init s images) Done (recover_report k.means k.wording s r)
 images_decide k init store s images r e =
     recovery_decides (λ r. (recovered_task k s r).job) store (recovery_of k init images) r Done (recover_report k.means k.wording s r) e (refl, refl)
 
@@ -75,8 +75,8 @@ module _ (seen : Seen) (x : Exit) (says : ExitSays seen x) (init logs bytes : Li
       let recovered = images_decide k bytes seen.store s left.images r held.recovered in
       record {
         leaves = leaves;
-        says = say (recover_report b w s r) (subst (λ (n : ℕ). Decides seen.store (each_job lines_stage (log_names logs 0 n) (with_images k bytes s)) Done (recover_report b w s r)) (left_many k bytes s seen.store logs threads left)
-            (decides_images seen.store logs 0 left.images (with_images k bytes s) Done (recover_report b w s r) left.files recovered));
+        says = say (recover_report b w s r) (subst (λ (n : ℕ). Decides seen.store (each_job lines_stage (log_names logs 0 n) (recover_over k bytes s)) Done (recover_report b w s r)) (left_many k bytes s seen.store logs threads left)
+            (decides_images seen.store logs 0 left.images (recover_over k bytes s) Done (recover_report b w s r) left.files recovered));
       }
 
 pub recovers_crashes : (seen : Seen) (x : Exit) → ExitSays seen x → RecoversCrashes seen (exit_status x)

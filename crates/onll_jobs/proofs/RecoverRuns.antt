@@ -48,7 +48,7 @@ use Rattle.onll_jobs.specs.Says.{ExitSays, SaysThis}
 use Rattle.onll_jobs.specs.Seen.{Seen}
 use Rattle.onll_jobs.proofs.SaidEnds.{known_many}
 use Rattle.onll_text.proofs.EachKind.{kind_goes}
-use Rattle.onll_jobs.proofs.RecoverCrashes.{decides_images, images_decide, object_says, with_images}
+use Rattle.onll_jobs.proofs.RecoverCrashes.{decides_images, images_decide, object_says, recover_over}
 
 -- ---- the format of an image
 word_of_format : (image : List (List ℕ)) → format_in image ≡ 2 → word_at image 0 1 ≡ 2
@@ -257,7 +257,7 @@ module _ (seen : Seen) (init logs : List ℕ) (threads : ℕ) (k : ObjectKind) (
 
   -- ---- the call
   run_recovers : (x : Exit)
-      → ((text : List ℕ) → Decides seen.store (each_job lines_stage (log_names logs 0 threads) (with_images k init s)) Done text → SaysThis seen (exit_status x) Done text)
+      → ((text : List ℕ) → Decides seen.store (each_job lines_stage (log_names logs 0 threads) (recover_over k init s)) Done text → SaysThis seen (exit_status x) Done text)
       → RecoversRun k init s seen (exit_status x) logs threads left
   run_recovers x say =
       let r : Recovered = recovered_with recovers.logs recovers.nodes in
@@ -268,8 +268,8 @@ module _ (seen : Seen) (init logs : List ℕ) (threads : ℕ) (k : ObjectKind) (
         recovers = recovers;
         whole = whole;
         says = say (recover_report k.means k.wording s r)
-            (subst (λ (n : ℕ). Decides seen.store (each_job lines_stage (log_names logs 0 n) (with_images k init s)) Done (recover_report k.means k.wording s r)) images_many
-            (decides_images seen.store logs 0 files.images (with_images k init s) Done (recover_report k.means k.wording s r) files.tell recovered));
+            (subst (λ (n : ℕ). Decides seen.store (each_job lines_stage (log_names logs 0 n) (recover_over k init s)) Done (recover_report k.means k.wording s r)) images_many
+            (decides_images seen.store logs 0 files.images (recover_over k init s) Done (recover_report k.means k.wording s r) files.tell recovered));
       }
 
 pub recovers_runs : (seen : Seen) (x : Exit) → ExitSays seen x → RecoversRuns seen (exit_status x)

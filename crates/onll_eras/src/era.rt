@@ -1,6 +1,6 @@
 //! What is asked of the files of eras, and the newest era as it was read.
 
-ghost use Rattle.std.specs.Prelude.{◌≡◌, ◌<◌, ◌^◌};
+ghost use Rattle.std.specs.Prelude.{◌≡◌, ◌<◌};
 ghost use Rattle.onll_eras.specs.EraReports.{newest_in, number_in, place_in};
 
 use crate::names::EraFiles;

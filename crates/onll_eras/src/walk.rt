@@ -7,7 +7,7 @@ ghost use Rattle.onll_merge.specs.Recovered.{recovered_in};
 ghost use Rattle.onll_text.specs.Init.{init_of};
 ghost use Rattle.onll_text.specs.Kinds.{kind_by, on_object};
 ghost use Rattle.onll_areas.specs.Newest.{newest};
-ghost use Rattle.onll_task.specs.Doing.{DoesStage, BeginsBy, Fulfils};
+ghost use Rattle.onll_task.specs.Doing.{BeginsBy, Fulfils};
 ghost use Rattle.onll_checkpoint.specs.Grammar.{checkpoint_in};
 ghost use Rattle.onll_areas.specs.Newest.{area_lines};
 ghost use Rattle.onll_eras.specs.EraCall.{era_found, call_next, call_work, recovered_by, areas_task, found_task, DoesFound};

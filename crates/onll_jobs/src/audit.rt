@@ -1,6 +1,6 @@
 //! The command `audit`: a printed report of a run is judged, and nothing is run.
 
-ghost use Rattle.std.specs.Prelude.{◌≡◌, [], ◌∷◌, codes, decimal, length, map, string_bytes, IfOk, MatchResult, Ok};
+ghost use Rattle.std.specs.Prelude.{◌≡◌, [], ◌∷◌, codes, decimal, map, string_bytes, IfOk, MatchResult, Ok};
 ghost use Rattle.onll_words.specs.Texts.{line_text, IsWord};
 ghost use Rattle.onll_outside.specs.Views.{StoreView};
 ghost use Rattle.onll_text.specs.Kinds.{kind_by};

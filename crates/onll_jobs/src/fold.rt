@@ -1,11 +1,10 @@
 //! The command `fold`: a script done in order on an initial state.
 
-ghost use Rattle.std.specs.Prelude.{◌≡◌, ℕ, ◌+◌, ◌++◌, ◌∷◌, ◌<◌, ◌^◌, [], length, true, IsSome, IfOk, OnOk, All};
-ghost use Rattle.std.specs.List.{AllByRecursion};
+ghost use Rattle.std.specs.Prelude.{◌≡◌, ◌+◌, ◌++◌, ◌∷◌, ◌<◌, ◌^◌, [], true, IfOk, OnOk};
 ghost use Rattle.onll_model.specs.Fold.{fold_trace, fold_ends, fold_state};
 ghost use Rattle.onll_text.specs.Bytes.{begins_line, with_lines};
-ghost use Rattle.onll_text.specs.Lines.{call_lines, node_lines};
-ghost use Rattle.onll_text.specs.Reports.{EndsRead, NodeReads, FoldDataReads};
+ghost use Rattle.onll_text.specs.Lines.{call_lines};
+ghost use Rattle.onll_text.specs.Reports.{EndsRead, FoldDataReads};
 ghost use Rattle.onll_jobs.specs.Fold.{fold_report};
 ghost use Rattle.onll_jobs.specs.FoldJob.{fold_data, script_task};
 ghost use Rattle.onll_task.specs.Doing.{Fulfils};

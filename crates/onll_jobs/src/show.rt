@@ -1,6 +1,6 @@
 //! The command `show`: what an image of a log holds.
 
-ghost use Rattle.std.specs.Prelude.{◌≡◌, ◌∷◌, ◌++◌, ◌+◌, ◌-◌, ◌<◌, ◌≤◌, ◌^◌, [], length, true, IfOk, OnOk, Some, IfSome, All, map, decimal};
+ghost use Rattle.std.specs.Prelude.{◌≡◌, ◌++◌, ◌+◌, ◌-◌, ◌<◌, ◌≤◌, ◌^◌, [], length, true, IfOk, OnOk, Some, IfSome, All, map, decimal};
 ghost use Rattle.onll_model.specs.Limits.{greatest_code};
 ghost use Rattle.std.specs.List.{AllByRecursion};
 ghost use Rattle.onll_words.specs.Texts.{line_text};
@@ -8,7 +8,7 @@ ghost use Rattle.onll_log.specs.Grammar.{content_of, used_by};
 ghost use Rattle.onll_log.specs.Cursor.{entries_left, lines_passed, first_nodes};
 ghost use Rattle.onll_text.specs.Bytes.{begins_line, with_words, with_lines};
 ghost use Rattle.onll_outside.specs.Views.{StoreView};
-ghost use Rattle.onll_jobs.specs.ShowJob.{head_line, row_line, row_lines, entry_words, entry_lines, entries_lines, count_words, content_lines, show_report, RowReads, EntryReads, ShowReads, show_data, shown_task, show_work, IsPlacedEntry};
+ghost use Rattle.onll_jobs.specs.ShowJob.{head_line, row_line, row_lines, entry_lines, entries_lines, count_words, content_lines, show_report, RowReads, EntryReads, ShowReads, show_data, shown_task, show_work, IsPlacedEntry};
 ghost use Rattle.onll_task.specs.Doing.{Fulfils};
 
 use onll_log::{EntryView, LogCursor, LogHead, LogImage, TestedImage};

@@ -1,6 +1,6 @@
 //! The command `resume`: scripts go on, on threads, from the logs of an earlier generation.
 
-ghost use Rattle.std.specs.Prelude.{◌≡◌, ◌≤◌, length, map, string_bytes, All};
+ghost use Rattle.std.specs.Prelude.{◌≤◌, length, map, string_bytes, All};
 ghost use Rattle.onll_model.specs.Limits.{most_threads, most_updates};
 ghost use Rattle.onll_model.specs.Calls.{updates_in};
 ghost use Rattle.onll_start.specs.Heads.{created_heads};

@@ -1,6 +1,5 @@
 //! What is said where the device of a log was not had, or was not kept.
 
-ghost use Rattle.std.specs.Prelude.{◌≡◌};
 ghost use Rattle.onll_open.specs.Names.{log_name};
 ghost use Rattle.onll_task.specs.Stop.{StopSays};
 ghost use Rattle.onll_runner.specs.Devices.{SaysLog, SaysDevice, SaysKept};

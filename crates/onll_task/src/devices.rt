@@ -1,6 +1,6 @@
 //! Devices kept as files, and what is said where one could not be kept.
 
-ghost use Rattle.std.specs.Prelude.{◌≡◌, ◌≤◌, ℕ, List, [], ◌∷◌, length, map};
+ghost use Rattle.std.specs.Prelude.{◌≤◌, ℕ, List, [], ◌∷◌, length, map};
 ghost use Rattle.onll_words.specs.Texts.{AreWords, line_text};
 ghost use Rattle.onll_outside.specs.Views.{StoreView, SameOthers};
 ghost use Rattle.onll_areas.specs.Keeping.{KeepEnds};

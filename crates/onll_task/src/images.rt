@@ -1,11 +1,11 @@
 //! The images of the logs of one run: a file for each thread.
 
-ghost use Rattle.std.specs.Prelude.{◌≡◌, ◌≤◌, ◌*◌, [], length, All, string_bytes, IfOk, IfErr, OnOk};
+ghost use Rattle.std.specs.Prelude.{◌≡◌, ◌≤◌, ◌*◌, [], length, All, IfOk, IfErr, OnOk};
 ghost use Rattle.onll_outside.specs.Views.{SameOthers, with_zeros, image_bytes};
 ghost use Rattle.onll_pmem.specs.Pmem.{words_of};
 ghost use Rattle.std.specs.Cow.{cow_slice_items};
 ghost use Rattle.onll_log.specs.ImageFile.{longest_image};
-ghost use Rattle.onll_open.specs.Names.{log_name, log_names};
+ghost use Rattle.onll_open.specs.Names.{log_name};
 ghost use Rattle.onll_task.specs.Images.{Decides, KeepOf, AllBeginWith, images_in, images_stage};
 ghost use Rattle.onll_task.specs.Writing.{HasWritten, CannotWrite, WriteStops};
 ghost use Rattle.onll_task.specs.Stop.{StopSays};

@@ -1,6 +1,6 @@
 //! What is said of a workload that was run.
 
-ghost use Rattle.std.specs.Prelude.{◌≡◌, ◌++◌, ◌<◌, ◌^◌, true, OnOk};
+ghost use Rattle.std.specs.Prelude.{◌≡◌, ◌++◌, ◌<◌, true, OnOk};
 ghost use Rattle.onll_words.specs.Texts.{IsWord, line_text};
 ghost use Rattle.onll_text.specs.Bytes.{begins_line, with_lines};
 ghost use Rattle.onll_workload.specs.Made.{made_line, counted_line, summary_lines, SummaryReads};

@@ -19,7 +19,7 @@ use Rattle.onll_open.specs.Asking.{RoomRefused, room_refused}
 use Rattle.onll_open.specs.Devices.{IsDeviceOf, fronts_by}
 use Rattle.onll_open.specs.Faults.{of_device, of_files}
 use Rattle.onll_open.specs.Names.{log_name}
-use Rattle.onll_open.specs.Files.{KeepFronts, KeepsFront, LeaveFronts, LeavesFront, DeviceFaults, LogCallFailed, SameBut, SameCounts, SameLogs}
+use Rattle.onll_open.specs.Files.{KeepFronts, KeepsFront, HoldsHeader, LeaveFronts, LeavesFront, DeviceFaults, LogCallFailed, SameBut, SameCounts, SameLogs}
 use Rattle.onll_open.specs.Opening.{NotOpenedOver, CannotOpen, FilesGive, FilesRefuse, GivesRoom, HasFound, HasOpened, HeldFaults, NothingLost, ReadFaults}
 use Rattle.onll_open.proofs.Handing.{faults_more, counts_more}
 use Rattle.onll_open.proofs.GivenLogs.{read_there, give_same}

@@ -1,15 +1,24 @@
 -- Rooms, one thread after the other.
-use Rattle.std.proofs.Common.{ℕ, zero, suc, Bool, true, false, true≢false, List, [], ◌∷◌, ◌≡◌, ◌+◌, ◌≤◌, ◌||◌, length, cond, Option, Some, None, is_some, refl, sym, ap, subst, arith}
-use Rattle.std.specs.Prelude.{count_by, nat_lt}
+use Rattle.std.proofs.Common.{ℕ, zero, suc, Bool, true, false, true≢false, List, [], ◌∷◌, ◌≡◌, ◌+◌, ◌<◌, ◌≤◌, ◌||◌, length, drop, get_or, cond, Option, Some, None, is_some, refl, sym, ap, ◌∙◌, subst, arith}
+use Rattle.std.specs.Prelude.{count_by, nat_lt, if◌then◌else◌}
 use Rattle.std.specs.List.{slice_get}
 use Rattle.onll_model.proofs.Lists.{same_some, some_not_none}
 use Rattle.onll_trace.specs.Plans.{HasRooms}
+use Rattle.std.proofs.lemmas.List.{drop_more}
 use borrow.Author.Tests.{ltb-false}
 use Rattle.onll_model.specs.Limits.{most_updates}
 use Rattle.onll_model.specs.declared.node.Node.{Node}
 use Rattle.onll_model.specs.Trace.{is_of_thread}
 use Rattle.onll_merge.specs.declared.counts.LogCounts.{LogCounts}
 use Rattle.onll_open.specs.Rooms.{most_lines, lines_with, is_too_many, first_full}
+
+-- the thread whose turn it is
+pub full_step : (threads : ℕ) (nodes : List Node) (t : ℕ) (logs : List LogCounts) (rooms : List ℕ) (none : LogCounts) → t < length logs → t < length rooms
+    → first_full threads nodes t (drop t logs) (drop t rooms)
+    ≡ (if is_too_many threads (count_by (is_of_thread t) nodes) (get_or logs t none).lines (get_or rooms t 0) then Some t else first_full threads nodes (t + 1) (drop (t + 1) logs) (drop (t + 1) rooms))
+full_step threads nodes t logs rooms none low less =
+    ap (λ (ls : List LogCounts). first_full threads nodes t ls (drop t rooms)) (drop_more logs t none low)
+    ∙ ap (λ (rs : List ℕ). first_full threads nodes t (get_or logs t none ∷ drop (t + 1) logs) rs) (drop_more rooms t 0 less)
 
 none_by : (b : Bool) (t : ℕ) (rest : Option ℕ) → cond {A = Option ℕ} b (Some t) rest ≡ None → (b ≡ false) × (rest ≡ None)
 none_by true t rest e = absurd (true≢false (ap is_some e))

@@ -1,7 +1,8 @@
 //! The words of the program, read as a command.
 
 ghost use Rattle.std.specs.Prelude.{◌≡◌, true, map, string_bytes, Some, None, MatchOption, IfSome};
-ghost use Rattle.onll_jobs.specs.Command.{fold_of, show_of, recover_of, replay_of, again_of, resume_of, run_of, make_of, detect_of, areas_of, restore_of, checkpoint_of, ship_of, follow_of, audit_of, named_form, form_of, form_in, is_within, usage_text, IsCommand};
+ghost use Rattle.onll_jobs.specs.Command.{fold_of, show_of, recover_of, replay_of, again_of, resume_of, run_of, make_of, detect_of, areas_of, restore_of, checkpoint_of, ship_of, follow_of, audit_of, named_form, form_of, form_in, OverInit, is_within, usage_text, IsCommand};
+ghost use Rattle.onll_jobs.specs.Over.{over_in};
 ghost use Rattle.onll_task.specs.Stop.{StopSays};
 
 use crate::objects::Over;
@@ -67,16 +68,20 @@ pub(crate) enum Command<'a> {
     },
 }
 
+/// A command over the object whose initial state the file `init` holds.
+fn over_init<'a>(init: &'a str, over: Over<'a>) -> Command<'a>
+    ensures { form_in result ≡ OverInit init.now (over_in over.entry) }
+{
+    Command::OverInit { init, over }
+}
+
 /// The fold of a script.
 fn fold<'a>(names: &'a [String]) -> Option<Command<'a>>
     ensures { let form = fold_of (map string_bytes names.now) in
         MatchOption result (form ≡ None) (λ command. form ≡ Some (form_in command)) }
 {
     match names {
-        [init, script] => Some(Command::OverInit {
-            init,
-            over: Over::Fold { script },
-        }),
+        [init, script] => Some(over_init(init, Over::Fold { script })),
         _ => None,
     }
 }
@@ -100,10 +105,7 @@ fn recover<'a>(names: &'a [String]) -> Option<Command<'a>>
     match names {
         [init, logs, threads] => {
             let threads = whole_number(threads.as_bytes())?;
-            Some(Command::OverInit {
-                init,
-                over: Over::Recover { logs, threads },
-            })
+            Some(over_init(init, Over::Recover { logs, threads }))
         }
         _ => None,
     }
@@ -115,14 +117,14 @@ fn replay<'a>(names: &'a [String]) -> Option<Command<'a>>
         MatchOption result (form ≡ None) (λ command. form ≡ Some (form_in command)) }
 {
     match names {
-        [init, schedule, logs, scripts @ ..] => Some(Command::OverInit {
+        [init, schedule, logs, scripts @ ..] => Some(over_init(
             init,
-            over: Over::Replay {
+            Over::Replay {
                 schedule,
                 logs,
                 scripts,
             },
-        }),
+        )),
         _ => None,
     }
 }
@@ -133,14 +135,14 @@ fn again<'a>(names: &'a [String]) -> Option<Command<'a>>
         MatchOption result (form ≡ None) (λ command. form ≡ Some (form_in command)) }
 {
     match names {
-        [init, schedule, logs, scripts @ ..] => Some(Command::OverInit {
+        [init, schedule, logs, scripts @ ..] => Some(over_init(
             init,
-            over: Over::Again {
+            Over::Again {
                 schedule,
                 logs,
                 scripts,
             },
-        }),
+        )),
         _ => None,
     }
 }
@@ -151,10 +153,7 @@ fn resume<'a>(names: &'a [String]) -> Option<Command<'a>>
         MatchOption result (form ≡ None) (λ command. form ≡ Some (form_in command)) }
 {
     match names {
-        [init, logs, scripts @ ..] => Some(Command::OverInit {
-            init,
-            over: Over::Resume { logs, scripts },
-        }),
+        [init, logs, scripts @ ..] => Some(over_init(init, Over::Resume { logs, scripts })),
         _ => None,
     }
 }
@@ -165,10 +164,7 @@ fn run<'a>(names: &'a [String]) -> Option<Command<'a>>
         MatchOption result (form ≡ None) (λ command. form ≡ Some (form_in command)) }
 {
     match names {
-        [init, logs, scripts @ ..] => Some(Command::OverInit {
-            init,
-            over: Over::Run { logs, scripts },
-        }),
+        [init, logs, scripts @ ..] => Some(over_init(init, Over::Run { logs, scripts })),
         _ => None,
     }
 }
@@ -179,10 +175,7 @@ fn detect<'a>(names: &'a [String]) -> Option<Command<'a>>
         MatchOption result (form ≡ None) (λ command. form ≡ Some (form_in command)) }
 {
     match names {
-        [init, logs, scripts @ ..] => Some(Command::OverInit {
-            init,
-            over: Over::Detect { logs, scripts },
-        }),
+        [init, logs, scripts @ ..] => Some(over_init(init, Over::Detect { logs, scripts })),
         _ => None,
     }
 }
@@ -267,14 +260,14 @@ fn follow<'a>(names: &'a [String]) -> Option<Command<'a>>
         [init, threads, stream, piece] => {
             let threads = whole_number(threads.as_bytes())?;
             let piece = whole_number(piece.as_bytes())?;
-            Some(Command::OverInit {
+            Some(over_init(
                 init,
-                over: Over::Follow {
+                Over::Follow {
                     threads,
                     stream,
                     piece,
                 },
-            })
+            ))
         }
         _ => None,
     }
@@ -286,10 +279,7 @@ fn audit<'a>(names: &'a [String]) -> Option<Command<'a>>
         MatchOption result (form ≡ None) (λ command. form ≡ Some (form_in command)) }
 {
     match names {
-        [init, report, scripts @ ..] => Some(Command::OverInit {
-            init,
-            over: Over::Audit { report, scripts },
-        }),
+        [init, report, scripts @ ..] => Some(over_init(init, Over::Audit { report, scripts })),
         _ => None,
     }
 }

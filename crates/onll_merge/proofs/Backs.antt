@@ -23,7 +23,7 @@ use Rattle.onll_merge.proofs.Asked.{by_option, both, same_words-eq}
 use Rattle.onll_merge.proofs.Fronts.{Is, Has, inside, either_some, node_among-is, top_in_log-lies}
 
 -- ---- what an answer of none says
-none_both : {A : Type 0} (a b : Option A) → option_or a b ≡ None → (a ≡ None) × (b ≡ None)
+pub none_both : {A : Type 0} (a b : Option A) → option_or a b ≡ None → (a ≡ None) × (b ≡ None)
 none_both None b e = (refl, e)
 none_both (Some x) b e = absurd (cc)
 
@@ -58,11 +58,11 @@ all_rise : (i : ℕ) (cs : List Content) → disorder i cs ≡ None → AllRise 
 all_rise i [] h = tt
 all_rise i (c ∷ cs) h = let e = none_both (disorder_in i c.entries) (disorder (suc i) cs) h in (rises_from 0 0 c.entries (none_mapped (Disorder i) (disorder_from 0 0 c.entries) e.0), all_rise (suc i) cs e.1)
 
-none_at : (f : ℕ → Option RecoverFault) (k : ℕ) → first_to f k ≡ None → (p : ℕ) → 1 ≤ p → p ≤ k → f p ≡ None
+pub none_at : (f : ℕ → Option RecoverFault) (k : ℕ) → first_to f k ≡ None → (p : ℕ) → 1 ≤ p → p ≤ k → f p ≡ None
 none_at f zero h p a b = absurd (omega arith)
 none_at f (suc k) h p a b = let e = none_both (first_to f k) (f (suc k)) h in dite (ℕ_discrete p (suc k)) (λ is. ap f is ∙ e.1) (λ not. none_at f k e.0 p a (omega arith))
 
-has_all : (cs : List Content) (p : ℕ) → gap_at cs p ≡ None → Has cs p
+pub has_all : (cs : List Content) (p : ℕ) → gap_at cs p ≡ None → Has cs p
 has_all cs p h = let P : Option Node → Type 0 = λ o. option_map_or (λ x. None) o (Some (Gap p)) ≡ None → (x : Node) × (o ≡ Some x) in by_option P (node_in_logs cs p) (λ _ k. absurd (cc)) (λ x _ k. (x, refl)) h
 
 numbered : (below xs : List Node) → stray_above below xs ≡ None → NumberedAbove below xs
@@ -222,7 +222,7 @@ from_one : (ss : List Segment) (p : ℕ) (x : Node) → Rises 0 ss → node_in_l
 from_one ss zero x r e = let bad : None ≡ Some x = sym (node_in_log-low 0 ss 0 r (omega arith)) ∙ e in absurd (cc)
 from_one ss (suc p) x r e = omega arith
 
-accepted : (o : Option RecoverFault) (xs nodes : List Node) → unless o xs ≡ Ok nodes → (o ≡ None) × (xs ≡ nodes)
+pub accepted : (o : Option RecoverFault) (xs nodes : List Node) → unless o xs ≡ Ok nodes → (o ≡ None) × (xs ≡ nodes)
 accepted None xs nodes e = (refl, (cc))
 accepted (Some fault) xs nodes e = absurd (cc)
 

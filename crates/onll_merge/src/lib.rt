@@ -19,6 +19,7 @@ ghost use Rattle.onll_merge.specs.Laws.{MergedFrontLaw, TopLaw, BackLaw, StandsL
 ghost use Rattle.onll_merge.specs.FrameLogs.{FrameLogsLaw};
 ghost use Rattle.onll_merge.specs.Resumed.{ResumableLaw};
 
+mod applied;
 mod counts;
 mod entries;
 mod fault;
@@ -29,6 +30,7 @@ mod numbers;
 mod recovery;
 mod second_pass;
 
+pub use applied::{AppliedLogs, apply_images};
 pub use counts::LogCounts;
 pub use fault::{ImagesFault, RecoverFault, StateFault};
 pub use merge::recover;

@@ -152,7 +152,7 @@ fn join(
 }
 
 /// The node of a place in the logs that hold it, none where no log does; it refuses logs that hold different nodes.
-fn node_of_place(readers: &mut [Reader<'_>], place: u64) -> Result<Option<Node>, RecoverFault>
+pub fn node_of_place(readers: &mut [Reader<'_>], place: u64) -> Result<Option<Node>, RecoverFault>
     requires rise { AllRise (contents_under readers.old) }
     requires below { StandBelow place readers.old }
     requires first { 1 ≤ place }

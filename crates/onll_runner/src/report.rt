@@ -17,7 +17,7 @@ ghost use Rattle.onll_runner.specs.RunReport.{faults_at, fault_lines, run_report
 ghost use Rattle.onll_task.specs.RunLogs.{RanOver};
 
 use onll_log::{LogHead, ThreadLog};
-use onll_merge::{LogCounts, Recovery};
+use onll_merge::{AppliedLogs, LogCounts};
 use onll_model::{Call, CallEnd, Object};
 use onll_pmem::Pmem;
 use onll_run::{DoneScript, RunOutcome};
@@ -138,17 +138,17 @@ fn put_faults<O: Object>(threads: &[DoneScript<O>], out: &mut Report) -> Result<
     Ok(())
 }
 
-/// The same of a run whose trace was listed.
+/// Recovers the object from the lines of the devices as read, of a run whose trace was listed.
 fn recover_run<O: Object, P: Pmem>(
     alloc: Global,
     object: &mut O,
     heads: &[LogHead],
     ran: &RunOutcome<O, P>,
-) -> Result<Recovery, NoMemory>
+) -> Result<AppliedLogs, NoMemory>
     requires { RanOver O.means object.old heads.now (map script_in ran.now.threads.items) (left_in P.means ran.now) }
-    ensures logs { IfOk result (λ r. r.logs.items
+    ensures logs { IfOk result (λ a. a.logs.items
         ≡ map log_counts (map content_in (map (log_left P.means) ran.now.logs.items))) }
-    ensures nodes { IfOk result (λ r. r.nodes.items ≡ map node_in ran.now.trace.items) }
+    ensures nodes { IfOk result (λ a. a.nodes ≡ length (map node_in ran.now.trace.items)) }
     ensures state { IfOk result (λ _. object.new ≡ state_after O.means object.old (map node_in ran.now.trace.items)) }
     ensures whole { OnOk result (All (λ log. AllByRecursion IsWholeLine (P.means log.device).read) ran.now.logs.items) }
 {
@@ -181,22 +181,22 @@ fn put_run<O: Texted, P: Pmem>(
 
 /// Appends the lines of the logs of a run, of the fences that failed, and of the object, which is recovered.
 fn put_end<O: Texted, P: Pmem>(
-    recovery: &Recovery,
+    recovered: &AppliedLogs,
     ran: &RunOutcome<O, P>,
     object: &O,
     out: &mut Report,
 ) -> Result<(), NoMemory>
     requires begins { begins_line out.old ≡ true }
-    requires logs { recovery.now.logs.items ≡ map log_counts (map content_in (map (log_left P.means) ran.now.logs.items)) }
+    requires logs { recovered.now.logs.items ≡ map log_counts (map content_in (map (log_left P.means) ran.now.logs.items)) }
     ensures lines { let left = left_in P.means ran.now in OnOk result (out.new ≡ with_lines out.old
         (counted_lines 0 (map log_data left.logs)
-        ++ (recovered_line (length recovery.now.nodes.items) ∷ (fault_lines 0 left.ends ++ state_lines O.wording object.now)))) }
+        ++ (recovered_line recovered.now.nodes ∷ (fault_lines 0 left.ends ++ state_lines O.wording object.now)))) }
     ensures logs { OnOk result (All LogReads (map log_data (map (log_left P.means) ran.now.logs.items))) }
-    ensures few { OnOk result (length recovery.now.nodes.items < 2 ^ 64) }
+    ensures few { OnOk result (recovered.now.nodes < 2 ^ 64) }
     ensures state { OnOk result (StateReads O.wording object.now) }
 {
-    put_logs(&recovery.logs, &ran.logs, out)?;
-    put_count(recovery.nodes.len() as u64, out)?;
+    put_logs(&recovered.logs, &ran.logs, out)?;
+    put_count(recovered.nodes, out)?;
     put_faults(&ran.threads, out)?;
     out.state_lines(object)
 }
@@ -218,9 +218,9 @@ pub(crate) fn run_report<O: Texted, P: Pmem>(
         (run_data O.means resumed object.old (left_in P.means ran.now))) }
     ensures whole { OnOk result (All (λ log. AllByRecursion IsWholeLine (P.means log.device).read) ran.now.logs.items) }
 {
-    let recovery = recover_run(alloc, object, heads, ran)?;
+    let recovered = recover_run(alloc, object, heads, ran)?;
     let mut out = Report::new(alloc);
     put_run(resumed, ran, &mut out)?;
-    put_end(&recovery, ran, object, &mut out)?;
+    put_end(&recovered, ran, object, &mut out)?;
     Ok(out.into_bytes())
 }

@@ -1,8 +1,7 @@
 -- The lines of a run's devices as read recover to its trace.
 
-use Rattle.std.proofs.Common.{ℕ, suc, ◌≡◌, List, [], ◌∷◌, length, map, Some, IsSome, Result, Ok, Err, refl, sym, ap, ◌∙◌, ◌⊎◌, ⊎_elim}
+use Rattle.std.proofs.Common.{ℕ, suc, ◌≡◌, List, [], ◌∷◌, length, map, Some, IsSome, Ok, refl, sym, ap, ◌∙◌}
 use Rattle.std.specs.List.{AllByRecursion}
-use Rattle.std.specs.Result.{IfOk}
 use Rattle.std.proofs.lemmas.List.{length-map}
 use Rattle.onll_model.specs.declared.node.Node.{Node}
 use Rattle.onll_model.specs.declared.call.Call.{Call}
@@ -13,9 +12,7 @@ use Rattle.onll_pmem.specs.Pmem.{DeviceView}
 use Rattle.onll_log.specs.declared.head.LogHead.{LogHead}
 use Rattle.onll_log.specs.Grammar.{Content, content_of}
 use Rattle.onll_log.specs.Log.{LogState}
-use Rattle.onll_merge.specs.declared.fault.StateFault.{StateFault}
-use Rattle.onll_merge.specs.declared.fault.StateFault.TheVariants.{NoMemory}
-use Rattle.onll_merge.specs.Recovered.{Recovered, recovered_with, state_recovered}
+use Rattle.onll_merge.specs.Recovered.{recovered_with, state_recovered}
 use Rattle.onll_merge.proofs.Images.{their_contents}
 use Rattle.onll_run.specs.Left.{ScriptPlan, AfterRun, LogLeft, LogsTell, HasRun, content_in}
 use Rattle.onll_run.specs.Ended.{log_left}
@@ -35,12 +32,6 @@ held_in means images logs e = e ∙ logs_map logs
         ≡ map Some (map content_in (map (log_left means) logs))
     logs_map [] = refl
     logs_map (log ∷ logs) = ap (λ cs. Some (content_in (log_left means log)) ∷ cs) (logs_map logs)
-
-same_ok : (v : Result Recovered StateFault) (x y : Recovered) → v ≡ Ok x → v ≡ Ok y → x ≡ y
-same_ok v x y g h = (cc)
-
-ok_not_err : (v : Result Recovered StateFault) (x : Recovered) (fault : StateFault) → v ≡ Ok x → v ≡ Err fault → ⊥
-ok_not_err v x fault g h = (cc)
 
 -- the logs hold what they are said to, one for each head
 pub record AreTold (heads : List LogHead) (logs : List LogLeft) : Type 0 where
@@ -85,19 +76,6 @@ module _ {State Op Query Reply : Type 0} (b : Behaviour State Op Query Reply) wh
     run_recovers images held =
         recovered_is b images heads (map content_in left.logs) left.nodes (their_contents 0 images (map content_in left.logs) held) over.run.merged over_operations
 
-    -- what recovery found is that
-    recovers_same : (images : List (List (List ℕ))) (r : Recovered) → map content_of images ≡ map Some (map content_in left.logs)
-        → state_recovered b heads images ≡ Ok r → r ≡ recovered_with (map content_in left.logs) left.nodes
-    recovers_same images r held is = same_ok (state_recovered b heads images) r (recovered_with (map content_in left.logs) left.nodes) is (run_recovers images held)
-
-    -- and it refuses for want of memory alone
-    refused_so : (images : List (List (List ℕ))) (fault : StateFault) → map content_of images ≡ map Some (map content_in left.logs)
-        → (fault ≡ NoMemory) ⊎ (state_recovered b heads images ≡ Err fault) → fault ≡ NoMemory
-    refused_so images fault held h =
-        ⊎_elim (λ (a : fault ≡ NoMemory). a)
-        (λ (is : state_recovered b heads images ≡ Err fault). absurd (ok_not_err (state_recovered b heads images)
-        (recovered_with (map content_in left.logs) left.nodes) fault (run_recovers images held) is)) h
-
 -- ---- the same of a run of which these logs are known
 module _ {State Op Query Reply Device : Type 0} (b : Behaviour State Op Query Reply) (means : Device → DeviceView) (s : State) (heads : List LogHead) (nodes : List Node) (logs : List (LogState Device))
     (h : LogsOfRun b means s heads nodes logs) where
@@ -110,20 +88,11 @@ module _ {State Op Query Reply Device : Type 0} (b : Behaviour State Op Query Re
   pub logs_many : length heads ≡ length logs
   logs_many = (over_told b s heads h.scripts h.left h.over).many ∙ ap length h.logs_are ∙ length-map logs (log_left means)
 
-  pub logs_recover : (images : List (List (List ℕ))) (r : Recovered) → Held images → state_recovered b heads images ≡ Ok r
-      → r ≡ recovered_with (map content_in (map (log_left means) logs)) nodes
-  logs_recover images r held is = recovers_same b s heads h.scripts h.left h.over images r (held_by images held) is
-      ∙ (λ i. recovered_with (map content_in (h.logs_are i)) (h.nodes_are i))
-
-  pub logs_refused : (images : List (List (List ℕ))) (fault : StateFault) → Held images → (fault ≡ NoMemory) ⊎ (state_recovered b heads images ≡ Err fault) → fault ≡ NoMemory
-  logs_refused images fault held = refused_so b s heads h.scripts h.left h.over images fault (held_by images held)
+  pub logs_recover : (images : List (List (List ℕ))) → Held images → state_recovered b heads images ≡ Ok (recovered_with (map content_in (map (log_left means) logs)) nodes)
+  logs_recover images held = run_recovers b s heads h.scripts h.left h.over images (held_by images held)
+      ∙ (λ i. Ok (recovered_with (map content_in (h.logs_are i)) (h.nodes_are i)))
 
 -- the logs of a run whose trace was listed
 pub logs_of_run : {State Op Query Reply Device : Type 0} (b : Behaviour State Op Query Reply) (means : Device → DeviceView) (s : State) (heads : List LogHead) (scripts : List (List (Call State Op Query Reply)))
     (left : AfterRun State Op Query Reply) (logs : List (LogState Device)) → RanOver b s heads scripts left → left.logs ≡ map (log_left means) logs → LogsOfRun b means s heads left.nodes logs
 logs_of_run b means s heads scripts left logs over are = record { scripts = scripts; left = left; over = over; nodes_are = refl; logs_are = are }
-
--- what two clauses of one result give
-pub ok_with : {A E : Type 0} {P Q R : A → Type 0} (v : Result A E) → ((x : A) → P x → Q x → R x) → IfOk v P → IfOk v Q → IfOk v R
-ok_with (Ok x) f p q = f x p q
-ok_with (Err e) f p q = tt

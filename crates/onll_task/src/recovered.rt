@@ -22,7 +22,7 @@ use crate::answer::Stop;
 use crate::faults::bad_logs;
 use crate::images::read_images;
 use onll_log::{LogHead, TestedImage, ThreadLog};
-use onll_merge::{Recovery, StateFault, expected_heads, recover_state};
+use onll_merge::{AppliedLogs, Recovery, StateFault, apply_images, expected_heads, recover_state};
 use onll_model::Object;
 use onll_outside::Store;
 use onll_pmem::Pmem;
@@ -134,34 +134,22 @@ fn images_of<P: Pmem>(
     Ok(images)
 }
 
-/// A refusal of recovery where it can only be want of memory.
-fn wants_memory(fault: StateFault) -> NoMemory
-    requires { fault ≡ OutOfMemory }
-{
-    match fault {
-        StateFault::NoMemory => NoMemory,
-        _ => unreachable!(),
-    }
-}
-
-/// Recovers the object from the lines of a run's devices as read. They give the trace, and the object is after it. The rows of the
-/// base, from which the run went on, are operations.
+/// Recovers the object from the lines of a run's devices as read. They give the trace, and the object is after it, without a list
+/// of its nodes. The rows of the base, from which the run went on, are operations.
 pub fn recover_logs<O: Object, P: Pmem>(
     alloc: Global,
     object: &mut O,
     heads: &[LogHead],
     logs: &[ThreadLog<P>],
-) -> Result<Recovery, NoMemory>
+) -> Result<AppliedLogs, NoMemory>
     requires { (nodes : List SomeNode) × LogsOfRun O.means P.means object.old heads.now nodes logs.now }
-    ensures logs { IfOk result (λ r. r.logs.items ≡ map log_counts (map content_in (map (log_left P.means) logs.now))) }
-    ensures nodes { IfOk result (λ r. (nodes : List SomeNode)
-        → LogsOfRun O.means P.means object.old heads.now nodes logs.now → r.nodes.items ≡ nodes) }
-    ensures state { IfOk result (λ r. object.new ≡ state_after O.means object.old r.nodes.items) }
+    ensures logs { IfOk result (λ a. a.logs.items ≡ map log_counts (map content_in (map (log_left P.means) logs.now))) }
+    ensures nodes { IfOk result (λ a. (nodes : List SomeNode)
+        → LogsOfRun O.means P.means object.old heads.now nodes logs.now → a.nodes ≡ length nodes) }
+    ensures state { IfOk result (λ _. (nodes : List SomeNode)
+        → LogsOfRun O.means P.means object.old heads.now nodes logs.now → object.new ≡ state_after O.means object.old nodes) }
     ensures whole { OnOk result (All (λ log. AllByRecursion IsWholeLine (P.means log.device).read) logs.now) }
 {
     let images = images_of(alloc, logs)?;
-    match recover_tested(alloc, object, heads, &images) {
-        Ok(recovery) => Ok(recovery),
-        Err(fault) => Err(wants_memory(fault)),
-    }
+    apply_images(alloc, object, heads, &images)
 }

@@ -2,7 +2,7 @@
 
 ghost use Rattle.std.specs.Prelude.{◌≡◌, ◌≤◌, ◌<◌, ◌*◌, ◌^◌, List, length, map, replicate, sum, sum_by, IfOk};
 ghost use Rattle.std.specs.List.{All};
-ghost use Rattle.onll_model.specs.Limits.{most_threads, most_updates};
+ghost use Rattle.onll_model.specs.Limits.{most_updates};
 ghost use Rattle.onll_model.specs.Calls.{updates_in, reads_in};
 ghost use Rattle.onll_model.specs.Trace.{state_after};
 ghost use Rattle.onll_bank.specs.Object.{bank};
@@ -120,14 +120,14 @@ fn summarize(
           total = sum (state_after bank object (map node_in trace));
         }) }
 {
-    let recovery = recover_logs(alloc, &mut object, heads, &ran.logs)?;
+    let applied = recover_logs(alloc, &mut object, heads, &ran.logs)?;
     let (updates, reads) = total_calls(&ran.threads);
     Ok(Summary {
         threads: ran.threads.len() as u64,
         updates,
         reads,
         fences: total_fences(&ran.logs),
-        recovered: recovery.nodes.len() as u64,
+        recovered: applied.nodes,
         total: total_of(&object),
     })
 }

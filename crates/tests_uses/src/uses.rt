@@ -8,7 +8,7 @@ use onll_detect::{Outcome, Outcomes};
 use onll_lease::{Lease, LeaseOp, LeaseQuery, LeaseReply};
 use onll_log::{LogHead, ThreadLog, decode, entry_head};
 use onll_map::{Map, MapOp, MapQuery, MapReply};
-use onll_merge::recover_state;
+use onll_merge::{apply_images, recover_state};
 use onll_model::{Call, Node, Object, fold_nodes, node_line};
 use onll_outside::{FreeGate, MemSink, MemStore, Sink};
 use onll_pmem::{MemPmem, Pmem};
@@ -138,6 +138,23 @@ fn merge(rt: HostRuntime) -> Result<(), Fail> {
     };
     assert!(rt; recovery.nodes.len() == 1);
     assert!(rt; bank.ask(BankQuery::Total) == BankReply::Amount(5));
+    Ok(())
+}
+
+#[test]
+fn applied(rt: HostRuntime) -> Result<(), Fail> {
+    let alloc = rt.alloc();
+    let lines = lines_of_log(alloc)?;
+    let images = vec![in alloc; lines]?;
+    let heads = [LogHead::new(0, 1, Bank::CODE, b"bank 1\n")];
+    let mut bank = Bank::make(alloc, 1)?;
+    if recover_state(alloc, &mut bank, &heads, &images).is_err() {
+        return Err("no logs of one run".into());
+    }
+    let mut again = Bank::make(alloc, 1)?;
+    let applied = apply_images(alloc, &mut again, &heads, &images)?;
+    assert!(rt; applied.nodes == 1);
+    assert!(rt; again.ask(BankQuery::Total) == BankReply::Amount(5));
     Ok(())
 }
 

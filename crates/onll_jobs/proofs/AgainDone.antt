@@ -49,9 +49,8 @@ use Rattle.onll_recovery.specs.ReplayJob.{replay_report, run_task, crash_task}
 use Rattle.onll_task.specs.Scripts.{scripts_stage}
 use Rattle.onll_recovery.proofs.Resumes.{GoesOrMany, goes_or_many, resumed_on, on_recovered}
 use Rattle.onll_jobs.specs.AgainPromises.{TellsValue, TellScripts, TellsPlan, SaysOn, GoesOnLeft, GoesOnRun, RunGoesOn}
-use Rattle.onll_jobs.specs.Command.{form_of, Again}
+use Rattle.onll_jobs.specs.Command.{form_of, Again, AgainOver, over_task, object_task, over_work}
 use Rattle.onll_eras.specs.Restored.{TellLogs}
-use Rattle.onll_jobs.specs.Over.{AgainOver, over_task, object_task, over_work}
 use Rattle.onll_jobs.specs.Says.{job_of, ExitSays, NoneRose, SaysThis}
 use Rattle.onll_jobs.specs.Seen.{Seen}
 use Rattle.onll_jobs.proofs.AgainEnds.{image_eight}

@@ -37,9 +37,8 @@ use Rattle.onll_recovery.specs.ReplayJob.{run_task}
 use Rattle.onll_recovery.specs.AgainJob.{resumed_task, goes_on_task, planned_task, again_task}
 use Rattle.onll_task.specs.NotResumed.{resume_ending}
 use Rattle.onll_jobs.specs.AgainPromises.{HasReadFiles}
-use Rattle.onll_jobs.specs.Command.{form_of, Again}
+use Rattle.onll_jobs.specs.Command.{form_of, Again, AgainOver, over_task, object_task, over_work}
 use Rattle.onll_jobs.specs.Durable.{with_images}
-use Rattle.onll_jobs.specs.Over.{AgainOver, over_task, object_task, over_work}
 use Rattle.onll_jobs.specs.Says.{job_of, PutWhole}
 use Rattle.onll_jobs.specs.Seen.{Seen}
 use Rattle.onll_jobs.proofs.ReplayEnds.{images_end}

@@ -21,8 +21,7 @@ use Rattle.onll_task.specs.Scripts.{ReadScripts}
 use Rattle.onll_audit.specs.Printed.{longest_report}
 use Rattle.onll_jobs.specs.AuditJob.{or_bad_line, judged_of, verdict_task, report_judged_task, audit_task}
 use Rattle.onll_jobs.specs.AuditPromises.{HasFoundLegal, HasFoundWrong}
-use Rattle.onll_jobs.specs.Command.{Audit, form_of}
-use Rattle.onll_jobs.specs.Over.{AuditOver, over_task, object_task}
+use Rattle.onll_jobs.specs.Command.{Audit, form_of, AuditOver, over_task, object_task}
 use Rattle.onll_jobs.specs.Says.{job_of, PutOverInit, PutWhole}
 use Rattle.onll_jobs.specs.Seen.{Seen}
 use Rattle.onll_jobs.proofs.SaidEnds.{IsSaid, said_read, whole_ends, scripts_end}

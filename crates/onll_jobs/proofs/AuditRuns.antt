@@ -19,8 +19,7 @@ use Rattle.onll_runner.specs.RunJob.{run_plan}
 use Rattle.onll_runner.specs.RunReport.{plan_report}
 use Rattle.onll_jobs.specs.AuditJob.{judged_of, verdict_task, report_judged_task, audit_task, legal_text}
 use Rattle.onll_jobs.specs.AuditPromises.{IsReportOfRun, FindsRunsLegal, HasLegalReport, HasLegalOrNoHeader, RunIsLegal, AuditPromises}
-use Rattle.onll_jobs.specs.Command.{Audit, form_of}
-use Rattle.onll_jobs.specs.Over.{AuditOver, over_task, object_task, over_work}
+use Rattle.onll_jobs.specs.Command.{Audit, form_of, AuditOver, over_task, object_task, over_work}
 use Rattle.onll_jobs.specs.RunPromises.{HasReported, RanBroken, RanWhole}
 use Rattle.onll_jobs.specs.Says.{job_of, ExitSays, NoneRose, SaysThis}
 use Rattle.onll_jobs.specs.Seen.{Seen}

@@ -38,9 +38,8 @@ use Rattle.onll_task.specs.Reading.{FileIsTold}
 use Rattle.onll_task.specs.Recovering.{on_recovery, recovery_of}
 use Rattle.onll_task.proofs.Recovering.{recovery_decides}
 use Rattle.onll_recovery.specs.DetectJob.{scripts_lines, detect_lines, stranger_to, nodes_task, detected_task, detect_logs_task, detect_task}
-use Rattle.onll_jobs.specs.Command.{Detect, form_of}
+use Rattle.onll_jobs.specs.Command.{Detect, form_of, DetectOver, over_task, object_task, over_work}
 use Rattle.onll_jobs.specs.DetectPromises.{IsLeftByFirst, TellsLeft, TellsCrashes}
-use Rattle.onll_jobs.specs.Over.{DetectOver, over_task, object_task, over_work}
 use Rattle.onll_jobs.specs.Says.{job_of, ExitSays, NoneRose, SaysThis}
 use Rattle.onll_jobs.specs.Seen.{Seen}
 use Rattle.onll_jobs.proofs.AgainDone.{decides_scripts}

@@ -18,8 +18,7 @@ use Rattle.onll_task.specs.Job.{Job, JobEnds, Threads}
 use Rattle.onll_task.specs.Recovering.{on_recovery, recovery_of}
 use Rattle.onll_task.proofs.Recovering.{recovery_ends}
 use Rattle.onll_recovery.specs.DetectJob.{stranger_to, nodes_task, detected_task, detect_logs_task, detect_task}
-use Rattle.onll_jobs.specs.Command.{Detect, form_of}
-use Rattle.onll_jobs.specs.Over.{DetectOver, over_task, object_task}
+use Rattle.onll_jobs.specs.Command.{Detect, form_of, DetectOver, over_task, object_task}
 use Rattle.onll_jobs.specs.Says.{job_of, PutWhole}
 use Rattle.onll_jobs.specs.Seen.{Seen}
 use Rattle.onll_jobs.proofs.SaidEnds.{IsSaid, said_read, images_read, whole_ends, scripts_end}

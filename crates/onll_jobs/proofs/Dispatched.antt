@@ -10,7 +10,7 @@ use Rattle.onll_task.specs.declared.answer.Stop.{Stop}
 use Rattle.onll_task.specs.Job.{Threads}
 use Rattle.onll_task.specs.Doing.{Task, Fulfils}
 use Rattle.onll_task.proofs.Runs.{stands_at}
-use Rattle.onll_jobs.specs.Over.{OverForm, DoesOver, over_task, over_writes, object_task}
+use Rattle.onll_jobs.specs.Command.{OverForm, DoesOver, over_task, over_writes, object_task}
 
 pub over_does : {A : Type 0} (over : OverForm) (store after : StoreView) (init : List ℕ) (object : AnyObject) (result : Result (Vec ℕ A) Stop)
     → on_object (λ k s. DoesOver over k store after init s result) object → Fulfils (over_writes over) store after (object_task over init object) result

@@ -16,7 +16,7 @@ use Rattle.onll_task.specs.declared.ending.Ending.TheVariants.{Done, Usage, Refu
 use Rattle.onll_task.specs.declared.ending.Exit.{Exit}
 use Rattle.onll_task.specs.declared.ending.Exit.TheVariants.{Said, SinkFault, NoMemory}
 use Rattle.onll_jobs.specs.Seen.{Seen}
-use Rattle.onll_jobs.specs.Command.{Form, OverInit, Show, Make, Areas, Restore, Checkpoint, Ship, form_of, usage_text}
+use Rattle.onll_jobs.specs.Command.{Form, OverInit, Show, Make, Areas, Restore, Checkpoint, Ship, form_of, usage_text, OverForm, FoldOver, RecoverOver, ReplayOver, AgainOver, ResumeOver, RunOver, DetectOver, FollowOver, AuditOver, over_task, object_task, over_work}
 use Rattle.onll_task.specs.Printed.{status_of, exit_status}
 use Rattle.onll_task.specs.Job.{Say, Threads, JobEnds, Decides}
 use Rattle.onll_log.specs.Grammar.{Content, content_of}
@@ -27,7 +27,6 @@ use Rattle.onll_jobs.specs.FoldJob.{script_task}
 use Rattle.onll_jobs.specs.Exits.{PutExits}
 use Rattle.onll_jobs.specs.Says.{job_of, AllowsEnding, PutWhole, OutOfMemory, SinkFailed, ExitSays, NothingFailed, NoneRose, SaysThis}
 use Rattle.onll_task.specs.Doing.{Task}
-use Rattle.onll_jobs.specs.Over.{OverForm, FoldOver, RecoverOver, ReplayOver, AgainOver, ResumeOver, RunOver, DetectOver, FollowOver, AuditOver, over_task, object_task, over_work}
 use Rattle.onll_task.proofs.Onwards.{ends_cut}
 use Rattle.onll_task.proofs.Jobs.{Never, TellsFault, nothing_failed, decided, IsRare, never_says, reading_never, reading_whole_never}
 use Rattle.onll_task.proofs.Recovering.{recovery_never}

@@ -13,14 +13,13 @@ use Rattle.onll_task.specs.Job.{Job, Threads, Decides, on_value}
 use Rattle.onll_open.specs.Names.{log_names}
 use Rattle.onll_task.specs.Doing.{lines_stage, each_job}
 use Rattle.onll_jobs.specs.Seen.{Seen}
-use Rattle.onll_jobs.specs.Command.{form_of, Recover}
+use Rattle.onll_jobs.specs.Command.{form_of, Recover, RecoverOver, over_task, object_task, over_work}
 use Rattle.onll_task.specs.Printed.{exit_status}
 use Rattle.onll_jobs.specs.Says.{job_of, ExitSays, NoneRose, SaysThis}
 use Rattle.onll_recovery.specs.RecoverJob.{recover_report, recovered_task, recover_task}
 use Rattle.onll_merge.specs.Recovered.{Recovered, recovered_with}
 use Rattle.onll_eras.specs.Restored.{TellLogs}
 use Rattle.onll_jobs.specs.Durable.{AreLeftFiles, RecoversLeft, RecoversCrashes}
-use Rattle.onll_jobs.specs.Over.{RecoverOver, over_task, object_task, over_work}
 use Rattle.onll_task.specs.Doing.{Task}
 use Rattle.onll_task.specs.Recovering.{on_recovery, recovery_of}
 use Rattle.onll_task.proofs.Recovering.{recovery_decides}

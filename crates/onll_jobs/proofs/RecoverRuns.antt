@@ -41,7 +41,7 @@ use Rattle.onll_task.proofs.OperationRows.{recovered_is}
 use Rattle.onll_runner.proofs.FaultLines.{length-fault_lines}
 use Rattle.onll_task.proofs.RunRecovers.{AreTold, run_told, run_operations}
 use Rattle.onll_eras.specs.Restored.{TellsLines, TellLogs}
-use Rattle.onll_jobs.specs.Over.{RecoverOver, over_task}
+use Rattle.onll_jobs.specs.Command.{RecoverOver, over_task}
 use Rattle.onll_jobs.specs.RunPromises.{fault_count, plan_from, BeginsFrom}
 use Rattle.onll_jobs.specs.RunRecovers.{IsLeftByRun, RecoversRun, RecoversRuns}
 use Rattle.onll_jobs.specs.Says.{ExitSays, SaysThis}

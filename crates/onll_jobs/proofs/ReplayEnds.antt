@@ -26,12 +26,11 @@ use Rattle.onll_task.specs.Job.{Job, Threads, JobEnds}
 use Rattle.onll_open.specs.Names.{log_name}
 use Rattle.onll_task.specs.Images.{writing_images}
 use Rattle.onll_jobs.specs.Seen.{Seen}
-use Rattle.onll_jobs.specs.Command.{form_of, Replay}
+use Rattle.onll_jobs.specs.Command.{form_of, Replay, ReplayOver, over_task, object_task, over_work}
 use Rattle.onll_jobs.specs.Says.{job_of, PutWhole}
 use Rattle.onll_merge.specs.Recovered.{Recovered, recovered_with, state_recovered}
 use Rattle.onll_recovery.specs.ReplayJob.{played, replay_report, run_task, crash_task, schedule_task, scripts_task}
 use Rattle.onll_jobs.specs.Durable.{with_images, HasReplayed, HasReplayedAny, ReplayPut}
-use Rattle.onll_jobs.specs.Over.{ReplayOver, over_task, object_task, over_work}
 use Rattle.onll_task.specs.Doing.{Task}
 use Rattle.onll_recovery.proofs.Crashes.{crash_recovered}
 use Rattle.onll_jobs.proofs.SaidEnds.{IsSaid, said_read, can_write, many_scripts, few_updates, whole_ends, scripts_end}

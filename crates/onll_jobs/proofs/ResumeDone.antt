@@ -29,7 +29,7 @@ use Rattle.onll_recovery.proofs.Resumes.{GoesOrMany, goes_or_many}
 use Rattle.onll_runner.specs.ResumeJob.{based_task, reopened_task, resume_task}
 use Rattle.onll_jobs.specs.AgainPromises.{TellScripts}
 use Rattle.onll_eras.specs.Restored.{TellLogs}
-use Rattle.onll_jobs.specs.Over.{ResumeOver, over_task}
+use Rattle.onll_jobs.specs.Command.{ResumeOver, over_task}
 use Rattle.onll_jobs.specs.ResumePromises.{SaysFrom, ResumesLeft, ResumesRun, Resumes}
 use Rattle.onll_jobs.specs.Says.{ExitSays, NoneRose, SaysThis}
 use Rattle.onll_jobs.specs.Seen.{Seen}

@@ -21,8 +21,7 @@ use Rattle.onll_task.specs.Reading.{RefusesFile}
 use Rattle.onll_task.specs.NotResumed.{resume_ending}
 use Rattle.onll_task.specs.Scripts.{ReadScripts, scripts_stage}
 use Rattle.onll_runner.specs.ResumeJob.{based_task, reopened_task, resume_task}
-use Rattle.onll_jobs.specs.Command.{Resume, form_of}
-use Rattle.onll_jobs.specs.Over.{ResumeOver, object_task}
+use Rattle.onll_jobs.specs.Command.{Resume, form_of, ResumeOver, object_task}
 use Rattle.onll_jobs.specs.ResumePromises.{ResumedWhole, ResumedBroken, ResumedNoDevice, HasNoBase, HasBadBase, RefusesScript, RefusesByScript, InitRefused}
 use Rattle.onll_jobs.specs.RunPromises.{OfText, RunPut}
 use Rattle.onll_jobs.specs.Says.{PutWhole}

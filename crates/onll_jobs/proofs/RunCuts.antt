@@ -24,8 +24,7 @@ use Rattle.onll_task.specs.Writing.{FilesStay}
 use Rattle.onll_task.specs.Scripts.{ReadScripts, scripts_stage}
 use Rattle.onll_runner.specs.ResumeJob.{based_task, reopened_task, resume_task}
 use Rattle.onll_runner.specs.RunJob.{run_plan, run_task, calls_task, said_task}
-use Rattle.onll_jobs.specs.Command.{OverInit, Resume, Run, form_of}
-use Rattle.onll_jobs.specs.Over.{OverForm, ResumeOver, RunOver, over_task, object_task}
+use Rattle.onll_jobs.specs.Command.{OverInit, Resume, Run, form_of, OverForm, ResumeOver, RunOver, over_task, object_task}
 use Rattle.onll_jobs.specs.ResumePromises.{ResumedCut}
 use Rattle.onll_jobs.specs.RunPromises.{BeginsFrom, HasCut, OfFiles, RunIsCut, plan_from}
 use Rattle.onll_jobs.specs.Says.{job_of}

@@ -18,8 +18,7 @@ use Rattle.onll_task.specs.Job.{Job, Threads, JobEnds}
 use Rattle.onll_task.specs.Printed.{status_of, exit_status}
 use Rattle.onll_task.specs.Reading.{FileIsTold}
 use Rattle.onll_runner.specs.RunJob.{run_plan, run_task, calls_task}
-use Rattle.onll_jobs.specs.Command.{OverInit, Run, form_of}
-use Rattle.onll_jobs.specs.Over.{OverForm, RunOver, over_task, object_task}
+use Rattle.onll_jobs.specs.Command.{OverInit, Run, form_of, OverForm, RunOver, over_task, object_task}
 use Rattle.onll_jobs.specs.RunPromises.{fault_count, HasReported, TellsText, TellsTexts, SaysRan, IsRun}
 use Rattle.onll_jobs.specs.Says.{ExitSays, NoneRose}
 use Rattle.onll_jobs.specs.Seen.{Seen}

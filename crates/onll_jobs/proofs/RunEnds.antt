@@ -24,8 +24,7 @@ use Rattle.onll_task.specs.Scripts.{ReadScripts}
 use Rattle.onll_runner.specs.RunJob.{run_plan, run_task, calls_task, said_task}
 use Rattle.onll_runner.specs.RunReport.{plan_report}
 use Rattle.onll_runner.proofs.FaultLines.{length-fault_lines}
-use Rattle.onll_jobs.specs.Command.{OverInit, Run, form_of}
-use Rattle.onll_jobs.specs.Over.{OverForm, RunOver, over_task, object_task}
+use Rattle.onll_jobs.specs.Command.{OverInit, Run, form_of, OverForm, RunOver, over_task, object_task}
 use Rattle.onll_jobs.specs.RunPromises.{fault_count, plan_from, BeginsFrom, HasReported, HasNoHeader, HasNoDevice, RanWhole, RanBroken, OfText, RunPut}
 use Rattle.onll_jobs.specs.Says.{job_of, PutWhole}
 use Rattle.onll_jobs.specs.Seen.{Seen}

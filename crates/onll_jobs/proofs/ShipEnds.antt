@@ -30,8 +30,7 @@ use Rattle.onll_shipping.specs.FollowJob.{FollowData, longest_stream, course_tas
 use Rattle.onll_shipping.specs.Laws.{FollowsRecovered}
 use Rattle.onll_shipping.proofs.Recovering.{follows_recovered}
 use Rattle.onll_shipping.specs.ShipJob.{HeadedLog, ready, shipped_bytes, ship_logs_task}
-use Rattle.onll_jobs.specs.Command.{Ship, Follow, form_of}
-use Rattle.onll_jobs.specs.Over.{FollowOver, over_task, object_task, over_work}
+use Rattle.onll_jobs.specs.Command.{Ship, Follow, form_of, FollowOver, over_task, object_task, over_work}
 use Rattle.onll_jobs.specs.Says.{job_of, ExitSays, NoneRose, PutOverInit, PutWhole, SaysThis}
 use Rattle.onll_jobs.specs.Seen.{Seen}
 use Rattle.onll_jobs.specs.ShipPromises.{HasShipped, HasRefusedLogs, ShipPromises, FollowsStream, ShowsFaulty, FollowsShipped, FollowPromises, course_over, shipped_data}

@@ -4,7 +4,6 @@ pub mod Command
 pub mod Exits
 pub mod Fold
 pub mod FoldJob
-pub mod Over
 pub mod Says
 pub mod Seen
 pub mod ShowJob

@@ -10,13 +10,12 @@ use Rattle.onll_task.specs.declared.ending.Ending.TheVariants.{Done, Usage}
 use Rattle.onll_task.specs.declared.ending.Exit.{Exit}
 use Rattle.onll_task.specs.declared.ending.Exit.TheVariants.{Said, SinkFault, NoMemory}
 use Rattle.onll_jobs.specs.Seen.{Seen}
-use Rattle.onll_jobs.specs.Command.{Form, OverInit, Show, Make, Areas, Restore, Checkpoint, Ship, form_of, usage_text}
+use Rattle.onll_jobs.specs.Command.{Form, OverInit, Show, Make, Areas, Restore, Checkpoint, Ship, form_of, usage_text, over_work}
 use Rattle.onll_task.specs.Printed.{status_of, exit_status}
 use Rattle.onll_task.specs.Reading.{ReadsWhole}
 use Rattle.onll_task.specs.Job.{Job, JobEnds, JobCut}
 use Rattle.onll_task.specs.Doing.{Work, say_task}
 use Rattle.onll_eras.specs.EraJob.{areas_work, restore_work, checkpoint_work}
-use Rattle.onll_jobs.specs.Over.{over_work}
 use Rattle.onll_jobs.specs.ShowJob.{show_work}
 use Rattle.onll_jobs.specs.MakeJob.{make_work}
 use Rattle.onll_shipping.specs.ShipJob.{ship_task}

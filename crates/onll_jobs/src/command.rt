@@ -1,8 +1,7 @@
 //! The words of the program, read as a command.
 
 ghost use Rattle.std.specs.Prelude.{◌≡◌, true, map, string_bytes, Some, None, MatchOption, IfSome};
-ghost use Rattle.onll_jobs.specs.Command.{fold_of, show_of, recover_of, replay_of, again_of, resume_of, run_of, make_of, detect_of, areas_of, restore_of, checkpoint_of, ship_of, follow_of, audit_of, named_form, form_of, form_in, OverInit, is_within, usage_text, IsCommand};
-ghost use Rattle.onll_jobs.specs.Over.{over_in};
+ghost use Rattle.onll_jobs.specs.Command.{fold_of, show_of, recover_of, replay_of, again_of, resume_of, run_of, make_of, detect_of, areas_of, restore_of, checkpoint_of, ship_of, follow_of, audit_of, named_form, form_of, form_in, OverInit, is_within, usage_text, IsCommand, over_in};
 ghost use Rattle.onll_task.specs.Stop.{StopSays};
 
 use crate::objects::Over;

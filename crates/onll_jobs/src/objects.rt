@@ -3,7 +3,7 @@
 ghost use Rattle.std.specs.Prelude.{◌≡◌, true};
 ghost use Rattle.onll_text.specs.Kinds.{kind_by, on_object};
 ghost use Rattle.onll_task.specs.Doing.{Fulfils};
-ghost use Rattle.onll_jobs.specs.Over.{over_in, is_over, OverFits, DoesOver, over_work};
+ghost use Rattle.onll_jobs.specs.Command.{over_in, is_over, OverFits, DoesOver, over_work};
 
 use crate::{audit, fold};
 use onll_model::MOST_THREADS;

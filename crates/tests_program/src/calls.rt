@@ -167,22 +167,6 @@ impl<'a> Program<'a> {
     }
 }
 
-/// Runs `fold i s` over these two files, where nothing fails.
-pub(crate) fn fold<R: Threads + Wait + Sync>(
-    rt: &R,
-    alloc: Global,
-    init: &[u8],
-    script: &[u8],
-) -> Result<Outcome, AllocError> {
-    let program = Program {
-        words: &["fold", "i", "s"],
-        files: &[("i", init), ("s", script)],
-        failing_calls: &[],
-        failing_puts: &[],
-    };
-    program.run(rt, alloc)
-}
-
 impl Outcome {
     /// Fails unless the status is this, and a fault was counted exactly where the status tells one.
     fn expect_status(&self, case: &str, status: u8) -> Result<(), Fail> {

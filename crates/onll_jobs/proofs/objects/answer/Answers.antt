@@ -1,5 +1,5 @@
 use Rattle.std.proofs.Common.{sym}
-use Rattle.onll_jobs.specs.Over.{over_in, object_task}
+use Rattle.onll_jobs.specs.Command.{over_in, object_task}
 use Rattle.onll_jobs.proofs.Dispatched.{over_does}
 use Rattle.onll_task.proofs.Stages.{read_does, unread_does}
 use Rattle.onll_jobs.proofs.objects.answer.Goals as goal

@@ -1,4 +1,4 @@
-//! Tests of the objects, a bank, a map, a queue and a table of leases, and of texts and reports. There is nothing here to be called.
+//! Tests of the objects, a bank, a map, a queue and a table of leases. There is nothing here to be called.
 #![tactic(auto)]
 
 #[cfg(test)]
@@ -11,5 +11,3 @@ mod map;
 mod queue;
 #[cfg(test)]
 mod rows;
-#[cfg(test)]
-mod texts;

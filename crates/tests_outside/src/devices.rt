@@ -93,8 +93,6 @@ const READ: &[Line] = &[FULL, EMPTY, FULL, FULL, EMPTY, FULL, EMPTY, EMPTY, FULL
 
 const ZEROS: &[Line] = &[EMPTY; 9];
 
-const HUNDRED: &[Line] = &[FULL; 100];
-
 const FOLDER: &str = "onll_outside_test_folder";
 
 const NAME: &str = "onll_outside_test_folder/log.0";
@@ -172,7 +170,8 @@ fn fences_of_a_device(rt: HostRuntime) -> Result<(), Fail> {
     let name = "onll_outside_test_fences";
     let mut found = Found::new();
     found.must(fence_file(&rt, name), "a call failed");
-    found.must(holds(&rt, name, HUNDRED), "not fenced");
+    let hundred = vec![in rt.alloc(); FULL; 100]?;
+    found.must(holds(&rt, name, &hundred), "not fenced");
     remove(&rt, &mut found, name);
     found.ended()
 }

@@ -17,7 +17,7 @@ use onll_run::{Surroundings, run_scripts};
 use onll_shared::Onll;
 use onll_standby::Standby;
 use onll_words::{Line, Short, line_bytes, line_of_bytes, whole_number};
-use std::alloc::Global;
+use std::alloc::{AllocError, Global};
 use std::test::Fail;
 
 #[test]
@@ -107,23 +107,16 @@ fn log(rt: HostRuntime) -> Result<(), Fail> {
 }
 
 /// The lines of a log with one entry.
-fn lines_of_log(alloc: Global) -> Result<Vec<Line>, Fail> {
+fn lines_of_log(alloc: Global) -> Result<Vec<Line>, AllocError> {
     let row = Bank::op_row(BankOp::Deposit { a: 0, x: 5 });
-    let head = LogHead::new(0, 1, Bank::CODE, b"bank 1\n");
-    let device = MemPmem::new(alloc, 8, Vec::new(alloc))?;
-    let Ok(mut log) = ThreadLog::make(device, head) else {
-        return Err("no log".into());
+    let node = Node {
+        thread: 0,
+        number: 1,
+        row,
     };
-    let _ = log.append(
-        1,
-        &[Node {
-            thread: 0,
-            number: 1,
-            row,
-        }],
-    );
-    let image = log.image(alloc)?;
-    Ok(Vec::from_slice(alloc, image.as_slice())?)
+    let head = LogHead::new(0, 1, Bank::CODE, b"bank 1\n");
+    let entry = entry_head(head, 1, 1, &[node]);
+    Vec::from_slice(alloc, &[head.line(), entry, node_line(node)])
 }
 
 #[test]

@@ -113,12 +113,19 @@ const STEPS: &[Step] = &[
     NO_NODE,
 ];
 
+/// A pass that goes on has seen one update and ordered none; what its calls then answer.
+fn goes_on(onll: &Onll<Bank>, pass: &mut Pass<Bank, MemPmem>) -> Result<(), Fail>
+    requires { IsTied bank memory_view onll.now pass.old }
+{
+    must(pass.seen() == 1 && pass.ordered() == 0, "begins otherwise")?;
+    take_steps(onll, pass, STEPS)
+}
+
 #[test]
 fn a_pass_goes_on(rt: HostRuntime) -> Result<(), Fail> {
     let bank = Bank::make(rt.alloc(), 2)?;
     let Some((onll, mut pass)) = resume_one(rt.alloc(), bank, DEPOSIT, 1) else {
         return Err("no memory".into());
     };
-    must(pass.seen() == 1 && pass.ordered() == 0, "begins otherwise")?;
-    take_steps(&onll, &mut pass, STEPS)
+    goes_on(&onll, &mut pass)
 }

@@ -1,7 +1,12 @@
 //! Updates that are refused, and a fence that fails: what each call answers, and which points of a gate it reaches.
+ghost use Rattle.onll_bank.specs.Object.{bank};
+ghost use Rattle.onll_pmem.specs.Memory.{memory_view};
+ghost use Rattle.onll_shared.specs.Passes.{IsTied};
+
 use crate::steps::{Call, FIRST, NO_NODE, NONE, Said, Step, take_steps};
 use onll_bank::Bank;
-use onll_shared::TryFault;
+use onll_pmem::MemPmem;
+use onll_shared::{Onll, Pass, TryFault};
 use std::alloc::Global;
 use std::test::Fail;
 use tests_shared_calls::{must, open_one};
@@ -69,6 +74,18 @@ const FENCE_FAILED: Case = Case {
     broken: Some(2),
 };
 
+/// Makes a case's calls, and compares what they leave.
+fn take_case(onll: &Onll<Bank>, pass: &mut Pass<Bank, MemPmem>, case: &Case) -> Result<(), Fail>
+    requires { IsTied bank memory_view onll.now pass.old }
+{
+    take_steps(onll, pass, case.steps)?;
+    let counts = (pass.seen(), pass.ordered(), pass.log().fences());
+    must(
+        counts == (case.seen, case.ordered, case.fences) && pass.broken() == case.broken,
+        "left otherwise",
+    )
+}
+
 /// Makes a case's calls on a new object.
 fn play(alloc: Global, case: &Case) -> Result<(), Fail> {
     if case.lines > 100 || case.nodes == 0 || case.nodes > 10 {
@@ -78,12 +95,7 @@ fn play(alloc: Global, case: &Case) -> Result<(), Fail> {
     let Some((onll, mut pass)) = open_one(alloc, bank, case.lines, case.nodes, case.failing) else {
         return Err("no memory".into());
     };
-    take_steps(&onll, &mut pass, case.steps)?;
-    let counts = (pass.seen(), pass.ordered(), pass.log().fences());
-    must(
-        counts == (case.seen, case.ordered, case.fences) && pass.broken() == case.broken,
-        "left otherwise",
-    )
+    take_case(&onll, &mut pass, case)
 }
 
 #[test]

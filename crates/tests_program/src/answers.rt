@@ -1,10 +1,13 @@
 //! Updates of a workload on four threads, each of which is answered once.
 
-use crate::calls::{Program, words_of};
-use onll_outside::{Gate, MemSink, Point};
+use crate::calls::{Outcome, Program};
+use onll_outside::{Gate, Point};
 use onll_trace::Spot;
+use std::alloc::{AllocError, Global};
+use std::sync::Wait;
 use std::sync::atomic::{AtomicU64, Ordering};
 use std::test::Fail;
+use std::thread::Threads;
 
 /// The words of a workload of four threads, and what is said of it.
 const FOUR: &[&str] = &["make", "4", "500", "7"];
@@ -28,17 +31,23 @@ impl Gate for AnswerGate {
     }
 }
 
+/// Runs the workload over a store of its own, whose threads come to this gate.
+fn run_four<R: Threads + Wait + Sync>(
+    rt: &R,
+    alloc: Global,
+    gate: &AnswerGate,
+) -> Result<Outcome, AllocError> {
+    let program = Program::new(FOUR, &[]);
+    let mut store = program.store(alloc)?;
+    program.run_at(rt, alloc, &mut store, gate)
+}
+
 #[test]
 fn each_update_is_answered_once(rt: HostRuntime) -> Result<(), Fail> {
-    let alloc = rt.alloc();
-    let words = words_of(alloc, FOUR)?;
-    let mut store = Program::new(FOUR, &[]).store(alloc)?;
-    let mut sink = MemSink::new(alloc, Vec::new(alloc));
     let gate = AnswerGate {
         answered: AtomicU64::new(0),
     };
-    let status = onll_jobs::onll(&rt, alloc, &words, &mut store, &mut sink, &gate);
-    assert!(rt; status == 0 && sink.taken() == FOUR_REPORT.as_bytes());
+    run_four(&rt, rt.alloc(), &gate)?.expect("four threads", 0, FOUR_REPORT)?;
     assert_eq!(rt; gate.answered.load(Ordering::SeqCst), 2000);
     Ok(())
 }

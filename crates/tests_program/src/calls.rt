@@ -134,13 +134,21 @@ impl<'a> Program<'a> {
         self.run_over(rt, alloc, &mut store)
     }
 
-    /// Audits what this run printed, over the run's own files, and fails unless it is legal.
-    pub(crate) fn expect_legal<R: Threads + Wait + Sync>(
+    /// Runs the program over any store, and fails unless it ends well and the whole text is this.
+    pub(crate) fn expect_over<R: Threads + Wait + Sync, S: Store>(
         &self,
         rt: &R,
         alloc: Global,
-        printed: &str,
+        store: &mut S,
+        case: &str,
+        text: &str,
     ) -> Result<(), Fail> {
+        self.call(rt, alloc, store, &FreeGate)?
+            .expect(case, 0, text)
+    }
+
+    /// The words of an audit of this run.
+    fn audit_words(&self, alloc: Global) -> Result<Vec<&'a str>, AllocError> {
         let mut words = Vec::new(alloc);
         for (place, word) in self.words.iter().enumerate() {
             words.push(match place {
@@ -149,6 +157,17 @@ impl<'a> Program<'a> {
                 _ => *word,
             })?;
         }
+        Ok(words)
+    }
+
+    /// Audits what this run printed, over the run's own files, and fails unless it is legal.
+    pub(crate) fn expect_legal<R: Threads + Wait + Sync>(
+        &self,
+        rt: &R,
+        alloc: Global,
+        printed: &str,
+    ) -> Result<(), Fail> {
+        let words = self.audit_words(alloc)?;
         let mut files = Vec::from_slice(alloc, self.files)?;
         files.push(("printed", printed.as_bytes()))?;
         Program::new(&words, &files).expect(rt, alloc, "what was printed", 0, "legal\n")

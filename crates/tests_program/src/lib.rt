@@ -19,6 +19,8 @@ mod runs_free;
 #[cfg(test)]
 mod runs_held;
 #[cfg(test)]
+mod system_files;
+#[cfg(test)]
 mod watch_gate;
 #[cfg(test)]
 mod written_logs;

@@ -1,9 +1,9 @@
 //! A run over the files of the system, and one that goes on from it: they say and keep what the same do over files in memory.
 
 use crate::calls::Program;
-use onll_outside::{FileStore, FreeGate, Store};
+use crate::system_files::{expect_logs, make_files, remove_files};
+use onll_outside::{FileStore, FreeGate, MemStore, Store};
 use std::alloc::Global;
-use std::fs;
 use std::process::Abort;
 use std::sync::Wait;
 use std::test::Fail;
@@ -59,29 +59,22 @@ fn expect_both<R: Abort + Threads + Wait + Sync, S: Store>(
     Program::new(RUN, &[])
         .call(rt, alloc, store, &FreeGate)?
         .expect_line("the run", 0, "recovered 1")?;
-    Program::new(RESUME, &[])
-        .call(rt, alloc, store, &FreeGate)?
-        .expect("the next generation", 0, WENT_ON)
+    Program::new(RESUME, &[]).expect_over(rt, alloc, store, "the next generation", WENT_ON)
+}
+
+/// The store in memory over which the same was run.
+fn memory_after<R: Abort + Threads + Wait + Sync>(rt: &R, alloc: Global) -> Result<MemStore, Fail> {
+    let mut memory = Program::new(&[], FILES).store(alloc)?;
+    expect_both(rt, alloc, &mut memory)?;
+    Ok(memory)
 }
 
 #[test]
 fn files_hold_what_memory_holds(rt: HostRuntime) -> Result<(), Fail> {
     let alloc = rt.alloc();
-    fs::create_dir(&rt, FOLDER)?;
-    for (name, bytes) in FILES {
-        fs::write(&rt, name, *bytes)?;
-    }
+    make_files(&rt, FOLDER, FILES)?;
     expect_both(&rt, alloc, &mut FileStore::new(&rt))?;
-    let mut memory = Program::new(&[], FILES).store(alloc)?;
-    expect_both(&rt, alloc, &mut memory)?;
-    for name in LOGS {
-        let same = fs::read(&rt, name)?.as_slice() == memory.file(name).unwrap_or(b"");
-        assert!(rt; same, "{name} holds other bytes");
-        fs::remove_file(&rt, name)?;
-    }
-    for (name, _) in FILES {
-        fs::remove_file(&rt, name)?;
-    }
-    fs::remove_dir(&rt, FOLDER)?;
-    Ok(())
+    let memory = memory_after(&rt, alloc)?;
+    expect_logs(&rt, &memory, LOGS)?;
+    remove_files(&rt, FOLDER, FILES, LOGS)
 }

@@ -1,10 +1,10 @@
 //! A run over the files of the system: it says and keeps what the same run over files in memory does, and what it kept is recovered.
 
 use crate::calls::Program;
+use crate::system_files::{expect_logs, make_files, remove_files};
 use crate::watch_gate::WatchGate;
-use onll_outside::{FileStore, FreeGate, Hold, Point, Store};
+use onll_outside::{FileStore, Hold, MemStore, Point, Store};
 use std::alloc::Global;
-use std::fs;
 use std::process::Abort;
 use std::sync::Wait;
 use std::test::Fail;
@@ -70,6 +70,18 @@ const RECOVERED: &str = "log 0 entries 1 lines 3\n\
      account 0 70\n\
      account 1 35\n";
 
+/// Runs the scripts over this store, with threads that this gate holds.
+fn expect_held<R: Threads + Wait + Sync, S: Store>(
+    rt: &R,
+    alloc: Global,
+    store: &mut S,
+    gate: &WatchGate,
+) -> Result<(), Fail> {
+    Program::new(RUN, &[])
+        .call(rt, alloc, store, gate)?
+        .expect("the run", 0, REPORT)
+}
+
 /// Runs the scripts over this store, and then recovers what it kept.
 fn expect_run<R: Abort + Threads + Wait + Sync, S: Store>(
     rt: &R,
@@ -77,54 +89,24 @@ fn expect_run<R: Abort + Threads + Wait + Sync, S: Store>(
     store: &mut S,
 ) -> Result<(), Fail> {
     let gate = WatchGate::new(alloc, HOLDS)?;
-    Program::new(RUN, &[])
-        .call(rt, alloc, store, &gate)?
-        .expect("the run", 0, REPORT)?;
+    expect_held(rt, alloc, store, &gate)?;
     assert!(rt; !gate.expired());
-    Program::new(RECOVER, &[])
-        .call(rt, alloc, store, &FreeGate)?
-        .expect("its logs", 0, RECOVERED)
+    Program::new(RECOVER, &[]).expect_over(rt, alloc, store, "its logs", RECOVERED)
 }
 
-/// Makes the folder and the files of the run.
-fn make_files(rt: &HostRuntime) -> Result<(), Fail> {
-    fs::create_dir(rt, FOLDER)?;
-    for (name, bytes) in FILES {
-        fs::write(rt, name, *bytes)?;
-    }
-    Ok(())
-}
-
-/// Whether a file of the system holds these bytes and no more.
-fn is_file(rt: &HostRuntime, name: &str, held: &[u8]) -> bool {
-    match fs::read(rt, name) {
-        Ok(bytes) => bytes.as_slice() == held,
-        Err(_) => false,
-    }
-}
-
-/// Removes the logs, and what `make_files` made.
-fn remove_files(rt: &HostRuntime) -> Result<(), Fail> {
-    for name in LOGS {
-        fs::remove_file(rt, name)?;
-    }
-    for (name, _) in FILES {
-        fs::remove_file(rt, name)?;
-    }
-    fs::remove_dir(rt, FOLDER)?;
-    Ok(())
+/// The store in memory over which the same was run.
+fn memory_after<R: Abort + Threads + Wait + Sync>(rt: &R, alloc: Global) -> Result<MemStore, Fail> {
+    let mut memory = Program::new(RUN, FILES).store(alloc)?;
+    expect_run(rt, alloc, &mut memory)?;
+    Ok(memory)
 }
 
 #[test]
 fn files_hold_what_memory_holds(rt: HostRuntime) -> Result<(), Fail> {
     let alloc = rt.alloc();
-    make_files(&rt)?;
+    make_files(&rt, FOLDER, FILES)?;
     expect_run(&rt, alloc, &mut FileStore::new(&rt))?;
-    let mut memory = Program::new(RUN, FILES).store(alloc)?;
-    expect_run(&rt, alloc, &mut memory)?;
-    for name in LOGS {
-        let held = memory.file(name).unwrap_or(b"");
-        assert!(rt; is_file(&rt, name, held), "{name} holds other bytes");
-    }
-    remove_files(&rt)
+    let memory = memory_after(&rt, alloc)?;
+    expect_logs(&rt, &memory, LOGS)?;
+    remove_files(&rt, FOLDER, FILES, LOGS)
 }

@@ -57,8 +57,9 @@ fn has_recovered(recovered: &str, name: &str, call: &str) -> bool {
     false
 }
 
-/// A recovery found the nodes of a run.
-fn expect_nodes<R: Abort>(rt: &R, report: &str, recovered: &str) {
+/// A recovery found the nodes of a run, and its state.
+fn expect_recovered<R: Abort>(rt: &R, report: &str, recovered: &str) {
+    assert_eq!(rt; state_of(report), state_of(recovered));
     for line in report.lines() {
         if let Some((name, call)) = line.split_once(" set ") {
             assert!(rt;
@@ -81,6 +82,18 @@ fn run_together<R: Abort + Threads + Wait + Sync>(
     Ok(run)
 }
 
+/// A run over this store that made six updates, in a legal order.
+fn legal_run<R: Abort + Threads + Wait + Sync>(
+    rt: &R,
+    alloc: Global,
+    store: &mut MemStore,
+) -> Result<Outcome, Fail> {
+    let run = run_together(rt, alloc, store)?;
+    run.expect_line("the run", 0, "trace 6")?;
+    Program::new(RUN, FILES).expect_legal(rt, alloc, run.text())?;
+    Ok(run)
+}
+
 /// Recovers what a run left in this store.
 fn recovered_of<R: Threads + Wait + Sync>(
     rt: &R,
@@ -96,11 +109,8 @@ fn recovered_of<R: Threads + Wait + Sync>(
 fn any_legal_order(rt: HostRuntime) -> Result<(), Fail> {
     let alloc = rt.alloc();
     let mut store = Program::new(RUN, FILES).store(alloc)?;
-    let run = run_together(&rt, alloc, &mut store)?;
-    run.expect_line("the run", 0, "trace 6")?;
-    Program::new(RUN, FILES).expect_legal(&rt, alloc, run.text())?;
+    let run = legal_run(&rt, alloc, &mut store)?;
     let recovered = recovered_of(&rt, alloc, &mut store)?;
-    expect_nodes(&rt, run.text(), recovered.text());
-    assert_eq!(rt; state_of(run.text()), state_of(recovered.text()));
+    expect_recovered(&rt, run.text(), recovered.text());
     Ok(())
 }

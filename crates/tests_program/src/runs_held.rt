@@ -40,6 +40,30 @@ fn run_held<R: Abort + Threads + Wait + Sync>(
     Ok(outcome)
 }
 
+/// A run whose threads are held: its words, the holds, and how it ends.
+#[derive(Clone, Copy)]
+struct Held<'a> {
+    words: &'a [&'a str],
+    holds: &'a [Hold],
+    status: u8,
+    report: &'a str,
+}
+
+/// Makes this run over this store. It ends so, and what it says is legal.
+fn expect_held<R: Abort + Threads + Wait + Sync>(
+    rt: &R,
+    alloc: Global,
+    store: &mut MemStore,
+    held: &Held<'_>,
+) -> Result<(), Fail> {
+    run_held(rt, alloc, held.words, store, held.holds)?.expect(
+        "a held run",
+        held.status,
+        held.report,
+    )?;
+    Program::new(held.words, FILES).expect_legal(rt, alloc, held.report)
+}
+
 /// Thread 0's update is ordered, and held until thread 1's update has come behind it, made both durable, and was answered.
 const HELPED: &[Hold] = &[
     SECOND_BEGINS,
@@ -68,8 +92,13 @@ const HELPED_REPORT: &str = "call 0 1 deposit 0 5 -> ok at 1\n\
 fn threads_overlap(rt: HostRuntime) -> Result<(), Fail> {
     let alloc = rt.alloc();
     let mut store = Program::new(TWO, FILES).store(alloc)?;
-    run_held(&rt, alloc, TWO, &mut store, HELPED)?.expect("a held run", 0, HELPED_REPORT)?;
-    Program::new(TWO, FILES).expect_legal(&rt, alloc, HELPED_REPORT)
+    let held = Held {
+        words: TWO,
+        holds: HELPED,
+        status: 0,
+        report: HELPED_REPORT,
+    };
+    expect_held(&rt, alloc, &mut store, &held)
 }
 
 /// Thread 0 begins its update once thread 1's is answered, and thread 1 goes on once thread 0's is answered.
@@ -107,8 +136,13 @@ fn a_read_that_has_to_look(rt: HostRuntime) -> Result<(), Fail> {
     let alloc = rt.alloc();
     let words = &["run", "b2", "out", "s0", "reads"];
     let mut store = Program::new(words, FILES).store(alloc)?;
-    run_held(&rt, alloc, words, &mut store, LOOKING)?.expect("a held run", 0, LOOKING_REPORT)?;
-    Program::new(words, FILES).expect_legal(&rt, alloc, LOOKING_REPORT)
+    let held = Held {
+        words,
+        holds: LOOKING,
+        status: 0,
+        report: LOOKING_REPORT,
+    };
+    expect_held(&rt, alloc, &mut store, &held)
 }
 
 /// The same as the first, but that thread 0 is held when it has walked, so that its own fence, which fails, comes last.
@@ -146,6 +180,16 @@ const BROKEN_RECOVERED: &str = "log 0 entries 0 lines 1\n\
      account 0 5\n\
      account 1 7\n";
 
+/// What the broken run kept in this store is recovered.
+fn expect_recovered<R: Threads + Wait + Sync>(
+    rt: &R,
+    alloc: Global,
+    store: &mut MemStore,
+) -> Result<(), Fail> {
+    let outcome = Program::new(&["recover", "b2", "out", "2"], &[]).run_over(rt, alloc, store)?;
+    outcome.expect("what was kept", 0, BROKEN_RECOVERED)
+}
+
 #[test]
 fn a_window_keeps_what_a_failed_fence_lost(rt: HostRuntime) -> Result<(), Fail> {
     let alloc = rt.alloc();
@@ -154,9 +198,12 @@ fn a_window_keeps_what_a_failed_fence_lost(rt: HostRuntime) -> Result<(), Fail> 
         fence: 2,
     };
     let mut store = Program::new(TWO, FILES).store_with(alloc, &[fence])?;
-    run_held(&rt, alloc, TWO, &mut store, WALKED)?.expect("a held run", 7, BROKEN_REPORT)?;
-    Program::new(TWO, FILES).expect_legal(&rt, alloc, BROKEN_REPORT)?;
-    Program::new(&["recover", "b2", "out", "2"], &[])
-        .run_over(&rt, alloc, &mut store)?
-        .expect("what was kept", 0, BROKEN_RECOVERED)
+    let held = Held {
+        words: TWO,
+        holds: WALKED,
+        status: 7,
+        report: BROKEN_REPORT,
+    };
+    expect_held(&rt, alloc, &mut store, &held)?;
+    expect_recovered(&rt, alloc, &mut store)
 }

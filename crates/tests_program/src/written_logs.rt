@@ -43,7 +43,9 @@ fn bytes_of(alloc: Global, image: &[Line]) -> Result<Vec<u8>, AllocError> {
 fn device_of_both(alloc: Global, failing: &[u64]) -> Result<MemPmem, Fail> {
     let device = MemPmem::new(alloc, 8, Vec::from_slice(alloc, failing)?)?;
     let head = LogHead::new(1, 2, 1, b"bank 2\n");
-    let mut log = ThreadLog::make(device, head).ok().ok_or("not made")?;
+    let Some(mut log) = ThreadLog::make(device, head).ok() else {
+        return Err(Fail::new(format_args!("not made")));
+    };
     let _appended = log.append(2, &NODES);
     Ok(log.into_device())
 }
@@ -63,34 +65,50 @@ const SHOWN: &[(&[u64], u64, &str)] = &[
     (&[2], u64::MAX, BOTH_SHOWN),
 ];
 
+/// The file that this log leaves, of whose pending words these are kept.
+fn file_of_both(alloc: Global, failing: &[u64], keep: u64) -> Result<Vec<u8>, Fail> {
+    let image = device_of_both(alloc, failing)?.image(alloc, keep)?;
+    Ok(bytes_of(alloc, &image)?)
+}
+
+/// What `show` prints of a file of these bytes is this.
+fn shows<R: Abort + Threads + Wait + Sync>(
+    rt: &R,
+    alloc: Global,
+    bytes: &[u8],
+    output: &str,
+) -> Result<(), Fail> {
+    let files: &[(&str, &[u8])] = &[("x", bytes)];
+    Program::new(&["show", "x"], files).expect(rt, alloc, "a thread's log", 0, output)
+}
+
 #[test]
 fn a_log_that_a_thread_wrote(rt: HostRuntime) -> Result<(), Fail> {
-    let alloc = rt.alloc();
     for (failing, keep, output) in SHOWN {
-        let image = device_of_both(alloc, failing)?.image(alloc, *keep)?;
-        let bytes = bytes_of(alloc, &image)?;
-        let files: &[(&str, &[u8])] = &[("x", &bytes)];
-        Program::new(&["show", "x"], files).expect(&rt, alloc, "a thread's log", 0, output)?;
+        let bytes = file_of_both(rt.alloc(), failing, *keep)?;
+        shows(&rt, rt.alloc(), &bytes, output)?;
     }
     Ok(())
 }
 
-#[test]
-fn a_log_of_format_1(rt: HostRuntime) -> Result<(), Fail> {
-    let alloc = rt.alloc();
+/// The file of a log of format 1 that has thread 0's first update.
+fn file_of_format_1(alloc: Global) -> Result<Vec<u8>, AllocError> {
     let head = LogHead::of_format(1, 0, 1, 1, b"bank 1\n");
     let image = [
         head.line(),
         entry_head(head, 1, 1, &NODES[..1]),
         node_line(NODES[0]),
     ];
-    let bytes = bytes_of(alloc, &image)?;
-    let files: &[(&str, &[u8])] = &[("i", b"bank 1\n"), ("out.0", &bytes)];
-    Program::new(&["recover", "i", "out", "1"], files).expect(
+    bytes_of(alloc, &image)
+}
+
+#[test]
+fn a_log_of_format_1(rt: HostRuntime) -> Result<(), Fail> {
+    let bytes = file_of_format_1(rt.alloc())?;
+    recovers(
         &rt,
-        alloc,
-        "a log of format 1",
-        0,
+        rt.alloc(),
+        &bytes,
         "log 0 entries 1 lines 3\nrecovered 1\nnode 1 0 1 deposit 0 5\nstate\nbank 1\naccount 0 5\n",
     )
 }

@@ -1,5 +1,5 @@
 //! Runs in which a fence fails.
-ghost use Rattle.std.specs.Prelude.{◌≡◌, ◌≤◌, length, map, IfOk, IfSome};
+ghost use Rattle.std.specs.Prelude.{◌≡◌, ◌≤◌, length, map, IfOk};
 ghost use Rattle.std.specs.List.{AllByRecursion};
 ghost use Rattle.onll_pmem.specs.Device.{zero_lines};
 ghost use Rattle.onll_pmem.specs.Memory.{memory_view};
@@ -7,12 +7,13 @@ ghost use Rattle.onll_outside.specs.Views.{IsFresh};
 
 use crate::found::Found;
 use crate::run_bank;
-use crate::runs::{End, counts, deposit, device_of, ends_are, flags_are, run_one};
+use crate::runs::{End, add_device, deposit, flags_are, left, run_one, two_devices};
 use onll_bank::{Bank, BankOp, BankQuery, BankReply};
 use onll_model::Call;
 use onll_outside::FreeGate;
 use onll_pmem::{MemPmem, Pmem};
 use onll_run::{RunFault, RunOutcome};
+use onll_words::NoMemory;
 use std::alloc::{AllocError, Global};
 use std::test::Fail;
 
@@ -57,9 +58,7 @@ fn a_failed_fence_breaks_later_updates_alone(rt: HostRuntime) -> Result<(), Fail
         return Err("not run".into());
     };
     let mut found = Found::new();
-    found.must(counts(&ran) == (1, 1, 1), "other counts");
-    found.must(ends_are(&ran, 0, ENDS), "other ends");
-    found.must(flags_are(&ran, &[false]), "another flag");
+    left(&mut found, &ran, (1, 1, 1), ENDS, &[false]);
     is_broken(&mut found, &ran);
     found.ended()
 }
@@ -86,14 +85,13 @@ fn three_scripts(alloc: Global) -> Result<Vec<Vec<Call<Bank>>>, AllocError>
 }
 
 /// Devices of three threads, of which the second one's header fails, and the third one's would.
-fn three_devices(alloc: Global) -> Option<Vec<MemPmem>>
-    ensures many { IfSome result (λ devices. length devices.items ≡ 3) }
-    ensures fresh { IfSome result (λ devices. AllByRecursion (λ device. IsFresh (zero_lines 41) (memory_view device)) devices.items) }
+fn three_devices(alloc: Global) -> Result<Vec<MemPmem>, NoMemory>
+    ensures many { IfOk result (λ devices. length devices.items ≡ 3) }
+    ensures fresh { IfOk result (λ devices. AllByRecursion (λ device. IsFresh (zero_lines 41) (memory_view device)) devices.items) }
 {
-    let first = device_of(alloc, &[]).ok()?;
-    let second = device_of(alloc, &[1]).ok()?;
-    let third = device_of(alloc, &[1]).ok()?;
-    vec![in alloc; first, second, third].ok()
+    let mut devices = two_devices(alloc, &[], &[1])?;
+    add_device(&mut devices, alloc, &[1])?;
+    Ok(devices)
 }
 
 /// The devices that a header's fault hands back: the first one's header was made, the second one's failed.
@@ -109,7 +107,7 @@ fn are_back(found: &mut Found, devices: &[MemPmem]) {
 #[test]
 fn a_failed_header_hands_all_devices_back(rt: HostRuntime) -> Result<(), Fail> {
     let scripts = three_scripts(rt.alloc())?;
-    let devices = three_devices(rt.alloc()).ok_or("no devices")?;
+    let devices = three_devices(rt.alloc())?;
     let Err(RunFault::HeaderFailed { thread, devices }) = run_bank(
         &rt,
         rt.alloc(),

@@ -2,7 +2,7 @@
 ghost use Rattle.std.specs.Prelude.{◌≡◌, length, IfOk};
 
 use crate::found::Found;
-use crate::runs::{End, counts, deposit, ends_are, flags_are, run_two, threads_are};
+use crate::runs::{End, deposit, ends_are, left, run_two, threads_are};
 use onll_bank::{Bank, BankOp, BankQuery, BankReply};
 use onll_model::Call;
 use onll_outside::{Hold, HoldGate, Point};
@@ -75,11 +75,9 @@ fn a_window_helps_a_held_update(rt: HostRuntime) -> Result<(), Fail> {
     };
     let mut found = Found::new();
     found.must(!gate.expired(), "a hold ran out of turns");
-    found.must(counts(&ran) == (2, 2, 2), "other counts");
-    found.must(ends_are(&ran, 0, DONE_FIRST), "other ends of thread 0");
+    left(&mut found, &ran, (2, 2, 2), DONE_FIRST, &[true, true]);
     found.must(ends_are(&ran, 1, DONE_SECOND), "other ends of thread 1");
     found.must(threads_are(&ran, &[0, 1]), "another order");
-    found.must(flags_are(&ran, &[true, true]), "other flags");
     has_window(&mut found, &ran);
     found.ended()
 }
@@ -109,10 +107,8 @@ fn a_held_update_whose_fence_fails(rt: HostRuntime) -> Result<(), Fail> {
     };
     let mut found = Found::new();
     found.must(!gate.expired(), "a hold ran out of turns");
-    found.must(counts(&ran) == (2, 2, 2), "other counts");
-    found.must(ends_are(&ran, 0, FENCE_FAILED), "other ends of thread 0");
+    left(&mut found, &ran, (2, 2, 2), FENCE_FAILED, &[false, true]);
     found.must(ends_are(&ran, 1, DONE_SECOND), "other ends of thread 1");
-    found.must(flags_are(&ran, &[false, true]), "other flags");
     has_broken_log(&mut found, &ran);
     found.ended()
 }

@@ -7,6 +7,8 @@ ghost use Rattle.onll_pmem.specs.Memory.{memory_view};
 ghost use Rattle.onll_shared.specs.Passes.{IsTied};
 ghost use Rattle.std.proofs.Props.{props};
 
+use crate::found::Found;
+use crate::runs::End;
 use onll_bank::{Bank, BankOp, BankQuery, BankReply};
 use onll_locked::{Locked, LockedEnd};
 use onll_log::{LogHead, ThreadLog};
@@ -24,38 +26,29 @@ const LINES: u64 = 16;
 /// The fence of each device that fails: that of its third entry, which thread 1 alone makes.
 const FAILING: u64 = 4;
 
-/// An outcome of a bank's call, to be compared.
-#[derive(Clone, Copy, Debug, PartialEq, Eq)]
-enum Said {
-    Answered(u64, BankReply),
-    FenceFailed(u64),
-    Broken(u64),
-    Refused,
-}
-
-fn said_under_the_lock(end: &LockedEnd<Bank>) -> Said {
+fn said_under_the_lock(end: &LockedEnd<Bank>) -> End {
     match end {
-        LockedEnd::Answered { place, reply } => Said::Answered(*place, *reply),
-        LockedEnd::FenceFailed { place } => Said::FenceFailed(*place),
-        LockedEnd::Broken { place } => Said::Broken(*place),
+        LockedEnd::Answered { place, reply } => End::Answered(*place, *reply),
+        LockedEnd::FenceFailed { place } => End::FenceFailed(*place),
+        LockedEnd::Broken { place } => End::Broken(*place),
     }
 }
 
 /// Makes a call on the shared object.
-fn said_by_shared(onll: &Onll<Bank>, pass: &mut Pass<Bank, MemPmem>, call: &Call<Bank>) -> Said
+fn said_by_shared(onll: &Onll<Bank>, pass: &mut Pass<Bank, MemPmem>, call: &Call<Bank>) -> End
     requires tied { IsTied bank memory_view onll.now pass.old }
     ensures tied { IsTied bank memory_view onll.now pass.new }
 {
     match call {
         Call::Ask(query) => {
             let answer = onll.read(pass, *query);
-            Said::Answered(answer.place, answer.reply)
+            End::Answered(answer.place, answer.reply)
         }
         Call::Update(op) => match onll.try_update(pass, *op, &FreeGate) {
-            Ok(receipt) => Said::Answered(receipt.place, receipt.reply),
-            Err(TryFault::FenceFailed { place }) => Said::FenceFailed(place),
-            Err(TryFault::Broken { place }) => Said::Broken(place),
-            Err(_) => Said::Refused,
+            Ok(receipt) => End::Answered(receipt.place, receipt.reply),
+            Err(TryFault::FenceFailed { place }) => End::FenceFailed(place),
+            Err(TryFault::Broken { place }) => End::Broken(place),
+            Err(_) => End::Other,
         },
     }
 }
@@ -129,6 +122,22 @@ fn begun(alloc: Global) -> Result<Run, Fail> {
     })
 }
 
+/// What a thread was told under the lock.
+fn said_of(alloc: Global, ends: &[LockedEnd<Bank>]) -> Result<Vec<End>, AllocError> {
+    let mut said = Vec::new(alloc);
+    for end in ends {
+        said.push(said_under_the_lock(end))?;
+    }
+    Ok(said)
+}
+
+/// What each of two threads was told.
+#[derive(Drop)]
+struct Told {
+    zero: Vec<End>,
+    one: Vec<End>,
+}
+
 impl Run {
     /// The next call of each thread.
     fn next_of_both(&mut self) {
@@ -145,36 +154,29 @@ impl Run {
         let _ = self.one.device();
         self.locked.ends(1)
     }
-}
 
-/// What a thread was told under the lock.
-fn said_of(alloc: Global, ends: &[LockedEnd<Bank>]) -> Result<Vec<Said>, AllocError> {
-    let mut said = Vec::new(alloc);
-    for end in ends {
-        said.push(said_under_the_lock(end))?;
+    /// What each thread is told, whose five calls come in turn.
+    fn told_in_turn(&mut self, alloc: Global) -> Result<Told, AllocError> {
+        self.next_of_both();
+        self.next_of_both();
+        self.next_of_both();
+        self.next_of_both();
+        self.next_of_both();
+        self.told(alloc)
     }
-    Ok(said)
-}
 
-/// What each of two threads was told.
-#[derive(Drop)]
-struct Told {
-    zero: Vec<Said>,
-    one: Vec<Said>,
+    /// What each thread was told so far.
+    fn told(&self, alloc: Global) -> Result<Told, AllocError> {
+        let zero = said_of(alloc, self.ends_of_zero())?;
+        let one = said_of(alloc, self.ends_of_one())?;
+        Ok(Told { zero, one })
+    }
 }
 
 /// What two threads are told under the lock, whose calls come in turn.
 fn told_under_the_lock(alloc: Global) -> Result<Told, Fail> {
     let mut run = begun(alloc)?;
-    run.next_of_both();
-    run.next_of_both();
-    run.next_of_both();
-    run.next_of_both();
-    run.next_of_both();
-    Ok(Told {
-        zero: said_of(alloc, run.ends_of_zero())?,
-        one: said_of(alloc, run.ends_of_one())?,
-    })
+    Ok(run.told_in_turn(alloc)?)
 }
 
 /// What two threads of the shared object are told, whose calls come in turn.
@@ -203,35 +205,42 @@ fn said_in_turn(
 /// What two threads of a new shared object are told.
 fn told_by_shared(alloc: Global) -> Result<Told, Fail> {
     let bank = Bank::make(alloc, 2)?;
-    let Some((onll, mut zero, mut one)) = open_two(alloc, bank, LINES, 10, FAILING) else {
+    let Some(mut two) = open_two(alloc, bank, LINES, 10, FAILING) else {
         return Err("no memory".into());
     };
-    Ok(said_in_turn(alloc, &onll, &mut zero, &mut one)?)
+    Ok(said_in_turn(alloc, &two.0, &mut two.1, &mut two.2)?)
 }
 
-const ZEROS: [Said; 5] = [
-    Said::Answered(0, BankReply::Amount(0)),
-    Said::Answered(2, BankReply::Done),
-    Said::Answered(3, BankReply::Amount(5)),
-    Said::Answered(5, BankReply::Done),
-    Said::Answered(5, BankReply::Amount(6)),
+const ZEROS: [End; 5] = [
+    End::Answered(0, BankReply::Amount(0)),
+    End::Answered(2, BankReply::Done),
+    End::Answered(3, BankReply::Amount(5)),
+    End::Answered(5, BankReply::Done),
+    End::Answered(5, BankReply::Amount(6)),
 ];
 
-const ONES: [Said; 5] = [
-    Said::Answered(1, BankReply::Done),
-    Said::Answered(3, BankReply::Done),
-    Said::FenceFailed(4),
-    Said::Broken(4),
-    Said::Answered(5, BankReply::Amount(8)),
+const ONES: [End; 5] = [
+    End::Answered(1, BankReply::Done),
+    End::Answered(3, BankReply::Done),
+    End::FenceFailed(4),
+    End::Broken(4),
+    End::Answered(5, BankReply::Amount(8)),
 ];
+
+/// Whether thread 0 and thread 1 are told what they have to be.
+fn are_so(told: &Told) -> (bool, bool) {
+    (
+        told.zero.as_slice() == ZEROS.as_slice(),
+        told.one.as_slice() == ONES.as_slice(),
+    )
+}
 
 #[test]
 fn one_script_two_ways(rt: HostRuntime) -> Result<(), Fail> {
-    let locked = told_under_the_lock(rt.alloc())?;
-    let shared = told_by_shared(rt.alloc())?;
-    assert_eq!(rt; locked.zero.as_slice(), ZEROS.as_slice());
-    assert_eq!(rt; locked.one.as_slice(), ONES.as_slice());
-    assert_eq!(rt; shared.zero.as_slice(), ZEROS.as_slice());
-    assert_eq!(rt; shared.one.as_slice(), ONES.as_slice());
-    Ok(())
+    let mut found = Found::new();
+    let under_the_lock = told_under_the_lock(rt.alloc())?;
+    found.must(are_so(&under_the_lock) == (true, true), "under the lock");
+    let by_shared = told_by_shared(rt.alloc())?;
+    found.must(are_so(&by_shared) == (true, true), "by the shared object");
+    found.ended()
 }

@@ -1,10 +1,11 @@
 //! Runs of one script and of two, and what they left, to be compared.
-ghost use Rattle.std.specs.Prelude.{◌≡◌, ◌≤◌, length, IfOk};
+ghost use Rattle.std.specs.Prelude.{◌≡◌, ◌≤◌, ◌+◌, length, IfOk};
 ghost use Rattle.std.specs.List.{AllByRecursion};
 ghost use Rattle.onll_pmem.specs.Device.{zero_lines};
 ghost use Rattle.onll_pmem.specs.Memory.{memory_view};
 ghost use Rattle.onll_outside.specs.Views.{IsFresh};
 
+use crate::found::Found;
 use crate::{new_device, run_bank};
 use onll_bank::{Bank, BankOp, BankReply};
 use onll_model::{Call, CallEnd};
@@ -24,21 +25,51 @@ pub(crate) fn deposit(alloc: Global, a: u64, x: u64) -> Result<Vec<Call<Bank>>, 
 }
 
 /// A new device on which these fences fail.
-pub(crate) fn device_of(alloc: Global, failing: &[u64]) -> Result<MemPmem, NoMemory>
+fn device_of(alloc: Global, failing: &[u64]) -> Result<MemPmem, NoMemory>
     ensures { IfOk result (λ device. IsFresh (zero_lines 41) (memory_view device)) }
 {
     let failing = Vec::from_slice(alloc, failing)?;
     new_device(alloc, failing)
 }
 
-/// Devices of two threads; on that of thread 0 these fences fail.
-fn two_devices(alloc: Global, failing: &[u64]) -> Result<Vec<MemPmem>, NoMemory>
+#[tactic(auto, using(crate::proofs::Conditions::fresh_more))]
+/// Adds a new device on which these fences fail.
+pub(crate) fn add_device(
+    devices: &mut Vec<MemPmem>,
+    alloc: Global,
+    failing: &[u64],
+) -> Result<(), NoMemory>
+    requires { AllByRecursion (λ device. IsFresh (zero_lines 41) (memory_view device)) devices.old.items }
+    ensures many { IfOk result (λ _. length devices.new.items ≡ length devices.old.items + 1) }
+    ensures fresh { IfOk result (λ _. AllByRecursion (λ device. IsFresh (zero_lines 41) (memory_view device)) devices.new.items) }
+{
+    let device = device_of(alloc, failing)?;
+    devices.push(device)?;
+    Ok(())
+}
+
+/// A device of one thread, on which these fences fail.
+fn one_device(alloc: Global, failing: &[u64]) -> Result<Vec<MemPmem>, NoMemory>
+    ensures many { IfOk result (λ devices. length devices.items ≡ 1) }
+    ensures fresh { IfOk result (λ devices. AllByRecursion (λ device. IsFresh (zero_lines 41) (memory_view device)) devices.items) }
+{
+    let mut devices = Vec::new(alloc);
+    add_device(&mut devices, alloc, failing)?;
+    Ok(devices)
+}
+
+/// Devices of two threads; on that of thread 0 the fences of `zero` fail, and on that of thread 1 those of `one`.
+pub(crate) fn two_devices(
+    alloc: Global,
+    zero: &[u64],
+    one: &[u64],
+) -> Result<Vec<MemPmem>, NoMemory>
     ensures many { IfOk result (λ devices. length devices.items ≡ 2) }
     ensures fresh { IfOk result (λ devices. AllByRecursion (λ device. IsFresh (zero_lines 41) (memory_view device)) devices.items) }
 {
-    let first = device_of(alloc, failing)?;
-    let second = device_of(alloc, &[])?;
-    Ok(vec![in alloc; first, second]?)
+    let mut devices = one_device(alloc, zero)?;
+    add_device(&mut devices, alloc, one)?;
+    Ok(devices)
 }
 
 /// Runs one script over a device on which these fences fail.
@@ -51,8 +82,7 @@ pub(crate) fn run_one<R: Threads + Wait + Sync>(
     requires { length script.items ≤ 8 }
 {
     let scripts = vec![in alloc; script].ok()?;
-    let device = device_of(alloc, failing).ok()?;
-    let devices = vec![in alloc; device].ok()?;
+    let devices = one_device(alloc, failing).ok()?;
     run_bank(rt, alloc, scripts, devices, &FreeGate).ok()
 }
 
@@ -69,7 +99,7 @@ pub(crate) fn run_two<R: Threads + Wait + Sync, G: Gate + Sync>(
     requires second { length second.items ≤ 8 }
 {
     let scripts = vec![in alloc; first, second].ok()?;
-    let devices = two_devices(alloc, failing).ok()?;
+    let devices = two_devices(alloc, failing, &[]).ok()?;
     run_bank(rt, alloc, scripts, devices, gate).ok()
 }
 
@@ -115,6 +145,19 @@ pub(crate) fn ends_are(ran: &RunOutcome<Bank, MemPmem>, thread: usize, wanted: &
 /// How many threads, nodes and logs a run left.
 pub(crate) fn counts(ran: &RunOutcome<Bank, MemPmem>) -> (usize, usize, usize) {
     (ran.threads.len(), ran.trace.len(), ran.logs.len())
+}
+
+/// A run left so many threads, nodes and logs, the calls of thread 0 ended so, and the trace has these flags.
+pub(crate) fn left(
+    found: &mut Found,
+    ran: &RunOutcome<Bank, MemPmem>,
+    many: (usize, usize, usize),
+    ends: &[End],
+    flags: &[bool],
+) {
+    found.must(counts(ran) == many, "other counts");
+    found.must(ends_are(ran, 0, ends), "other ends of thread 0");
+    found.must(flags_are(ran, flags), "other flags");
 }
 
 /// Whether the nodes of the trace are of these threads.

@@ -2,7 +2,7 @@
 ghost use Rattle.std.specs.Prelude.{◌≡◌, length, IfOk};
 
 use crate::found::Found;
-use crate::runs::{End, counts, ends_are, flags_are, run_one, run_two};
+use crate::runs::{End, counts, flags_are, left, run_one, run_two};
 use onll_bank::{Bank, BankOp, BankQuery, BankReply};
 use onll_log::ThreadLog;
 use onll_model::Call;
@@ -52,9 +52,7 @@ fn one_thread_transfers_and_asks(rt: HostRuntime) -> Result<(), Fail> {
         return Err("not run".into());
     };
     let mut found = Found::new();
-    found.must(counts(&ran) == (1, 2, 1), "other counts");
-    found.must(ends_are(&ran, 0, ENDS), "other ends");
-    found.must(flags_are(&ran, &[true, true]), "other flags");
+    left(&mut found, &ran, (1, 2, 1), ENDS, &[true, true]);
     has_two_entries(&mut found, &ran);
     found.ended()
 }

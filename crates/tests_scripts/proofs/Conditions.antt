@@ -26,12 +26,6 @@ pub fresh_new : (lines : ℕ) (failing : List ℕ) (m : MemoryState) → m ≡ r
 fresh_new lines failing m e = subst (λ (z : MemoryState). IsFresh (zero_lines lines) (memory_view z)) (sym e)
     (record { read = refl; fences = refl; faults = refl; settled = λ t is. sym (ap (λ k. k.fenced) (same_some _ t is)) })
 
--- a fresh device more
-pub fresh_more : (ms : List MemoryState) (m : MemoryState) → AllByRecursion (λ (d : MemoryState). IsFresh (zero_lines 41) (memory_view d)) ms → IsFresh (zero_lines 41) (memory_view m)
-    → AllByRecursion (λ (d : MemoryState). IsFresh (zero_lines 41) (memory_view d)) (ms ++ m ∷ [])
-fresh_more [] m all one = (one, tt)
-fresh_more (x ∷ ms) m all one = (all.0, fresh_more ms m all.1 one)
-
 module _ {State Op Query Reply : Type 0} where
   few_updates : (calls : List (Call State Op Query Reply)) → updates_in calls ≤ length calls
   few_updates [] = omega arith

@@ -5,7 +5,6 @@ ghost use Rattle.onll_pmem.specs.Device.{zero_lines};
 ghost use Rattle.onll_pmem.specs.Memory.{memory_view};
 ghost use Rattle.onll_outside.specs.Views.{IsFresh};
 
-use crate::found::Found;
 use crate::run_bank;
 use crate::runs::{End, add_device, deposit, flags_are, left, run_one, two_devices};
 use onll_bank::{Bank, BankOp, BankQuery, BankReply};
@@ -16,6 +15,7 @@ use onll_run::{RunFault, RunOutcome};
 use onll_words::NoMemory;
 use std::alloc::{AllocError, Global};
 use std::test::Fail;
+use tests_found::Found;
 
 /// Two deposits, and a question.
 fn two_and_a_question(alloc: Global) -> Result<Vec<Call<Bank>>, AllocError>

@@ -1,7 +1,6 @@
 //! Two threads that a gate holds so that they overlap. Run one after the other, a hold would run out of turns.
 ghost use Rattle.std.specs.Prelude.{◌≡◌, length, IfOk};
 
-use crate::found::Found;
 use crate::runs::{End, deposit, ends_are, left, run_two, threads_are};
 use onll_bank::{Bank, BankOp, BankQuery, BankReply};
 use onll_model::Call;
@@ -12,6 +11,7 @@ use std::alloc::{AllocError, Global};
 use std::sync::Wait;
 use std::test::Fail;
 use std::thread::Threads;
+use tests_found::Found;
 
 /// One update, at the first place and at the second.
 const DONE_FIRST: &[End] = &[End::Answered(1, BankReply::Done)];

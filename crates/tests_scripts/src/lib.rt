@@ -5,8 +5,6 @@
 mod faults;
 mod fixture;
 #[cfg(test)]
-mod found;
-#[cfg(test)]
 mod held;
 #[cfg(test)]
 mod one_script;

@@ -7,7 +7,6 @@ ghost use Rattle.onll_pmem.specs.Memory.{memory_view};
 ghost use Rattle.onll_shared.specs.Passes.{IsTied};
 ghost use Rattle.std.proofs.Props.{props};
 
-use crate::found::Found;
 use crate::runs::End;
 use onll_bank::{Bank, BankOp, BankQuery, BankReply};
 use onll_locked::{Locked, LockedEnd};
@@ -122,22 +121,6 @@ fn begun(alloc: Global) -> Result<Run, Fail> {
     })
 }
 
-/// What a thread was told under the lock.
-fn said_of(alloc: Global, ends: &[LockedEnd<Bank>]) -> Result<Vec<End>, AllocError> {
-    let mut said = Vec::new(alloc);
-    for end in ends {
-        said.push(said_under_the_lock(end))?;
-    }
-    Ok(said)
-}
-
-/// What each of two threads was told.
-#[derive(Drop)]
-struct Told {
-    zero: Vec<End>,
-    one: Vec<End>,
-}
-
 impl Run {
     /// The next call of each thread.
     fn next_of_both(&mut self) {
@@ -154,29 +137,36 @@ impl Run {
         let _ = self.one.device();
         self.locked.ends(1)
     }
+}
 
-    /// What each thread is told, whose five calls come in turn.
-    fn told_in_turn(&mut self, alloc: Global) -> Result<Told, AllocError> {
-        self.next_of_both();
-        self.next_of_both();
-        self.next_of_both();
-        self.next_of_both();
-        self.next_of_both();
-        self.told(alloc)
+/// What a thread was told under the lock.
+fn said_of(alloc: Global, ends: &[LockedEnd<Bank>]) -> Result<Vec<End>, AllocError> {
+    let mut said = Vec::new(alloc);
+    for end in ends {
+        said.push(said_under_the_lock(end))?;
     }
+    Ok(said)
+}
 
-    /// What each thread was told so far.
-    fn told(&self, alloc: Global) -> Result<Told, AllocError> {
-        let zero = said_of(alloc, self.ends_of_zero())?;
-        let one = said_of(alloc, self.ends_of_one())?;
-        Ok(Told { zero, one })
-    }
+/// What each of two threads was told.
+#[derive(Drop)]
+struct Told {
+    zero: Vec<End>,
+    one: Vec<End>,
 }
 
 /// What two threads are told under the lock, whose calls come in turn.
 fn told_under_the_lock(alloc: Global) -> Result<Told, Fail> {
     let mut run = begun(alloc)?;
-    Ok(run.told_in_turn(alloc)?)
+    run.next_of_both();
+    run.next_of_both();
+    run.next_of_both();
+    run.next_of_both();
+    run.next_of_both();
+    Ok(Told {
+        zero: said_of(alloc, run.ends_of_zero())?,
+        one: said_of(alloc, run.ends_of_one())?,
+    })
 }
 
 /// What two threads of the shared object are told, whose calls come in turn.
@@ -227,20 +217,13 @@ const ONES: [End; 5] = [
     End::Answered(5, BankReply::Amount(8)),
 ];
 
-/// Whether thread 0 and thread 1 are told what they have to be.
-fn are_so(told: &Told) -> (bool, bool) {
-    (
-        told.zero.as_slice() == ZEROS.as_slice(),
-        told.one.as_slice() == ONES.as_slice(),
-    )
-}
-
 #[test]
 fn one_script_two_ways(rt: HostRuntime) -> Result<(), Fail> {
-    let mut found = Found::new();
-    let under_the_lock = told_under_the_lock(rt.alloc())?;
-    found.must(are_so(&under_the_lock) == (true, true), "under the lock");
-    let by_shared = told_by_shared(rt.alloc())?;
-    found.must(are_so(&by_shared) == (true, true), "by the shared object");
-    found.ended()
+    let locked = told_under_the_lock(rt.alloc())?;
+    let shared = told_by_shared(rt.alloc())?;
+    assert_eq!(rt; locked.zero.as_slice(), ZEROS.as_slice());
+    assert_eq!(rt; locked.one.as_slice(), ONES.as_slice());
+    assert_eq!(rt; shared.zero.as_slice(), ZEROS.as_slice());
+    assert_eq!(rt; shared.one.as_slice(), ONES.as_slice());
+    Ok(())
 }

@@ -5,7 +5,6 @@ ghost use Rattle.onll_pmem.specs.Device.{zero_lines};
 ghost use Rattle.onll_pmem.specs.Memory.{memory_view};
 ghost use Rattle.onll_outside.specs.Views.{IsFresh};
 
-use crate::found::Found;
 use crate::{new_device, run_bank};
 use onll_bank::{Bank, BankOp, BankReply};
 use onll_model::{Call, CallEnd};
@@ -16,6 +15,7 @@ use onll_words::NoMemory;
 use std::alloc::{AllocError, Global};
 use std::sync::Wait;
 use std::thread::Threads;
+use tests_found::Found;
 
 /// A script of one deposit.
 pub(crate) fn deposit(alloc: Global, a: u64, x: u64) -> Result<Vec<Call<Bank>>, AllocError>
@@ -32,7 +32,7 @@ fn device_of(alloc: Global, failing: &[u64]) -> Result<MemPmem, NoMemory>
     new_device(alloc, failing)
 }
 
-#[tactic(auto, using(crate::proofs::Conditions::fresh_more))]
+#[tactic(auto, using(onll_merge::proofs::Standings::all_and))]
 /// Adds a new device on which these fences fail.
 pub(crate) fn add_device(
     devices: &mut Vec<MemPmem>,
@@ -104,7 +104,7 @@ pub(crate) fn run_two<R: Threads + Wait + Sync, G: Gate + Sync>(
 }
 
 /// What a call ended with, to be compared.
-#[derive(Clone, Copy, PartialEq, Eq)]
+#[derive(Clone, Copy, Debug, PartialEq, Eq)]
 pub(crate) enum End {
     Answered(u64, BankReply),
     FenceFailed(u64),

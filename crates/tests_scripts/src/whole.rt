@@ -1,7 +1,6 @@
 //! Runs in which no fence fails.
 ghost use Rattle.std.specs.Prelude.{◌≡◌, length, IfOk};
 
-use crate::found::Found;
 use crate::runs::{End, counts, flags_are, left, run_one, run_two};
 use onll_bank::{Bank, BankOp, BankQuery, BankReply};
 use onll_log::ThreadLog;
@@ -13,6 +12,7 @@ use std::alloc::{AllocError, Global};
 use std::sync::Wait;
 use std::test::Fail;
 use std::thread::Threads;
+use tests_found::Found;
 
 /// A deposit, a transfer, and a question.
 fn transfers_and_asks(alloc: Global) -> Result<Vec<Call<Bank>>, AllocError>
